@@ -1,5 +1,5 @@
--- Worked examples of numbers at places of a block: the order of bytes, the signs, and which places share a byte.
--- No other proof rests on them.
+-- Worked examples of numbers at places of a block: the order of bytes, the signs, and which places share a
+-- byte. No other proof rests on them.
 use Rattle.std.proofs.Common.{◌≡◌, ℕ, ◌<◌, List, [], ◌∷◌, length, refl, pos, negsuc, map, arith, inl, inr}
 use Rattle.block_bytes.specs.Numbers.{zeros, number_at, put_number, signed_at, put_signed, IsApart, AreBytes}
 
@@ -7,23 +7,29 @@ use Rattle.block_bytes.specs.Numbers.{zeros, number_at, put_number, signed_at, p
 abbrev bytes : List ℕ
 bytes = 1 ∷ 2 ∷ 3 ∷ 4 ∷ 5 ∷ 6 ∷ 7 ∷ 8 ∷ []
 
-the_highest_byte_is_first : number_at 1 0 bytes ∷ number_at 2 0 bytes ∷ number_at 4 2 bytes ∷ number_at 8 0 bytes ∷ [] ≡ 1 ∷ 258 ∷ 50595078 ∷ 72623859790382856 ∷ []
+the_highest_byte_is_first : number_at 1 0 bytes ∷ number_at 2 0 bytes ∷ number_at 4 2 bytes ∷ number_at 8 0
+    bytes ∷ [] ≡ 1 ∷ 258 ∷ 50595078 ∷ 72623859790382856 ∷ []
 unfolding number_at
 the_highest_byte_is_first = refl
 
-numbers_are_put_in_their_places : put_number 1 0 9 bytes ∷ put_number 2 3 258 bytes ∷ put_number 4 4 4294967294 bytes ∷ [] ≡
-    (9 ∷ 2 ∷ 3 ∷ 4 ∷ 5 ∷ 6 ∷ 7 ∷ 8 ∷ []) ∷ (1 ∷ 2 ∷ 3 ∷ 1 ∷ 2 ∷ 6 ∷ 7 ∷ 8 ∷ []) ∷ (1 ∷ 2 ∷ 3 ∷ 4 ∷ 255 ∷ 255 ∷ 255 ∷ 254 ∷ []) ∷ []
+numbers_are_put_in_their_places : put_number 1 0 9 bytes ∷ put_number 2 3 258 bytes ∷ put_number 4 4
+    4294967294 bytes ∷ [] ≡
+    (9 ∷ 2 ∷ 3 ∷ 4 ∷ 5 ∷ 6 ∷ 7 ∷ 8 ∷ []) ∷ (1 ∷ 2 ∷ 3 ∷ 1 ∷ 2 ∷ 6 ∷ 7 ∷ 8 ∷ [])
+    ∷ (1 ∷ 2 ∷ 3 ∷ 4 ∷ 255 ∷ 255 ∷ 255 ∷ 254 ∷ []) ∷ []
 unfolding put_number
 numbers_are_put_in_their_places = refl
 
 -- the ends of the range, and what lies on both sides of zero
-signed_numbers_are_in_twos_complement : map (signed_at 0) ((127 ∷ 255 ∷ 255 ∷ 255 ∷ []) ∷ (128 ∷ 0 ∷ 0 ∷ 0 ∷ []) ∷ (255 ∷ 255 ∷ 255 ∷ 255 ∷ []) ∷ (0 ∷ 0 ∷ 1 ∷ 2 ∷ []) ∷ []) ≡
+signed_numbers_are_in_twos_complement : map (signed_at 0)
+    ((127 ∷ 255 ∷ 255 ∷ 255 ∷ []) ∷ (128 ∷ 0 ∷ 0 ∷ 0 ∷ []) ∷ (255 ∷ 255 ∷ 255 ∷ 255 ∷ [])
+    ∷ (0 ∷ 0 ∷ 1 ∷ 2 ∷ []) ∷ []) ≡
     pos 2147483647 ∷ negsuc 2147483647 ∷ negsuc 0 ∷ pos 258 ∷ []
 unfolding signed_at number_at
 signed_numbers_are_in_twos_complement = refl
 
 signed_numbers_are_put_so : map (λ z. put_signed 1 z bytes) (negsuc 1 ∷ negsuc 2147483647 ∷ pos 258 ∷ []) ≡
-    (1 ∷ 255 ∷ 255 ∷ 255 ∷ 254 ∷ 6 ∷ 7 ∷ 8 ∷ []) ∷ (1 ∷ 128 ∷ 0 ∷ 0 ∷ 0 ∷ 6 ∷ 7 ∷ 8 ∷ []) ∷ (1 ∷ 0 ∷ 0 ∷ 1 ∷ 2 ∷ 6 ∷ 7 ∷ 8 ∷ []) ∷ []
+    (1 ∷ 255 ∷ 255 ∷ 255 ∷ 254 ∷ 6 ∷ 7 ∷ 8 ∷ []) ∷ (1 ∷ 128 ∷ 0 ∷ 0 ∷ 0 ∷ 6 ∷ 7 ∷ 8 ∷ [])
+    ∷ (1 ∷ 0 ∷ 0 ∷ 1 ∷ 2 ∷ 6 ∷ 7 ∷ 8 ∷ []) ∷ []
 unfolding put_signed put_number
 signed_numbers_are_put_so = refl
 

@@ -1,4 +1,5 @@
--- What holds of each way in which pages spell something: a function that reads a page, and the bytes that it names there.
+-- What holds of each way in which pages spell something: a function that reads a page, and the bytes that it
+-- names there.
 use Rattle.std.specs.Prelude.{◌≡◌, ℕ, List, Option, Some}
 use Rattle.block_bytes.specs.Numbers.{number_at, AreBytes}
 
@@ -11,11 +12,13 @@ abbrev pub ReadsNamed : {X : Type 0} → (List ℕ → Option X) → (List ℕ �
 ReadsNamed read IsNamed = (a b : List ℕ) → SameNamed IsNamed a b → read a ≡ read b
 
 -- the page of what it spells: each byte that is not named is zero
-pub record IsPageOf {X : Type 0} (read : List ℕ → Option X) (IsNamed : List ℕ → ℕ → Type 0) (page : List ℕ) (x : X) : Type 0 where
+pub record IsPageOf {X : Type 0} (read : List ℕ → Option X) (IsNamed : List ℕ → ℕ → Type 0) (page : List ℕ)
+    (x : X) : Type 0 where
   pub spelled : read page ≡ Some x
   pub rest : (k : ℕ) → (IsNamed page k → ⊥) → number_at 1 k page ≡ 0
 
 -- there is one page of each thing that is spelled
 abbrev pub HasOnePage : {X : Type 0} → (List ℕ → Option X) → (List ℕ → ℕ → Type 0) → Type 0
-HasOnePage {X} read IsNamed = (a b : List ℕ) (x : X) → AreBytes a → AreBytes b → IsPageOf read IsNamed a x → IsPageOf read IsNamed b x
+HasOnePage {X} read IsNamed = (a b : List ℕ) (x : X) → AreBytes a → AreBytes b → IsPageOf read IsNamed a x
+    → IsPageOf read IsNamed b x
     → (k : ℕ) → number_at 1 k a ≡ number_at 1 k b

@@ -1,5 +1,5 @@
--- The kinds of pages, and how a page with entries begins (our format, docs/FORMAT.md): byte 0 is the kind, byte 1 the dimension, and
--- at 2 the count of entries.
+-- The kinds of pages, and how a page with entries begins (our format, docs/FORMAT.md): byte 0 is the kind,
+-- byte 1 the dimension, and at 2 the count of entries.
 use Rattle.std.specs.Prelude.{◌≡◌, ℕ, List}
 use Rattle.block_bytes.specs.Numbers.{number_at}
 

@@ -14,7 +14,8 @@ pub const UNTAGGED_NODE_KIND: u8 = 2;
 /// The directory of an identifier table.
 pub const DIRECTORY_KIND: u8 = 3;
 
-/// A bucket of an identifier table in format 1, whose objects have the tag 0. It is read and no longer written.
+/// A bucket of an identifier table in format 1, whose objects have the tag 0. It is read and no longer
+/// written.
 pub const UNTAGGED_BUCKET_KIND: u8 = 4;
 
 /// A page that was freed.

@@ -1,7 +1,8 @@
 //! What a write leaves to be read, each law the contract of a function that does nothing.
 ghost use Rattle.std.specs.Prelude.{◌≡◌, ◌≤◌, ◌<◌, ◌+◌, ◌^◌, ℕ, ℤ, FitsSigned, List, length};
 ghost use Rattle.std.specs.Int.{w32};
-ghost use Rattle.block_bytes.specs.Numbers.{zeros, number_at, signed_at, put_number, put_signed, IsApart, AreBytes};
+ghost use Rattle.block_bytes.specs.Numbers.{zeros, number_at, signed_at, put_number, put_signed, IsApart};
+ghost use Rattle.block_bytes.specs.Numbers.{AreBytes};
 
 /// What was written is read back.
 #[tactic(auto, using(crate::specs::Laws::laws))]
@@ -33,16 +34,19 @@ pub fn a_block_keeps_its_length()
 /// A number is read from its own bytes alone, and a signed one too.
 #[tactic(auto, using(crate::specs::Laws::laws))]
 pub fn own_bytes_are_read()
-    ensures number { (n at : ℕ) (a b : List ℕ) → ((k : ℕ) → at ≤ k → k < at + n → number_at 1 k a ≡ number_at 1 k b)
+    ensures number { (n at : ℕ) (a b : List ℕ) →
+        ((k : ℕ) → at ≤ k → k < at + n → number_at 1 k a ≡ number_at 1 k b)
         → number_at n at a ≡ number_at n at b }
-    ensures signed { (at : ℕ) (a b : List ℕ) → number_at 4 at a ≡ number_at 4 at b → signed_at at a ≡ signed_at at b }
+    ensures signed { (at : ℕ) (a b : List ℕ) → number_at 4 at a ≡ number_at 4 at b →
+        signed_at at a ≡ signed_at at b }
 {}
 
-/// Two blocks of bytes with the same number at a place have the same bytes there, and a signed number is that of one
-/// number without a sign.
+/// Two blocks of bytes with the same number at a place have the same bytes there, and a signed number is that
+/// of one number without a sign.
 #[tactic(auto, using(crate::specs::Laws::fixing))]
 pub fn a_number_fixes_its_bytes()
-    ensures number { (n at : ℕ) (a b : List ℕ) → AreBytes a → AreBytes b → number_at n at a ≡ number_at n at b → (k : ℕ)
+    ensures number { (n at : ℕ) (a b : List ℕ) → AreBytes a → AreBytes b →
+        number_at n at a ≡ number_at n at b → (k : ℕ)
         → at ≤ k → k < at + n → number_at 1 k a ≡ number_at 1 k b }
     ensures signed { (at : ℕ) (a b : List ℕ) → AreBytes a → AreBytes b → signed_at at a ≡ signed_at at b
         → number_at 4 at a ≡ number_at 4 at b }

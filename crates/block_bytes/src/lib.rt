@@ -1,5 +1,5 @@
-//! Numbers at places of a block of 4096 bytes, the highest byte first, and what all kinds of pages share. Everything
-//! that lies in a block is stated over these words.
+//! Numbers at places of a block of 4096 bytes, the highest byte first, and what all kinds of pages share.
+//! Everything that lies in a block is stated over these words.
 #![tactic(auto)]
 
 mod kinds;

@@ -1,6 +1,7 @@
 -- The words of a device's contract: what a call does to the blocks, what a stop may leave, and how
 -- faults are counted (our disk model, docs/FORMAT.md, "The disk model of a stop").
-use Rattle.std.specs.Prelude.{◌≡◌, ◌<◌, ◌≤◌, ◌⊎◌, ◌+◌, ◌-◌, ◌^◌, ℕ, zero, suc, List, [], ◌∷◌, length, slice_index, slice_index_or, Result, IsErrOf, min}
+use Rattle.std.specs.Prelude.{◌≡◌, ◌<◌, ◌≤◌, ◌⊎◌, ◌+◌, ◌-◌, ◌^◌, ℕ, zero, suc, List, [], ◌∷◌, length}
+use Rattle.std.specs.Prelude.{slice_index, slice_index_or, Result, IsErrOf, min}
 use Rattle.block_device.specs.declared.device.DeviceError.{DeviceError}
 use Rattle.block_device.specs.declared.device.DeviceError.TheVariants.{Failed}
 
@@ -41,7 +42,8 @@ Only blocks outcomes = (c : Blocks) → outcomes c → c ≡ blocks
 
 -- Time goes on by a call: what a stop since t might have left, it might have left before the call,
 -- or it may leave it now.
-pub record Elapses (before now : ℕ) (past since : ℕ → Blocks → Type 0) (may_leave : Blocks → Type 0) : Type 0 where
+pub record Elapses (before now : ℕ) (past since : ℕ → Blocks → Type 0) (may_leave : Blocks → Type 0) : Type
+    0 where
   pub later : before ≤ now
   pub nothing_else : (t : ℕ) (c : Blocks) → t ≤ before → since t c → past t c ⊎ may_leave c
   pub keeps : (t : ℕ) (c : Blocks) → t ≤ before → past t c → since t c
@@ -55,9 +57,9 @@ pub record Begins (kept c : Blocks) : Type 0 where
 abbrev pub BeginsOne : (Blocks → Type 0) → Blocks → Type 0
 BeginsOne commits c = (kept : Blocks) × commits kept × Begins kept c
 
--- What a stop brings back of a device that commits (our rule, docs/FORMAT.md, "The journal"): the commits of which one
--- is brought back now, with any blocks behind it; what stops since a moment were found to have left, once that was
--- done; and which blocks are ever committed.
+-- What a stop brings back of a device that commits (our rule, docs/FORMAT.md, "The journal"): the commits of
+-- which one is brought back now, with any blocks behind it; what stops since a moment were found to have
+-- left, once that was done; and which blocks are ever committed.
 pub record Recovery (D : Type 0) : Type 1 where
   pub commits : D → Blocks → Type 0
   pub found_since : D → ℕ → Blocks → Type 0
@@ -71,15 +73,18 @@ no_recovery = record { commits = λ d k. ⊥; found_since = λ d t c. ⊥; takes
 abbrev pub OrTaken : {D : Type 0} → Recovery D → D → (Blocks → Type 0) → Blocks → Type 0
 OrTaken recovery old P k = recovery.commits old k ⊎ (recovery.takes k × P k)
 
--- Over a run of calls that began at `old`, each new commit was of blocks that have P, and each stop was found to have left
--- blocks that begin with a commit that was there, or with a new one.
-pub record Brings {D : Type 0} (moment : D → ℕ) (recovery : Recovery D) (old new : D) (P : Blocks → Type 0) : Type 0 where
+-- Over a run of calls that began at `old`, each new commit was of blocks that have P, and each stop was found
+-- to have left blocks that begin with a commit that was there, or with a new one.
+pub record Brings {D : Type 0} (moment : D → ℕ) (recovery : Recovery D) (old new : D)
+    (P : Blocks → Type 0) : Type 0 where
   pub commits : (k : Blocks) → recovery.commits new k → OrTaken recovery old P k
-  pub found : (t : ℕ) (c : Blocks) → t ≤ moment old → recovery.found_since new t c → recovery.found_since old t c ⊎ BeginsOne (OrTaken recovery old P) c
+  pub found : (t : ℕ) (c : Blocks) → t ≤ moment old → recovery.found_since new t c
+      → recovery.found_since old t c ⊎ BeginsOne (OrTaken recovery old P) c
 
 -- Over a run of calls that began at `old`, each stop left blocks that have P. `before` is for a run
 -- that began earlier.
-pub record LeavesOnly {D : Type 0} (moment : D → ℕ) (left_since : D → ℕ → Blocks → Type 0) (recovery : Recovery D) (old new : D) (P : Blocks → Type 0) : Type 0 where
+pub record LeavesOnly {D : Type 0} (moment : D → ℕ) (left_since : D → ℕ → Blocks → Type 0)
+    (recovery : Recovery D) (old new : D) (P : Blocks → Type 0) : Type 0 where
   pub later : moment old ≤ moment new
   pub each : (c : Blocks) → left_since new (moment old) c → P c
   pub before : (t : ℕ) (c : Blocks) → t ≤ moment old → left_since new t c → left_since old t c ⊎ P c

@@ -39,7 +39,8 @@ fails_next f = is_blown (mode_of f) (passes_of f) (calls_of f)
 
 -- A call that the fuse fails answers Failed, and changes nothing below. Any other is the call `below`
 -- of the device below. Each is counted.
-pub record CallsBelow {D : Type 0} (old new : FuseDevice D) (result : Result (Unit {0}) DeviceError) (below : Type 0) : Type 0 where
+pub record CallsBelow {D : Type 0} (old new : FuseDevice D) (result : Result (Unit {0}) DeviceError)
+    (below : Type 0) : Type 0 where
   pub fails : fails_next old ≡ true → (result ≡ Err Failed) × (inner_of new ≡ inner_of old)
   pub passes : fails_next old ≡ false → below
   pub counted : calls_of new ≡ one_more (calls_of old)

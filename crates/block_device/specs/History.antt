@@ -1,6 +1,7 @@
 -- The writes and syncs of a device in memory, newest first, and what a stop at each moment between
 -- them might have left (our disk model, docs/FORMAT.md, "The disk model of a stop").
-use Rattle.std.specs.Prelude.{◌≡◌, ◌⊎◌, ◌<◌, ◌≤◌, ◌+◌, ℕ, List, [], ◌∷◌, length, take, set, Option, Some, None}
+use Rattle.std.specs.Prelude.{◌≡◌, ◌⊎◌, ◌<◌, ◌≤◌, ◌+◌, ℕ, List, [], ◌∷◌, length, take, set, Option, Some}
+use Rattle.std.specs.Prelude.{None}
 use Rattle.block_device.specs.Device.{Blocks, IsBlock}
 use Rattle.block_device.specs.Noted.{Note}
 use Rattle.block_device.specs.Stop.{IsOutcome}
@@ -60,4 +61,5 @@ MayLeave blocks es c = IsOutcome blocks (at_sync blocks es) (unsynced es) c
 -- what a stop after at least t of these events might have left
 abbrev pub LeftSince : Blocks → List Event → ℕ → Blocks → Type 0
 LeftSince blocks [] t c = MayLeave blocks [] c
-LeftSince blocks (e ∷ es) t c = MayLeave blocks (e ∷ es) c ⊎ ((t ≤ length es) × LeftSince (before e blocks) es t c)
+LeftSince blocks (e ∷ es) t c = MayLeave blocks (e ∷ es) c
+    ⊎ ((t ≤ length es) × LeftSince (before e blocks) es t c)

@@ -1,6 +1,7 @@
 -- What a device in memory keeps beside its blocks, from which a stop can undo or fill what was written
 -- since the last sync (our rule, `MemoryDevice`).
-use Rattle.std.specs.Prelude.{◌≡◌, ◌<◌, ℕ, Bool, true, false, ◌||◌, if◌then◌else◌, nat_eq, List, [], ◌∷◌, ◌++◌, length, take, replicate, slice_index_or, set}
+use Rattle.std.specs.Prelude.{◌≡◌, ◌<◌, ℕ, Bool, true, false, ◌||◌, if◌then◌else◌, nat_eq, List, [], ◌∷◌}
+use Rattle.std.specs.Prelude.{◌++◌, length, take, replicate, slice_index_or, set}
 use Rattle.std.specs.List.{All}
 use Rattle.block_device.specs.declared.left.Left.{Left}
 use Rattle.block_device.specs.declared.left.Left.TheVariants as left
@@ -24,7 +25,8 @@ IsOld synced w = (w.at < length synced) × (w.old ≡ block_at w.at synced)
 
 -- A mark for each block that was written since the last sync, and for those of them that were there
 -- then, what they held.
-pub record IsKept (blocks : Blocks) (marks : List Bool) (log : List Write) (synced : ℕ) (es : List Event) : Type 0 where
+pub record IsKept (blocks : Blocks) (marks : List Bool) (log : List Write) (synced : ℕ)
+    (es : List Event) : Type 0 where
   pub whole : All IsBlock blocks
   pub leads : IsHistory blocks es
   pub as_many : length marks ≡ length blocks
@@ -35,9 +37,11 @@ pub record IsKept (blocks : Blocks) (marks : List Bool) (log : List Write) (sync
 
 -- Marks and log before a write of block i, which holds these bytes. A block that has no mark was there
 -- at the last sync.
-pub record Keeps (i : ℕ) (bytes : List ℕ) (marks : List Bool) (log : List Write) (marks' : List Bool) (log' : List Write) : Type 0 where
+pub record Keeps (i : ℕ) (bytes : List ℕ) (marks : List Bool) (log : List Write) (marks' : List Bool)
+    (log' : List Write) : Type 0 where
   pub marked : marks' ≡ set marks i true
-  pub logged : log' ≡ (if slice_index_or marks i false then log else log ++ record { at = i; old = bytes } ∷ [])
+  pub logged : log'
+      ≡ (if slice_index_or marks i false then log else log ++ record { at = i; old = bytes } ∷ [])
 
 -- the new blocks have these bytes where there is a mark, and are the old ones elsewhere
 pub record FillsMarked (bytes : List ℕ) (marks : List Bool) (old new : Blocks) : Type 0 where

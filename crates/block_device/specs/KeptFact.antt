@@ -13,7 +13,9 @@ there_is_fact i None blocks = hlevel props
 history_is_fact : (blocks : Blocks) (es : List Event) → IsProp (IsHistory blocks es)
 history_is_fact blocks [] = hlevel props
 history_is_fact blocks (Synced ∷ es) = history_is_fact blocks es
-history_is_fact blocks (Wrote i old ∷ es) = hlevel (props, there_is_fact i old blocks, history_is_fact (undone i old blocks) es)
+history_is_fact blocks (Wrote i old ∷ es) =
+    hlevel (props, there_is_fact i old blocks, history_is_fact (undone i old blocks) es)
 
-pub kept_is_fact : (blocks : Blocks) (marks : List Bool) (log : List Write) (synced : ℕ) (es : List Event) → IsProp (IsKept blocks marks log synced es)
+pub kept_is_fact : (blocks : Blocks) (marks : List Bool) (log : List Write) (synced : ℕ) (es : List Event)
+    → IsProp (IsKept blocks marks log synced es)
 kept_is_fact blocks marks log synced es = hlevel (props, history_is_fact blocks es)

@@ -1,5 +1,6 @@
 -- A device in memory as its contracts see it: its blocks, its history, and what its calls answer.
-use Rattle.std.specs.Prelude.{◌≡◌, ◌<◌, ℕ, List, [], ◌∷◌, length, replicate, Result, IsOk, OnOk, OnErr, IsErrOf}
+use Rattle.std.specs.Prelude.{◌≡◌, ◌<◌, ℕ, List, [], ◌∷◌, length, replicate, Result, IsOk, OnOk, OnErr}
+use Rattle.std.specs.Prelude.{IsErrOf}
 use Rattle.std.specs.List.{Contains}
 use Rattle.block_device.specs.declared.device.DeviceError.{DeviceError}
 use Rattle.block_device.specs.declared.device.DeviceError.TheVariants.{Failed}
@@ -43,13 +44,15 @@ abbrev pub left_since_of : {X : Type 0} → MemoryDevice X → ℕ → Blocks �
 left_since_of d t c = LeftSince (shown_of d) (history_of d) t c
 
 -- A read answers Ok with the block's bytes, and changes nothing.
-pub record AnswersRead {X : Type 0} (old : MemoryDevice X) (i : ℕ) (result : Result (Unit {0}) DeviceError) (into : List ℕ) (new : MemoryDevice X) : Type 0 where
+pub record AnswersRead {X : Type 0} (old : MemoryDevice X) (i : ℕ) (result : Result (Unit {0}) DeviceError)
+    (into : List ℕ) (new : MemoryDevice X) : Type 0 where
   pub ok : IsOk result
   pub bytes : into ≡ block_at i (shown_of old)
   pub same : new ≡ old
 
 -- the device after a write of block i
-pub record HasWritten {X : Type 0} (old : MemoryDevice X) (i : ℕ) (bytes : List ℕ) (new : MemoryDevice X) : Type 0 where
+pub record HasWritten {X : Type 0} (old : MemoryDevice X) (i : ℕ) (bytes : List ℕ)
+    (new : MemoryDevice X) : Type 0 where
   pub shown : shown_of new ≡ written i bytes (shown_of old)
   pub synced : synced_of new ≡ synced_of old
   pub unsynced : unsynced_of new ≡ i ∷ unsynced_of old
@@ -63,14 +66,16 @@ pub record IsUnchanged {X : Type 0} (old new : MemoryDevice X) : Type 0 where
 
 -- A write answers Ok and is done, or Memory and nothing has changed. A block that was written since the
 -- last sync takes no memory to be written again.
-pub record AnswersWrite {X : Type 0} (old : MemoryDevice X) (i : ℕ) (bytes : List ℕ) (result : Result (Unit {0}) DeviceError) (new : MemoryDevice X) : Type 0 where
+pub record AnswersWrite {X : Type 0} (old : MemoryDevice X) (i : ℕ) (bytes : List ℕ)
+    (result : Result (Unit {0}) DeviceError) (new : MemoryDevice X) : Type 0 where
   pub done : OnOk result (HasWritten old i bytes new)
   pub refused : OnErr result (IsUnchanged old new)
   pub memory : IsErrOf result Failed → ⊥
   pub again : Contains (unsynced_of old) i → i < length (shown_of old) → IsOk result
 
 -- A sync answers Ok, after which nothing is unsynced.
-pub record AnswersSync {X : Type 0} (old : MemoryDevice X) (result : Result (Unit {0}) DeviceError) (new : MemoryDevice X) : Type 0 where
+pub record AnswersSync {X : Type 0} (old : MemoryDevice X) (result : Result (Unit {0}) DeviceError)
+    (new : MemoryDevice X) : Type 0 where
   pub ok : IsOk result
   pub shown : shown_of new ≡ shown_of old
   pub synced : synced_of new ≡ shown_of old

@@ -14,7 +14,8 @@ pub fn append<T: Copy, A: Allocator>(
 ) -> Result<(), DeviceError>
     ensures blocks { OnOk result (blocks.new.items ≡ blocks.old.items ++ bytes.now ∷ []) }
     ensures beside { OnOk result (beside.new.items ≡ beside.old.items ++ x ∷ []) }
-    ensures refused { OnErr result ((blocks.new.items ≡ blocks.old.items) × (beside.new.items ≡ beside.old.items)) }
+    ensures refused { OnErr result ((blocks.new.items ≡ blocks.old.items)
+        × (beside.new.items ≡ beside.old.items)) }
     ensures memory { IsErrOf result DeviceError.Failed → ⊥ }
 {
     beside.push(x)?;

@@ -3,7 +3,8 @@ ghost use Rattle.std.specs.Prelude.{◌≡◌, ◌≤◌, ◌<◌, ◌+◌, ◌^
 ghost use Rattle.block_device.specs.declared.device.DeviceError.{DeviceError};
 ghost use Rattle.block_device.specs.declared.device.DeviceError.TheVariants.{Memory};
 ghost use Rattle.std.specs.List.{All};
-ghost use Rattle.block_device.specs.Device.{Blocks, IsBlock, Only, LeavesNoMore, Follows, Torn, Elapses, Counts};
+ghost use Rattle.block_device.specs.Device.{Blocks, IsBlock, Only, LeavesNoMore, Follows, Torn, Elapses};
+ghost use Rattle.block_device.specs.Device.{Counts};
 ghost use Rattle.block_device.specs.Device.{BeginsOne, Brings, Recovery, no_recovery};
 ghost use Rattle.block_device.specs.Device.{block_at, written};
 
@@ -72,7 +73,8 @@ pub trait BlockDevice {
         Self → Type 0 } = { λ _ _ _ _ _ _. ⊤ };
 
     /// The same of a write: of the device, the block's number, the bytes, the answer and the device.
-    ghost write_gives: { Self → ℕ → List ℕ → Result (Unit {0}) DeviceError → Self → Type 0 } = { λ _ _ _ _ _. ⊤ };
+    ghost write_gives: { Self → ℕ → List ℕ → Result (Unit {0}) DeviceError → Self →
+        Type 0 } = { λ _ _ _ _ _. ⊤ };
 
     /// The same of a sync: of the device, the answer and the device.
     ghost sync_gives: { Self → Result (Unit {0}) DeviceError → Self → Type 0 } = { λ _ _ _. ⊤ };
@@ -104,7 +106,8 @@ pub trait BlockDevice {
     fn write(&mut self, i: u32, bytes: &[u8; 4096]) -> Result<(), DeviceError>
         requires within { i ≤ length (shown self.old) }
         requires small { i < 2 ^ 31 }
-        ensures written { honest self.old → OnOk result (shown self.new ≡ written i bytes.now (shown self.old)) }
+        ensures written { honest self.old →
+            OnOk result (shown self.new ≡ written i bytes.now (shown self.old)) }
         ensures torn { honest self.old → OnErr result (Torn i (shown self.old) (shown self.new)) }
 
         // A stop leaves what one before the call might have left, with any bytes in this block.
@@ -146,20 +149,23 @@ pub trait BlockDevice {
     ghost whole: { (d : Self) (c : Blocks) → honest d → may_leave d c → All IsBlock c };
 
     /// This moment is one of those since an earlier one.
-    ghost counts_now: { (d : Self) (t : ℕ) (c : Blocks) → honest d → t ≤ moment d → may_leave d c → left_since d t c };
+    ghost counts_now: { (d : Self) (t : ℕ) (c : Blocks) → honest d → t ≤ moment d → may_leave d c →
+        left_since d t c };
 
     /// Since this moment there is no other.
     ghost only_now: { (d : Self) (c : Blocks) → honest d → left_since d (moment d) c → may_leave d c };
 
     /// The moments since one include those since a later one.
-    ghost since_earlier: { (d : Self) (t u : ℕ) (c : Blocks) → honest d → t ≤ u → left_since d u c → left_since d t c };
+    ghost since_earlier: { (d : Self) (t u : ℕ) (c : Blocks) → honest d → t ≤ u → left_since d u c →
+        left_since d t c };
 
     /// A stop now brings back blocks that begin with a commit.
     ghost brought_now: { (d : Self) (c : Blocks) → honest d → recovery.found_since d (moment d) c →
         BeginsOne (recovery.commits d) c };
 
     /// Where all is durable, and what is read is committed at all, it is the one commit.
-    ghost committed: { (d : Self) (k : Blocks) → honest d → Only (shown d) (may_leave d) → recovery.takes (shown d) →
+    ghost committed: { (d : Self) (k : Blocks) → honest d → Only (shown d) (may_leave d) →
+        recovery.takes (shown d) →
         recovery.commits d k → k ≡ shown d };
 
     /// The count of faults is a u64.

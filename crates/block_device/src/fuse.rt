@@ -1,7 +1,8 @@
 //! A device that fails at a call of one's choice, for tests of what its users then do.
 ghost use Rattle.std.specs.Prelude.{◌≡◌, ◌<◌, ◌≤◌, ◌^◌, ◌-◌, true, if◌then◌else◌};
 ghost use Rattle.block_device.specs.Device.{one_more};
-ghost use Rattle.block_device.specs.Fuse.{inner_of, passes_of, mode_of, calls_of, blown_of, fails_next, faults_with};
+ghost use Rattle.block_device.specs.Fuse.{inner_of, passes_of, mode_of, calls_of, blown_of, fails_next};
+ghost use Rattle.block_device.specs.Fuse.{faults_with};
 ghost use Rattle.block_device.specs.Fuse.{faults_with-fits, CallsBelow};
 
 use crate::{BlockDevice, DeviceError};
@@ -63,7 +64,8 @@ impl<D: BlockDevice> FuseDevice<D> {
     fn blows(&mut self) -> bool
         ensures fails { result ≡ fails_next self.old }
         ensures calls { calls_of self.new ≡ one_more (calls_of self.old) }
-        ensures blown { blown_of self.new ≡ (if result then one_more (blown_of self.old) else blown_of self.old) }
+        ensures blown { blown_of self.new
+            ≡ (if result then one_more (blown_of self.old) else blown_of self.old) }
         ensures inner { inner_of self.new ≡ inner_of self.old }
         ensures passes { passes_of self.new ≡ passes_of self.old }
         ensures mode { mode_of self.new ≡ mode_of self.old }
@@ -102,7 +104,8 @@ impl<D: BlockDevice> BlockDevice for FuseDevice<D> {
     ghost write_gives = { λ f i bytes result g.
         CallsBelow f g result (D.write_gives (inner_of f) i bytes result (inner_of g)) };
 
-    ghost sync_gives = { λ f result g. CallsBelow f g result (D.sync_gives (inner_of f) result (inner_of g)) };
+    ghost sync_gives = { λ f result g.
+        CallsBelow f g result (D.sync_gives (inner_of f) result (inner_of g)) };
 
     fn blocks(&self) -> u32 {
         self.inner.blocks()

@@ -1,7 +1,8 @@
 //! The laws of the device model, each the contract of a function that does nothing.
 ghost use Rattle.std.specs.Prelude.{◌≡◌, ◌≤◌, ◌+◌, ◌↔◌, ◌∷◌, ℕ, List, length};
 ghost use Rattle.std.specs.List.{All};
-ghost use Rattle.block_device.specs.Device.{Blocks, IsBlock, Follows, LeavesNoMore, Only, Torn, block_at, written};
+ghost use Rattle.block_device.specs.Device.{Blocks, IsBlock, Follows, LeavesNoMore, Only, Torn, block_at};
+ghost use Rattle.block_device.specs.Device.{written};
 ghost use Rattle.block_device.specs.History.{Event, MayLeave, Synced};
 ghost use Rattle.block_device.specs.Laws.{Both};
 
@@ -36,9 +37,11 @@ pub fn a_stop_between_calls_is_during_none<D: BlockDevice>()
 
 /// A sync makes all outcomes one, and calls that leave no more keep it so.
 pub fn a_sync_makes_all_outcomes_one<D: BlockDevice>()
-    ensures one { (d : D) (blocks a b : Blocks) → Only blocks (D.may_leave d) → D.may_leave d a → D.may_leave d b →
+    ensures one { (d : D) (blocks a b : Blocks) → Only blocks (D.may_leave d) → D.may_leave d a →
+        D.may_leave d b →
         a ≡ b }
-    ensures shown { (d : D) (blocks : Blocks) → D.honest d → Only blocks (D.may_leave d) → D.shown d ≡ blocks }
+    ensures shown { (d : D) (blocks : Blocks) → D.honest d → Only blocks (D.may_leave d) →
+        D.shown d ≡ blocks }
     ensures stays { (d e : D) (blocks : Blocks) → Only blocks (D.may_leave d) →
         LeavesNoMore (D.may_leave d) (D.may_leave e) → Only blocks (D.may_leave e) }
     ensures in_memory { (blocks : Blocks) (es : List Event) (c : Blocks) → All IsBlock blocks →

@@ -28,7 +28,8 @@ pub struct MemoryDevice<A: Allocator + Copy = Global> {
     // how many writes answered Ok
     writes: u64,
     past: Past,
-    ghost kept: { IsKept blocks.items marks.items log synced (history past.notes) } by { kept_is_fact blocks.items
+    ghost kept: { IsKept blocks.items marks.items log synced (history past.notes) } by { kept_is_fact
+        blocks.items
         marks.items log synced (history past.notes) },
     ghost few: { length blocks.items ≤ 2 ^ 31 },
 }

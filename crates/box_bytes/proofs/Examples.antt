@@ -1,31 +1,37 @@
--- Worked examples of corners and boxes at places of a block: with the coordinates together and in columns, and which
--- bytes are a corner's. No other proof rests on them.
-use Rattle.std.proofs.Common.{◌≡◌, ℕ, zero, suc, ◌+◌, ◌*◌, ◌≤◌, ◌⊎◌, List, [], ◌∷◌, ◌++◌, refl, pos, negsuc, arith, inl, inr}
+-- Worked examples of corners and boxes at places of a block: with the coordinates together and in columns,
+-- and which bytes are a corner's. No other proof rests on them.
+use Rattle.std.proofs.Common.{◌≡◌, ℕ, zero, suc, ◌+◌, ◌*◌, ◌≤◌, ◌⊎◌, List, [], ◌∷◌, ◌++◌, refl, pos, negsuc}
+use Rattle.std.proofs.Common.{arith, inl, inr}
 use Rattle.block_bytes.specs.Numbers.{number_at, signed_at}
 use Rattle.box_bytes.specs.Corners.{corner_at, box_at, IsClearOfCorner, IsClearOfBox, AreApart, IsOfCorner}
 
 -- six coordinates after two bytes
 abbrev block : List ℕ
-block = 7 ∷ 7 ∷ (255 ∷ 255 ∷ 255 ∷ 255 ∷ []) ++ (0 ∷ 0 ∷ 0 ∷ 2 ∷ []) ++ (128 ∷ 0 ∷ 0 ∷ 0 ∷ []) ++ (0 ∷ 0 ∷ 0 ∷ 3 ∷ []) ++ (0 ∷ 0 ∷ 0 ∷ 4 ∷ []) ++ (127 ∷ 255 ∷ 255 ∷ 255 ∷ []) ++ []
+block = 7 ∷ 7 ∷ (255 ∷ 255 ∷ 255 ∷ 255 ∷ []) ++ (0 ∷ 0 ∷ 0 ∷ 2 ∷ []) ++ (128 ∷ 0 ∷ 0 ∷ 0 ∷ [])
+    ++ (0 ∷ 0 ∷ 0 ∷ 3 ∷ []) ++ (0 ∷ 0 ∷ 0 ∷ 4 ∷ []) ++ (127 ∷ 255 ∷ 255 ∷ 255 ∷ []) ++ []
 
-coordinates_stand_together : corner_at 2 block 2 4 ∷ corner_at 3 block 2 4 ∷ [] ≡ (negsuc 0 ∷ pos 2 ∷ []) ∷ (negsuc 0 ∷ pos 2 ∷ negsuc 2147483647 ∷ []) ∷ []
+coordinates_stand_together : corner_at 2 block 2 4 ∷ corner_at 3 block 2
+    4 ∷ [] ≡ (negsuc 0 ∷ pos 2 ∷ []) ∷ (negsuc 0 ∷ pos 2 ∷ negsuc 2147483647 ∷ []) ∷ []
 unfolding corner_at signed_at number_at
 coordinates_stand_together = refl
 
-coordinates_stand_in_columns : corner_at 2 block 2 8 ∷ corner_at 3 block 6 8 ∷ [] ≡ (negsuc 0 ∷ negsuc 2147483647 ∷ []) ∷ (pos 2 ∷ pos 3 ∷ pos 2147483647 ∷ []) ∷ []
+coordinates_stand_in_columns : corner_at 2 block 2 8 ∷ corner_at 3 block 6
+    8 ∷ [] ≡ (negsuc 0 ∷ negsuc 2147483647 ∷ []) ∷ (pos 2 ∷ pos 3 ∷ pos 2147483647 ∷ []) ∷ []
 unfolding corner_at signed_at number_at
 coordinates_stand_in_columns = refl
 
 boxes_have_their_lows_first : box_at 2 block 2 10 4 ∷ box_at 3 block 2 14 4 ∷ [] ≡
     record { low = negsuc 0 ∷ pos 2 ∷ []; high = negsuc 2147483647 ∷ pos 3 ∷ [] } ∷
-    record { low = negsuc 0 ∷ pos 2 ∷ negsuc 2147483647 ∷ []; high = pos 3 ∷ pos 4 ∷ pos 2147483647 ∷ [] } ∷ []
+    record { low = negsuc 0 ∷ pos 2 ∷ negsuc 2147483647 ∷ []; high = pos 3 ∷ pos 4 ∷ pos 2147483647 ∷ [] }
+    ∷ []
 unfolding corner_at signed_at number_at
 boxes_have_their_lows_first = refl
 
 -- ---- which bytes are a corner's
 
 -- the second coordinate begins a stride on
-first_and_last_byte_are_the_corners : IsOfCorner 2 16 8 16 × IsOfCorner 2 16 8 19 × IsOfCorner 2 16 8 24 × IsOfCorner 2 16 8 27
+first_and_last_byte_are_the_corners : IsOfCorner 2 16 8 16 × IsOfCorner 2 16 8 19 × IsOfCorner 2 16 8 24
+    × IsOfCorner 2 16 8 27
 first_and_last_byte_are_the_corners = (
   (0, omega arith, omega arith, omega arith),
   (0, omega arith, omega arith, omega arith),

@@ -10,7 +10,8 @@ corner_at dims block at stride = each_axis dims (λ axis. signed_at (at + stride
 
 -- the box whose lows stand from one place, and whose highs from another
 abbrev pub box_at : ℕ → List ℕ → ℕ → ℕ → ℕ → Bounds
-box_at dims block low high stride = record { low = corner_at dims block low stride; high = corner_at dims block high stride }
+box_at dims block low high stride =
+    record { low = corner_at dims block low stride; high = corner_at dims block high stride }
 
 -- the n bytes from a place, and a corner's, have none in common
 abbrev pub IsClearOfCorner : ℕ → ℕ → ℕ → ℕ → ℕ → Type 0
@@ -23,7 +24,8 @@ pub record IsClearOfBox (dims low high stride n from : ℕ) : Type 0 where
 
 -- two corners have no byte in common
 abbrev pub AreApart : ℕ → ℕ → ℕ → ℕ → Type 0
-AreApart dims low high stride = (axis : ℕ) → axis < dims → IsClearOfCorner dims high stride 4 (low + stride * axis)
+AreApart dims low high stride = (axis : ℕ) → axis < dims
+    → IsClearOfCorner dims high stride 4 (low + stride * axis)
 
 -- each number that lies in such places stays
 abbrev pub Keeps : (ℕ → ℕ → Type 0) → List ℕ → List ℕ → Type 0
@@ -31,4 +33,5 @@ Keeps IsClear old new = (n at : ℕ) → IsClear n at → number_at n at new ≡
 
 -- a byte of the corner
 abbrev pub IsOfCorner : ℕ → ℕ → ℕ → ℕ → Type 0
-IsOfCorner dims at stride k = (axis : ℕ) × (axis < dims) × (at + stride * axis ≤ k) × (k < at + stride * axis + 4)
+IsOfCorner dims at stride k = (axis : ℕ) × (axis < dims) × (at + stride * axis ≤ k)
+    × (k < at + stride * axis + 4)

@@ -22,7 +22,8 @@ pub fn read_box<const D: usize>(
     requires highs_within { high + stride * (D - 1) + 4 ≤ 4096 }
     ensures value { IfSome result (λ b. b ≡ box_at D block.now low high stride) }
     ensures is_box { IfSome result (λ b. IsBox D b) }
-    ensures some { IsSome result ↔ IsOrdered D (corner_at D block.now low stride) (corner_at D block.now high stride) }
+    ensures some { IsSome result
+        ↔ IsOrdered D (corner_at D block.now low stride) (corner_at D block.now high stride) }
     ensures test { is_some result
         ≡ ordered_test D (corner_at D block.now low stride) (corner_at D block.now high stride) }
 {
@@ -31,8 +32,8 @@ pub fn read_box<const D: usize>(
     BBox::try_new(lows, highs)
 }
 
-/// Writes the box, its lows from the byte `low` and its highs from the byte `high`, each `stride` bytes apart.
-/// All other bytes stay. No low may share a byte with a high.
+/// Writes the box, its lows from the byte `low` and its highs from the byte `high`, each `stride` bytes
+/// apart. All other bytes stay. No low may share a byte with a high.
 #[inline]
 pub fn write_box<const D: usize>(
     block: &mut [u8; 4096],

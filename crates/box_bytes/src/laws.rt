@@ -8,7 +8,8 @@ ghost use Rattle.box_bytes.specs.Corners.{corner_at, box_at, IsOfCorner};
 /// A corner is a point: it has a coordinate for each axis, the signed number at the axis' place.
 #[tactic(auto, using(crate::specs::Laws::laws))]
 pub fn a_corner_has_a_number_for_each_axis()
-    ensures length { (dims : ℕ) (block : List ℕ) (at stride : ℕ) → length (corner_at dims block at stride) ≡ dims }
+    ensures length { (dims : ℕ) (block : List ℕ) (at stride : ℕ) →
+        length (corner_at dims block at stride) ≡ dims }
     ensures number { (dims : ℕ) (block : List ℕ) (at stride axis : ℕ) → axis < dims
         → on_axis (corner_at dims block at stride) axis ≡ signed_at (at + stride * axis) block }
 {}
@@ -25,7 +26,8 @@ pub fn own_bytes_are_read()
 #[tactic(auto, using(crate::specs::Laws::laws))]
 pub fn a_corner_stays_with_its_numbers()
     ensures { (dims : ℕ) (old new : List ℕ) (at stride : ℕ)
-        → ((axis : ℕ) → axis < dims → number_at 4 (at + stride * axis) new ≡ number_at 4 (at + stride * axis) old)
+        → ((axis : ℕ) → axis < dims →
+        number_at 4 (at + stride * axis) new ≡ number_at 4 (at + stride * axis) old)
         → corner_at dims new at stride ≡ corner_at dims old at stride }
 {}
 

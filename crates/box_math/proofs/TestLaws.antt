@@ -1,8 +1,10 @@
 -- The tests that compute, each true exactly where its relation holds.
-use Rattle.std.proofs.Common.{◌≡◌, ℕ, zero, suc, ◌<◌, ◌↔◌, ℤ, ◌≤ℤ◌, List, refl, arith, inl, inr, int_le, Bool, true, false, ◌&&◌}
+use Rattle.std.proofs.Common.{◌≡◌, ℕ, zero, suc, ◌<◌, ◌↔◌, ℤ, ◌≤ℤ◌, List, refl, arith, inl, inr, int_le, Bool}
+use Rattle.std.proofs.Common.{true, false, ◌&&◌}
 use Rattle.std.proofs.lemmas.Bool.{cases_eq, false≢true}
 use Rattle.std.proofs.lemmas.Int.{ints}
-use Rattle.box_math.specs.Bounds.{Bounds, all_over, IsOrdered, HoldsPoint, Meets, Within, ordered_test, holds_test, meets_test, within_test}
+use Rattle.box_math.specs.Bounds.{Bounds, all_over, IsOrdered, HoldsPoint, Meets, Within, ordered_test}
+use Rattle.box_math.specs.Bounds.{holds_test, meets_test, within_test}
 
 and_true : (a b : Bool) → (a && b ≡ true) ↔ ((a ≡ true) × (b ≡ true))
 and_true true true = (λ _. (refl, refl), λ _. refl)
@@ -19,7 +21,8 @@ le_tests a b c d = (
 )
 
 -- a test that computes a fact on each axis computes the fact on all of them
-all_over_true : (n : ℕ) (t : ℕ → Bool) (P : ℕ → Type 0) → ((axis : ℕ) → (t axis ≡ true) ↔ P axis) → (all_over n t ≡ true) ↔ ((axis : ℕ) → axis < n → P axis)
+all_over_true : (n : ℕ) (t : ℕ → Bool) (P : ℕ → Type 0) → ((axis : ℕ) → (t axis ≡ true) ↔ P axis)
+    → (all_over n t ≡ true) ↔ ((axis : ℕ) → axis < n → P axis)
 all_over_true zero t P each = (λ _ axis h. absurd (omega arith), λ _. refl)
 all_over_true (suc n) t P each =
     let both = and_true (all_over n t) (t n) in
@@ -31,11 +34,13 @@ all_over_true (suc n) t P each =
       λ all. both.1 (front.1 (λ axis h. all axis (omega arith)), (each n).1 (all n (omega arith))),
     )
 
-pub ordered_test_true : (dims : ℕ) (low high : List ℤ) → (ordered_test dims low high ≡ true) ↔ IsOrdered dims low high
+pub ordered_test_true : (dims : ℕ) (low high : List ℤ)
+    → (ordered_test dims low high ≡ true) ↔ IsOrdered dims low high
 unfolding ordered_test
 ordered_test_true dims low high = all_over_true dims _ _ (λ axis. le_test _ _)
 
-pub holds_test_true : (dims : ℕ) (b : Bounds) (p : List ℤ) → (holds_test dims b p ≡ true) ↔ HoldsPoint dims b p
+pub holds_test_true : (dims : ℕ) (b : Bounds) (p : List ℤ)
+    → (holds_test dims b p ≡ true) ↔ HoldsPoint dims b p
 unfolding holds_test
 holds_test_true dims b p = all_over_true dims _ _ (λ axis. le_tests _ _ _ _)
 

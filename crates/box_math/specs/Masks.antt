@@ -1,4 +1,5 @@
--- Boxes in columns, and masks of those that pass a test: bit k of a mask is the answer for the box in place k.
+-- Boxes in columns, and masks of those that pass a test: bit k of a mask is the answer for the box in place
+-- k.
 use Rattle.std.specs.Prelude.{ℕ, ℤ, Bool, ◌==◌, List, [], map, slice_index_or}
 use Rattle.std.specs.Int.{bit_at}
 use Rattle.std.specs.List.{range_with_len}

@@ -1,11 +1,12 @@
--- Objects in the order of their distance from a point (the distance is MINDIST of Roussopoulos, Kelley and Vincent 1995; the
--- order of ties is our rule, docs/COMMANDS.md). An object is an identifier with what is kept of it.
+-- Objects in the order of their distance from a point (the distance is MINDIST of Roussopoulos, Kelley and
+-- Vincent 1995; the order of ties is our rule, docs/COMMANDS.md). An object is an identifier with what is
+-- kept of it.
 use Rattle.std.specs.Prelude.{ℕ, ℤ, Bool, ◌||◌, ◌&&◌, ◌==◌, nat_lt, nat_le, List, [], ◌∷◌, map, if◌then◌else◌}
 use Rattle.box_math.specs.Measures.{point_dist2_of}
 use Rattle.box_math.specs.Objects.{Object, bounds_of}
 
--- whether an object, by its identifier and its squared distance, comes before another or is the same: the nearer one does,
--- and of equal distances the lesser identifier
+-- whether an object, by its identifier and its squared distance, comes before another or is the same: the
+-- nearer one does, and of equal distances the lesser identifier
 abbrev pub comes_first : ℕ × ℕ → ℕ × ℕ → Bool
 comes_first a b = nat_lt a.1 b.1 || (a.1 == b.1 && nat_le a.0 b.0)
 

@@ -1,5 +1,5 @@
--- What is kept of an object beside its identifier (our rule, docs/COMMANDS.md): whatever more is kept of it one day is
--- added here.
+-- What is kept of an object beside its identifier (our rule, docs/COMMANDS.md): whatever more is kept of it
+-- one day is added here.
 use Rattle.std.specs.Prelude.{ℕ}
 use Rattle.box_math.specs.Bounds.{Bounds}
 

@@ -1,5 +1,5 @@
-//! The boxes that others make: the least that encloses two, that of their common points, and one with its sides moved
-//! out.
+//! The boxes that others make: the least that encloses two, that of their common points, and one with its
+//! sides moved out.
 
 ghost use Rattle.std.specs.Prelude.{◌≡◌, ◌↔◌, ◌+ℤ◌, ◌-ℤ◌, pos, negsuc, IsSome, IfSome, is_some};
 ghost use Rattle.std.specs.Int.{int_min, int_max};

@@ -12,8 +12,8 @@ use std::simd::prelude::*;
 // How many boxes are compared at once.
 const LANES: usize = 8;
 
-/// Which of the first `n` boxes, 100 at most, meet the window: bit k of the mask is set exactly where k < n and the box
-/// in place k meets it, also where they only touch.
+/// Which of the first `n` boxes, 100 at most, meet the window: bit k of the mask is set exactly where k < n
+/// and the box in place k meets it, also where they only touch.
 ///
 /// The boxes stand in columns, as in a node page: `low[axis][place]` and `high[axis][place]`.
 pub fn meet_mask<const D: usize>(
@@ -46,7 +46,8 @@ fn last_mask<const D: usize>(
     requires order { at ≤ n }
     requires few { n ≤ at + 8 }
     requires within { n ≤ 100 }
-    ensures { result ≡ mask_from (λ k. meets_test D (box_in_columns D low.now high.now k) window.now) at (n - at) }
+    ensures { result ≡ mask_from (λ k. meets_test D (box_in_columns D low.now high.now k) window.now) at
+        (n - at) }
 {
     if n < LANES {
         return single_mask(low, high, at, n, window);
@@ -66,7 +67,8 @@ fn single_mask<const D: usize>(
 ) -> u128
     requires order { at ≤ n }
     requires few { n ≤ 100 }
-    ensures { result ≡ mask_from (λ k. meets_test D (box_in_columns D low.now high.now k) window.now) at (n - at) }
+    ensures { result ≡ mask_from (λ k. meets_test D (box_in_columns D low.now high.now k) window.now) at
+        (n - at) }
 {
     let mut mask = 0;
     let mut place = n;
@@ -133,7 +135,8 @@ fn block_mask<const D: usize>(
 // The mask of the eight intervals from a place on that meet the interval from `first` to `last`.
 fn axis_mask(lows: &[i32; 100], highs: &[i32; 100], at: usize, first: i32, last: i32) -> u64
     requires { at + 8 ≤ 100 }
-    ensures { result ≡ mask_from (λ k. int_le (on_axis lows.now k) last && int_le first (on_axis highs.now k)) at 8 }
+    ensures { result ≡ mask_from (λ k. int_le (on_axis lows.now k) last && int_le first (on_axis highs.now k))
+        at 8 }
 {
     let begins = lanes(lows, at).simd_le(i32x8::splat(last));
     let ends = lanes(highs, at).simd_ge(i32x8::splat(first));

@@ -29,7 +29,8 @@ fn square(n: u64) -> u128
 impl<const D: usize> BBox<D> {
     ghost use Rattle.box_math.specs.Bounds.{on_axis, IsDims};
     ghost use Rattle.box_math.specs.Measures.{volume_of, overlap_of, margin_of};
-    ghost use Rattle.box_math.specs.Measures.{point_dist2_of, centre2_of, centre_dist2_of, box_dist2_of, near_test};
+    ghost use Rattle.box_math.specs.Measures.{point_dist2_of, centre2_of, centre_dist2_of, box_dist2_of};
+    ghost use Rattle.box_math.specs.Measures.{near_test};
 
     /// The product of the sides, high less low: 0 where some side is 0.
     pub fn volume(&self) -> u128
@@ -117,8 +118,8 @@ impl<const D: usize> BBox<D> {
         sum
     }
 
-    /// The square of the distance between the nearest points of the boxes: the sum over the axes of the squared gap,
-    /// the low of one less the high of the other where it lies above it, and 0 where they meet.
+    /// The square of the distance between the nearest points of the boxes: the sum over the axes of the
+    /// squared gap, the low of one less the high of the other where it lies above it, and 0 where they meet.
     pub fn box_dist2(&self, other: &BBox<D>) -> u128
         requires { IsDims D }
         ensures value { result ≡ box_dist2_of D self.now other.now }

@@ -1,7 +1,8 @@
 -- How a page spells a bucket of the identifier table (our format, docs/FORMAT.md): byte 0 is 7, byte 1 the
--- dimension, at 2 the count, at 4 the next page, and from 16 on the entries, one after the other. In a page of format 1
--- byte 0 is 4, and its entries have no tags.
-use Rattle.std.specs.Prelude.{◌≡◌, ℕ, ◌+◌, ◌*◌, ◌<◌, ◌≤◌, ◌&&◌, ◌||◌, ◌==◌, ◌⊎◌, Bool, nat_le, List, [], ◌∷◌, ◌++◌, ◌-◌, length, slice_set, take, All, Option, Some, None, if◌then◌else◌}
+-- dimension, at 2 the count, at 4 the next page, and from 16 on the entries, one after the other. In a page
+-- of format 1 byte 0 is 4, and its entries have no tags.
+use Rattle.std.specs.Prelude.{◌≡◌, ℕ, ◌+◌, ◌*◌, ◌<◌, ◌≤◌, ◌&&◌, ◌||◌, ◌==◌, ◌⊎◌, Bool, nat_le, List, [], ◌∷◌}
+use Rattle.std.specs.Prelude.{◌++◌, ◌-◌, length, slice_set, take, All, Option, Some, None, if◌then◌else◌}
 use Rattle.block_bytes.specs.Kinds.{HasHead, bucket_kind, untagged_bucket_kind}
 use Rattle.block_bytes.specs.Numbers.{number_at, IsApart}
 use Rattle.block_bytes.specs.Places.{first_places}
@@ -55,7 +56,10 @@ tag_in kind at page = if kind == untagged_bucket_kind then 0 else number_at 4 at
 
 -- the object whose entry begins at a place: its identifier, then its lows, then its highs, then its tag
 abbrev pub object_from : ℕ → ℕ → List ℕ → ℕ → Entry
-object_from dims kind page at = (number_at 8 at page, (box_at dims page (at + 8) (at + 8 + 4 * dims) 4, tag_in kind (at + 8 + 8 * dims) page))
+object_from dims kind page at = (
+  number_at 8 at page,
+  (box_at dims page (at + 8) (at + 8 + 4 * dims) 4, tag_in kind (at + 8 + 8 * dims) page),
+)
 
 -- the object in a place, read as in a page of a kind
 unfoldable pub object_in : ℕ → ℕ → List ℕ → ℕ → Entry
@@ -111,14 +115,18 @@ is_bucket_kind kind = kind == bucket_kind || kind == untagged_bucket_kind
 -- whether the page spells a bucket
 unfoldable pub bucket_test : ℕ → List ℕ → Bool
 bucket_test dims page =
-    is_bucket_kind (number_at 1 0 page) && number_at 1 1 page == dims && nat_le 1 (number_at 2 2 page) && nat_le (number_at 2 2 page) 100
+    is_bucket_kind (number_at 1 0 page) && number_at 1 1 page == dims && nat_le 1 (number_at 2 2 page)
+    && nat_le (number_at 2 2 page) 100
     && all_over (number_at 2 2 page) (λ place. is_ordered dims (object_at dims page place))
 
 -- the bucket that the page spells, if it spells one
 unfoldable pub bucket_at : ℕ → List ℕ → Option BucketContent
-bucket_at dims page = if bucket_test dims page then Some (record { next = number_at 4 4 page; entries = objects_at dims page (number_at 2 2 page) }) else None
+bucket_at dims page =
+    if bucket_test dims page then Some
+    (record { next = number_at 4 4 page; entries = objects_at dims page (number_at 2 2 page) }) else None
 
--- a byte of the head or of one of the first entries: those of the places 8 to 15, and those after the entries, are not
+-- a byte of the head or of one of the first entries: those of the places 8 to 15, and those after the
+-- entries, are not
 abbrev pub IsNamed : ℕ → ℕ → ℕ → Type 0
 IsNamed size count k = (k < 8) ⊎ ((16 ≤ k) × (k < entry_place size count))
 

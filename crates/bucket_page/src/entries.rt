@@ -1,13 +1,15 @@
 //! One object in its place of a bucket page: its identifier, then its lows, then its highs, then its tag,
 //! which pages of format 1 have not.
 
-ghost use Rattle.std.specs.Prelude.{◌≡◌, ℕ, ◌+◌, ◌*◌, ◌<◌, ◌≤◌, ◌↔◌, Some, length, slice_index_or, IsSome, IfSome};
+ghost use Rattle.std.specs.Prelude.{◌≡◌, ℕ, ◌+◌, ◌*◌, ◌<◌, ◌≤◌, ◌↔◌, Some, length, slice_index_or, IsSome};
+ghost use Rattle.std.specs.Prelude.{IfSome};
 ghost use Rattle.block_bytes.specs.Kinds.{bucket_kind};
 ghost use Rattle.block_bytes.specs.Numbers.{number_at};
 ghost use Rattle.box_math.specs.Bounds.{IsDims, IsBox};
 ghost use Rattle.box_math.specs.Objects.{bounds_of};
 ghost use Rattle.box_bytes.specs.Corners.{Keeps};
-ghost use Rattle.bucket_page.specs.Layout.{BucketContent, Entry, entry_place, entry_size, object_at, object_in};
+ghost use Rattle.bucket_page.specs.Layout.{BucketContent, Entry, entry_place, entry_size, object_at};
+ghost use Rattle.bucket_page.specs.Layout.{object_in};
 ghost use Rattle.bucket_page.specs.Layout.{HasOrderedBox, IsClearOfEntry, bucket_at, size_in, tag_in};
 
 use block_bytes::{

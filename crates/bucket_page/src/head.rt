@@ -7,8 +7,8 @@ ghost use Rattle.bucket_page.specs.Layout.{BucketContent, HasBucketHead, IsBucke
 
 use block_bytes::{BUCKET_KIND, UNTAGGED_BUCKET_KIND, read_u8, read_u16, read_u32, write_u32};
 
-/// Whether the page begins as a bucket page of that dimension does: its kind, 7 or that of format 1, its dimension,
-/// and a count of 1 to 100. Its boxes are not looked at.
+/// Whether the page begins as a bucket page of that dimension does: its kind, 7 or that of format 1, its
+/// dimension, and a count of 1 to 100. Its boxes are not looked at.
 #[inline]
 pub fn has_bucket_head<const D: usize>(page: &[u8; 4096]) -> bool
     ensures { IsTrue result ↔ HasBucketHead D page.now }
@@ -32,7 +32,8 @@ fn is_bucket_kind(kind: u8) -> bool
 #[inline]
 pub fn count_at(page: &[u8; 4096]) -> usize
     ensures value { result ≡ number_at 2 2 page.now }
-    ensures of_bucket { (dims : ℕ) (c : BucketContent) → bucket_at dims page.now ≡ Some c → result ≡ length c.entries }
+    ensures of_bucket { (dims : ℕ) (c : BucketContent) → bucket_at dims page.now ≡ Some c →
+        result ≡ length c.entries }
 {
     usize::from(read_u16(page, 2))
 }

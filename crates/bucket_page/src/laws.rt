@@ -4,7 +4,8 @@
 ghost use Rattle.std.specs.Prelude.{◌≡◌, ◌<◌, Some, length, option_map};
 ghost use Rattle.box_math.specs.Bounds.{IsDims};
 ghost use Rattle.bucket_page.specs.Layout.{content_of};
-ghost use Rattle.bucket_page.specs.PageLaws.{ReadsWhatIsSpelled, ReadsNamedBytes, SpellsBuckets, BucketsHaveOnePage};
+ghost use Rattle.bucket_page.specs.PageLaws.{ReadsWhatIsSpelled, ReadsNamedBytes, SpellsBuckets};
+ghost use Rattle.bucket_page.specs.PageLaws.{BucketsHaveOnePage};
 
 use crate::bucket::Bucket;
 use crate::page::{decode, encode};
@@ -19,7 +20,8 @@ pub fn named_bytes_are_read()
     ensures { ReadsNamedBytes }
 {}
 
-/// What a page spells has 1 to 100 objects, each with a box of 32-bit coordinates, its lows at most its highs.
+/// What a page spells has 1 to 100 objects, each with a box of 32-bit coordinates, its lows at most its
+/// highs.
 pub fn what_is_spelled_is_a_bucket()
     ensures { SpellsBuckets }
 {}

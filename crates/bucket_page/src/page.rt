@@ -11,8 +11,9 @@ use crate::entries::{entry_at, write_entry};
 use crate::head::{count_at, has_bucket_head, next_at, write_head};
 use arrayvec::ArrayVec;
 
-/// The bucket that the page spells, or `None` where it spells none of that dimension: where its kind is neither 7 nor
-/// 4, its dimension is another, its count is 0 or above 100, or some object has a low above its high.
+/// The bucket that the page spells, or `None` where it spells none of that dimension: where its kind is
+/// neither 7 nor 4, its dimension is another, its count is 0 or above 100, or some object has a low above its
+/// high.
 pub fn decode<const D: usize>(page: &[u8; 4096]) -> Option<Bucket<D>>
     requires { IsDims D }
     ensures spelled { option_map content_of result ≡ bucket_at D page.now }

@@ -8,14 +8,21 @@ use Rattle.bulk_load.specs.Sorting.{before, order_on, sorted_on}
 use Rattle.bulk_load.specs.Tiling.{IsLeastRoot, IsTiled, even_sizes, joined, one_run, size_of_one}
 
 abbrev at : ℕ → ℕ → ℕ → Item
-at id x y = record { bounds = record { low = pos x ∷ pos y ∷ []; high = pos x ∷ pos y ∷ [] }; reference = id; tag = 2 * id }
+at id x y =
+    record {
+      bounds = record { low = pos x ∷ pos y ∷ []; high = pos x ∷ pos y ∷ [] };
+      reference = id;
+      tag = 2 * id;
+    }
 
 -- the longer of even runs come first
-some_even_sizes : (even_sizes 9 2 ≡ 5 ∷ 4 ∷ []) × (even_sizes 5 2 ≡ 3 ∷ 2 ∷ []) × (even_sizes 4 2 ≡ 2 ∷ 2 ∷ []) × (even_sizes 3 1 ≡ 3 ∷ [])
+some_even_sizes : (even_sizes 9 2 ≡ 5 ∷ 4 ∷ []) × (even_sizes 5 2 ≡ 3 ∷ 2 ∷ [])
+    × (even_sizes 4 2 ≡ 2 ∷ 2 ∷ []) × (even_sizes 3 1 ≡ 3 ∷ [])
 some_even_sizes = (refl, refl, refl, refl)
 
 -- few entries are one run, none are no run
-some_one_runs : (one_run {A = ℕ} (7 ∷ 5 ∷ []) ≡ (7 ∷ 5 ∷ []) ∷ []) × (one_run {A = ℕ} [] ≡ []) × (size_of_one 2 ≡ 2 ∷ []) × (size_of_one 0 ≡ [])
+some_one_runs : (one_run {A = ℕ} (7 ∷ 5 ∷ []) ≡ (7 ∷ 5 ∷ []) ∷ []) × (one_run {A = ℕ} [] ≡ [])
+    × (size_of_one 2 ≡ 2 ∷ []) × (size_of_one 0 ≡ [])
 some_one_runs = (refl, refl, refl, refl)
 
 its_joined : joined {A = ℕ} ((7 ∷ 5 ∷ []) ∷ [] ∷ (6 ∷ []) ∷ []) ≡ 7 ∷ 5 ∷ 6 ∷ []
@@ -91,12 +98,14 @@ five_are_two_runs = (
 -- ---- trees
 
 -- as entries of leaves
-as_objects : objects_of (at 7 0 0 ∷ at 5 0 1 ∷ []) ≡ object ((at 7 0 0).bounds, 14) 7 ∷ object ((at 5 0 1).bounds, 10) 5 ∷ []
+as_objects : objects_of (at 7 0 0 ∷ at 5 0 1 ∷ []) ≡ object ((at 7 0 0).bounds, 14) 7 ∷ object
+    ((at 5 0 1).bounds, 10) 5 ∷ []
 as_objects = refl
 
 -- no objects make an empty leaf, and two are a leaf in the order in which they stand
 nothing : IsPacked 2 4 [] (record { page = 3; level = 0; row = end })
 nothing = root 0 3 [] (omega arith)
 
-two : IsPacked 2 4 (at 7 0 0 ∷ at 5 0 1 ∷ []) (record { page = 3; level = 0; row = row_of (objects_of (at 7 0 0 ∷ at 5 0 1 ∷ [])) })
+two : IsPacked 2 4 (at 7 0 0 ∷ at 5 0 1 ∷ [])
+    (record { page = 3; level = 0; row = row_of (objects_of (at 7 0 0 ∷ at 5 0 1 ∷ [])) })
 two = root 0 3 (objects_of (at 7 0 0 ∷ at 5 0 1 ∷ [])) (omega arith)

@@ -1,5 +1,5 @@
--- The levels of a packed tree while it is written, as the code sees them: what waits for nodes of a level (our rule,
--- docs/RULES.md, "Packed load").
+-- The levels of a packed tree while it is written, as the code sees them: what waits for nodes of a level
+-- (our rule, docs/RULES.md, "Packed load").
 use Rattle.std.specs.Prelude.{◌≡◌, ℕ, suc, ◌≤◌, List, All, map}
 use Rattle.tree_node.specs.Boxes.{RowHasBoxes}
 use Rattle.tree_node.specs.Nodes.{Item}
@@ -23,14 +23,16 @@ pub record WaitFor (dims level : ℕ) (pages : PageMap) (items : List Item) (bs 
   pub once : (n : ℕ) → pages_below bs n ≤ 1
 
 -- each run became a node of a level, and their parents, seen as these items, wait for nodes of the next
-pub record LevelWritten (dims level : ℕ) (was now : PageMap) (runs : List (List Branch)) (items : List Item) : Type 0 where
+pub record LevelWritten (dims level : ℕ) (was now : PageMap) (runs : List (List Branch))
+    (items : List Item) : Type 0 where
   pub parents : List Branch
   pub made : AreParents dims runs parents
   pub wait : WaitFor dims (suc level) now items parents
   pub moves : Moves was now (pages_below (joined runs)) (pages_below parents)
 
 -- the entries of a level were cut into runs, each of which became a node
-pub record LevelPacked (dims most level : ℕ) (was now : PageMap) (bs : List Branch) (items : List Item) : Type 0 where
+pub record LevelPacked (dims most level : ℕ) (was now : PageMap) (bs : List Branch)
+    (items : List Item) : Type 0 where
   pub runs : List (List Branch)
   pub tiled : IsTiled item_in dims most bs runs
   pub parents : List Branch

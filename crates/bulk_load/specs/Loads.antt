@@ -9,7 +9,8 @@ use Rattle.node_page.specs.Parts.{Moves, no_page}
 use Rattle.node_page.specs.Standing.{PageMap, Stands}
 use Rattle.bulk_load.specs.Packed.{IsPacked}
 
--- a new tree packed from the objects stands at the root, in pages that were not live before; all others are as they were
+-- a new tree packed from the objects stands at the root, in pages that were not live before; all others are
+-- as they were
 pub record Loads (dims most : ℕ) (was now : PageMap) (items : List Item) (root : Root) : Type 0 where
   pub tree : Tree
   pub page : tree.page ≡ root.page

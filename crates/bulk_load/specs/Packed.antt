@@ -16,10 +16,12 @@ AreParents dims [] [] = ⊤
 AreParents dims [] (parent ∷ rest) = ⊥
 AreParents dims (run ∷ runs) [] = ⊥
 AreParents dims (run ∷ runs) (object kept id ∷ rest) = ⊥
-AreParents dims (run ∷ runs) (child bounds page below ∷ rest) = (below ≡ row_of run) × IsLeastBox dims bounds (row_of run) × AreParents dims runs rest
+AreParents dims (run ∷ runs) (child bounds page below ∷ rest) = (below ≡ row_of run)
+    × IsLeastBox dims bounds (row_of run) × AreParents dims runs rest
 
--- The tree that entries of a level are packed into: as many as a node has are its root, in the order in which they stand;
--- more are cut into runs, each of which is a node, and the entries of these nodes are packed on the next level.
+-- The tree that entries of a level are packed into: as many as a node has are its root, in the order in which
+-- they stand; more are cut into runs, each of which is a node, and the entries of these nodes are packed on
+-- the next level.
 pub data Packs (dims most : ℕ) : ℕ → List Branch → Tree → Type 0 where
   root : (level page : ℕ) (entries : List Branch) → length entries ≤ most
       → Packs dims most level entries (record { page = page; level = level; row = row_of entries })

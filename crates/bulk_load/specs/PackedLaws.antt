@@ -9,7 +9,8 @@ use Rattle.bulk_load.specs.Packed.{IsPacked}
 
 -- a packed tree has the shape of an R-tree
 abbrev pub PackedHasShape : Type 0
-PackedHasShape = (dims most : ℕ) (items : List Item) (t : Tree) → IsDims dims → 4 ≤ most → IsPacked dims most items t → HasShape dims most t
+PackedHasShape = (dims most : ℕ) (items : List Item) (t : Tree) → IsDims dims → 4 ≤ most
+    → IsPacked dims most items t → HasShape dims most t
 
 -- and holds just the objects
 abbrev pub PackedHoldsObjects : Type 0

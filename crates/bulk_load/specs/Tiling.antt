@@ -1,6 +1,8 @@
--- Runs of entries that become nodes: sorted by centre on one axis after the other, and cut evenly (our rule, docs/RULES.md,
--- "Packed load"). An element is seen as an entry of a node, so these words serve entries and branches of trees alike.
-use Rattle.std.specs.Prelude.{◌≡◌, ℕ, zero, suc, ◌+◌, ◌-◌, ◌/◌, ◌%◌, ◌^◌, ◌<◌, ◌≤◌, List, [], ◌∷◌, ◌++◌, length, map, replicate}
+-- Runs of entries that become nodes: sorted by centre on one axis after the other, and cut evenly (our rule,
+-- docs/RULES.md, "Packed load"). An element is seen as an entry of a node, so these words serve entries and
+-- branches of trees alike.
+use Rattle.std.specs.Prelude.{◌≡◌, ℕ, zero, suc, ◌+◌, ◌-◌, ◌/◌, ◌%◌, ◌^◌, ◌<◌, ◌≤◌, List, [], ◌∷◌, ◌++◌}
+use Rattle.std.specs.Prelude.{length, map, replicate}
 use Rattle.std.specs.Int.{div_ceil}
 use Rattle.std.specs.List.{flat_map}
 use Rattle.tree_node.specs.Nodes.{Item}
@@ -29,9 +31,11 @@ pub record IsLeastRoot (axes cells s : ℕ) : Type 0 where
   pub least : (k : ℕ) → cells ≤ k ^ axes → s ≤ k
 
 -- each slab has runs of its own, and these one after the other are the runs
-abbrev pub EachTiled : {A : Type 0} → (List A → List (List A) → Type 0) → List (List A) → List (List A) → Type 0
+abbrev pub EachTiled : {A : Type 0} → (List A → List (List A) → Type 0) → List (List A) → List (List A)
+    → Type 0
 EachTiled tiled [] runs = runs ≡ []
-EachTiled {A} tiled (slab ∷ slabs) runs = (first : List (List A)) × ((later : List (List A)) × ((runs ≡ first ++ later) × tiled slab first × EachTiled tiled slabs later))
+EachTiled {A} tiled (slab ∷ slabs) runs = (first : List (List A))
+    × ((later : List (List A)) × ((runs ≡ first ++ later) × tiled slab first × EachTiled tiled slabs later))
 
 -- at most the most elements are one run, and none are none
 abbrev pub one_run : {A : Type 0} → List A → List (List A)
@@ -44,7 +48,8 @@ size_of_one zero = []
 size_of_one (suc n) = suc n ∷ []
 
 -- more than the most elements: the list sorted on the axis is cut into slabs
-pub record IsSlabbed {A : Type 0} (item : A → Item) (dims most axis axes : ℕ) (tiled : List A → List (List A) → Type 0) (xs : List A) (runs : List (List A)) : Type 0 where
+pub record IsSlabbed {A : Type 0} (item : A → Item) (dims most axis axes : ℕ)
+    (tiled : List A → List (List A) → Type 0) (xs : List A) (runs : List (List A)) : Type 0 where
   pub count : ℕ
   pub root : IsLeastRoot axes (div_ceil (length xs) most) count
   pub slabs : List (List A)
@@ -56,21 +61,24 @@ abbrev pub IsTiledOn : {A : Type 0} → (A → Item) → ℕ → ℕ → ℕ →
 IsTiledOn item dims most zero xs runs = runs ≡ xs ∷ []
 IsTiledOn item dims most (suc left) xs runs =
     (length xs ≤ most → runs ≡ one_run xs)
-    × (most < length xs → IsSlabbed item dims most (dims - suc left) (suc left) (IsTiledOn item dims most left) xs runs)
+    × (most < length xs
+    → IsSlabbed item dims most (dims - suc left) (suc left) (IsTiledOn item dims most left) xs runs)
 
 -- the runs of a list, from the first axis on
 abbrev pub IsTiled : {A : Type 0} → (A → Item) → ℕ → ℕ → List A → List (List A) → Type 0
 IsTiled item dims most xs runs = IsTiledOn item dims most dims xs runs
 
 -- a list was put into an order, and its runs from there on have the sizes that were added to these
-pub record AddsRuns {A : Type 0} (item : A → Item) (dims most axes : ℕ) (old new : List A) (before after : List ℕ) : Type 0 where
+pub record AddsRuns {A : Type 0} (item : A → Item) (dims most axes : ℕ) (old new : List A)
+    (before after : List ℕ) : Type 0 where
   pub runs : List (List A)
   pub tiled : IsTiledOn item dims most axes old runs
   pub whole : joined runs ≡ new
   pub sizes : after ≡ before ++ map length runs
 
 -- a list was put into the order of its runs, which have these sizes
-pub record IsTiledInto {A : Type 0} (item : A → Item) (dims most : ℕ) (old new : List A) (sizes : List ℕ) : Type 0 where
+pub record IsTiledInto {A : Type 0} (item : A → Item) (dims most : ℕ) (old new : List A)
+    (sizes : List ℕ) : Type 0 where
   pub runs : List (List A)
   pub tiled : IsTiled item dims most old runs
   pub whole : joined runs ≡ new

@@ -36,8 +36,8 @@ fn node_of<const D: usize>(entries: &[Entry<D>], level: u8) -> Node<D>
     node
 }
 
-/// Writes a node of these entries into a page that was not live, and answers its number. The gate has to be open.
-/// After a refusal one page that was not live may be another; all others are as before.
+/// Writes a node of these entries into a page that was not live, and answers its number. The gate has to be
+/// open. After a refusal one page that was not live may be another; all others are as before.
 pub(crate) fn write_new<const D: usize, B: BlockDevice, A: Allocator + Copy>(
     cache: &mut PageCache<B, A>,
     entries: &[Entry<D>],
@@ -62,8 +62,8 @@ pub(crate) fn write_new<const D: usize, B: BlockDevice, A: Allocator + Copy>(
     Ok(page)
 }
 
-/// Writes a node of these entries, at least one, in the same way, and answers the entry for it: its least box, and its
-/// page.
+/// Writes a node of these entries, at least one, in the same way, and answers the entry for it: its least
+/// box, and its page.
 pub(crate) fn write_parent<const D: usize, B: BlockDevice, A: Allocator + Copy>(
     cache: &mut PageCache<B, A>,
     entries: &[Entry<D>],
@@ -75,7 +75,8 @@ pub(crate) fn write_parent<const D: usize, B: BlockDevice, A: Allocator + Copy>(
     requires refers { All (λ item. IsOfLevel level item.reference item.tag) (items_of entries.now) }
     ensures changes { Changes cache.old cache.new result }
     ensures sound { IsPageMap cache.old → IsPageMap cache.new }
-    ensures number { IfOk result (λ parent. (3 ≤ parent.reference) × (parent.reference < 2 ^ 31) × (parent.tag ≡ 0)) }
+    ensures number { IfOk result (λ parent. (3 ≤ parent.reference) × (parent.reference < 2 ^ 31)
+        × (parent.tag ≡ 0)) }
     ensures least { IfOk result (λ parent. parent.bounds ≡ least_box D (items_of entries.now)) }
     ensures fresh { IsPageMap cache.old → IfOk result (λ parent. pages cache.old parent.reference ≡ None) }
     ensures node { IsPageMap cache.old → IfOk result (λ parent. node_in D (pages cache.new parent.reference)

@@ -1,6 +1,7 @@
 //! Packed trees, written level by level into pages that were not live.
 
-ghost use Rattle.std.specs.Prelude.{◌≡◌, ◌+◌, ◌*◌, ◌/◌, ◌^◌, ◌<◌, ◌≤◌, ℕ, All, IfErr, IfOk, IsPermutation, List, []};
+ghost use Rattle.std.specs.Prelude.{◌≡◌, ◌+◌, ◌*◌, ◌/◌, ◌^◌, ◌<◌, ◌≤◌, ℕ, All, IfErr, IfOk, IsPermutation};
+ghost use Rattle.std.specs.Prelude.{List, []};
 ghost use Rattle.std.specs.Prelude.{length, map, vec_capacity};
 ghost use Rattle.box_math.specs.Bounds.{IsDims};
 ghost use Rattle.page_file.specs.declared.fault.Fault.TheVariants as fault;
@@ -26,14 +27,14 @@ use page_file::Fault;
 use std::alloc::Allocator;
 use tree_node::see_boxes;
 
-/// Makes a tree packed from these objects, in pages that were not live: its nodes have at most `m_max` entries, and no
-/// objects make an empty leaf. The gate has to be open. The objects are left in some order.
+/// Makes a tree packed from these objects, in pages that were not live: its nodes have at most `m_max`
+/// entries, and no objects make an empty leaf. The gate has to be open. The objects are left in some order.
 ///
 /// It lets at most one page more become live than there are objects, also where it is refused.
 ///
-/// A refusal says whether a page may have been touched; on a sound map it is `Memory`, `Device` or `NoPages`, the last
-/// only where each page number is live. The memory for the order of the objects and for the list of the leaves is
-/// taken before the first page; the lists of the levels above grow while pages are written.
+/// A refusal says whether a page may have been touched; on a sound map it is `Memory`, `Device` or `NoPages`,
+/// the last only where each page number is live. The memory for the order of the objects and for the list of
+/// the leaves is taken before the first page; the lists of the levels above grow while pages are written.
 pub fn load<const D: usize, B: BlockDevice, A: Allocator + Copy, H: Allocator + Copy>(
     alloc: H,
     cache: &mut PageCache<B, A>,
@@ -46,7 +47,8 @@ pub fn load<const D: usize, B: BlockDevice, A: Allocator + Copy, H: Allocator + 
     ensures alters { Alters cache.old cache.new result }
     ensures sound { IsPageMap cache.old → IsPageMap cache.new }
     ensures loaded { IsPageMap cache.old
-        → IfOk result (λ root. Loads D m_max (pages cache.old) (pages cache.new) (items_of objects.old) root) }
+        → IfOk result (λ root.
+        Loads D m_max (pages cache.old) (pages cache.new) (items_of objects.old) root) }
     ensures all { IsPermutation objects.old objects.new }
     ensures grows { Grows (length objects.old + 1) cache.old cache.new }
     ensures faults { IsPageMap cache.old → IfErr result (λ b. IsNoDamage cache.new b.cause) }
@@ -135,8 +137,8 @@ fn room_for<const D: usize, H: Allocator>(alloc: H, count: usize) -> Result<Vec<
     Ok(Vec::with_capacity(alloc, count)?)
 }
 
-// Writes the nodes of a level, which take so many of the entries each, and answers an entry for each node in a list
-// that was empty.
+// Writes the nodes of a level, which take so many of the entries each, and answers an entry for each node in
+// a list that was empty.
 fn write_level<const D: usize, B: BlockDevice, A: Allocator + Copy, H: Allocator>(
     cache: &mut PageCache<B, A>,
     entries: &[Entry<D>],

@@ -1,6 +1,7 @@
 //! Entries put into the order of the nodes of a packed tree.
 
-ghost use Rattle.std.specs.Prelude.{◌≡◌, ◌↔◌, ℕ, ◌-◌, ◌^◌, ◌<◌, ◌≤◌, IfErr, IfOk, IsPermutation, IsTrue, OnOk, ◌++◌};
+ghost use Rattle.std.specs.Prelude.{◌≡◌, ◌↔◌, ℕ, ◌-◌, ◌^◌, ◌<◌, ◌≤◌, IfErr, IfOk, IsPermutation, IsTrue};
+ghost use Rattle.std.specs.Prelude.{OnOk, ◌++◌};
 ghost use Rattle.std.specs.Prelude.{slice_index};
 ghost use Rattle.box_math.specs.Bounds.{IsDims};
 ghost use Rattle.page_file.specs.declared.fault.Fault.TheVariants as fault;
@@ -12,9 +13,9 @@ use node_page::Entry;
 use page_file::Fault;
 use std::alloc::Allocator;
 
-/// Puts the entries into the order in which the nodes of a packed tree take them, each at most `m_max`, and answers how
-/// many each node takes: one number for a list of one node, none for no entries. Entries of one centre and one
-/// reference go by position, so there is one such order (docs/RULES.md, "Packed load").
+/// Puts the entries into the order in which the nodes of a packed tree take them, each at most `m_max`, and
+/// answers how many each node takes: one number for a list of one node, none for no entries. Entries of one
+/// centre and one reference go by position, so there is one such order (docs/RULES.md, "Packed load").
 ///
 /// A refusal is `Memory`, and leaves the entries in some order.
 pub fn tile<const D: usize, A: Allocator + Copy>(

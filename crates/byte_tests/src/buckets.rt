@@ -281,8 +281,8 @@ fn an_old_page_that_is_changed_becomes_one_with_tags(rt: HostRuntime) {
     assert!(rt; popped::<3>(&old_page_of_two_in_space()) == first);
 }
 
-// 100 objects whose numbers are 0, but for one identifier, which the last two have, and one high and the tag of the
-// last.
+// 100 objects whose numbers are 0, but for one identifier, which the last two have, and one high and the tag
+// of the last.
 #[test]
 fn the_last_of_100_entries_ends_at_2816_in_the_plane(rt: HostRuntime) {
     let mut page = [0; 4096];

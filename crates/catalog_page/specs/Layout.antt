@@ -1,6 +1,7 @@
--- How a page spells the catalog, the list of a file's layers (our format, docs/FORMAT.md): byte 0 is 1, byte 1 the
--- count of layers, and from 256 on a record of 64 bytes for each, one after the other.
-use Rattle.std.specs.Prelude.{◌≡◌, ℕ, ◌+◌, ◌*◌, ◌^◌, ◌<◌, ◌≤◌, ◌&&◌, ◌==◌, ◌⊎◌, Bool, nat_le, List, length, All, map, Option, Some, None, if◌then◌else◌}
+-- How a page spells the catalog, the list of a file's layers (our format, docs/FORMAT.md): byte 0 is 1, byte
+-- 1 the count of layers, and from 256 on a record of 64 bytes for each, one after the other.
+use Rattle.std.specs.Prelude.{◌≡◌, ℕ, ◌+◌, ◌*◌, ◌^◌, ◌<◌, ◌≤◌, ◌&&◌, ◌==◌, ◌⊎◌, Bool, nat_le, List, length}
+use Rattle.std.specs.Prelude.{All, map, Option, Some, None, if◌then◌else◌}
 use Rattle.std.specs.List.{list_all}
 use Rattle.arrayvec.specs.ArrayVec.{ArrayVec}
 use Rattle.block_bytes.specs.Kinds.{catalog_kind}
@@ -109,7 +110,8 @@ has_name layer = nat_le 1 (length layer.name) && nat_le (length layer.name) 24
 
 -- whether the page spells layers
 unfoldable pub catalog_test : List ℕ → Bool
-catalog_test page = number_at 1 0 page == catalog_kind && nat_le (number_at 1 1 page) 60 && list_all has_name (first_records page (number_at 1 1 page))
+catalog_test page = number_at 1 0 page == catalog_kind && nat_le (number_at 1 1 page) 60
+    && list_all has_name (first_records page (number_at 1 1 page))
 
 -- the list of layers that the page spells, if it spells one
 unfoldable pub records_at : List ℕ → Option (List Record)
@@ -117,14 +119,16 @@ records_at page = if catalog_test page then Some (first_records page (number_at 
 
 -- ---- which bytes are named
 
--- a byte of the record that begins at a byte and whose name has this length: those after the name, and those from
--- 44 on, are not
+-- a byte of the record that begins at a byte and whose name has this length: those after the name, and those
+-- from 44 on, are not
 abbrev pub IsOfRecord : ℕ → ℕ → ℕ → Type 0
 IsOfRecord length at k = ((at ≤ k) × (k < at + 1 + length)) ⊎ ((at + 25 ≤ k) × (k < at + 44))
 
 -- a byte of the page that is named: its kind, its count, and those of the records below its count
 abbrev pub IsNamed : List ℕ → ℕ → Type 0
-IsNamed page k = (k < 2) ⊎ ((place : ℕ) × (place < number_at 1 1 page) × IsOfRecord (number_at 1 (record_place place) page) (record_place place) k)
+IsNamed page k = (k < 2)
+    ⊎ ((place : ℕ) × (place < number_at 1 1 page)
+    × IsOfRecord (number_at 1 (record_place place) page) (record_place place) k)
 
 -- all bytes stay but those from a place
 abbrev pub ChangesOnly : ℕ → ℕ → List ℕ → List ℕ → Type 0
@@ -132,4 +136,5 @@ ChangesOnly size at old new = (k : ℕ) → IsApart 1 k size at → number_at 1 
 
 -- all bytes stay but those of the record that begins at a byte and whose name has this length
 abbrev pub ChangesRecord : ℕ → ℕ → List ℕ → List ℕ → Type 0
-ChangesRecord length at old new = (k : ℕ) → (IsOfRecord length at k → ⊥) → number_at 1 k new ≡ number_at 1 k old
+ChangesRecord length at old new = (k : ℕ) → (IsOfRecord length at k → ⊥)
+    → number_at 1 k new ≡ number_at 1 k old

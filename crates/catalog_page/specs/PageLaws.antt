@@ -7,7 +7,8 @@ use Rattle.catalog_page.specs.Layout.{Record, IsCatalog, Spells, records_at, IsN
 
 -- reading gives exactly what is spelled
 abbrev pub ReadsWhatIsSpelled : Type 0
-ReadsWhatIsSpelled = (page : List ℕ) (layers : List Record) → (records_at page ≡ Some layers) ↔ Spells page layers
+ReadsWhatIsSpelled = (page : List ℕ) (layers : List Record)
+    → (records_at page ≡ Some layers) ↔ Spells page layers
 
 -- only named bytes are read
 abbrev pub ReadsNamedBytes : Type 0
@@ -15,7 +16,8 @@ ReadsNamedBytes = ReadsNamed records_at IsNamed
 
 -- what a page of bytes spells is a catalog
 abbrev pub SpellsCatalogs : Type 0
-SpellsCatalogs = (page : List ℕ) (layers : List Record) → AreBytes page → Spells page layers → IsCatalog layers
+SpellsCatalogs = (page : List ℕ) (layers : List Record) → AreBytes page → Spells page layers
+    → IsCatalog layers
 
 -- zeros after the kind of a catalog spell no layers
 abbrev pub BeginsEmpty : Type 0

@@ -30,8 +30,8 @@ pub fn a_new_catalog_has_no_layers()
     ensures { BeginsEmpty }
 {}
 
-/// A list of layers has one page: two that spell it, with zeros in all bytes that it does not name, have the same
-/// bytes. So `encode` leaves nothing open.
+/// A list of layers has one page: two that spell it, with zeros in all bytes that it does not name, have the
+/// same bytes. So `encode` leaves nothing open.
 pub fn a_catalog_has_one_page()
     ensures { CatalogsHaveOnePage }
 {}

@@ -10,7 +10,8 @@ use block_bytes::{read_u8, write_u8};
 /// The name whose length stands at the byte `at`, or `None` where that length is not 1 to 24.
 pub(crate) fn read_name(page: &[u8; 4096], at: usize) -> Option<ArrayVec<u8, 24>>
     requires { at + 25 ≤ 4096 }
-    ensures value { IfSome result (λ name. name.items ≡ bytes_at (number_at 1 at page.now) (at + 1) page.now) }
+    ensures value { IfSome result
+        (λ name. name.items ≡ bytes_at (number_at 1 at page.now) (at + 1) page.now) }
     ensures some { IsSome result ↔ ((1 ≤ number_at 1 at page.now) × (number_at 1 at page.now ≤ 24)) }
 {
     let length = usize::from(read_u8(page, at));

@@ -9,8 +9,8 @@ use crate::records::{read_record, write_record};
 use arrayvec::ArrayVec;
 use block_bytes::{CATALOG_KIND, read_u8, write_u8, zero_block};
 
-/// The records that the page spells, or `None` where it spells none: where its kind is not 1, its count is above
-/// 60, or the length of some name is not 1 to 24.
+/// The records that the page spells, or `None` where it spells none: where its kind is not 1, its count is
+/// above 60, or the length of some name is not 1 to 24.
 pub fn decode(page: &[u8; 4096]) -> Option<ArrayVec<LayerRecord, 60>>
     ensures spelled { option_map records_of result ≡ records_at page.now }
     ensures is_catalog { IfSome result (λ layers. IsCatalog (records_of layers)) }
@@ -32,8 +32,8 @@ pub fn decode(page: &[u8; 4096]) -> Option<ArrayVec<LayerRecord, 60>>
     Some(layers)
 }
 
-/// Makes the page the one that spells these records, with zeros in all bytes that they do not name. Each of them
-/// must have a name of at least one byte.
+/// Makes the page the one that spells these records, with zeros in all bytes that they do not name. Each of
+/// them must have a name of at least one byte.
 pub fn encode(layers: &ArrayVec<LayerRecord, 60>, page: &mut [u8; 4096])
     requires { All (λ layer. 0 < length layer.name) (records_of layers.now) }
     ensures spelled { Spells page.new (records_of layers.now) }

@@ -28,8 +28,9 @@ fn least_area<const D: usize>(entries: &[Entry<D>], new: &BBox<D>) -> usize
     best.position
 }
 
-// The first entry of the least key. It begins at the entry whose area grows least, which is the answer where no overlap
-// grows. A sum that is past the least so far is left off, and begins with this entry, which lies near the new box.
+// The first entry of the least key. It begins at the entry whose area grows least, which is the answer where
+// no overlap grows. A sum that is past the least so far is left off, and begins with this entry, which lies
+// near the new box.
 fn least_overlap<const D: usize>(entries: &[Entry<D>], new: &BBox<D>) -> usize
     requires dims { IsDims D }
     requires few { length entries.now ≤ 101 }

@@ -26,7 +26,8 @@ fn overlap_gain<const D: usize>(before: &BBox<D>, after: &BBox<D>, third: &BBox<
     wide - before.overlap(third)
 }
 
-/// The growth, if it is at most the limit: a sum that is past it is left off, at once where one other entry's part is.
+/// The growth, if it is at most the limit: a sum that is past it is left off, at once where one other entry's
+/// part is.
 pub(crate) fn overlap_growth_up_to<const D: usize>(
     entries: &[Entry<D>],
     new: &BBox<D>,

@@ -1,5 +1,6 @@
 -- A store that was made or opened, or was refused.
-use Rattle.std.proofs.Common.{◌≡◌, ◌∙◌, ◌==◌, ◌⊎◌, ap, ℕ, List, Option, Result, Ok, Err, inl, inr, refl, sym, subst, arith}
+use Rattle.std.proofs.Common.{◌≡◌, ◌∙◌, ◌==◌, ◌⊎◌, ap, ℕ, List, Option, Result, Ok, Err, inl, inr, refl, sym}
+use Rattle.std.proofs.Common.{subst, arith}
 use Rattle.block_device.specs.Device.{Blocks, LeavesOnly, Recovery}
 use Rattle.block_device.specs.Moments.{leaves_then, leaves_weaker}
 use Rattle.live_layers.specs.Image.{IsRefusedOrImageOf}
@@ -10,13 +11,16 @@ use Rattle.command_line.specs.Serving.{HasAnswered, HasNotBegun, HasServed, IsRe
 use Rattle.command_line.specs.declared.program.Served.{Served}
 
 -- one or the other
-pub start : {S E : Type 0} (r : Result S E) (G : Type 0) → ((v : S) → r ≡ Ok v → G) → ((e : E) → r ≡ Err e → G) → G
+pub start : {S E : Type 0} (r : Result S E) (G : Type 0) → ((v : S) → r ≡ Ok v → G)
+    → ((e : E) → r ≡ Err e → G) → G
 start (Ok v) G made refused = made v refl
 start (Err e) G made refused = refused e refl
 
 -- what a refused start says of its device is said of what is left
-pub refused_start : {D R W : Type 0} (moment : D → ℕ) (left_since : D → ℕ → Blocks → Type 0) (recovery : Recovery D) (P : Blocks → Type 0) (device d : D) (r r' : R) (w w' : W) (left : Served D)
-    → (left.status ≡ 1) × (left.device ≡ d) × (r' ≡ r) × (w' ≡ w) → LeavesOnly moment left_since recovery device d P
+pub refused_start : {D R W : Type 0} (moment : D → ℕ) (left_since : D → ℕ → Blocks → Type 0)
+    (recovery : Recovery D) (P : Blocks → Type 0) (device d : D) (r r' : R) (w w' : W) (left : Served D)
+    → (left.status ≡ 1) × (left.device ≡ d) × (r' ≡ r) × (w' ≡ w)
+    → LeavesOnly moment left_since recovery device d P
     → IsRefusedStart moment left_since recovery P device r r' w w' left
 refused_start moment left_since recovery P device d r r' w w' left so stops = record {
   failed = so.0;
@@ -25,9 +29,14 @@ refused_start moment left_since recovery P device d r r' w w' left so stops = re
   stops = subst (λ x. LeavesOnly moment left_since recovery device x P) (sym so.1) stops;
 }
 
--- a stop in the start leaves what has P, and one since then an image of one of the session's tables, or refused blocks
-pub whole_run : {D : Type 0} (moment : D → ℕ) (left_since : D → ℕ → Blocks → Type 0) (recovery : Recovery D) (device opened left : D) (s : SessionState) (P : Blocks → Type 0) → LeavesOnly moment left_since recovery device opened P → LeavesTablesOf moment left_since recovery s opened left
-    → LeavesOnly moment left_since recovery device left (λ c. P c ⊎ IsRefusedOrImageOf (with_last s.state s.stops.so_far) c)
+-- a stop in the start leaves what has P, and one since then an image of one of the session's tables, or
+-- refused blocks
+pub whole_run : {D : Type 0} (moment : D → ℕ) (left_since : D → ℕ → Blocks → Type 0) (recovery : Recovery D)
+    (device opened left : D) (s : SessionState) (P : Blocks → Type 0)
+    → LeavesOnly moment left_since recovery device opened P
+    → LeavesTablesOf moment left_since recovery s opened left
+    → LeavesOnly moment left_since recovery device left
+    (λ c. P c ⊎ IsRefusedOrImageOf (with_last s.state s.stops.so_far) c)
 whole_run moment left_since recovery device opened left s P opening since =
     let Tables : Blocks → Type 0 = IsRefusedOrImageOf (with_last s.state s.stops.so_far) in
     let Either : Blocks → Type 0 = λ c. P c ⊎ Tables c in
@@ -36,12 +45,21 @@ whole_run moment left_since recovery device opened left s P opening since =
     (leaves_weaker moment left_since recovery opened left Tables Either (λ c q. inr q) since)
 
 -- a store that was served since it was made was served since its making began
-pub served_since_making : {D : Type 0} (shown : D → Blocks) (moment : D → ℕ) (left_since : D → ℕ → Blocks → Type 0) (recovery : Recovery D) (may_leave : D → Blocks → Type 0) (faults : D → ℕ) (P Q : Blocks → Type 0) (t : Table) (device made : D)
-    (unread unread' written written' : Option (List ℕ)) (left : Served D) → LeavesOnly moment left_since recovery device made P → ((c : Blocks) → Q c → P c) → faults made ≡ faults device
-    → HasServed shown moment left_since recovery may_leave faults Q t made unread unread' written written' left
-    → HasServed shown moment left_since recovery may_leave faults P t device unread unread' written written' left
-served_since_making shown moment left_since recovery may_leave faults P Q t device made unread unread' written written' left making weaker same h =
-    let opening = leaves_then moment left_since recovery device made h.opened P making (leaves_weaker moment left_since recovery made h.opened Q P weaker h.opening) in record {
+pub served_since_making : {D : Type 0} (shown : D → Blocks) (moment : D → ℕ)
+    (left_since : D → ℕ → Blocks → Type 0) (recovery : Recovery D) (may_leave : D → Blocks → Type 0)
+    (faults : D → ℕ) (P Q : Blocks → Type 0) (t : Table) (device made : D)
+    (unread unread' written written' : Option (List ℕ)) (left : Served D)
+    → LeavesOnly moment left_since recovery device made P → ((c : Blocks) → Q c → P c)
+    → faults made ≡ faults device
+    → HasServed shown moment left_since recovery may_leave faults Q t made unread unread' written written'
+    left
+    → HasServed shown moment left_since recovery may_leave faults P t device unread unread' written written'
+    left
+served_since_making shown moment left_since recovery may_leave faults P Q t device made unread unread'
+    written written' left making weaker same h =
+    let opening =
+    leaves_then moment left_since recovery device made h.opened P making
+    (leaves_weaker moment left_since recovery made h.opened Q P weaker h.opening) in record {
       opened = h.opened;
       opening = opening;
       old = h.old;
@@ -56,24 +74,38 @@ served_since_making shown moment left_since recovery may_leave faults P Q t devi
     }
 
 -- a run to the closing answers what it read, and blames no device where it had no fault
-has_answered : {D : Type 0} (shown : D → Blocks) (moment : D → ℕ) (left_since : D → ℕ → Blocks → Type 0) (recovery : Recovery D) (may_leave : D → Blocks → Type 0) (faults : D → ℕ) (P : Blocks → Type 0) (t : Table) (device : D)
-    (unread unread' written written' : Option (List ℕ)) (left : Served D) → HasServed shown moment left_since recovery may_leave faults P t device unread unread' written written' left
+has_answered : {D : Type 0} (shown : D → Blocks) (moment : D → ℕ) (left_since : D → ℕ → Blocks → Type 0)
+    (recovery : Recovery D) (may_leave : D → Blocks → Type 0) (faults : D → ℕ) (P : Blocks → Type 0)
+    (t : Table) (device : D)
+    (unread unread' written written' : Option (List ℕ)) (left : Served D)
+    → HasServed shown moment left_since recovery may_leave faults P t device unread unread' written
+    written' left
     → faults left.device ≡ 0 → HasAnswered t unread unread' written written' left.status
-has_answered shown moment left_since recovery may_leave faults P t device unread unread' written written' left h none = record {
-  old = h.old;
-  new = h.new;
-  begins = h.begins;
-  end = h.runs.end;
-  runs = h.runs.runs;
-  well = λ zero. (h.runs.well (ap (λ (k : ℕ). k == 0) zero)).0;
-  faultless = let counted = h.runs.counted in omega (arith, counted, none);
-}
+has_answered shown moment left_since recovery may_leave faults P t device unread unread' written written'
+    left h none = record {
+      old = h.old;
+      new = h.new;
+      begins = h.begins;
+      end = h.runs.end;
+      runs = h.runs.runs;
+      well = λ zero. (h.runs.well (ap (λ (k : ℕ). k == 0) zero)).0;
+      faultless = let counted = h.runs.counted in omega (arith, counted, none);
+    }
 
 -- a start that was refused has not begun, and a run to the closing answers
-pub begun_or_answered : {D R W : Type 0} (shown : D → Blocks) (moment : D → ℕ) (left_since : D → ℕ → Blocks → Type 0) (recovery : Recovery D) (may_leave : D → Blocks → Type 0) (faults : D → ℕ) (P Q : Blocks → Type 0) (t : Table) (device : D) (r r' : R) (w w' : W)
-    (unread unread' written written' : Option (List ℕ)) (left : Served D) → IsRefusedStart moment left_since recovery P device r r' w w' left ⊎ HasServed shown moment left_since recovery may_leave faults Q t device unread unread' written written' left
-    → faults left.device ≡ 0 → HasNotBegun r r' w w' left.status ⊎ HasAnswered t unread unread' written written' left.status
-begun_or_answered shown moment left_since recovery may_leave faults P Q t device r r' w w' unread unread' written written' left (inl refused) none =
+pub begun_or_answered : {D R W : Type 0} (shown : D → Blocks) (moment : D → ℕ)
+    (left_since : D → ℕ → Blocks → Type 0) (recovery : Recovery D) (may_leave : D → Blocks → Type 0)
+    (faults : D → ℕ) (P Q : Blocks → Type 0) (t : Table) (device : D) (r r' : R) (w w' : W)
+    (unread unread' written written' : Option (List ℕ)) (left : Served D)
+    → IsRefusedStart moment left_since recovery P device r r' w w' left
+    ⊎ HasServed shown moment left_since recovery may_leave faults Q t device unread unread' written
+    written' left
+    → faults left.device ≡ 0
+    → HasNotBegun r r' w w' left.status ⊎ HasAnswered t unread unread' written written' left.status
+begun_or_answered shown moment left_since recovery may_leave faults P Q t device r r' w w' unread unread'
+    written written' left (inl refused) none =
     inl (record { failed = refused.failed; unread = refused.unread; unwritten = refused.unwritten })
-begun_or_answered shown moment left_since recovery may_leave faults P Q t device r r' w w' unread unread' written written' left (inr served) none =
-    inr (has_answered shown moment left_since recovery may_leave faults Q t device unread unread' written written' left served none)
+begun_or_answered shown moment left_since recovery may_leave faults P Q t device r r' w w' unread unread'
+    written written' left (inr served) none =
+    inr (has_answered shown moment left_since recovery may_leave faults Q t device unread unread' written
+    written' left served none)

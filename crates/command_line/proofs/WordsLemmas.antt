@@ -1,5 +1,6 @@
 -- What a text is read as, and the status that tells a fault of the words.
-use Rattle.std.proofs.Common.{◌≡◌, ◌≢◌, ◌∙◌, ◌<◌, ◌≤◌, ◌^◌, ap, ℕ, Bool, true, false, List, Option, Some, None, Result, Ok, Err, refl, sym, subst, arith, codes}
+use Rattle.std.proofs.Common.{◌≡◌, ◌≢◌, ◌∙◌, ◌<◌, ◌≤◌, ◌^◌, ap, ℕ, Bool, true, false, List, Option, Some}
+use Rattle.std.proofs.Common.{None, Result, Ok, Err, refl, sym, subst, arith, codes}
 use Rattle.std.proofs.lemmas.Bool.Decides.{nat_tests}
 use Rattle.std.specs.Str.Parse.{ParsesUnsigned}
 use Rattle.clap.specs.Values.{bool_text}
@@ -10,9 +11,12 @@ use Rattle.layer_store.specs.Starting.{is_cache}
 use Rattle.command_line.specs.Words.{IsNumber, status_of_fault}
 
 -- a text that is a number is read as that number
-pub number_read : (E : Type 0) (G : List ℕ → Result ℕ E → Type 0) (text : Text) (n : ℕ) (r : Option ℕ) → ReadsOne G text r
-    → ((bs : List ℕ) (x : Result ℕ E) → G bs x → ParsesUnsigned 32 10 bs x) → IsNumber text n → n < 2 ^ 32 → r ≡ Some n
-number_read E G text n (Some v) read only is fits = ap (λ (k : ℕ). Some k) ((only text (Ok v) read).1 ∙ is.value)
+pub number_read : (E : Type 0) (G : List ℕ → Result ℕ E → Type 0) (text : Text) (n : ℕ) (r : Option ℕ)
+    → ReadsOne G text r
+    → ((bs : List ℕ) (x : Result ℕ E) → G bs x → ParsesUnsigned 32 10 bs x) → IsNumber text n → n < 2 ^ 32
+    → r ≡ Some n
+number_read E G text n (Some v) read only is fits =
+    ap (λ (k : ℕ). Some k) ((only text (Ok v) read).1 ∙ is.value)
 number_read E G text n None read only is fits =
     absurd (only text (Err read.0) read.1 (is.numeral, subst (λ (k : ℕ). k < 2 ^ 32) (sym is.value) fits))
 

@@ -1,11 +1,12 @@
--- What the words of the command line ask for (our rule, docs/COMMANDS.md, "The program"). How words are read as
--- options and values is told by `clap`: `fault_of` is why it refuses them, and empty where it takes them; `matches_of`
--- is what it finds in those.
+-- What the words of the command line ask for (our rule, docs/COMMANDS.md, "The program"). How words are read
+-- as options and values is told by `clap`: `fault_of` is why it refuses them, and empty where it takes them;
+-- `matches_of` is what it finds in those.
 use Rattle.std.specs.Prelude.{◌≡◌, ◌≤◌, ℕ, Bool, List, [], ◌∷◌, Option, Some, codes, pos, true}
 use Rattle.std.specs.Str.Parse.{IsNumeral, digits_value, without_leading_plus}
 use Rattle.clap.specs.Simple.{on_top}
 use Rattle.clap.specs.Values.{bool_text}
-use Rattle.clap.specs.Words.{App, IsAmong, Rule, Text, fault_of, first_of, matches_of, new_app, new_rule, one_of}
+use Rattle.clap.specs.Words.{App, IsAmong, Rule, Text, fault_of, first_of, matches_of, new_app, new_rule}
+use Rattle.clap.specs.Words.{one_of}
 use Rattle.clap.specs.Words.{with_rule}
 use Rattle.clap.specs.declared.builder.action.ArgAction.TheVariants.{SetTrue}
 use Rattle.clap.specs.declared.builder.value_parser.ValueParser.TheVariants.{Signed}
@@ -62,8 +63,8 @@ pub record IsNumber (text : Text) (n : ℕ) : Type 0 where
   pub numeral : IsNumeral 10 (without_leading_plus text)
   pub value : digits_value 10 (without_leading_plus text) ≡ n
 
--- The words, the first of which is the program's name, are taken, and ask for so many cached pages, for a file to be
--- made or not, for it to be only read or not, and for this file, or for none.
+-- The words, the first of which is the program's name, are taken, and ask for so many cached pages, for a
+-- file to be made or not, for it to be only read or not, and for this file, or for none.
 pub record AskFor (words : List Text) (cache : ℕ) (create read : Bool) (file : Option Text) : Type 0 where
   pub taken : fault_of program words ≡ []
   pub cache_is : (text : Text) (n : ℕ) → one_of (codes "cache") (matches_of program words) ≡ Some text → IsNumber text n

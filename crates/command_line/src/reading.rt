@@ -46,12 +46,12 @@ pub(crate) fn read_path<
     }
 }
 
-/// Opens the store that a reader has, and answers the commands of the input over it. **No block is written: the reader
-/// is borrowed, and has no call that writes.**
+/// Opens the store that a reader has, and answers the commands of the input over it. **No block is written:
+/// the reader is borrowed, and has no call that writes.**
 ///
-/// Where it is honest and holds an image of a table, the commands are answered by a lawful session that begins with that
-/// table; each change is refused, or answers what changes nothing. Blocks that a check of opening refuses are never run
-/// on. The status is 0 where all went well and no change was asked, and else 1.
+/// Where it is honest and holds an image of a table, the commands are answered by a lawful session that
+/// begins with that table; each change is refused, or answers what changes nothing. Blocks that a check of
+/// opening refuses are never run on. The status is 0 where all went well and no change was asked, and else 1.
 pub fn serve_reader<B: BlockReader, A: Allocator + Copy, I: Read, W: FlushedWrite, E: Write>(
     alloc: A,
     blocks: &B,

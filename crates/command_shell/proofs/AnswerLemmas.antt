@@ -1,5 +1,6 @@
 -- What a line was answered.
-use Rattle.std.proofs.Common.{◌≡◌, ℕ, List, [], ◌∷◌, Option, Some, None, IsSome, Result, Ok, Err, refl, sym, subst}
+use Rattle.std.proofs.Common.{◌≡◌, ℕ, List, [], ◌∷◌, Option, Some, None, IsSome, Result, Ok, Err, refl, sym}
+use Rattle.std.proofs.Common.{subst}
 use Rattle.plain_table.specs.Commands.{Command, MayGiveUp}
 use Rattle.plain_table.specs.Commands.Command.{Load}
 use Rattle.plain_table.specs.Loads.{GivenObjects}
@@ -20,30 +21,65 @@ use Rattle.command_shell.proofs.CommandLemmas.{append_none}
 use Rattle.command_shell.proofs.SessionLemmas.{appends_none}
 
 -- a command that a line asks was answered
-pub replied : (So : List Request → List Answer → Type 0) (m : Meaning) (c : Command) (a b : Answer) → m ≡ Means c → b ≡ a → So (Asks c ∷ []) (a ∷ []) → Replies m So (b ∷ [])
-replied So m c a b h e so = record { requests = Asks c ∷ []; asked = subst (λ x. AsksAlone x (Asks c ∷ [])) (sym h) refl; lawful = subst (λ x. So (Asks c ∷ []) (x ∷ [])) (sym e) so }
+pub replied : (So : List Request → List Answer → Type 0) (m : Meaning) (c : Command) (a b : Answer)
+    → m ≡ Means c → b ≡ a → So (Asks c ∷ []) (a ∷ []) → Replies m So (b ∷ [])
+replied So m c a b h e so =
+    record {
+      requests = Asks c ∷ [];
+      asked = subst (λ x. AsksAlone x (Asks c ∷ [])) (sym h) refl;
+      lawful = subst (λ x. So (Asks c ∷ []) (x ∷ [])) (sym e) so;
+    }
 
 -- a bad line was answered, and asked nothing of the store
-pub replied_bad : (So : List Request → List Answer → Type 0) (m : Meaning) → m ≡ Bad → So (BadCommand ∷ []) (Refused refusal.BadLine ∷ []) → Replies m So (Refused refusal.BadLine ∷ [])
-replied_bad So m e so = record { requests = BadCommand ∷ []; asked = subst (λ x. AsksAlone x (BadCommand ∷ [])) (sym e) refl; lawful = so }
+pub replied_bad : (So : List Request → List Answer → Type 0) (m : Meaning) → m ≡ Bad
+    → So (BadCommand ∷ []) (Refused refusal.BadLine ∷ []) → Replies m So (Refused refusal.BadLine ∷ [])
+replied_bad So m e so =
+    record {
+      requests = BadCommand ∷ [];
+      asked = subst (λ x. AsksAlone x (BadCommand ∷ [])) (sym e) refl;
+      lawful = so;
+    }
 
 -- a blank line asked nothing
-pub replied_blank : (So : List Request → List Answer → Type 0) (m : Meaning) → m ≡ Blank → So [] [] → Replies m So []
-replied_blank So m e so = record { requests = []; asked = subst (λ x. AsksAlone x []) (sym e) refl; lawful = so }
+pub replied_blank : (So : List Request → List Answer → Type 0) (m : Meaning) → m ≡ Blank → So [] []
+    → Replies m So []
+replied_blank So m e so =
+    record { requests = []; asked = subst (λ x. AsksAlone x []) (sym e) refl; lawful = so }
 
-pub wrote_reply : {A E T : Type 0} (r : Reply A) (a b : Option (List ℕ)) (result : Result T E) → Writes a b result (answer_text (reply_answer r)) → WroteAs a b result (reply_answer r ∷ [])
+pub wrote_reply : {A E T : Type 0} (r : Reply A) (a b : Option (List ℕ)) (result : Result T E)
+    → Writes a b result (answer_text (reply_answer r)) → WroteAs a b result (reply_answer r ∷ [])
 wrote_reply r a b (Ok u) h = rw append_none h
-wrote_reply r a b (Err e) h = record { before = []; last = reply_answer r; are = refl; shown = h.0; is_part = h.1; written = h.2 }
+wrote_reply r a b (Err e) h =
+    record { before = []; last = reply_answer r; are = refl; shown = h.0; is_part = h.1; written = h.2 }
 
 -- a reply was written
-pub written : {A E : Type 0} (m : Meaning) (So : List Request → List Answer → Type 0) (w w' : Option (List ℕ)) (r : Reply A) (result : Result (Unit {0}) E) → Replies m So (reply_answer r ∷ []) → Writes w w' result (answer_text (reply_answer r)) → AnswersLine m So w w' result
-written m So w w' r result h k = record { requests = h.requests; asked = h.asked; answers = reply_answer r ∷ []; lawful = h.lawful; written = wrote_reply r w w' result k }
+pub written : {A E : Type 0} (m : Meaning) (So : List Request → List Answer → Type 0)
+    (w w' : Option (List ℕ)) (r : Reply A) (result : Result (Unit {0}) E)
+    → Replies m So (reply_answer r ∷ []) → Writes w w' result (answer_text (reply_answer r))
+    → AnswersLine m So w w' result
+written m So w w' r result h k =
+    record {
+      requests = h.requests;
+      asked = h.asked;
+      answers = reply_answer r ∷ [];
+      lawful = h.lawful;
+      written = wrote_reply r w w' result k;
+    }
 
 -- there was no reply to write
-pub unwritten : {E : Type 0} (m : Meaning) (So : List Request → List Answer → Type 0) (w : Option (List ℕ)) → Replies m So [] → AnswersLine {E = E} m So w w (Ok tt)
-unwritten m So w h = record { requests = h.requests; asked = h.asked; answers = []; lawful = h.lawful; written = appends_none w }
+pub unwritten : {E : Type 0} (m : Meaning) (So : List Request → List Answer → Type 0) (w : Option (List ℕ))
+    → Replies m So [] → AnswersLine {E = E} m So w w (Ok tt)
+unwritten m So w h =
+    record {
+      requests = h.requests;
+      asked = h.asked;
+      answers = [];
+      lawful = h.lawful;
+      written = appends_none w;
+    }
 
 -- a load for which there is no room gave up
-pub out_of_room : (So : Request → Type 0) (layer : List ℕ) (all : Option GivenObjects) → IsSome all → ((c : Command) → MayGiveUp c → So (Asks c)) → So (load_request layer all)
+pub out_of_room : (So : Request → Type 0) (layer : List ℕ) (all : Option GivenObjects) → IsSome all
+    → ((c : Command) → MayGiveUp c → So (Asks c)) → So (load_request layer all)
 out_of_room So layer (Some objects) h t = t (Load layer objects) tt
 out_of_room So layer None h t = absurd (cc)

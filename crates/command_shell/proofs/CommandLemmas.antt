@@ -1,5 +1,6 @@
 -- The lines of texts, and the commands of lines, one text after another.
-use Rattle.std.proofs.Common.{◌≡◌, ◌≢◌, ℕ, ◌<◌, ltb, Bool, true, false, cond, ◌==◌, List, [], ◌∷◌, ◌++◌, length, length-append, take, refl, sym, ap, ◌∙◌, arith, append_assoc, subst}
+use Rattle.std.proofs.Common.{◌≡◌, ◌≢◌, ℕ, ◌<◌, ltb, Bool, true, false, cond, ◌==◌, List, [], ◌∷◌, ◌++◌}
+use Rattle.std.proofs.Common.{length, length-append, take, refl, sym, ap, ◌∙◌, arith, append_assoc, subst}
 use Rattle.std.proofs.lemmas.Bool.Decides.{nat_tests}
 use Rattle.std.proofs.lemmas.List.{drop-append-le, take-append-le}
 use Rattle.store_law.specs.States.{Request}
@@ -31,16 +32,21 @@ begun_whole : (x : List ℕ) → Begun (lines_of (x ++ newline ∷ []))
 begun_whole [] = begun
 begun_whole (a ∷ x) = begun_step a _ _ (a == newline)
 
-whole_step : (a : ℕ) (ls ms ns : List (List ℕ)) → ns ≡ ls ++ ms → Begun ls → (b : Bool) → cond b ([] ∷ ns) (onto_first a ns) ≡ cond b ([] ∷ ls) (onto_first a ls) ++ ms
+whole_step : (a : ℕ) (ls ms ns : List (List ℕ)) → ns ≡ ls ++ ms → Begun ls → (b : Bool)
+    → cond b ([] ∷ ns) (onto_first a ns) ≡ cond b ([] ∷ ls) (onto_first a ls) ++ ms
 whole_step a ls ms ns e h true = ap (λ t. [] ∷ t) e
 whole_step a ls ms ns e h false = ap (onto_first a) e ∙ onto_append a ls ms h
 
-lines_of-ends : (x more : List ℕ) → lines_of ((x ++ newline ∷ []) ++ more) ≡ lines_of (x ++ newline ∷ []) ++ lines_of more
+lines_of-ends : (x more : List ℕ)
+    → lines_of ((x ++ newline ∷ []) ++ more) ≡ lines_of (x ++ newline ∷ []) ++ lines_of more
 lines_of-ends [] more = refl
-lines_of-ends (a ∷ x) more = whole_step a (lines_of (x ++ newline ∷ [])) (lines_of more) (lines_of ((x ++ newline ∷ []) ++ more)) (lines_of-ends x more) (begun_whole x) (a == newline)
+lines_of-ends (a ∷ x) more =
+    whole_step a (lines_of (x ++ newline ∷ [])) (lines_of more) (lines_of ((x ++ newline ∷ []) ++ more))
+    (lines_of-ends x more) (begun_whole x) (a == newline)
 
 -- after whole lines the lines go on
-pub lines_of-whole : (text more : List ℕ) → IsWhole text → lines_of (text ++ more) ≡ lines_of text ++ lines_of more
+pub lines_of-whole : (text more : List ℕ) → IsWhole text
+    → lines_of (text ++ more) ≡ lines_of text ++ lines_of more
 lines_of-whole text more whole_none = refl
 lines_of-whole text more (ends x) = lines_of-ends x more
 
@@ -54,7 +60,8 @@ lines_of-line (a ∷ line) h = rw (not_newline a h.0, lines_of-line line h.1) re
 pub lines_of-last : (line : List ℕ) → 0 < length line → IsOneLine line → lines_of line ≡ line ∷ []
 lines_of-last [] some h = absurd (omega arith)
 lines_of-last (a ∷ []) some h = rw (not_newline a h.0) refl
-lines_of-last (a ∷ b ∷ line) some h = rw (not_newline a h.0) (ap (onto_first a) (lines_of-last (b ∷ line) (omega arith) h.1))
+lines_of-last (a ∷ b ∷ line) some h =
+    rw (not_newline a h.0) (ap (onto_first a) (lines_of-last (b ∷ line) (omega arith) h.1))
 
 pub append_none : {X : Type 0} (xs : List X) → xs ++ [] ≡ xs
 append_none [] = refl
@@ -65,19 +72,29 @@ whole_more text more h whole_none = subst IsWhole (sym (append_none text)) h
 whole_more text more h (ends x) = subst IsWhole (append_assoc text x (newline ∷ [])) (ends (text ++ x))
 
 -- after the commands of whole lines the commands go on
-pub commands_more : {ended : Bool} {ls ms : List (List ℕ)} {rs ss : List Request} → AreCommands false ls rs → AreCommands ended ms ss → AreCommands ended (ls ++ ms) (rs ++ ss)
+pub commands_more : {ended : Bool} {ls ms : List (List ℕ)} {rs ss : List Request} → AreCommands false ls rs
+    → AreCommands ended ms ss → AreCommands ended (ls ++ ms) (rs ++ ss)
 commands_more none q = q
-commands_more {ended = ended} {ms = ms} {ss = ss} (one {line = line} {lines = lines} {ss = ts} rs h p) q = subst (AreCommands ended (line ∷ (lines ++ ms))) (sym (append_assoc rs ts ss)) (one rs h (commands_more p q))
-commands_more {ended = ended} {ms = ms} {ss = ss} (load {line = line} {lines = lines} {ss = ts} layer count means enough p) q =
+commands_more {ended = ended} {ms = ms} {ss = ss} (one {line = line} {lines = lines} {ss = ts} rs h p) q =
+    subst (AreCommands ended (line ∷ (lines ++ ms))) (sym (append_assoc rs ts ss))
+    (one rs h (commands_more p q))
+commands_more {ended = ended} {ms = ms} {ss = ss}
+    (load {line = line} {lines = lines} {ss = ts} layer count means enough p) q =
     let taken : take count (lines ++ ms) ≡ take count lines = take-append-le count lines ms enough in
-    let rest = subst (λ (ls : List (List ℕ)). AreCommands ended ls (ts ++ ss)) (sym (drop-append-le count lines ms enough)) (commands_more p q) in
-    subst (λ (ls : List (List ℕ)). AreCommands ended (line ∷ (lines ++ ms)) (load_request layer (objects_in ls) ∷ (ts ++ ss))) taken
+    let rest =
+    subst (λ (ls : List (List ℕ)). AreCommands ended ls (ts ++ ss))
+    (sym (drop-append-le count lines ms enough)) (commands_more p q) in
+    subst (λ (ls : List (List ℕ)). AreCommands ended (line ∷ (lines ++ ms))
+    (load_request layer (objects_in ls) ∷ (ts ++ ss))) taken
     (load layer count means (omega (arith, enough, length-append lines ms)) rest)
 commands_more (short layer count means few at_end) q = absurd (cc)
 
 -- what one line asks, of a text of that line
-pub asks_line : {ended : Bool} (text line : List ℕ) (rs : List Request) → lines_of text ≡ line ∷ [] → AsksAlone (meaning_of line) rs → AreCommands ended (lines_of text) rs
-asks_line {ended = ended} text line rs e h = subst (λ ls. AreCommands ended ls rs) (sym e) (subst (AreCommands ended (line ∷ [])) (append_none rs) (one rs h none))
+pub asks_line : {ended : Bool} (text line : List ℕ) (rs : List Request) → lines_of text ≡ line ∷ []
+    → AsksAlone (meaning_of line) rs → AreCommands ended (lines_of text) rs
+asks_line {ended = ended} text line rs e h =
+    subst (λ ls. AreCommands ended ls rs) (sym e)
+    (subst (AreCommands ended (line ∷ [])) (append_none rs) (one rs h none))
 
 -- a line that is too long is bad
 pub long_meaning : (line : List ℕ) → 4096 < length line → Bad ≡ meaning_of line

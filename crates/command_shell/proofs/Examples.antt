@@ -1,8 +1,11 @@
 -- Worked examples of the command language: lines, words, numbers, what lines mean, and the texts of replies.
 -- No other proof rests on them. A definition that says another thing than docs/COMMANDS.md is refused here.
-use Rattle.std.proofs.Common.{◌≡◌, ℕ, List, [], ◌∷◌, ◌++◌, Bool, true, refl, sym, ap, ap₂, ◌∙◌, pos, negsuc, Some, None, codes, replicate, map, length, length-append, get_or, arith, subst, take, drop}
+use Rattle.std.proofs.Common.{◌≡◌, ℕ, List, [], ◌∷◌, ◌++◌, Bool, true, refl, sym, ap, ap₂, ◌∙◌, pos, negsuc}
+use Rattle.std.proofs.Common.{Some, None, codes, replicate, map, length, length-append, get_or, arith, subst}
+use Rattle.std.proofs.Common.{take, drop}
 use Rattle.std.specs.Fmt.{digits}
-use Rattle.plain_table.specs.Commands.Command.{Create, Insert, Load, Move, Delete, Drop, Get, Count, Range, Nearest, Join, Layers, Dump, Check, Reopen}
+use Rattle.plain_table.specs.Commands.Command.{Create, Insert, Load, Move, Delete, Drop, Get, Count, Range}
+use Rattle.plain_table.specs.Commands.Command.{Nearest, Join, Layers, Dump, Check, Reopen}
 use Rattle.store_law.specs.States.{Request}
 use Rattle.store_law.specs.States.Request.{BadCommand, Asks}
 use Rattle.plain_table.specs.Step.Answer.{Done, Refused, Boxes, Counted, Distances, Pairs, Listed, Dumped}
@@ -67,7 +70,8 @@ blanks_stand_before_between_and_behind : words_of (codes "\t a \t\r b\r") ≡ a 
 blanks_stand_before_between_and_behind = refl
 
 -- a vertical tab, a form feed, a zero and a byte above ASCII
-other_bytes_are_parts_of_words : words_of (97 ∷ 11 ∷ 12 ∷ 0 ∷ 160 ∷ 97 ∷ []) ≡ (97 ∷ 11 ∷ 12 ∷ 0 ∷ 160 ∷ 97 ∷ []) ∷ []
+other_bytes_are_parts_of_words : words_of
+    (97 ∷ 11 ∷ 12 ∷ 0 ∷ 160 ∷ 97 ∷ []) ≡ (97 ∷ 11 ∷ 12 ∷ 0 ∷ 160 ∷ 97 ∷ []) ∷ []
 other_bytes_are_parts_of_words = refl
 
 -- ---- numbers
@@ -84,7 +88,8 @@ no_digits : map (λ byte. number_in (49 ∷ byte ∷ [])) (47 ∷ 58 ∷ []) ≡
 no_digits = refl
 
 coordinates : map coordinate_of (codes "0" ∷ codes "-0" ∷ codes "00" ∷ codes "-1" ∷ codes "-007" ∷ codes "2147483647" ∷ codes "-2147483648" ∷ [])
-    ≡ Some (pos 0) ∷ Some (pos 0) ∷ Some (pos 0) ∷ Some (negsuc 0) ∷ Some (negsuc 6) ∷ Some (pos 2147483647) ∷ Some (negsuc 2147483647) ∷ []
+    ≡ Some (pos 0) ∷ Some (pos 0) ∷ Some (pos 0) ∷ Some (negsuc 0) ∷ Some (negsuc 6) ∷ Some
+    (pos 2147483647) ∷ Some (negsuc 2147483647) ∷ []
 coordinates = refl
 
 no_coordinates : map coordinate_of ([] ∷ codes "-" ∷ codes "--1" ∷ codes "+5" ∷ codes "-+5" ∷ codes "1-" ∷ codes "2147483648" ∷ codes "-2147483649" ∷ codes "18446744073709551616" ∷ []) ≡ replicate 9 None
@@ -173,12 +178,16 @@ bad_reopens = refl
 -- ---- tags
 
 insert_may_have_a_tag : map meaning_of (codes "insert a 7 1 2 3 4 tag 5" ∷ codes "insert a 7 1 2 3 4 tag 0" ∷ codes "insert a 7 1 2 3 4 5 6\ttag 4294967295 \r" ∷ [])
-    ≡ Means (Insert a 7 (Two (pos 1 ∷ pos 2 ∷ []) (pos 3 ∷ pos 4 ∷ [])) 5) ∷ Means (Insert a 7 (Two (pos 1 ∷ pos 2 ∷ []) (pos 3 ∷ pos 4 ∷ [])) 0) ∷ Means (Insert a 7 (Three (pos 1 ∷ pos 2 ∷ pos 3 ∷ []) (pos 4 ∷ pos 5 ∷ pos 6 ∷ [])) 4294967295) ∷ []
+    ≡ Means (Insert a 7 (Two (pos 1 ∷ pos 2 ∷ []) (pos 3 ∷ pos 4 ∷ [])) 5) ∷ Means
+    (Insert a 7 (Two (pos 1 ∷ pos 2 ∷ []) (pos 3 ∷ pos 4 ∷ [])) 0) ∷ Means
+    (Insert a 7 (Three (pos 1 ∷ pos 2 ∷ pos 3 ∷ []) (pos 4 ∷ pos 5 ∷ pos 6 ∷ [])) 4294967295) ∷ []
 insert_may_have_a_tag = refl
 
 -- a query for the tag 0 asks for another thing than one without a tag
 box_queries_may_have_a_tag : map meaning_of (codes "window a 1 2 3 4 tag 0" ∷ codes "inside a 1 2 3 4 tag 007" ∷ codes "around a 1 2 3 4 5 6 tag 5" ∷ [])
-    ≡ Means (Range a (Window (Two (pos 1 ∷ pos 2 ∷ []) (pos 3 ∷ pos 4 ∷ []))) (Some 0)) ∷ Means (Range a (Inside (Two (pos 1 ∷ pos 2 ∷ []) (pos 3 ∷ pos 4 ∷ []))) (Some 7)) ∷ Means (Range a (Around (Three (pos 1 ∷ pos 2 ∷ pos 3 ∷ []) (pos 4 ∷ pos 5 ∷ pos 6 ∷ []))) (Some 5)) ∷ []
+    ≡ Means (Range a (Window (Two (pos 1 ∷ pos 2 ∷ []) (pos 3 ∷ pos 4 ∷ []))) (Some 0)) ∷ Means
+    (Range a (Inside (Two (pos 1 ∷ pos 2 ∷ []) (pos 3 ∷ pos 4 ∷ []))) (Some 7)) ∷ Means
+    (Range a (Around (Three (pos 1 ∷ pos 2 ∷ pos 3 ∷ []) (pos 4 ∷ pos 5 ∷ pos 6 ∷ []))) (Some 5)) ∷ []
 box_queries_may_have_a_tag = refl
 
 points_may_have_a_tag : map meaning_of (codes "point a 1 -2 tag 5" ∷ codes "point a 1 2 3 tag 4294967295" ∷ []) ≡ Means (Range a (Point (point.Two (pos 1 ∷ negsuc 1 ∷ []))) (Some 5)) ∷ Means (Range a (Point (point.Three (pos 1 ∷ pos 2 ∷ pos 3 ∷ []))) (Some 4294967295)) ∷ []
@@ -225,7 +234,8 @@ bad_loads : map meaning_of (codes "load" ∷ codes "load a" ∷ codes "load a -1
 bad_loads = refl
 
 entry_lines : map entry_in (codes "7 1 -2 3 -4" ∷ codes " 007 1 2 3 4 5 6\r" ∷ [])
-    ≡ Some (7, Two (pos 1 ∷ negsuc 1 ∷ []) (pos 3 ∷ negsuc 3 ∷ []), 0) ∷ Some (7, Three (pos 1 ∷ pos 2 ∷ pos 3 ∷ []) (pos 4 ∷ pos 5 ∷ pos 6 ∷ []), 0) ∷ []
+    ≡ Some (7, Two (pos 1 ∷ negsuc 1 ∷ []) (pos 3 ∷ negsuc 3 ∷ []), 0) ∷ Some
+    (7, Three (pos 1 ∷ pos 2 ∷ pos 3 ∷ []) (pos 4 ∷ pos 5 ∷ pos 6 ∷ []), 0) ∷ []
 entry_lines = refl
 
 -- a blank line and a comment among them
@@ -245,14 +255,17 @@ boxes_of_another_number_of_coordinates = refl
 a_line_of_4097_bytes_is_bad : (line : List ℕ) → length line ≡ 4097 → meaning_of line ≡ Bad
 a_line_of_4097_bytes_is_bad line long = rw long refl
 
-a_line_of_4096_bytes_is_read : (line : List ℕ) → length line ≡ 4096 → meaning_of line ≡ words_mean (words_of line)
+a_line_of_4096_bytes_is_read : (line : List ℕ) → length line ≡ 4096
+    → meaning_of line ≡ words_mean (words_of line)
 a_line_of_4096_bytes_is_read line fits = rw fits refl
 
 -- ---- the requests of a text
 
 -- the last line has no newline, and a comment and an empty line ask nothing
 a_text_asks_line_by_line : AreCommands true (lines_of (codes "create a 2 4\n# more\n\ndrops a\ncreate b 3 5")) (Asks (Create a 2 4) ∷ BadCommand ∷ Asks (Create b 3 5) ∷ [])
-a_text_asks_line_by_line = one (Asks (Create a 2 4) ∷ []) refl (one [] refl (one [] refl (one (BadCommand ∷ []) refl (one (Asks (Create b 3 5) ∷ []) refl none))))
+a_text_asks_line_by_line =
+    one (Asks (Create a 2 4) ∷ []) refl
+    (one [] refl (one [] refl (one (BadCommand ∷ []) refl (one (Asks (Create b 3 5) ∷ []) refl none))))
 
 a_load_takes_its_entry_lines : AreCommands true (lines_of (codes "load a 1\n7 1 2 3 4\ncreate b 3 5")) (Asks (Load a ((7, Two (pos 1 ∷ pos 2 ∷ []) (pos 3 ∷ pos 4 ∷ []), 0) ∷ [])) ∷ Asks (Create b 3 5) ∷ [])
 a_load_takes_its_entry_lines = load a 1 refl (omega arith) (one (Asks (Create b 3 5) ∷ []) refl none)
@@ -275,19 +288,28 @@ asked_alone (Means c) rs ss h g = h ∙ sym g
 asked_alone (Loads layer count) rs ss h g = absurd h
 
 -- lines ask one list of requests, and no other
-pub one_reading : {ended : Bool} {lines : List (List ℕ)} {rs ss : List Request} → AreCommands ended lines rs → AreCommands ended lines ss → rs ≡ ss
+pub one_reading : {ended : Bool} {lines : List (List ℕ)} {rs ss : List Request} → AreCommands ended lines rs
+    → AreCommands ended lines ss → rs ≡ ss
 one_reading none none = refl
-one_reading (one {line = line} rs h p) (one ss g q) = ap₂ (λ x y. x ++ y) (asked_alone (meaning_of line) rs ss h g) (one_reading p q)
-one_reading (one {line = line} rs h p) (load layer count means enough q) = absurd (subst (λ m. AsksAlone m rs) means h)
-one_reading (one {line = line} rs h p) (short layer count means few last) = absurd (subst (λ m. AsksAlone m rs) means h)
+one_reading (one {line = line} rs h p) (one ss g q) =
+    ap₂ (λ x y. x ++ y) (asked_alone (meaning_of line) rs ss h g) (one_reading p q)
+one_reading (one {line = line} rs h p) (load layer count means enough q) =
+    absurd (subst (λ m. AsksAlone m rs) means h)
+one_reading (one {line = line} rs h p) (short layer count means few last) =
+    absurd (subst (λ m. AsksAlone m rs) means h)
 one_reading (load layer count means enough p) (one ss g q) = absurd (subst (λ m. AsksAlone m ss) means g)
-one_reading {ended = ended} (load {line = line} {lines = lines} {ss = ts} layer count means enough p) (load other number reads _ q) =
+one_reading {ended = ended} (load {line = line} {lines = lines} {ss = ts} layer count means enough p)
+    (load other number reads _ q) =
     let layers : layer ≡ other = cc in
     let counts : count ≡ number = cc in
-    ap₂ (λ x y. x ∷ y) (ap₂ (λ (l : List ℕ) (n : ℕ). load_request l (objects_in (take n lines))) layers counts) (one_reading (subst (λ (n : ℕ). AreCommands ended (drop n lines) ts) counts p) q)
-one_reading (load layer count means enough p) (short other number reads few last) = let counts : count ≡ number = cc in absurd (omega (arith, enough, few, counts))
+    ap₂ (λ x y. x ∷ y)
+    (ap₂ (λ (l : List ℕ) (n : ℕ). load_request l (objects_in (take n lines))) layers counts)
+    (one_reading (subst (λ (n : ℕ). AreCommands ended (drop n lines) ts) counts p) q)
+one_reading (load layer count means enough p) (short other number reads few last) =
+    let counts : count ≡ number = cc in absurd (omega (arith, enough, few, counts))
 one_reading (short layer count means few last) (one ss g q) = absurd (subst (λ m. AsksAlone m ss) means g)
-one_reading (short layer count means few last) (load other number reads enough q) = let counts : count ≡ number = cc in absurd (omega (arith, enough, few, counts))
+one_reading (short layer count means few last) (load other number reads enough q) =
+    let counts : count ≡ number = cc in absurd (omega (arith, enough, few, counts))
 one_reading (short layer count means few last) (short other number reads _ _) = refl
 
 -- ---- the texts of replies
@@ -299,13 +321,21 @@ no_row_is_counted_too : answer_text (Boxes []) ≡ codes "ok 0\n"
 unfolding digits
 no_row_is_counted_too = refl
 
-rows_are_identifier_lows_and_highs : answer_text (Boxes ((1, (record { low = negsuc 0 ∷ pos 2 ∷ []; high = pos 3 ∷ pos 4 ∷ [] }, 0)) ∷ (18446744073709551615, (record { low = pos 0 ∷ pos 0 ∷ pos 0 ∷ []; high = pos 1 ∷ pos 1 ∷ pos 2147483647 ∷ [] }, 0)) ∷ []))
+rows_are_identifier_lows_and_highs : answer_text
+    (Boxes ((1, (record { low = negsuc 0 ∷ pos 2 ∷ []; high = pos 3 ∷ pos 4 ∷ [] }, 0))
+    ∷ (
+      18446744073709551615,
+      (record { low = pos 0 ∷ pos 0 ∷ pos 0 ∷ []; high = pos 1 ∷ pos 1 ∷ pos 2147483647 ∷ [] }, 0),
+    ) ∷ []))
     ≡ codes "ok 2\n1 -1 2 3 4\n18446744073709551615 0 0 0 1 1 2147483647\n"
 unfolding digits
 rows_are_identifier_lows_and_highs = refl
 
 -- a tag that is 0 is not shown
-rows_have_tags_behind_the_highs : answer_text (Boxes ((1, (record { low = negsuc 0 ∷ pos 2 ∷ []; high = pos 3 ∷ pos 4 ∷ [] }, 5)) ∷ (2, (record { low = pos 0 ∷ pos 0 ∷ []; high = pos 1 ∷ pos 1 ∷ [] }, 0)) ∷ (3, (record { low = pos 0 ∷ pos 0 ∷ []; high = pos 1 ∷ pos 1 ∷ [] }, 4294967295)) ∷ []))
+rows_have_tags_behind_the_highs : answer_text
+    (Boxes ((1, (record { low = negsuc 0 ∷ pos 2 ∷ []; high = pos 3 ∷ pos 4 ∷ [] }, 5))
+    ∷ (2, (record { low = pos 0 ∷ pos 0 ∷ []; high = pos 1 ∷ pos 1 ∷ [] }, 0))
+    ∷ (3, (record { low = pos 0 ∷ pos 0 ∷ []; high = pos 1 ∷ pos 1 ∷ [] }, 4294967295)) ∷ []))
     ≡ codes "ok 3\n1 -1 2 3 4 tag 5\n2 0 0 1 1\n3 0 0 1 1 tag 4294967295\n"
 unfolding digits
 rows_have_tags_behind_the_highs = refl
@@ -334,12 +364,16 @@ a_dump_has_lines_with_tags : answer_text (Dumped (InsertLine a 1 (record { low =
 unfolding digits
 a_dump_has_lines_with_tags = refl
 
-refusals_have_numbers_and_names : texts_of (Refused refusal.BadName ∷ Refused refusal.NoObject ∷ Refused refusal.BadLine ∷ Refused refusal.NoPages ∷ [])
+refusals_have_numbers_and_names : texts_of
+    (Refused refusal.BadName ∷ Refused refusal.NoObject ∷ Refused refusal.BadLine ∷ Refused
+    refusal.NoPages ∷ [])
     ≡ codes "fail 1 BadName\nfail 10 NoObject\nfail 24 BadLine\nfail 25 NoPages\n"
 unfolding digits
 refusals_have_numbers_and_names = refl
 
-three_refusals_have_a_number_more : texts_of (Refused (refusal.DuplicateInLoad 18446744073709551615) ∷ Refused (refusal.Damaged 3) ∷ Refused (refusal.StoreFailed 17) ∷ [])
+three_refusals_have_a_number_more : texts_of
+    (Refused (refusal.DuplicateInLoad 18446744073709551615) ∷ Refused (refusal.Damaged 3) ∷ Refused
+    (refusal.StoreFailed 17) ∷ [])
     ≡ codes "fail 13 DuplicateInLoad 18446744073709551615\nfail 18 Damaged 3\nfail 19 StoreFailed 17\n"
 unfolding digits
 three_refusals_have_a_number_more = refl

@@ -1,5 +1,7 @@
 -- A load: what its lines ask, and a run that is a load further.
-use Rattle.std.proofs.Common.{◌≡◌, ◌∙◌, ℕ, ◌<◌, ◌≤◌, Bool, true, false, cond, List, [], ◌∷◌, ◌++◌, length, take, Option, Some, None, Result, Ok, Err, MatchResult, refl, sym, ap, subst, append_assoc, inr, arith}
+use Rattle.std.proofs.Common.{◌≡◌, ◌∙◌, ℕ, ◌<◌, ◌≤◌, Bool, true, false, cond, List, [], ◌∷◌, ◌++◌, length}
+use Rattle.std.proofs.Common.{take, Option, Some, None, Result, Ok, Err, MatchResult, refl, sym, ap, subst}
+use Rattle.std.proofs.Common.{append_assoc, inr, arith}
 use Rattle.std.proofs.lemmas.List.{drop_all, take_all}
 use Rattle.std.specs.Io.KnownBytes.{Appends, Keeps}
 use Rattle.plain_table.specs.Step.{Answer}
@@ -27,23 +29,34 @@ use Rattle.command_shell.proofs.ReadLemmas.{reads_more}
 use Rattle.command_shell.proofs.SessionLemmas.{serves_kept, serves_none, steps_after}
 
 -- the lines of a load
-load_lines : (first text : List ℕ) → IsOneLine first → lines_of ((first ++ newline ∷ []) ++ text) ≡ first ∷ lines_of text
-load_lines first text one = lines_of-whole (first ++ newline ∷ []) text (ends first) ∙ ap (λ ls. ls ++ lines_of text) (lines_of-line first one)
+load_lines : (first text : List ℕ) → IsOneLine first
+    → lines_of ((first ++ newline ∷ []) ++ text) ≡ first ∷ lines_of text
+load_lines first text one = lines_of-whole (first ++ newline ∷ []) text (ends first)
+    ∙ ap (λ ls. ls ++ lines_of text) (lines_of-line first one)
 
-asks_load : (ended : Bool) (first text layer : List ℕ) (count : ℕ) → IsOneLine first → meaning_of first ≡ Loads layer count → length (lines_of text) ≡ count
-    → AreCommands ended (lines_of ((first ++ newline ∷ []) ++ text)) (load_request layer (objects_in (lines_of text)) ∷ [])
+asks_load : (ended : Bool) (first text layer : List ℕ) (count : ℕ) → IsOneLine first
+    → meaning_of first ≡ Loads layer count → length (lines_of text) ≡ count
+    → AreCommands ended (lines_of ((first ++ newline ∷ []) ++ text))
+    (load_request layer (objects_in (lines_of text)) ∷ [])
 asks_load ended first text layer count one means all =
     let lines = lines_of text in
     let enough : count ≤ length lines = omega (arith, all) in
     let few : length lines ≤ count = omega (arith, all) in
-    let rest = subst (λ (ls : List (List ℕ)). AreCommands ended ls []) (sym (drop_all count lines few)) none in
-    let asked = subst (λ (ls : List (List ℕ)). AreCommands ended (first ∷ lines) (load_request layer (objects_in ls) ∷ [])) (take_all count lines few) (load layer count means enough rest) in
-    subst (λ (ls : List (List ℕ)). AreCommands ended ls (load_request layer (objects_in lines) ∷ [])) (sym (load_lines first text one)) asked
+    let rest =
+    subst (λ (ls : List (List ℕ)). AreCommands ended ls []) (sym (drop_all count lines few)) none in
+    let asked =
+    subst (λ (ls : List (List ℕ)). AreCommands ended (first ∷ lines)
+    (load_request layer (objects_in ls) ∷ [])) (take_all count lines few)
+    (load layer count means enough rest) in
+    subst (λ (ls : List (List ℕ)). AreCommands ended ls (load_request layer (objects_in lines) ∷ []))
+    (sym (load_lines first text one)) asked
 
-asks_short : (first text layer : List ℕ) (count : ℕ) → IsOneLine first → meaning_of first ≡ Loads layer count → length (lines_of text) < count
+asks_short : (first text layer : List ℕ) (count : ℕ) → IsOneLine first → meaning_of first ≡ Loads layer count
+    → length (lines_of text) < count
     → AreCommands true (lines_of ((first ++ newline ∷ []) ++ text)) (BadCommand ∷ [])
 asks_short first text layer count one means few =
-    subst (λ (ls : List (List ℕ)). AreCommands true ls (BadCommand ∷ [])) (sym (load_lines first text one)) (short layer count means few refl)
+    subst (λ (ls : List (List ℕ)). AreCommands true ls (BadCommand ∷ [])) (sym (load_lines first text one))
+    (short layer count means few refl)
 
 -- a write after a flush
 appends_after : (a b c : Option (List ℕ)) (text : List ℕ) → Keeps a b → Appends b c text → Appends a c text
@@ -51,34 +64,57 @@ appends_after None b c text k h = tt
 appends_after (Some a) None c text k h = elim k [ ]
 appends_after (Some a) (Some b) c text k h = subst (λ (x : List ℕ). Appends (Some x) c text) k h
 
-writes_after : {E T : Type 0} (a b c : Option (List ℕ)) (result : Result T E) (text : List ℕ) → Keeps a b → Writes b c result text → Writes a c result text
+writes_after : {E T : Type 0} (a b c : Option (List ℕ)) (result : Result T E) (text : List ℕ) → Keeps a b
+    → Writes b c result text → Writes a c result text
 writes_after a b c (Ok v) text k h = appends_after a b c text k h
 writes_after a b c (Err e) text k h = (h.0, h.1, appends_after a b c (take h.0 text) k h.2)
 
 -- all entry lines were there
-pub loads_full : {A E : Type 0} (So : List Request → List Answer → Type 0) (r0 r1 r2 w w1 w2 : Option (List ℕ)) (unread mid left first text layer : List ℕ) (count : ℕ) (ended : Bool) (end : Option RunEnd) (result : Result (Unit {0}) E) (reply : Reply A)
-    → MatchResult result (λ _. end ≡ cond ended (Some Finished) None) (λ _. end ≡ Some WriteFault) → IsOneLine first → meaning_of first ≡ Loads layer count
-    → Reads false r0 r1 unread mid (first ++ newline ∷ []) → Reads ended r1 r2 mid left text → length (lines_of text) ≡ count → Keeps w w1 → Writes w1 w2 result (answer_text (reply_answer reply))
-    → So (load_request layer (objects_in (lines_of text)) ∷ []) (reply_answer reply ∷ []) → StepsTo So end r0 r2 w w2 unread left
-loads_full So r0 r1 r2 w w1 w2 unread mid left first text layer count ended end result reply e one means p q all kept written so =
-    steps_after So r0 r2 w w2 unread left ((first ++ newline ∷ []) ++ text) (load_request layer (objects_in (lines_of text)) ∷ []) (reply_answer reply ∷ []) ended end result e
-    (reads_more ended r0 r1 r2 unread mid left (first ++ newline ∷ []) text p q) (asks_load ended first text layer count one means all) so
-    (wrote_reply reply w w2 result (writes_after w w1 w2 result (answer_text (reply_answer reply)) kept written))
+pub loads_full : {A E : Type 0} (So : List Request → List Answer → Type 0)
+    (r0 r1 r2 w w1 w2 : Option (List ℕ)) (unread mid left first text layer : List ℕ) (count : ℕ)
+    (ended : Bool) (end : Option RunEnd) (result : Result (Unit {0}) E) (reply : Reply A)
+    → MatchResult result (λ _. end ≡ cond ended (Some Finished) None) (λ _. end ≡ Some WriteFault)
+    → IsOneLine first → meaning_of first ≡ Loads layer count
+    → Reads false r0 r1 unread mid (first ++ newline ∷ []) → Reads ended r1 r2 mid left text
+    → length (lines_of text) ≡ count → Keeps w w1 → Writes w1 w2 result (answer_text (reply_answer reply))
+    → So (load_request layer (objects_in (lines_of text)) ∷ []) (reply_answer reply ∷ [])
+    → StepsTo So end r0 r2 w w2 unread left
+loads_full So r0 r1 r2 w w1 w2 unread mid left first text layer count ended end result reply e one means p q
+    all kept written so =
+    steps_after So r0 r2 w w2 unread left ((first ++ newline ∷ []) ++ text)
+    (load_request layer (objects_in (lines_of text)) ∷ []) (reply_answer reply ∷ []) ended end result e
+    (reads_more ended r0 r1 r2 unread mid left (first ++ newline ∷ []) text p q)
+    (asks_load ended first text layer count one means all) so
+    (wrote_reply reply w w2 result
+    (writes_after w w1 w2 result (answer_text (reply_answer reply)) kept written))
 
 -- fewer were there
-pub loads_short : {A E : Type 0} (So : List Request → List Answer → Type 0) (r0 r1 r2 w w1 w2 : Option (List ℕ)) (unread mid left first text layer : List ℕ) (count : ℕ) (end : Option RunEnd) (result : Result (Unit {0}) E) (reply : Reply A)
-    → MatchResult result (λ _. end ≡ cond true (Some Finished) None) (λ _. end ≡ Some WriteFault) → IsOneLine first → meaning_of first ≡ Loads layer count
-    → Reads false r0 r1 unread mid (first ++ newline ∷ []) → Reads true r1 r2 mid left text → length (lines_of text) < count → Keeps w w1 → Writes w1 w2 result (answer_text (reply_answer reply))
+pub loads_short : {A E : Type 0} (So : List Request → List Answer → Type 0)
+    (r0 r1 r2 w w1 w2 : Option (List ℕ)) (unread mid left first text layer : List ℕ) (count : ℕ)
+    (end : Option RunEnd) (result : Result (Unit {0}) E) (reply : Reply A)
+    → MatchResult result (λ _. end ≡ cond true (Some Finished) None) (λ _. end ≡ Some WriteFault)
+    → IsOneLine first → meaning_of first ≡ Loads layer count
+    → Reads false r0 r1 unread mid (first ++ newline ∷ []) → Reads true r1 r2 mid left text
+    → length (lines_of text) < count → Keeps w w1 → Writes w1 w2 result (answer_text (reply_answer reply))
     → So (BadCommand ∷ []) (reply_answer reply ∷ []) → StepsTo So end r0 r2 w w2 unread left
-loads_short So r0 r1 r2 w w1 w2 unread mid left first text layer count end result reply e one means p q few kept written so =
-    steps_after So r0 r2 w w2 unread left ((first ++ newline ∷ []) ++ text) (BadCommand ∷ []) (reply_answer reply ∷ []) true end result e
-    (reads_more true r0 r1 r2 unread mid left (first ++ newline ∷ []) text p q) (asks_short first text layer count one means few) so
-    (wrote_reply reply w w2 result (writes_after w w1 w2 result (answer_text (reply_answer reply)) kept written))
+loads_short So r0 r1 r2 w w1 w2 unread mid left first text layer count end result reply e one means p q few
+    kept written so =
+    steps_after So r0 r2 w w2 unread left ((first ++ newline ∷ []) ++ text) (BadCommand ∷ [])
+    (reply_answer reply ∷ []) true end result e
+    (reads_more true r0 r1 r2 unread mid left (first ++ newline ∷ []) text p q)
+    (asks_short first text layer count one means few) so
+    (wrote_reply reply w w2 result
+    (writes_after w w1 w2 result (answer_text (reply_answer reply)) kept written))
 
 -- the text could not be read further, or a flush failed
-pub loads_broken : (So : List Request → List Answer → Type 0) → So [] [] → (r0 r1 r2 w w1 : Option (List ℕ)) (unread mid left first layer : List ℕ) (count : ℕ) (end : RunEnd) → (end ≡ Finished → ⊥)
-    → IsOneLine first → meaning_of first ≡ Loads layer count → Reads false r0 r1 unread mid (first ++ newline ∷ []) → TakesPart count r1 r2 mid → Keeps w w1 → StepsTo So (Some end) r0 r2 w w1 unread left
-loads_broken So empty r0 r1 r2 w w1 unread mid left first layer count end going one means p t kept = ended end going
+pub loads_broken : (So : List Request → List Answer → Type 0) → So [] []
+    → (r0 r1 r2 w w1 : Option (List ℕ)) (unread mid left first layer : List ℕ) (count : ℕ) (end : RunEnd)
+    → (end ≡ Finished → ⊥)
+    → IsOneLine first → meaning_of first ≡ Loads layer count
+    → Reads false r0 r1 unread mid (first ++ newline ∷ []) → TakesPart count r1 r2 mid → Keeps w w1
+    → StepsTo So (Some end) r0 r2 w w1 unread left
+loads_broken So empty r0 r1 r2 w w1 unread mid left first layer count end going one means p t kept =
+    ended end going
   where
     rest : List ℕ
     rest = (first ++ newline ∷ []) ++ (t.entries ++ t.unread)
@@ -86,13 +122,21 @@ loads_broken So empty r0 r1 r2 w w1 unread mid left first layer count end going 
     not_taken : Reads false r0 r2 unread rest []
     not_taken =
         let h = reads_more false r0 r1 r2 unread mid t.unread (first ++ newline ∷ []) t.entries p t.reads in
-        record { stops = whole_none; read = record { more = h.read.more; read = h.read.read; so = h.read.so ∙ append_assoc (first ++ newline ∷ []) t.entries t.unread } }
+        record {
+          stops = whole_none;
+          read = record {
+            more = h.read.more;
+            read = h.read.read;
+            so = h.read.so ∙ append_assoc (first ++ newline ∷ []) t.entries t.unread;
+          };
+        }
 
     unanswered : AnswersAllLines So r0 r2 w w1 unread
     unanswered = (
       rest,
       in_load first t.entries t.unread layer count one means t.reads.stops t.few t.one_line refl,
-      serves_kept So false true r0 r2 w w w1 unread rest (serves_none So empty false r0 r2 w unread rest not_taken) kept,
+      serves_kept So false true r0 r2 w w w1 unread rest
+          (serves_none So empty false r0 r2 w unread rest not_taken) kept,
     )
 
     ended : (e : RunEnd) → (e ≡ Finished → ⊥) → StepsTo So (Some e) r0 r2 w w1 unread left

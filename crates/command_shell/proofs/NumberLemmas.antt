@@ -1,5 +1,6 @@
 -- The number that digits are, read from the front.
-use Rattle.std.proofs.Common.{◌≡◌, ℕ, suc, ◌+◌, ◌*◌, ◌^◌, ◌<◌, ◌≤◌, ◌&&◌, Bool, true, false, cond, ltb, List, [], ◌∷◌, length, drop, get_or, Some, None, refl, sym, ap, ◌∙◌, arith}
+use Rattle.std.proofs.Common.{◌≡◌, ℕ, suc, ◌+◌, ◌*◌, ◌^◌, ◌<◌, ◌≤◌, ◌&&◌, Bool, true, false, cond, ltb, List}
+use Rattle.std.proofs.Common.{[], ◌∷◌, length, drop, get_or, Some, None, refl, sym, ap, ◌∙◌, arith}
 use Rattle.std.specs.Char.{is_ascii_digit, digit_value}
 use Rattle.std.specs.List.{list_all}
 use Rattle.std.specs.Str.Parse.{digits_value, digits_value_after}
@@ -11,7 +12,8 @@ use Rattle.command_shell.specs.Numbers.{is_numeral, number_in}
 -- digits that follow a number make it no less
 pub digits_value_after-ge : (n : ℕ) (cs : List ℕ) → n ≤ digits_value_after 10 n cs
 digits_value_after-ge n [] = omega arith
-digits_value_after-ge n (c ∷ cs) = let h = digits_value_after-ge (n * 10 + digit_value c) cs in omega (arith, h)
+digits_value_after-ge n (c ∷ cs) = let h = digits_value_after-ge (n * 10 + digit_value c) cs in
+    omega (arith, h)
 
 unless : (a b : Bool) (v : ℕ) → b ≡ false → None ≡ cond (a && b) (Some v) None
 unless true b v e = rw e refl
@@ -23,11 +25,13 @@ pub record IsReadTo (word : List ℕ) (i value : ℕ) : Type 0 where
   pub fits : value < 2 ^ 64
   pub digits_are : list_all is_ascii_digit (drop i word) ≡ list_all is_ascii_digit word
 
-module _ (word : List ℕ) (i value byte : ℕ) (below : i < length word) (is : byte ≡ get_or word i 0) (so_far : IsReadTo word i value) where
+module _ (word : List ℕ) (i value byte : ℕ) (below : i < length word) (is : byte ≡ get_or word i 0)
+    (so_far : IsReadTo word i value) where
   here : drop i word ≡ byte ∷ drop (suc i) word
   here = drop-cons word i 0 below ∙ ap (λ b. b ∷ drop (suc i) word) (sym is)
 
-  value_here : digits_value_after 10 (value * 10 + digit_value byte) (drop (suc i) word) ≡ digits_value 10 word
+  value_here : digits_value_after 10 (value * 10 + digit_value byte) (drop (suc i) word) ≡ digits_value 10
+      word
   value_here = sym (ap (digits_value_after 10 value) here) ∙ so_far.value_is
 
   -- a value that is too large
@@ -39,10 +43,12 @@ module _ (word : List ℕ) (i value byte : ℕ) (below : i < length word) (is : 
       unless (is_numeral word) (ltb (digits_value 10 word) (2 ^ 64)) (digits_value 10 word) t
 
 -- the whole word
-pub all_read : (word : List ℕ) (i value : ℕ) → 0 < length word → length word ≤ i → IsReadTo word i value → Some value ≡ number_in word
+pub all_read : (word : List ℕ) (i value : ℕ) → 0 < length word → length word ≤ i → IsReadTo word i value
+    → Some value ≡ number_in word
 all_read word i value some all so_far =
     let none : drop i word ≡ [] = drop_all i word all in
     let v : value ≡ digits_value 10 word = sym (ap (digits_value_after 10 value) none) ∙ so_far.value_is in
     let fits = so_far.fits in
-    let d : true ≡ list_all is_ascii_digit word = sym (ap (list_all is_ascii_digit) none) ∙ so_far.digits_are in
+    let d : true ≡ list_all is_ascii_digit word = sym (ap (list_all is_ascii_digit) none)
+    ∙ so_far.digits_are in
     grind (arith, nat_tests)

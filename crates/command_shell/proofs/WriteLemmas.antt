@@ -1,5 +1,7 @@
 -- One write after another.
-use Rattle.std.proofs.Common.{◌≡◌, ℕ, ◌+◌, ◌<◌, List, ◌∷◌, ◌++◌, length, take, drop, suc, get_or, flat_map, map, Option, Some, None, Result, Ok, Err, sym, ap, ap₂, ◌∙◌, append_assoc, length-append, arith}
+use Rattle.std.proofs.Common.{◌≡◌, ℕ, ◌+◌, ◌<◌, List, ◌∷◌, ◌++◌, length, take, drop, suc, get_or, flat_map}
+use Rattle.std.proofs.Common.{map, Option, Some, None, Result, Ok, Err, sym, ap, ap₂, ◌∙◌, append_assoc}
+use Rattle.std.proofs.Common.{length-append, arith}
 use Rattle.std.specs.Io.KnownBytes.{Appends}
 use Rattle.std.proofs.lemmas.List.{length-map, take-append-le, take-append-drop, take_all}
 use Rattle.std.proofs.lemmas.List.Concat.{flat_map-append}
@@ -8,7 +10,8 @@ use Rattle.std.proofs.Math.Seq.{take-append-add, take-add, drop-cons}
 use Rattle.command_shell.specs.Texts.{count_text}
 use Rattle.command_shell.specs.Writing.{AppendsFront, AppendsSome, Writes}
 
-pub appends_more : (a b c : Option (List ℕ)) (x y : List ℕ) → Appends a b x → Appends b c y → Appends a c (x ++ y)
+pub appends_more : (a b c : Option (List ℕ)) (x y : List ℕ) → Appends a b x → Appends b c y
+    → Appends a c (x ++ y)
 appends_more None b c x y p q = tt
 appends_more (Some a) None c x y p q = elim p [ ]
 appends_more (Some a) (Some b) None x y p q = elim q [ ]
@@ -16,19 +19,27 @@ appends_more (Some a) (Some b) (Some c) x y p q = q ∙ ap (λ t. t ++ y) p ∙ 
 
 -- a front of a text is one of what goes on from it
 pub front_more : (a c : Option (List ℕ)) (x y : List ℕ) → AppendsFront a c x → AppendsFront a c (x ++ y)
-front_more a c x y f = (f.0, omega (arith, f.1, length-append x y), rw (take-append-le f.0 x y (omega (arith, f.1))) f.2)
+front_more a c x y f =
+    (f.0, omega (arith, f.1, length-append x y), rw (take-append-le f.0 x y (omega (arith, f.1))) f.2)
 
 -- a text, and a front of what follows
-pub front_then : (a b c : Option (List ℕ)) (x y : List ℕ) → Appends a b x → AppendsFront b c y → AppendsFront a c (x ++ y)
-front_then a b c x y p f = (length x + f.0, omega (arith, f.1, length-append x y), rw take-append-add (appends_more a b c x (take f.0 y) p f.2))
+pub front_then : (a b c : Option (List ℕ)) (x y : List ℕ) → Appends a b x → AppendsFront b c y
+    → AppendsFront a c (x ++ y)
+front_then a b c x y p f = (
+  length x + f.0,
+  omega (arith, f.1, length-append x y),
+  rw take-append-add (appends_more a b c x (take f.0 y) p f.2),
+)
 
 -- a text, and then a write
-pub writes_then : {E T : Type 0} (a b c : Option (List ℕ)) (r : Result T E) (x y : List ℕ) → Appends a b x → Writes b c r y → Writes a c r (x ++ y)
+pub writes_then : {E T : Type 0} (a b c : Option (List ℕ)) (r : Result T E) (x y : List ℕ) → Appends a b x
+    → Writes b c r y → Writes a c r (x ++ y)
 writes_then a b c (Ok v) x y p q = appends_more a b c x y p q
 writes_then a b c (Err e) x y p q = front_then a b c x y p q
 
 -- a write appends all of the text, or a front of it
-pub some_written : {E T : Type 0} (a b : Option (List ℕ)) (r : Result T E) (text : List ℕ) → Writes a b r text → AppendsSome a b text
+pub some_written : {E T : Type 0} (a b : Option (List ℕ)) (r : Result T E) (text : List ℕ)
+    → Writes a b r text → AppendsSome a b text
 some_written a b (Ok v) text h = (length text, rw (take_all (length text) text (omega arith)) h)
 some_written a b (Err e) text h = (h.0, h.2)
 
@@ -37,13 +48,24 @@ pub taken_more : (xs : List ℕ) (i n : ℕ) → take i xs ++ take n (drop i xs)
 taken_more xs i n = sym (take-add i n xs)
 
 -- a fault while element i is written leaves a front of the text of all
-pub front_of_all : {X : Type 0} (f : X → List ℕ) (a b c : Option (List ℕ)) (xs : List X) (i : ℕ) (d x : X) → i < length xs → x ≡ get_or xs i d → Appends a b (flat_map f (take i xs)) → AppendsFront b c (f x) → AppendsFront a c (flat_map f xs)
+pub front_of_all : {X : Type 0} (f : X → List ℕ) (a b c : Option (List ℕ)) (xs : List X) (i : ℕ) (d x : X)
+    → i < length xs → x ≡ get_or xs i d → Appends a b (flat_map f (take i xs)) → AppendsFront b c (f x)
+    → AppendsFront a c (flat_map f xs)
 front_of_all f a b c xs i d x h e p q =
-    let whole : flat_map f xs ≡ (flat_map f (take i xs) ++ f x) ++ flat_map f (drop (suc i) xs) = ap (flat_map f) (sym (take-append-drop i xs) ∙ ap (λ t. take i xs ++ t) (drop-cons xs i d h)) ∙ flat_map-append f (take i xs) (get_or xs i d ∷ drop (suc i) xs) ∙ ap (λ y. flat_map f (take i xs) ++ (f y ++ flat_map f (drop (suc i) xs))) (sym e) ∙ sym (append_assoc (flat_map f (take i xs)) (f x) _) in
-    rw whole (front_more a c (flat_map f (take i xs) ++ f x) _ (front_then a b c (flat_map f (take i xs)) (f x) p q))
+    let whole : flat_map f xs ≡ (flat_map f (take i xs) ++ f x)
+    ++ flat_map f (drop (suc i) xs) =
+    ap (flat_map f) (sym (take-append-drop i xs) ∙ ap (λ t. take i xs ++ t) (drop-cons xs i d h))
+    ∙ flat_map-append f (take i xs) (get_or xs i d ∷ drop (suc i) xs)
+    ∙ ap (λ y. flat_map f (take i xs) ++ (f y ++ flat_map f (drop (suc i) xs))) (sym e)
+    ∙ sym (append_assoc (flat_map f (take i xs)) (f x) _) in
+    rw whole
+    (front_more a c (flat_map f (take i xs) ++ f x) _
+    (front_then a b c (flat_map f (take i xs)) (f x) p q))
 
 -- the rows of values are those of what the values are seen as
-pub mapped_rows : {X Y : Type 0} (f : X → Y) (text : Y → List ℕ) (xs : List X) → count_text (length xs) ++ flat_map (λ x. text (f x)) xs ≡ count_text (length (map f xs)) ++ flat_map text (map f xs)
+pub mapped_rows : {X Y : Type 0} (f : X → Y) (text : Y → List ℕ) (xs : List X)
+    → count_text (length xs) ++ flat_map (λ x. text (f x)) xs ≡ count_text (length (map f xs))
+    ++ flat_map text (map f xs)
 mapped_rows f text xs = sym (ap₂ (λ n t. count_text n ++ t) (length-map xs f) (flat_map-map text f xs))
 
 -- what writing functions need

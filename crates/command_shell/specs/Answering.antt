@@ -24,20 +24,22 @@ reply_answers None = []
 reply_answers (Some r) = reply_answer r ∷ []
 
 -- what a line of this meaning asks was answered, so that `So` holds of requests and answers
-pub record Replies (m : Meaning) (So : List Request → List Answer → Type 0) (answers : List Answer) : Type 0 where
+pub record Replies (m : Meaning) (So : List Request → List Answer → Type 0) (answers : List Answer) : Type
+    0 where
   pub requests : List Request
   pub asked : AsksAlone m requests
   pub lawful : So requests answers
 
--- Where the line asks for a check and the reply is that it was done, the store is alive with some table; and where it
--- was settled before, it begins with one now, as an opened store does.
+-- Where the line asks for a check and the reply is that it was done, the store is alive with some table; and
+-- where it was settled before, it begins with one now, as an opened store does.
 abbrev pub SaysChecked : {D A : Type 0} {m : _} → Meaning → Store D A m → Store D A m → List Answer → Type 0
 SaysChecked {m = m} line old new answers =
     line ≡ Means Check → answers ≡ Done ∷ []
     → IsAliveWithSome new × (IsSettled old → BeginsWithSome new (m.moment (device_in new)))
 
 -- the same, and the answers were written
-pub record AnswersLine {E : Type 0} (m : Meaning) (So : List Request → List Answer → Type 0) (before after : Option (List ℕ)) (result : Result (Unit {0}) E) : Type 0 where
+pub record AnswersLine {E : Type 0} (m : Meaning) (So : List Request → List Answer → Type 0)
+    (before after : Option (List ℕ)) (result : Result (Unit {0}) E) : Type 0 where
   pub requests : List Request
   pub asked : AsksAlone m requests
   pub answers : List Answer
@@ -50,8 +52,10 @@ pub record RepliesLast (line : List ℕ) (So : Request → Answer → Type 0) (a
   pub asked : AreCommands true (line ∷ []) (request ∷ [])
   pub step : So request answer
 
--- what the last line of a text asks was answered, so that `So` holds of requests and answers, and these were written
-pub record AnswersLast {E : Type 0} (line : List ℕ) (So : List Request → List Answer → Type 0) (before after : Option (List ℕ)) (result : Result (Unit {0}) E) : Type 0 where
+-- what the last line of a text asks was answered, so that `So` holds of requests and answers, and these were
+-- written
+pub record AnswersLast {E : Type 0} (line : List ℕ) (So : List Request → List Answer → Type 0)
+    (before after : Option (List ℕ)) (result : Result (Unit {0}) E) : Type 0 where
   pub requests : List Request
   pub asked : AreCommands true (line ∷ []) requests
   pub answers : List Answer

@@ -1,5 +1,6 @@
 -- What is gathered of a load while its entry lines are read.
-use Rattle.std.specs.Prelude.{ℕ, ◌≡◌, ◌<◌, Bool, true, false, List, [], ◌∷◌, ◌++◌, length, Option, Some, None, IsSome, Result, Ok, Err}
+use Rattle.std.specs.Prelude.{ℕ, ◌≡◌, ◌<◌, Bool, true, false, List, [], ◌∷◌, ◌++◌, length, Option, Some, None}
+use Rattle.std.specs.Prelude.{IsSome, Result, Ok, Err}
 use Rattle.plain_table.specs.Loads.{GivenObjects}
 use Rattle.command_shell.specs.Entries.{objects_in}
 use Rattle.command_shell.specs.Lines.{IsOneLine, lines_of}
@@ -11,7 +12,8 @@ use Rattle.command_shell.specs.declared.loading.Taken.{Taken}
 use Rattle.command_shell.specs.declared.loading.Taken.TheVariants.{Line, Last, End}
 use Rattle.command_shell.specs.declared.session.RunEnd.{RunEnd}
 
--- what the flags say: an entry line was bad; or the name and the objects are there; or there was no room for all of them
+-- what the flags say: an entry line was bad; or the name and the objects are there; or there was no room for
+-- all of them
 abbrev pub Tells : Bool → Bool → List ℕ → GivenObjects → List ℕ → Option GivenObjects → Type 0
 Tells false room name objects layer all = all ≡ None
 Tells true true name objects layer all = (all ≡ Some objects) × (name ≡ layer)
@@ -22,12 +24,14 @@ abbrev pub IsGathered : {A : Type 0} → Gathered A → List ℕ → List (List 
 IsGathered g layer lines = Tells g.good g.room g.layer.items g.objects.items layer (objects_in lines)
 
 -- an entry line was taken, and gathered
-pub record TakesLine {A : Type 0} (ended : Bool) (old new : Gathered A) (before after : Option (List ℕ)) (pending left : List ℕ) : Type 0 where
+pub record TakesLine {A : Type 0} (ended : Bool) (old new : Gathered A) (before after : Option (List ℕ))
+    (pending left : List ℕ) : Type 0 where
   pub text : List ℕ
   pub line : List ℕ
   pub reads : Reads ended before after pending left text
   pub is_line : lines_of text ≡ line ∷ []
-  pub gathers : (layer : List ℕ) (lines : List (List ℕ)) → IsGathered old layer lines → IsGathered new layer (lines ++ line ∷ [])
+  pub gathers : (layer : List ℕ) (lines : List (List ℕ)) → IsGathered old layer lines
+      → IsGathered new layer (lines ++ line ∷ [])
 
 -- bytes of an entry line were read at most, and none was taken
 pub record TakesNone (before after : Option (List ℕ)) (pending : List ℕ) : Type 0 where
@@ -35,15 +39,18 @@ pub record TakesNone (before after : Option (List ℕ)) (pending : List ℕ) : T
   pub one_line : IsOneLine unread
   pub reads : Reads false before after pending unread []
 
--- what was taken: a line with its newline, or the last one without; or the text has ended, or could not be read further
-abbrev pub TakesEntry : {A : Type 0} → Result Taken RunEnd → Gathered A → Gathered A → Option (List ℕ) → Option (List ℕ) → List ℕ → List ℕ → Type 0
+-- what was taken: a line with its newline, or the last one without; or the text has ended, or could not be
+-- read further
+abbrev pub TakesEntry : {A : Type 0} → Result Taken RunEnd → Gathered A → Gathered A → Option (List ℕ)
+    → Option (List ℕ) → List ℕ → List ℕ → Type 0
 TakesEntry (Ok Line) old new before after pending left = TakesLine false old new before after pending left
 TakesEntry (Ok Last) old new before after pending left = TakesLine true old new before after pending left
 TakesEntry (Ok End) old new before after pending left = Reads true before after pending left []
 TakesEntry (Err end) old new before after pending left = TakesNone before after pending
 
 -- so many entry lines were taken, and gathered
-pub record TakesAll {A : Type 0} (count : ℕ) (ended : Bool) (old new : Gathered A) (before after : Option (List ℕ)) (pending left : List ℕ) : Type 0 where
+pub record TakesAll {A : Type 0} (count : ℕ) (ended : Bool) (old new : Gathered A)
+    (before after : Option (List ℕ)) (pending left : List ℕ) : Type 0 where
   pub text : List ℕ
   pub reads : Reads ended before after pending left text
   pub count_is : length (lines_of text) ≡ count
@@ -63,7 +70,9 @@ pub record TakesPart (count : ℕ) (before after : Option (List ℕ)) (pending :
   pub few : length (lines_of entries) < count
   pub one_line : IsOneLine unread
 
-abbrev pub GathersTo : {A : Type 0} → Gathering → ℕ → Gathered A → Gathered A → Option (List ℕ) → Option (List ℕ) → List ℕ → List ℕ → Type 0
-GathersTo (Full ended) count old new before after pending left = TakesAll count ended old new before after pending left
+abbrev pub GathersTo : {A : Type 0} → Gathering → ℕ → Gathered A → Gathered A → Option (List ℕ)
+    → Option (List ℕ) → List ℕ → List ℕ → Type 0
+GathersTo (Full ended) count old new before after pending left =
+    TakesAll count ended old new before after pending left
 GathersTo Short count old new before after pending left = TakesFewer count before after pending left
 GathersTo (Broken end) count old new before after pending left = TakesPart count before after pending

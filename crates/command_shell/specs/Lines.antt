@@ -11,7 +11,8 @@ abbrev pub onto_first : ℕ → List (List ℕ) → List (List ℕ)
 onto_first b [] = (b ∷ []) ∷ []
 onto_first b (piece ∷ pieces) = (b ∷ piece) ∷ pieces
 
--- the lines of a text, without their newlines; what stands after the last newline is a line unless it is empty
+-- the lines of a text, without their newlines; what stands after the last newline is a line unless it is
+-- empty
 abbrev pub lines_of : List ℕ → List (List ℕ)
 lines_of [] = []
 lines_of (b ∷ bs) = if b == newline then [] ∷ lines_of bs else onto_first b (lines_of bs)

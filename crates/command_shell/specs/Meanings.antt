@@ -1,7 +1,9 @@
 -- What a command line means. Our rule, docs/COMMANDS.md.
-use Rattle.std.specs.Prelude.{ℕ, ◌==◌, nat_le, nat_lt, List, [], ◌∷◌, length, if◌then◌else◌, slice_index, Option, Some, None, option_map, option_and_then, codes, bytes_eq, unwrap_or}
+use Rattle.std.specs.Prelude.{ℕ, ◌==◌, nat_le, nat_lt, List, [], ◌∷◌, length, if◌then◌else◌, slice_index}
+use Rattle.std.specs.Prelude.{Option, Some, None, option_map, option_and_then, codes, bytes_eq, unwrap_or}
 use Rattle.plain_table.specs.Commands.{Command}
-use Rattle.plain_table.specs.Commands.Command.{Create, Insert, Move, Delete, Drop, Get, Count, Range, Nearest, Join, Layers, Dump, Check, Reopen}
+use Rattle.plain_table.specs.Commands.Command.{Create, Insert, Move, Delete, Drop, Get, Count, Range, Nearest}
+use Rattle.plain_table.specs.Commands.Command.{Join, Layers, Dump, Check, Reopen}
 use Rattle.plain_table.specs.Table.{most_objects}
 use Rattle.plain_table.specs.declared.boxes.RawBox.{RawBox}
 use Rattle.plain_table.specs.declared.queries.RawQuery.{RawQuery}
@@ -9,8 +11,8 @@ use Rattle.plain_table.specs.declared.queries.RawQuery.TheVariants.{Window, Insi
 use Rattle.command_shell.specs.Lines.{words_of}
 use Rattle.command_shell.specs.Numbers.{number_in, and_tag, box_of, point_of}
 
--- What a line is: a blank line or a comment, a line that is none of the language, or a command; or the first line of a load,
--- by its layer and how many entry lines follow.
+-- What a line is: a blank line or a comment, a line that is none of the language, or a command; or the first
+-- line of a load, by its layer and how many entry lines follow.
 pub data Meaning : Type 0 where
   Blank : Meaning
   Bad : Meaning
@@ -24,12 +26,15 @@ asked None = Bad
 
 -- `create LAYER NUM NUM`: the number of axes, and the fanout
 abbrev pub create_of : List (List ℕ) → Option Command
-create_of (layer ∷ dims ∷ fanout ∷ []) = option_and_then (λ d. option_map (λ f. Create layer d f) (number_in fanout)) (number_in dims)
+create_of (layer ∷ dims ∷ fanout ∷ []) =
+    option_and_then (λ d. option_map (λ f. Create layer d f) (number_in fanout)) (number_in dims)
 create_of ws = None
 
 -- `insert LAYER NUM BOX [tag NUM]`: the identifier, the box, and the tag, 0 where none is given
 abbrev pub insert_of : List (List ℕ) → Option Command
-insert_of (layer ∷ id ∷ ws) = option_and_then (λ n. option_map (λ b. Insert layer n b.0 (unwrap_or b.1 0)) (and_tag box_of ws)) (number_in id)
+insert_of (layer ∷ id ∷ ws) =
+    option_and_then (λ n. option_map (λ b. Insert layer n b.0 (unwrap_or b.1 0)) (and_tag box_of ws))
+    (number_in id)
 insert_of ws = None
 
 -- `move LAYER NUM BOX`: the identifier, and the box
@@ -56,7 +61,8 @@ abbrev pub layer_of : (List ℕ → Command) → List (List ℕ) → Option Comm
 layer_of command (layer ∷ []) = Some (command layer)
 layer_of command ws = None
 
--- `LAYER BOX [tag NUM]` after `window`, `inside` or `around`: the query that the box makes, and the tag that it asks for
+-- `LAYER BOX [tag NUM]` after `window`, `inside` or `around`: the query that the box makes, and the tag that
+-- it asks for
 abbrev pub box_query_of : (RawBox → RawQuery) → List (List ℕ) → Option Command
 box_query_of query (layer ∷ ws) = option_map (λ b. Range layer (query b.0) b.1) (and_tag box_of ws)
 box_query_of query ws = None
@@ -68,7 +74,8 @@ point_query_of ws = None
 
 -- `nearest LAYER NUM PT`: how many, and the point
 abbrev pub nearest_of : List (List ℕ) → Option Command
-nearest_of (layer ∷ k ∷ ws) = option_and_then (λ n. option_map (λ p. Nearest layer n p) (point_of ws)) (number_in k)
+nearest_of (layer ∷ k ∷ ws) =
+    option_and_then (λ n. option_map (λ p. Nearest layer n p) (point_of ws)) (number_in k)
 nearest_of ws = None
 
 -- `join LAYER LAYER [NUM]`: the greatest squared distance, 0 where none is given

@@ -1,5 +1,7 @@
 -- The numbers, coordinates, boxes and points that words are. Our rule, docs/COMMANDS.md.
-use Rattle.std.specs.Prelude.{ℕ, ◌^◌, Bool, ◌&&◌, ◌==◌, nat_lt, nat_le, List, [], ◌∷◌, length, drop, if◌then◌else◌, ℤ, pos, neg_ℤ, slice_index, Option, Some, None, option_map, option_and_then, codes, bytes_eq}
+use Rattle.std.specs.Prelude.{ℕ, ◌^◌, Bool, ◌&&◌, ◌==◌, nat_lt, nat_le, List, [], ◌∷◌, length, drop}
+use Rattle.std.specs.Prelude.{if◌then◌else◌, ℤ, pos, neg_ℤ, slice_index, Option, Some, None, option_map}
+use Rattle.std.specs.Prelude.{option_and_then, codes, bytes_eq}
 use Rattle.std.specs.List.{list_all}
 use Rattle.std.specs.Char.{is_ascii_digit}
 use Rattle.std.specs.Str.Parse.{digits_value}
@@ -37,7 +39,8 @@ coordinate_of w =
 -- coordinates, one for each word
 abbrev pub coordinates_of : List (List ℕ) → Option (List ℤ)
 coordinates_of [] = Some []
-coordinates_of (w ∷ ws) = option_and_then (λ c. option_map (λ cs. c ∷ cs) (coordinates_of ws)) (coordinate_of w)
+coordinates_of (w ∷ ws) =
+    option_and_then (λ c. option_map (λ cs. c ∷ cs) (coordinates_of ws)) (coordinate_of w)
 
 -- the box of four or six coordinates: all lows, and then all highs
 abbrev pub box_from : List ℤ → Option RawBox
@@ -82,4 +85,5 @@ tag_behind ws = None
 
 -- what the words before `tag` are, with the tag that may stand behind
 abbrev pub and_tag : {X : Type 0} → (List (List ℕ) → Option X) → List (List ℕ) → Option (X × Option ℕ)
-and_tag read ws = option_and_then (λ x. option_map (λ t. (x, t)) (tag_behind (from_tag ws))) (read (before_tag ws))
+and_tag read ws =
+    option_and_then (λ x. option_map (λ t. (x, t)) (tag_behind (from_tag ws))) (read (before_tag ws))

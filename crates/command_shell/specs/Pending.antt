@@ -11,7 +11,8 @@ use Rattle.command_shell.specs.declared.lines.Found.TheVariants.{Line, Last, Too
 abbrev pub pending : LineReader → List ℕ
 pending r = take (r.«end» - r.start) (drop r.start r.buffer)
 
--- a bound on the bytes that may be taken and the calls that may be made, each of which gives at most a buffer of bytes
+-- a bound on the bytes that may be taken and the calls that may be made, each of which gives at most a buffer
+-- of bytes
 abbrev pub work_left : LineReader → ℕ
 work_left r = (r.«end» - r.start) + (buffer_size + 1) * (most_calls - r.calls)
 
@@ -23,10 +24,12 @@ work_done TooLong = 1
 work_done LastTooLong = 1
 work_done End = 0
 
--- what was found at the front of these bytes, and which of them are left; `at_end` says that the reader has no more
+-- what was found at the front of these bytes, and which of them are left; `at_end` says that the reader has
+-- no more
 abbrev pub Finds : Type 0 → Found → List ℕ → List ℕ → Type 0
 Finds at_end (Line n) bytes left = (left ≡ bytes) × BeginsLine bytes n
 Finds at_end (Last n) bytes left = (left ≡ bytes) × (n ≡ length bytes) × (0 < n) × IsOneLine bytes × at_end
-Finds at_end TooLong bytes left = (line : List ℕ) × (longest_line < length line) × IsOneLine line × (bytes ≡ line ++ newline ∷ left)
+Finds at_end TooLong bytes left = (line : List ℕ) × (longest_line < length line) × IsOneLine line
+    × (bytes ≡ line ++ newline ∷ left)
 Finds at_end LastTooLong bytes left = (longest_line < length bytes) × IsOneLine bytes × (left ≡ []) × at_end
 Finds at_end End bytes left = (left ≡ []) × (bytes ≡ []) × at_end

@@ -1,5 +1,6 @@
 -- What a reader gave, where its bytes are known, and the text that was taken of it.
-use Rattle.std.specs.Prelude.{ℕ, ◌≡◌, ◌^◌, ◌<◌, Bool, true, false, List, [], ◌∷◌, ◌++◌, length, take, drop, suc, Option}
+use Rattle.std.specs.Prelude.{ℕ, ◌≡◌, ◌^◌, ◌<◌, Bool, true, false, List, [], ◌∷◌, ◌++◌, length, take, drop}
+use Rattle.std.specs.Prelude.{suc, Option}
 use Rattle.std.specs.Io.KnownBytes.{Consumes, IsAtEnd}
 use Rattle.command_shell.specs.Lines.{newline, IsOneLine, IsWhole}
 
@@ -23,12 +24,14 @@ pub record ReadsTo (old new : Option (List ℕ)) (P : List ℕ → Type 0) : Typ
   pub read : Consumes old new more
   pub so : P more
 
--- where the text that was taken stops: after a newline, or, where it has ended, at the end of all that the reader had
+-- where the text that was taken stops: after a newline, or, where it has ended, at the end of all that the
+-- reader had
 abbrev pub StopsAt : Bool → Type 0 → List ℕ → List ℕ → Type 0
 StopsAt false at_end text left = IsWhole text
 StopsAt true at_end text left = (left ≡ []) × at_end
 
--- From bytes that were pending, and what the reader gave after them, this text was taken, and some bytes are left.
+-- From bytes that were pending, and what the reader gave after them, this text was taken, and some bytes are
+-- left.
 pub record Reads (ended : Bool) (old new : Option (List ℕ)) (pending left text : List ℕ) : Type 0 where
   pub stops : StopsAt ended (IsAtEnd new) text left
   pub read : ReadsTo old new (λ more. pending ++ more ≡ text ++ left)

@@ -18,33 +18,49 @@ use Rattle.command_shell.specs.declared.session.RunEnd.{RunEnd}
 use Rattle.command_shell.specs.declared.session.RunEnd.TheVariants.{Finished, ReadFault, WriteFault}
 
 -- all commands that were read to their last newline are answered
-abbrev pub AnswersAllLines : (List Request → List Answer → Type 0) → Option (List ℕ) → Option (List ℕ) → Option (List ℕ) → Option (List ℕ) → List ℕ → Type 0
-AnswersAllLines So input input' output output' pending = (left : List ℕ) × IsUnfinished left × ServesBy So false true input input' output output' pending left
+abbrev pub AnswersAllLines : (List Request → List Answer → Type 0) → Option (List ℕ) → Option (List ℕ)
+    → Option (List ℕ) → Option (List ℕ) → List ℕ → Type 0
+AnswersAllLines So input input' output output' pending = (left : List ℕ) × IsUnfinished left
+    × ServesBy So false true input input' output output' pending left
 
 -- the last answer was written in part
-abbrev pub BreaksOffAnswer : (List Request → List Answer → Type 0) → Option (List ℕ) → Option (List ℕ) → Option (List ℕ) → Option (List ℕ) → List ℕ → Type 0
-BreaksOffAnswer So input input' output output' pending = (ended : Bool) × (left : List ℕ) × ServesBy So ended false input input' output output' pending left
+abbrev pub BreaksOffAnswer : (List Request → List Answer → Type 0) → Option (List ℕ) → Option (List ℕ)
+    → Option (List ℕ) → Option (List ℕ) → List ℕ → Type 0
+BreaksOffAnswer So input input' output output' pending = (ended : Bool) × (left : List ℕ)
+    × ServesBy So ended false input input' output output' pending left
 
--- A run that begins with pending bytes. Finished: all that there was is read, and all its commands are answered.
--- ReadFault: the same of all commands that were read to their last newline. WriteFault: the last answer is written in
--- part; or all commands that were read to their last newline are answered. `So` holds of requests and answers.
-abbrev pub RunsFrom : (List Request → List Answer → Type 0) → RunEnd → Option (List ℕ) → Option (List ℕ) → Option (List ℕ) → Option (List ℕ) → List ℕ → Type 0
-RunsFrom So Finished input input' output output' pending = ServesBy So true true input input' output output' pending []
-RunsFrom So ReadFault input input' output output' pending = AnswersAllLines So input input' output output' pending
-RunsFrom So WriteFault input input' output output' pending = BreaksOffAnswer So input input' output output' pending ⊎ AnswersAllLines So input input' output output' pending
+-- A run that begins with pending bytes. Finished: all that there was is read, and all its commands are
+-- answered. ReadFault: the same of all commands that were read to their last newline. WriteFault: the last
+-- answer is written in part; or all commands that were read to their last newline are answered. `So` holds of
+-- requests and answers.
+abbrev pub RunsFrom : (List Request → List Answer → Type 0) → RunEnd → Option (List ℕ) → Option (List ℕ)
+    → Option (List ℕ) → Option (List ℕ) → List ℕ → Type 0
+RunsFrom So Finished input input' output output' pending =
+    ServesBy So true true input input' output output' pending []
+RunsFrom So ReadFault input input' output output' pending =
+    AnswersAllLines So input input' output output' pending
+RunsFrom So WriteFault input input' output output' pending =
+    BreaksOffAnswer So input input' output output' pending
+    ⊎ AnswersAllLines So input input' output output' pending
 
 -- a run that begins with nothing pending
-abbrev pub RunsBy : (List Request → List Answer → Type 0) → RunEnd → Option (List ℕ) → Option (List ℕ) → Option (List ℕ) → Option (List ℕ) → Type 0
+abbrev pub RunsBy : (List Request → List Answer → Type 0) → RunEnd → Option (List ℕ) → Option (List ℕ)
+    → Option (List ℕ) → Option (List ℕ) → Type 0
 RunsBy So end input input' output output' = RunsFrom So end input input' output output' []
 
 -- the same, whose commands are answered by a lawful session
 abbrev pub Runs : RunEnd → RunState → RunState → Type 0
-Runs end before after = RunsBy (IsSession before.session after.session) end before.unread after.unread before.written after.written
+Runs end before after =
+    RunsBy (IsSession before.session after.session) end before.unread after.unread before.written
+    after.written
 
--- The same of a store on an honest device, whatever file was opened: from the first check on that was answered ok, the
--- rest of the commands is answered lawfully, from some table on, and P holds of what is known in the end.
-abbrev pub RunsOnceChecked : (Standing → Type 0) → RunEnd → Option (List ℕ) → Option (List ℕ) → Option (List ℕ) → Option (List ℕ) → Type 0
-RunsOnceChecked P end input input' output output' = RunsBy (LawfulOnceChecked P) end input input' output output'
+-- The same of a store on an honest device, whatever file was opened: from the first check on that was
+-- answered ok, the rest of the commands is answered lawfully, from some table on, and P holds of what is
+-- known in the end.
+abbrev pub RunsOnceChecked : (Standing → Type 0) → RunEnd → Option (List ℕ) → Option (List ℕ)
+    → Option (List ℕ) → Option (List ℕ) → Type 0
+RunsOnceChecked P end input input' output output' =
+    RunsBy (LawfulOnceChecked P) end input input' output output'
 
 -- the tables so far, and with them that of a store which goes on
 abbrev pub with_last : StoreState → List Table → List Table
@@ -55,44 +71,57 @@ with_last Dead so_far = so_far
 abbrev pub FoundSince : {D : Type 0} → Recovery D → D → ℕ → Blocks → Type 0
 FoundSince recovery device moment c = CommitsWhatOpens recovery × recovery.found_since device moment c
 
--- A run of the program, from its first read to the closing of its store. Where it went well, all that there was is
--- answered, and the blocks are an image of the table at the session's end. However it ended, stops since the session's
--- beginning, of which `left` tells, left blocks that opening refuses, or an image of one of the tables so far or the last;
--- and what they are found to have left, of which `found` tells, is an image of one of those that were kept, or of the last.
--- The session counts no fault that the device does not count in the end.
+-- A run of the program, from its first read to the closing of its store. Where it went well, all that there
+-- was is answered, and the blocks are an image of the table at the session's end. However it ended, stops
+-- since the session's beginning, of which `left` tells, left blocks that opening refuses, or an image of one
+-- of the tables so far or the last; and what they are found to have left, of which `found` tells, is an image
+-- of one of those that were kept, or of the last. The session counts no fault that the device does not count
+-- in the end.
 pub record RunsToClose (went_well : Bool) (blocks : Blocks) (left found : Blocks → Type 0) (faults : ℕ)
     (before after : RunState) : Type 0 where
   pub end : RunEnd
   pub runs : Runs end before after
-  pub well : went_well ≡ true → (end ≡ Finished) × (t : Table) × (after.session.state ≡ Alive t) × IsImage blocks t
-  pub stops : (c : Blocks) → left c → IsRefusedOrImageOf (with_last after.session.state after.session.stops.so_far) c
-  pub kept : (c : Blocks) → found c → IsImageOfOne (with_last after.session.state after.session.stops.kept_so_far) c
+  pub well : went_well ≡ true
+      → (end ≡ Finished) × (t : Table) × (after.session.state ≡ Alive t) × IsImage blocks t
+  pub stops : (c : Blocks) → left c
+      → IsRefusedOrImageOf (with_last after.session.state after.session.stops.so_far) c
+  pub kept : (c : Blocks) → found c
+      → IsImageOfOne (with_last after.session.state after.session.stops.kept_so_far) c
   pub counted : after.session.faults ≤ faults
 
--- Over a run of calls that began at `old`, each stop left blocks that opening refuses, or an image of one of the tables so far
--- in this state of a session or the last.
-abbrev pub LeavesTablesOf : {D : Type 0} → (D → ℕ) → (D → ℕ → Blocks → Type 0) → Recovery D → SessionState → D → D → Type 0
-LeavesTablesOf moment left_since recovery s old new = LeavesOnly moment left_since recovery old new (IsRefusedOrImageOf (with_last s.state s.stops.so_far))
+-- Over a run of calls that began at `old`, each stop left blocks that opening refuses, or an image of one of
+-- the tables so far in this state of a session or the last.
+abbrev pub LeavesTablesOf : {D : Type 0} → (D → ℕ) → (D → ℕ → Blocks → Type 0) → Recovery D → SessionState
+    → D → D → Type 0
+LeavesTablesOf moment left_since recovery s old new =
+    LeavesOnly moment left_since recovery old new (IsRefusedOrImageOf (with_last s.state s.stops.so_far))
 
--- What is known of a store in the end, of which nothing is known of stops: where the run went well, the blocks are an image of
--- its table.
+-- What is known of a store in the end, of which nothing is known of stops: where the run went well, the
+-- blocks are an image of its table.
 abbrev pub EndsInImage : Bool → Blocks → Standing → Type 0
 EndsInImage went_well blocks s = went_well ≡ true → (t : Table) × (s.state ≡ Alive t) × IsImage blocks t
 
--- A run of the program over a store on an honest device, whatever file was opened. Where it went well, all that there was is
--- answered. From the first check on that was answered ok, the rest of the commands is answered lawfully, from some table on,
--- and where it went well, the blocks are an image of the table in the end.
-pub record ChecksToClose (went_well : Bool) (blocks : Blocks) (input input' output output' : Option (List ℕ)) : Type 0 where
+-- A run of the program over a store on an honest device, whatever file was opened. Where it went well, all
+-- that there was is answered. From the first check on that was answered ok, the rest of the commands is
+-- answered lawfully, from some table on, and where it went well, the blocks are an image of the table in the
+-- end.
+pub record ChecksToClose (went_well : Bool) (blocks : Blocks)
+    (input input' output output' : Option (List ℕ)) : Type 0 where
   pub end : RunEnd
   pub runs : RunsOnceChecked (EndsInImage went_well blocks) end input input' output output'
   pub well : went_well ≡ true → end ≡ Finished
 
--- What the program says of the end of a run: nothing where it went well, else a line that says why, or a front of it.
+-- What the program says of the end of a run: nothing where it went well, else a line that says why, or a
+-- front of it.
 abbrev pub TellsEnd : Bool → Option (List ℕ) → Option (List ℕ) → Type 0
 TellsEnd true old new = Keeps old new
-TellsEnd false old new = AppendsSome old new told_fault ⊎ ((r : Refusal) × AppendsSome old new (told_refusal r))
+TellsEnd false old new = AppendsSome old new told_fault
+    ⊎ ((r : Refusal) × AppendsSome old new (told_refusal r))
 
 -- one step of a run: a command further, or the end
-abbrev pub StepsTo : (List Request → List Answer → Type 0) → Option RunEnd → Option (List ℕ) → Option (List ℕ) → Option (List ℕ) → Option (List ℕ) → List ℕ → List ℕ → Type 0
-StepsTo So None input input' output output' pending left = ServesBy So false true input input' output output' pending left
-StepsTo So (Some end) input input' output output' pending left = RunsFrom So end input input' output output' pending
+abbrev pub StepsTo : (List Request → List Answer → Type 0) → Option RunEnd → Option (List ℕ)
+    → Option (List ℕ) → Option (List ℕ) → Option (List ℕ) → List ℕ → List ℕ → Type 0
+StepsTo So None input input' output output' pending left =
+    ServesBy So false true input input' output output' pending left
+StepsTo So (Some end) input input' output output' pending left =
+    RunsFrom So end input input' output output' pending

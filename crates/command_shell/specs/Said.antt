@@ -1,6 +1,7 @@
 -- What a `Line` says.
 use Rattle.std.specs.Prelude.{Option, Some, None}
-use Rattle.plain_table.specs.Commands.Command.{Create, Insert, Move, Delete, Drop, Get, Count, Range, Nearest, Join, Layers, Dump, Check, Reopen}
+use Rattle.plain_table.specs.Commands.Command.{Create, Insert, Move, Delete, Drop, Get, Count, Range, Nearest}
+use Rattle.plain_table.specs.Commands.Command.{Join, Layers, Dump, Check, Reopen}
 use Rattle.command_shell.specs.Meanings.{Meaning}
 use Rattle.command_shell.specs.Meanings.Meaning.{Blank, Bad, Loads, Means}
 use Rattle.command_shell.specs.declared.parse.Line.{Line}

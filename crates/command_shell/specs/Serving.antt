@@ -1,5 +1,6 @@
 -- What a part of a run reads, answers and writes.
-use Rattle.std.specs.Prelude.{ℕ, ◌≡◌, ◌<◌, Bool, true, false, List, [], ◌∷◌, ◌++◌, length, take, Option, Result, MatchResult}
+use Rattle.std.specs.Prelude.{ℕ, ◌≡◌, ◌<◌, Bool, true, false, List, [], ◌∷◌, ◌++◌, length, take, Option}
+use Rattle.std.specs.Prelude.{Result, MatchResult}
 use Rattle.std.specs.Io.KnownBytes.{Appends}
 use Rattle.store_law.specs.Sessions.{SessionState, Session}
 use Rattle.store_law.specs.States.{Request}
@@ -25,10 +26,11 @@ Wrote false old new answers = BreaksOff old new answers
 
 -- the answers were written, or on a fault the last one in part
 abbrev pub WroteAs : {E T : Type 0} → Option (List ℕ) → Option (List ℕ) → Result T E → List Answer → Type 0
-WroteAs old new result answers = MatchResult result (λ _. Wrote true old new answers) (λ _. Wrote false old new answers)
+WroteAs old new result answers =
+    MatchResult result (λ _. Wrote true old new answers) (λ _. Wrote false old new answers)
 
--- What is known at a point of a run: the state of the session, what the reader still has, and what the writer was given,
--- where reader and writer make their bytes known.
+-- What is known at a point of a run: the state of the session, what the reader still has, and what the writer
+-- was given, where reader and writer make their bytes known.
 pub record RunState : Type 0 where
   pub session : SessionState
   pub unread : Option (List ℕ)
@@ -38,10 +40,11 @@ pub record RunState : Type 0 where
 abbrev pub run_state : SessionState → Option (List ℕ) → Option (List ℕ) → RunState
 run_state session unread written = record { session = session; unread = unread; written = written }
 
--- A text was taken, its commands were answered, so that `So` holds of requests and answers, and the answers were written.
--- `ended` says whether the text is all that there was, `whole` whether the last answer was written wholly. `input` is what
--- the reader had and has, `output` what the writer was given.
-pub record ServesBy (So : List Request → List Answer → Type 0) (ended whole : Bool) (input input' output output' : Option (List ℕ)) (pending left : List ℕ) : Type 0 where
+-- A text was taken, its commands were answered, so that `So` holds of requests and answers, and the answers
+-- were written. `ended` says whether the text is all that there was, `whole` whether the last answer was
+-- written wholly. `input` is what the reader had and has, `output` what the writer was given.
+pub record ServesBy (So : List Request → List Answer → Type 0) (ended whole : Bool)
+    (input input' output output' : Option (List ℕ)) (pending left : List ℕ) : Type 0 where
   pub text : List ℕ
   pub requests : List Request
   pub answers : List Answer
@@ -57,4 +60,5 @@ IsSession old new requests answers = Session old requests answers new
 -- a text was taken, its commands were answered by a lawful session, and the answers were written
 abbrev pub Serves : Bool → Bool → RunState → RunState → List ℕ → List ℕ → Type 0
 Serves ended whole before after pending left =
-    ServesBy (IsSession before.session after.session) ended whole before.unread after.unread before.written after.written pending left
+    ServesBy (IsSession before.session after.session) ended whole before.unread after.unread before.written
+    after.written pending left

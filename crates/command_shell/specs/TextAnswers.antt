@@ -8,8 +8,9 @@ use Rattle.command_shell.specs.Lines.{lines_of}
 use Rattle.command_shell.specs.TextCommands.{AreCommands}
 use Rattle.command_shell.specs.Texts.{texts_of}
 
--- All commands of the text were answered, each by a lawful step of a store that began without layers, and the replies
--- are the texts of the answers. The count of faults never rose from 0, so no answer blames the device.
+-- All commands of the text were answered, each by a lawful step of a store that began without layers, and the
+-- replies are the texts of the answers. The count of faults never rose from 0, so no answer blames the
+-- device.
 pub record AnswersText (text replies : List ℕ) : Type 0 where
   pub requests : List Request
   pub answers : List Answer

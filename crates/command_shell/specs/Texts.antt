@@ -1,5 +1,6 @@
 -- The texts of replies. Our rule, docs/COMMANDS.md.
-use Rattle.std.specs.Prelude.{ℕ, ◌==◌, List, [], ◌∷◌, ◌++◌, length, if◌then◌else◌, codes, decimal, flat_map, map, ℤ}
+use Rattle.std.specs.Prelude.{ℕ, ◌==◌, List, [], ◌∷◌, ◌++◌, length, if◌then◌else◌, codes, decimal, flat_map}
+use Rattle.std.specs.Prelude.{map, ℤ}
 use Rattle.std.specs.Fmt.{signed_decimal}
 use Rattle.box_math.specs.Bounds.{Bounds}
 use Rattle.box_math.specs.Objects.{Object, bounds_of, tag_of}
@@ -64,7 +65,8 @@ pair_text row = decimal row.0 ++ space ∷ decimal row.1 ++ newline ∷ []
 
 -- the row of a layer: its name, its axes, its fanout and how many objects it has
 abbrev pub layer_text : LayerLine → List ℕ
-layer_text l = l.name ++ space ∷ decimal l.dims ++ space ∷ decimal l.fanout ++ space ∷ decimal l.count ++ newline ∷ []
+layer_text l = l.name ++ space ∷ decimal l.dims ++ space ∷ decimal l.fanout ++ space ∷ decimal l.count
+    ++ newline ∷ []
 
 -- a row of a dump: the line of a command
 abbrev pub dump_text : DumpLine → List ℕ

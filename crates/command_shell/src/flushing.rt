@@ -3,8 +3,9 @@
 use std::io;
 use std::io::Write;
 
-/// Every writer. `Write` promises the same of a flush that answered Ok and of one that failed; this trait has a word
-/// for the first, which generic code can say of a writer only after such a flush, with nothing written since.
+/// Every writer. `Write` promises the same of a flush that answered Ok and of one that failed; this trait has
+/// a word for the first, which generic code can say of a writer only after such a flush, with nothing written
+/// since.
 pub trait FlushedWrite: Write {
     ghost use Rattle.std.specs.Prelude.{OnOk};
     ghost use Rattle.std.specs.Io.KnownBytes.{Keeps};

@@ -11,10 +11,11 @@ use std::alloc::Global;
 // How many pages the cache of the store may hold.
 const CACHE: u32 = 64;
 
-/// The replies to the lines of a text, of a store in memory that begins without layers and is dropped in the end.
+/// The replies to the lines of a text, of a store in memory that begins without layers and is dropped in the
+/// end.
 ///
-/// They are the texts of the answers of a lawful session from the empty table, one answer to each command of the text.
-/// None only where the store or the replies find no memory.
+/// They are the texts of the answers of a lawful session from the empty table, one answer to each command of
+/// the text. None only where the store or the replies find no memory.
 pub fn answers_to(alloc: Global, text: &[u8]) -> Option<Vec<u8>>
     ensures { IfSome result (λ replies. AnswersText text.now replies.items) }
 {

@@ -1,8 +1,8 @@
 //! The command shell of the store: command lines in, replies out (docs/COMMANDS.md).
 //!
-//! `run` answers the lines of a reader, and its contract is the theorem of a whole run; `answers_to` has it of a store
-//! in memory, with no premise. `parse_line` and `write_reply` are its two ends: a line's meaning and a reply's text.
-//! `run_and_close` is what the program does.
+//! `run` answers the lines of a reader, and its contract is the theorem of a whole run; `answers_to` has it
+//! of a store in memory, with no premise. `parse_line` and `write_reply` are its two ends: a line's meaning
+//! and a reply's text. `run_and_close` is what the program does.
 #![tactic(auto)]
 
 mod flushing;

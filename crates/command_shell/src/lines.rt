@@ -11,7 +11,8 @@ use memchr::memchr;
 use std::io;
 use std::io::{ErrorKind, Read};
 
-// The size of the buffer, in bytes. It has room for the longest line and its newline, and for many lines a read.
+// The size of the buffer, in bytes. It has room for the longest line and its newline, and for many lines a
+// read.
 const CAPACITY: usize = 65536;
 
 // How many read calls a reader makes at most.
@@ -122,11 +123,11 @@ impl LineReader {
         self.start += count;
     }
 
-    /// Finds the next line, which is so long where it is known to be pending. It stays pending, unless it was too
-    /// long. It reads only where no whole line is pending; where a read fails no newline was read.
+    /// Finds the next line, which is so long where it is known to be pending. It stays pending, unless it was
+    /// too long. It reads only where no whole line is pending; where a read fails no newline was read.
     ///
-    /// A line is known to be too long once more than `MAX_LINE` bytes of it are pending and no newline is. A line
-    /// whose newline is pending is given whatever its length.
+    /// A line is known to be too long once more than `MAX_LINE` bytes of it are pending and no newline is. A
+    /// line whose newline is pending is given whatever its length.
     pub fn find<R: Read>(&mut self, line: Option<usize>, reader: &mut R) -> io::Result<Found>
         requires { IfSome line (BeginsLine (pending self.old)) }
         ensures found { MatchResult result

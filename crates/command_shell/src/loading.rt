@@ -99,7 +99,8 @@ fn take_entry<A: Allocator + Copy, R: Read, W: Write>(
     input: &mut R,
     output: &mut W,
 ) -> Result<Taken, RunEnd>
-    ensures takes { TakesEntry result gathered.old gathered.new (R.remaining input.old) (R.remaining input.new)
+    ensures takes { TakesEntry result gathered.old gathered.new (R.remaining input.old)
+        (R.remaining input.new)
         (pending lines.old) (pending lines.new) }
     ensures kept { Keeps (W.contents output.old) (W.contents output.new) }
     ensures going { IfErr result (λ end. end ≡ run_end.Finished → ⊥) }

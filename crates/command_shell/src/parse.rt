@@ -1,11 +1,14 @@
 //! Lines, and what each of them asks.
 
-ghost use Rattle.std.specs.Prelude.{◌≡◌, ◌<◌, ◌⊎◌, ◌∷◌, length, codes, None, Some, IfSome, IfNone, option_map};
+ghost use Rattle.std.specs.Prelude.{◌≡◌, ◌<◌, ◌⊎◌, ◌∷◌, length, codes, None, Some, IfSome, IfNone};
+ghost use Rattle.std.specs.Prelude.{option_map};
 ghost use Rattle.plain_table.specs.Commands.Command.{Insert, Move, Delete, Drop, Get, Count};
 ghost use Rattle.plain_table.specs.Commands.Command.{Layers, Dump, Check, Reopen};
-ghost use Rattle.command_shell.specs.Meanings.{meaning_of, create_of, insert_of, move_of, object_of, layer_of};
+ghost use Rattle.command_shell.specs.Meanings.{meaning_of, create_of, insert_of, move_of, object_of};
+ghost use Rattle.command_shell.specs.Meanings.{layer_of};
 ghost use Rattle.command_shell.specs.Entries.{entry_in};
-ghost use Rattle.command_shell.specs.Meanings.{box_query_of, point_query_of, nearest_of, join_of, alone_of, load_of};
+ghost use Rattle.command_shell.specs.Meanings.{box_query_of, point_query_of, nearest_of, join_of, alone_of};
+ghost use Rattle.command_shell.specs.Meanings.{load_of};
 ghost use Rattle.command_shell.specs.Meanings.{command_of, question_of, asked};
 ghost use Rattle.command_shell.specs.Numbers.{coordinates_of, box_from, box_of, point_from, point_of};
 ghost use Rattle.command_shell.specs.Numbers.{and_tag, before_tag, from_tag, tag_behind};
@@ -89,8 +92,8 @@ pub enum Line<'a> {
         /// The layer's name.
         layer: &'a [u8],
     },
-    /// `window LAYER BOX [tag NUM]`, and so `inside` and `around`, or `point LAYER PT [tag NUM]`: asks for the objects
-    /// whose boxes meet the box, are within it or enclose it, or hold the point.
+    /// `window LAYER BOX [tag NUM]`, and so `inside` and `around`, or `point LAYER PT [tag NUM]`: asks for
+    /// the objects whose boxes meet the box, are within it or enclose it, or hold the point.
     Range {
         /// The layer's name.
         layer: &'a [u8],

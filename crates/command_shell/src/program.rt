@@ -29,16 +29,18 @@ pub struct Ended<D: BlockDevice> {
     pub device: D,
 }
 
-/// Answers the lines of a reader, flushes the replies and closes the store, however the run ended. Where something
-/// failed, it says so in a line to `errors`, whose own faults are passed over.
+/// Answers the lines of a reader, flushes the replies and closes the store, however the run ended. Where
+/// something failed, it says so in a line to `errors`, whose own faults are passed over.
 ///
-/// Where all went well, all that the reader had was read, each of its commands was answered by a lawful session, and
-/// the device's blocks are an image of the table at its end; and a stop leaves nothing else. The device is blamed in no
-/// reply unless its count of faults rose. Stops before the run may leave what they might have left; each within it left
-/// blocks that opening refuses, or an image of one of the session's tables.
+/// Where all went well, all that the reader had was read, each of its commands was answered by a lawful
+/// session, and the device's blocks are an image of the table at its end; and a stop leaves nothing else. The
+/// device is blamed in no reply unless its count of faults rose. Stops before the run may leave what they
+/// might have left; each within it left blocks that opening refuses, or an image of one of the session's
+/// tables.
 ///
-/// Whatever file was opened, on an honest device: from the first `check` on that was answered ok, the rest of the commands
-/// is answered lawfully, from some table on, and where all went well the blocks are an image of the table at the end.
+/// Whatever file was opened, on an honest device: from the first `check` on that was answered ok, the rest of
+/// the commands is answered lawfully, from some table on, and where all went well the blocks are an image of
+/// the table at the end.
 pub fn run_and_close<D: BlockDevice, A: Allocator + Copy, R: Read, W: FlushedWrite, E: Write>(
     store: Store<D, A>,
     input: &mut R,

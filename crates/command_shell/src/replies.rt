@@ -38,10 +38,11 @@ pub enum Reply<A: Allocator = Global> {
     Dump(Vec<DumpRow, A>),
 }
 
-/// Writes the reply's text. It takes no memory and fails only where the writer fails, with a front of the text
-/// written.
+/// Writes the reply's text. It takes no memory and fails only where the writer fails, with a front of the
+/// text written.
 pub fn write_reply<A: Allocator, W: Write>(reply: &Reply<A>, writer: &mut W) -> io::Result<()>
-    ensures { Writes (W.contents writer.old) (W.contents writer.new) result (answer_text (reply_answer reply.now)) }
+    ensures { Writes (W.contents writer.old) (W.contents writer.new) result
+        (answer_text (reply_answer reply.now)) }
 {
     match reply {
         Reply::Done => put(writer, b"ok\n"),
@@ -76,7 +77,8 @@ fn write_refusal<W: Write>(writer: &mut W, refusal: Refusal) -> io::Result<()>
 
 // Writes that there is one row, and the row of a number.
 fn write_counted<W: Write>(writer: &mut W, count: u64) -> io::Result<()>
-    ensures { Writes (W.contents writer.old) (W.contents writer.new) result (count_text 1 ++ number_text count) }
+    ensures { Writes (W.contents writer.old) (W.contents writer.new) result
+        (count_text 1 ++ number_text count) }
 {
     write_count(writer, 1)?;
     write_number(writer, count)

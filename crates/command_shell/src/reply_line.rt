@@ -13,8 +13,8 @@ use std::io;
 use std::io::{ErrorKind, Write};
 use std::marker::Model;
 
-// Every line fits: a name has at most 24 bytes, a number 20 digits, a box six coordinates of 12 bytes, and a tag 15
-// bytes with its word.
+// Every line fits: a name has at most 24 bytes, a number 20 digits, a box six coordinates of 12 bytes, and a
+// tag 15 bytes with its word.
 const CAPACITY: usize = 144;
 
 /// The bytes of a line so far, without its newline. Contracts see the list of them.
@@ -90,7 +90,8 @@ impl ReplyLine {
         }
     }
 
-    /// Appends the tag of an object behind its box: a space, the word and the number, or nothing where it is 0.
+    /// Appends the tag of an object behind its box: a space, the word and the number, or nothing where it is
+    /// 0.
     pub fn push_tag(&mut self, tag: u32)
         requires { length self.old ≤ 127 }
         ensures text { self.new ≡ self.old ++ tag_text tag }

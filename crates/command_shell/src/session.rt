@@ -3,7 +3,8 @@
 ghost use Rattle.std.specs.Prelude.{◌≡◌, ◌<◌, ◌≤◌, ◌++◌, ◌∷◌, [], ℕ, false, List, Option, Some, None};
 ghost use Rattle.std.specs.Prelude.{MatchResult, OnErr, IfNone, IfSome, if◌then◌else◌};
 ghost use Rattle.std.specs.Io.KnownBytes.{Keeps};
-ghost use Rattle.plain_table.specs.Answers.{done_answer, object_answer, boxes_answer, count_answer, distances_answer};
+ghost use Rattle.plain_table.specs.Answers.{done_answer, object_answer, boxes_answer, count_answer};
+ghost use Rattle.plain_table.specs.Answers.{distances_answer};
 ghost use Rattle.plain_table.specs.Answers.{dump_answer, layers_answer, pairs_answer};
 ghost use Rattle.plain_table.specs.Step.Answer.{Refused};
 ghost use Rattle.plain_table.specs.declared.refusal.Refusal.TheVariants as refusal;
@@ -43,28 +44,31 @@ use std::io::{Read, Write};
 pub enum RunEnd {
     /// All that the reader had was read, and each of its commands was answered.
     Finished,
-    /// Given where the reader fails, or was called 2^62 times. Each command that was read to its last newline was
-    /// answered.
+    /// Given where the reader fails, or was called 2^62 times. Each command that was read to its last newline
+    /// was answered.
     ReadFault,
-    /// Given where a write or a flush fails. What [`run`] promises of it is this: the last reply is written in part,
-    /// and no line after it was answered; or each command that was read to its last newline was answered.
+    /// Given where a write or a flush fails. What [`run`] promises of it is this: the last reply is written
+    /// in part, and no line after it was answered; or each command that was read to its last newline was
+    /// answered.
     WriteFault,
 }
 
-/// Answers the commands of a reader's lines, each before the next line is looked for, until the text ends or a read or
-/// a write fails.
+/// Answers the commands of a reader's lines, each before the next line is looked for, until the text ends or
+/// a read or a write fails.
 ///
-/// Whatever the store represents, the commands of the text that was read are a lawful session from there, the store
-/// represents its end, and what was written are the texts of its answers; [`RunEnd`] says how much of the text and of
-/// the last answer's text that is. So a stop at any moment of the run leaves blocks that opening refuses, or an image
-/// of a table that one before it may have left or that the run closed (docs/FORMAT.md, "What stops leave of a
-/// store"). Where reader or writer does not make its bytes known, nothing is said of them.
+/// Whatever the store represents, the commands of the text that was read are a lawful session from there, the
+/// store represents its end, and what was written are the texts of its answers; [`RunEnd`] says how much of
+/// the text and of the last answer's text that is. So a stop at any moment of the run leaves blocks that
+/// opening refuses, or an image of a table that one before it may have left or that the run closed
+/// (docs/FORMAT.md, "What stops leave of a store"). Where reader or writer does not make its bytes known,
+/// nothing is said of them.
 ///
-/// **And whatever the store is, on an honest device: from the first `check` on that was answered ok, the rest of the
-/// commands is answered lawfully, from some table on.**
+/// **And whatever the store is, on an honest device: from the first `check` on that was answered ok, the rest
+/// of the commands is answered lawfully, from some table on.**
 ///
-/// The writer is flushed before more is read, unless a whole line is pending; at the end it is not. An interrupted
-/// read is a fault like any other. Beside what the store takes, it takes memory for the objects of a load alone.
+/// The writer is flushed before more is read, unless a whole line is pending; at the end it is not. An
+/// interrupted read is a fault like any other. Beside what the store takes, it takes memory for the objects
+/// of a load alone.
 pub fn run<D: BlockDevice, A: Allocator + Copy, R: Read, W: Write>(
     store: &mut Store<D, A>,
     input: &mut R,
@@ -102,7 +106,8 @@ fn answer_lines<D: BlockDevice, A: Allocator + Copy, R: Read, W: Write>(
     }
 }
 
-// Flushes the replies so far where no line is pending, so that who waits for one before the next line is sent has it.
+// Flushes the replies so far where no line is pending, so that who waits for one before the next line is sent
+// has it.
 pub(crate) fn hand_on<W: Write>(line: Option<usize>, output: &mut W) -> io::Result<()>
     ensures kept { Keeps (W.contents output.old) (W.contents output.new) }
     ensures none { OnErr result (line ≡ None) }
@@ -168,7 +173,8 @@ fn step_line<D: BlockDevice, A: Allocator + Copy, R: Read, W: Write>(
     end_after(written, false)
 }
 
-// Answers a load whose first line was taken: takes its entry lines, makes the call of the store and writes the reply.
+// Answers a load whose first line was taken: takes its entry lines, makes the call of the store and writes
+// the reply.
 fn load<D: BlockDevice, A: Allocator + Copy, R: Read, W: Write>(
     store: &mut Store<D, A>,
     lines: &mut LineReader,
@@ -220,7 +226,8 @@ fn bad_reply<A: Allocator>() -> Reply<A>
     Reply::Refused(Refusal::BadLine)
 }
 
-// Answers the last line, which has no newline. One that begins a load lacks its entry lines, unless it has none.
+// Answers the last line, which has no newline. One that begins a load lacks its entry lines, unless it has
+// none.
 fn answer_last<D: BlockDevice, A: Allocator + Copy, W: Write>(
     store: &mut Store<D, A>,
     line: Line<'_>,

@@ -1,5 +1,6 @@
 -- Lists, rows and nodes without the entry at a position.
-use Rattle.std.proofs.Common.{◌≡◌, ◌∙◌, ℕ, ℤ, set, zero, suc, ◌+◌, ◌<◌, Some, All, List, [], ◌∷◌, ◌++◌, length, map, take, drop, get_or, refl, sym, ap, subst, arith}
+use Rattle.std.proofs.Common.{◌≡◌, ◌∙◌, ℕ, ℤ, set, zero, suc, ◌+◌, ◌<◌, Some, All, List, [], ◌∷◌, ◌++◌}
+use Rattle.std.proofs.Common.{length, map, take, drop, get_or, refl, sym, ap, subst, arith}
 use Rattle.std.specs.Prelude.{remove}
 use Rattle.std.specs.List.{refill}
 use Rattle.std.proofs.Math.ListN.{drop_of_length-le}
@@ -38,23 +39,28 @@ length-cut (x ∷ xs) (suc at) within = omega (arith, length-cut xs at (omega (a
 
 -- ---- rows
 
-stands_first : (dims : ℕ) (m : PageMap) (level : ℕ) (x : Branch) (rest : Row) → RowStands dims m level (more x rest) → RowStands dims m level (more x end) × RowStands dims m level rest
+stands_first : (dims : ℕ) (m : PageMap) (level : ℕ) (x : Branch) (rest : Row)
+    → RowStands dims m level (more x rest) → RowStands dims m level (more x end) × RowStands dims m level rest
 stands_first dims m level (object kept id) rest h = ((h.0, tt), h.1)
 stands_first dims m level (child bounds page below) rest h = ((h.0, h.1, h.2, tt), h.3)
 
-stands_more : (dims : ℕ) (m : PageMap) (level : ℕ) (x : Branch) (rest : Row) → RowStands dims m level (more x end) → RowStands dims m level rest → RowStands dims m level (more x rest)
+stands_more : (dims : ℕ) (m : PageMap) (level : ℕ) (x : Branch) (rest : Row)
+    → RowStands dims m level (more x end) → RowStands dims m level rest → RowStands dims m level (more x rest)
 stands_more dims m level (object kept id) rest h k = (h.0, k)
 stands_more dims m level (child bounds page below) rest h k = (h.0, h.1, h.2, k)
 
-pub RowStands-cut : (dims : ℕ) (m : PageMap) (level : ℕ) (xs : List Branch) (at : ℕ) → RowStands dims m level (row_of xs) → RowStands dims m level (row_of (cut xs at))
+pub RowStands-cut : (dims : ℕ) (m : PageMap) (level : ℕ) (xs : List Branch) (at : ℕ)
+    → RowStands dims m level (row_of xs) → RowStands dims m level (row_of (cut xs at))
 RowStands-cut dims m level [] zero h = h
 RowStands-cut dims m level [] (suc at) h = h
 RowStands-cut dims m level (x ∷ xs) zero h = (stands_first dims m level x (row_of xs) h).1
 RowStands-cut dims m level (x ∷ xs) (suc at) h =
-    let parts = stands_first dims m level x (row_of xs) h in stands_more dims m level x (row_of (cut xs at)) parts.0 (RowStands-cut dims m level xs at parts.1)
+    let parts = stands_first dims m level x (row_of xs) h in
+    stands_more dims m level x (row_of (cut xs at)) parts.0 (RowStands-cut dims m level xs at parts.1)
 
 -- the row without its child at a position has the other pages
-pub occurs-cut : (n : ℕ) (row : Row) (at : ℕ) (c : Child) → child_at row at ≡ Some c → total (occurs_on n) (cut (branches_of row) at) + occurs_at c.page n c.row ≡ occurs n row
+pub occurs-cut : (n : ℕ) (row : Row) (at : ℕ) (c : Child) → child_at row at ≡ Some c
+    → total (occurs_on n) (cut (branches_of row) at) + occurs_at c.page n c.row ≡ occurs n row
 occurs-cut n end at c is = absurd (cc)
 occurs-cut n (more (object kept id) rest) zero c is = absurd (cc)
 occurs-cut n (more (object kept id) rest) (suc at) c is = omega (arith, occurs-cut n rest at c is)
@@ -76,10 +82,13 @@ length-items (more (child bounds page below) rest) = omega (arith, length-items 
 
 -- ---- entries of the code
 
-pub items-removed : {D : ℕ} (new entries : List (Entry D)) (at : ℕ) → new ≡ remove entries at → map item_of new ≡ items_without (map item_of entries) at
-items-removed new entries at is = ap (map item_of) is ∙ map-removed entries at ∙ sym (cut-is (map item_of entries) at)
+pub items-removed : {D : ℕ} (new entries : List (Entry D)) (at : ℕ) → new ≡ remove entries at
+    → map item_of new ≡ items_without (map item_of entries) at
+items-removed new entries at is = ap (map item_of) is ∙ map-removed entries at
+    ∙ sym (cut-is (map item_of entries) at)
   where
-    map-removed : {D : ℕ} (entries : List (Entry D)) (at : ℕ) → map item_of (remove entries at) ≡ cut (map item_of entries) at
+    map-removed : {D : ℕ} (entries : List (Entry D)) (at : ℕ)
+        → map item_of (remove entries at) ≡ cut (map item_of entries) at
     map-removed [] zero = refl
     map-removed [] (suc at) = refl
     map-removed (e ∷ es) zero = refl
@@ -87,42 +96,66 @@ items-removed new entries at is = ap (map item_of) is ∙ map-removed entries at
 
 -- what holds of each item holds of all but one
 pub All-without : (P : Item → Type 0) (xs : List Item) (at : ℕ) → All P xs → All P (items_without xs at)
-All-without P xs at h = All-append P (take at xs) (drop (at + 1) xs) (All-take P at xs h) (All-drop P (at + 1) xs h)
+All-without P xs at h =
+    All-append P (take at xs) (drop (at + 1) xs) (All-take P at xs h) (All-drop P (at + 1) xs h)
 
 pub length-without : (xs : List Item) (at : ℕ) → at < length xs → length (items_without xs at) + 1 ≡ length xs
 length-without xs at within = ap (λ ys. length ys + 1) (cut-is xs at) ∙ length-cut xs at within
 
 -- two boxes of the same corners
 pub same_box : (a b : Bounds) → a.low ≡ b.low → a.high ≡ b.high → a ≡ b
-same_box a b low high = ap (λ (xs : List ℤ). record { low = xs; high = a.high }) low ∙ ap (λ (xs : List ℤ). record { low = b.low; high = xs }) high
+same_box a b low high = ap (λ (xs : List ℤ). record { low = xs; high = a.high }) low
+    ∙ ap (λ (xs : List ℤ). record { low = b.low; high = xs }) high
 
 -- an entry that gets the box that it has stays
-pub set_same : {D : ℕ} (entries seen now : List (Entry D)) (at : ℕ) (e f : Entry D) (b : Bounds) → at < length entries → seen ≡ entries → now ≡ entries → (get_or seen at e).bounds ≡ b
-    → set now at (record { bounds = b; reference = (get_or now at f).reference; tag = (get_or now at f).tag }) ≡ entries
+pub set_same : {D : ℕ} (entries seen now : List (Entry D)) (at : ℕ) (e f : Entry D) (b : Bounds)
+    → at < length entries → seen ≡ entries → now ≡ entries → (get_or seen at e).bounds ≡ b
+    → set now at
+    (record { bounds = b; reference = (get_or now at f).reference; tag = (get_or now at f).tag }) ≡ entries
 set_same {D} entries seen now at e f b within same is box =
-    let bounds : b ≡ (get_or entries at f).bounds = sym box ∙ ap (λ (xs : List (Entry D)). (get_or xs at e).bounds) same ∙ ap (λ (x : Entry D). x.bounds) (get_or_default entries at e f within) in
-    ap (λ xs. set xs at (record { bounds = b; reference = (get_or xs at f).reference; tag = (get_or xs at f).tag })) is
-    ∙ ap (λ (x : Bounds). set entries at (record { bounds = x; reference = (get_or entries at f).reference; tag = (get_or entries at f).tag })) bounds
+    let bounds : b ≡ (get_or entries at f).bounds = sym box
+    ∙ ap (λ (xs : List (Entry D)). (get_or xs at e).bounds) same
+    ∙ ap (λ (x : Entry D). x.bounds) (get_or_default entries at e f within) in
+    ap (λ xs. set xs at
+    (record { bounds = b; reference = (get_or xs at f).reference; tag = (get_or xs at f).tag })) is
+    ∙ ap (λ (x : Bounds). set entries at
+    (record {
+      bounds = x;
+      reference = (get_or entries at f).reference;
+      tag = (get_or entries at f).tag;
+    })) bounds
     ∙ set-get_or entries at f
 
 -- what is written over itself stays
 pub refilled : {A : Type 0} (xs : List A) → refill (length xs) xs xs ≡ xs
-refilled xs = ap (λ ys. take (length xs) (xs ++ ys)) (drop_of_length-le xs (omega arith)) ∙ ap (take (length xs)) (append-nil xs) ∙ take_all (length xs) xs (omega arith)
+refilled xs = ap (λ ys. take (length xs) (xs ++ ys)) (drop_of_length-le xs (omega arith))
+    ∙ ap (take (length xs)) (append-nil xs) ∙ take_all (length xs) xs (omega arith)
 
 -- ---- nodes in hand
 
-pub cut_removed : {D : ℕ} (level : ℕ) (entries new : List (Entry D)) (at : ℕ) → IsSpellable (record { level = level; entries = map item_of entries }) → at < length entries → new ≡ remove entries at
+pub cut_removed : {D : ℕ} (level : ℕ) (entries new : List (Entry D)) (at : ℕ)
+    → IsSpellable (record { level = level; entries = map item_of entries }) → at < length entries
+    → new ≡ remove entries at
     → IsCut level (record { level = level; entries = map item_of new })
 cut_removed level entries new at spells within is =
     let are = items-removed new entries at is in
     let P : Item → Type 0 = λ item. IsOfLevel level item.reference item.tag in
     record {
       level_is = refl;
-      few = omega (arith, ap length are, length-without (map item_of entries) at (omega (arith, within, length-map entries item_of)), spells.few);
-      refers = subst (λ (xs : List Item). All P xs) (sym are) (All-without P (map item_of entries) at spells.refers);
+      few = omega (
+        arith,
+        ap length are,
+        length-without (map item_of entries) at (omega (arith, within, length-map entries item_of)),
+        spells.few,
+      );
+      refers =
+          subst (λ (xs : List Item). All P xs) (sym are)
+          (All-without P (map item_of entries) at spells.refers);
     }
 
-pub cut_boxed : {D : ℕ} (level : ℕ) (entries new : List (Entry D)) (at : ℕ) (b : Bounds) → IsSpellable (record { level = level; entries = map item_of entries }) → map item_of new ≡ set_box (map item_of entries) at b
+pub cut_boxed : {D : ℕ} (level : ℕ) (entries new : List (Entry D)) (at : ℕ) (b : Bounds)
+    → IsSpellable (record { level = level; entries = map item_of entries })
+    → map item_of new ≡ set_box (map item_of entries) at b
     → IsCut level (record { level = level; entries = map item_of new })
 cut_boxed level entries new at b spells are =
     let P : Item → Type 0 = λ item. IsOfLevel level item.reference item.tag in
@@ -130,5 +163,7 @@ cut_boxed level entries new at b spells are =
     record {
       level_is = refl;
       few = omega (arith, ap length are, count, spells.few);
-      refers = subst (λ (xs : List Item). All P xs) (sym are) (set_box-refers level (map item_of entries) at b spells.refers);
+      refers =
+          subst (λ (xs : List Item). All P xs) (sym are)
+          (set_box-refers level (map item_of entries) at b spells.refers);
     }

@@ -1,5 +1,6 @@
 -- What is kept is inserted, one entry after the other.
-use Rattle.std.proofs.Common.{◌≡◌, ◌∙◌, ℕ, ◌+◌, ◌<◌, ◌≤◌, IsSome, List, [], ◌∷◌, ◌++◌, map, reverse, refl, sym, ap, subst, arith}
+use Rattle.std.proofs.Common.{◌≡◌, ◌∙◌, ℕ, ◌+◌, ◌<◌, ◌≤◌, IsSome, List, [], ◌∷◌, ◌++◌, map, reverse, refl}
+use Rattle.std.proofs.Common.{sym, ap, subst, arith}
 use Rattle.std.proofs.lemmas.List.{reverse-append}
 use Rattle.tree_node.specs.declared.node.Root.{Root}
 use Rattle.tree_node.specs.Boxes.{RowHasBoxes}
@@ -23,21 +24,28 @@ use Rattle.condense.specs.Filled.{CanFill, CanFillShaped, FillsTo}
 use Rattle.condense.specs.Removal.{AreInserted}
 
 -- so much of what is kept was inserted
-pub record Filled (dims most : ℕ) (m m1 : PageMap) (t : Tree) (ws : List Waiter) (elsewhere : ℕ → ℕ) (now : Root) (held : List Held) : Type 0 where
+pub record Filled (dims most : ℕ) (m m1 : PageMap) (t : Tree) (ws : List Waiter) (elsewhere : ℕ → ℕ)
+    (now : Root) (held : List Held) : Type 0 where
   pub mid : Tree
   pub rest : List Waiter
   pub can : CanFill dims m1 now mid rest elsewhere held
-  pub moves : Moves m m1 (λ n. occurs_in n t + occurs_waiting n ws) (λ n. occurs_in n mid + occurs_waiting n rest)
-  pub goes : (new : Tree) → AreInserted dims most elsewhere rest mid new → AreInserted dims most elsewhere ws t new
+  pub moves : Moves m m1 (λ n. occurs_in n t + occurs_waiting n ws)
+      (λ n. occurs_in n mid + occurs_waiting n rest)
+  pub goes : (new : Tree) → AreInserted dims most elsewhere rest mid new
+      → AreInserted dims most elsewhere ws t new
   pub shaped : CanFillShaped dims most t ws → CanFillShaped dims most mid rest
 
-pub filled_first : (dims most : ℕ) (m : PageMap) (t : Tree) (ws : List Waiter) (elsewhere : ℕ → ℕ) (root : Root) (held : List Held) → CanFill dims m root t ws elsewhere held → Filled dims most m m t ws elsewhere root held
+pub filled_first : (dims most : ℕ) (m : PageMap) (t : Tree) (ws : List Waiter) (elsewhere : ℕ → ℕ)
+    (root : Root) (held : List Held) → CanFill dims m root t ws elsewhere held
+    → Filled dims most m m t ws elsewhere root held
 filled_first dims most m t ws elsewhere root held can = record {
   mid = t;
   rest = ws;
   can = can;
-  moves = staying_moves m m (λ n. occurs_in n t + occurs_waiting n ws) (λ n. refl) (λ n. omega (arith, can.apart n))
-      (λ n there. of_sum (IsSome (m n)) (occurs_in n t) (occurs_waiting n ws) there (pages_are_there dims m t n can.stands) (waiting_live dims m ws n can.wait));
+  moves = staying_moves m m (λ n. occurs_in n t + occurs_waiting n ws) (λ n. refl)
+      (λ n. omega (arith, can.apart n))
+      (λ n there. of_sum (IsSome (m n)) (occurs_in n t) (occurs_waiting n ws) there
+      (pages_are_there dims m t n can.stands) (waiting_live dims m ws n can.wait));
   goes = λ new h. h;
   shaped = λ s. s;
 }
@@ -65,22 +73,32 @@ record First (held : List Held) (first : Held) (all : List Waiter) : Type 0 wher
   is : first ≡ held_in w
   holds : held ≡ reverse (map held_in ws)
 
-first_of : (held : List Held) (first : Held) (all : List Waiter) → held ++ first ∷ [] ≡ reverse (map held_in all) → First held first all
+first_of : (held : List Held) (first : Held) (all : List Waiter)
+    → held ++ first ∷ [] ≡ reverse (map held_in all) → First held first all
 first_of held first [] h = absurd (some_last held first (sym h))
 first_of held first (w ∷ ws) h =
-    let same = snoc_same held (reverse (map held_in ws)) first (held_in w) (h ∙ reverse-append (held_in w ∷ []) (map held_in ws)) in
+    let same =
+    snoc_same held (reverse (map held_in ws)) first (held_in w)
+    (h ∙ reverse-append (held_in w ∷ []) (map held_in ws)) in
     record { w = w; ws = ws; all_is = refl; is = same.1; holds = same.0 }
 
 none_kept : (ws : List Waiter) → [] ≡ reverse (map held_in ws) → ws ≡ []
 none_kept [] h = refl
-none_kept (w ∷ ws) h = absurd (some_last (reverse (map held_in ws)) (held_in w) (h ∙ reverse-append (held_in w ∷ []) (map held_in ws)))
+none_kept (w ∷ ws) h =
+    absurd (some_last (reverse (map held_in ws)) (held_in w)
+    (h ∙ reverse-append (held_in w ∷ []) (map held_in ws)))
 
-kept_higher : (dims most top top' : ℕ) (ws : List Waiter) → top ≤ top' → AllHaveShape dims most top ws → AllHaveShape dims most top' ws
+kept_higher : (dims most top top' : ℕ) (ws : List Waiter) → top ≤ top' → AllHaveShape dims most top ws
+    → AllHaveShape dims most top' ws
 kept_higher dims most top top' [] higher h = tt
-kept_higher dims most top top' (w ∷ ws) higher h = (omega (arith, higher, h.0), h.1, kept_higher dims most top top' ws higher h.2)
+kept_higher dims most top top' (w ∷ ws) higher h =
+    (omega (arith, higher, h.0), h.1, kept_higher dims most top top' ws higher h.2)
 
 -- the entry that comes now, and what an insertion needs of it
-pub record Comes (dims most : ℕ) (m m1 : PageMap) (t : Tree) (ws : List Waiter) (elsewhere : ℕ → ℕ) (now : Root) (item : Item) (level : ℕ) (held : List Held) (f : Filled dims most m m1 t ws elsewhere now (held ++ record { item = item; level = level } ∷ [])) : Type 0 where
+pub record Comes (dims most : ℕ) (m m1 : PageMap) (t : Tree) (ws : List Waiter) (elsewhere : ℕ → ℕ)
+    (now : Root) (item : Item) (level : ℕ) (held : List Held)
+    (f : Filled dims most m m1 t ws elsewhere now
+    (held ++ record { item = item; level = level } ∷ [])) : Type 0 where
   pub w : Waiter
   pub ws' : List Waiter
   pub all_is : f.rest ≡ w ∷ ws'
@@ -90,7 +108,9 @@ pub record Comes (dims most : ℕ) (m m1 : PageMap) (t : Tree) (ws : List Waiter
   pub wait : AllWait dims m1 (w ∷ ws')
   pub apart : (n : ℕ) → occurs_in n f.mid + (occurs_on n w.branch + occurs_waiting n ws') + elsewhere n ≤ 1
 
-pub comes : (dims most : ℕ) (m m1 : PageMap) (t : Tree) (ws : List Waiter) (elsewhere : ℕ → ℕ) (now : Root) (item : Item) (level : ℕ) (held : List Held) (f : Filled dims most m m1 t ws elsewhere now (held ++ record { item = item; level = level } ∷ []))
+pub comes : (dims most : ℕ) (m m1 : PageMap) (t : Tree) (ws : List Waiter) (elsewhere : ℕ → ℕ) (now : Root)
+    (item : Item) (level : ℕ) (held : List Held)
+    (f : Filled dims most m m1 t ws elsewhere now (held ++ record { item = item; level = level } ∷ []))
     → Comes dims most m m1 t ws elsewhere now item level held f
 comes dims most m m1 t ws elsewhere now item level held f =
     let r = first_of held (record { item = item; level = level }) f.rest f.can.holds in
@@ -102,18 +122,24 @@ comes dims most m m1 t ws elsewhere now item level held f =
       item_is = ap (λ (h : Held). h.item) (sym r.is);
       holds = r.holds;
       wait = subst (AllWait dims m1) r.all_is f.can.wait;
-      apart = λ n. subst (λ xs. occurs_in n f.mid + occurs_waiting n xs + elsewhere n ≤ 1) r.all_is (f.can.apart n);
+      apart = λ n. subst (λ xs. occurs_in n f.mid + occurs_waiting n xs + elsewhere n ≤ 1) r.all_is
+          (f.can.apart n);
     }
 
-module _ (dims most : ℕ) (m m1 : PageMap) (t : Tree) (ws : List Waiter) (elsewhere : ℕ → ℕ) (now : Root) (item : Item) (level : ℕ) (held : List Held) (f : Filled dims most m m1 t ws elsewhere now (held ++ record { item = item; level = level } ∷ []))
+module _ (dims most : ℕ) (m m1 : PageMap) (t : Tree) (ws : List Waiter) (elsewhere : ℕ → ℕ) (now : Root)
+    (item : Item) (level : ℕ) (held : List Held)
+    (f : Filled dims most m m1 t ws elsewhere now (held ++ record { item = item; level = level } ∷ []))
     (c : Comes dims most m m1 t ws elsewhere now item level held f) where
   abbrev others : ℕ → ℕ
   others n = occurs_waiting n c.ws' + elsewhere n
 
   others_live : (n : ℕ) → 0 < others n → IsSome (m1 n)
-  others_live n p = of_sum (IsSome (m1 n)) (occurs_waiting n c.ws') (elsewhere n) p (waiting_live dims m1 c.ws' n c.wait.1) (f.can.live n)
+  others_live n p =
+      of_sum (IsSome (m1 n)) (occurs_waiting n c.ws') (elsewhere n) p (waiting_live dims m1 c.ws' n c.wait.1)
+      (f.can.live n)
 
-  pub can_insert : level ≤ now.level → CanInsert dims m1 now item level f.mid c.w.branch (λ n. occurs_waiting n c.ws' + elsewhere n)
+  pub can_insert : level ≤ now.level
+      → CanInsert dims m1 now item level f.mid c.w.branch (λ n. occurs_waiting n c.ws' + elsewhere n)
   can_insert fits = record {
     at = f.can.at;
     stands = f.can.stands;
@@ -125,23 +151,39 @@ module _ (dims most : ℕ) (m m1 : PageMap) (t : Tree) (ws : List Waiter) (elsew
   }
 
   -- its shape
-  pub comes_shaped : CanFillShaped dims most t ws → (level ≤ f.mid.level) × HasLooseShape dims most f.mid × RowHasBoxes dims f.mid.row × EntryHasShape dims most level c.w.branch
+  pub comes_shaped : CanFillShaped dims most t ws
+      → (level ≤ f.mid.level) × HasLooseShape dims most f.mid × RowHasBoxes dims f.mid.row
+      × EntryHasShape dims most level c.w.branch
   comes_shaped start =
       let s = f.shaped start in
-      let kept : AllHaveShape dims most f.mid.level (c.w ∷ c.ws') = subst (AllHaveShape dims most f.mid.level) c.all_is s.kept in
-      (omega (arith, kept.0, c.level_is), s.tree, s.boxes, subst (λ l. EntryHasShape dims most l c.w.branch) c.level_is kept.1)
+      let kept : AllHaveShape dims most f.mid.level (c.w ∷ c.ws') =
+      subst (AllHaveShape dims most f.mid.level) c.all_is s.kept in (
+        omega (arith, kept.0, c.level_is),
+        s.tree,
+        s.boxes,
+        subst (λ l. EntryHasShape dims most l c.w.branch) c.level_is kept.1,
+      )
 
   -- one more was inserted
-  pub filled_more : (m2 : PageMap) (after : Root) → now.level ≤ after.level → 2 ≤ most → InsertsTo dims most m1 m2 level f.mid c.w.branch (λ n. occurs_waiting n c.ws' + elsewhere n) after → Filled dims most m m2 t ws elsewhere after held
+  pub filled_more : (m2 : PageMap) (after : Root) → now.level ≤ after.level → 2 ≤ most
+      → InsertsTo dims most m1 m2 level f.mid c.w.branch (λ n. occurs_waiting n c.ws' + elsewhere n) after
+      → Filled dims most m m2 t ws elsewhere after held
   filled_more m2 after rises enough done =
-      let apart : (n : ℕ) → (occurs_in n f.mid + occurs_on n c.w.branch) + others n ≤ 1 = λ n. omega (arith, c.apart n) in
-      let same : (n : ℕ) → 0 < others n → m2 n ≡ m1 n = rest_same m1 m2 _ _ others done.moves apart others_live in
-      let once : (n : ℕ) → occurs_in n done.new + others n ≤ 1 = rest_once m1 m2 _ _ others done.moves apart others_live in
-      let insertion : IsInsertion dims most (λ n. occurs_waiting n c.ws' + elsewhere n) c.w.branch c.w.level f.mid done.new =
-      subst (λ l. IsInsertion dims most (λ n. occurs_waiting n c.ws' + elsewhere n) c.w.branch l f.mid done.new) (sym c.level_is) done.insertion in
-      let step : Moves m1 m2 (λ n. occurs_in n f.mid + occurs_waiting n f.rest) (λ n. occurs_in n done.new + occurs_waiting n c.ws') =
+      let apart : (n : ℕ)
+      → (occurs_in n f.mid + occurs_on n c.w.branch) + others n ≤ 1 = λ n. omega (arith, c.apart n) in
+      let same : (n : ℕ) → 0 < others n
+      → m2 n ≡ m1 n = rest_same m1 m2 _ _ others done.moves apart others_live in
+      let once : (n : ℕ)
+      → occurs_in n done.new + others n ≤ 1 = rest_once m1 m2 _ _ others done.moves apart others_live in
+      let insertion : IsInsertion dims most (λ n. occurs_waiting n c.ws' + elsewhere n) c.w.branch c.w.level
+      f.mid done.new =
+      subst (λ l. IsInsertion dims most (λ n. occurs_waiting n c.ws' + elsewhere n) c.w.branch l f.mid
+      done.new) (sym c.level_is) done.insertion in
+      let step : Moves m1 m2 (λ n. occurs_in n f.mid + occurs_waiting n f.rest)
+      (λ n. occurs_in n done.new + occurs_waiting n c.ws') =
       moves_same m1 m2 _ _ _ _ (λ n. omega (arith, ap (occurs_waiting n) c.all_is)) (λ n. refl)
-      (moves_with m1 m2 _ _ (λ n. occurs_waiting n c.ws') done.moves (λ n. omega (arith, apart n)) (λ n there. others_live n (omega (arith, there)))) in
+      (moves_with m1 m2 _ _ (λ n. occurs_waiting n c.ws') done.moves (λ n. omega (arith, apart n))
+      (λ n there. others_live n (omega (arith, there)))) in
       record {
         mid = done.new;
         rest = c.ws';
@@ -154,16 +196,28 @@ module _ (dims most : ℕ) (m m1 : PageMap) (t : Tree) (ws : List Waiter) (elsew
           holds = c.holds;
         };
         moves = moves_in_turn m m1 m2 _ _ _ f.moves step;
-        goes = λ new later. f.goes new (subst (λ xs. AreInserted dims most elsewhere xs f.mid new) (sym c.all_is) (done.new, insertion, later));
+        goes = λ new later. f.goes new
+            (subst (λ xs. AreInserted dims most elsewhere xs f.mid new) (sym c.all_is)
+            (done.new, insertion, later));
         shaped = λ start.
             let s = f.shaped start in
-            let kept : AllHaveShape dims most f.mid.level (c.w ∷ c.ws') = subst (AllHaveShape dims most f.mid.level) c.all_is s.kept in
-            let both = insertion_keeps_loose_shape dims most (λ n. occurs_waiting n c.ws' + elsewhere n) c.w.branch c.w.level f.mid done.new insertion enough kept.1 s.boxes s.tree in
-            record { tree = both.0; boxes = both.1; kept = kept_higher dims most f.mid.level done.new.level c.ws' (omega (arith, rises, f.can.at.level, done.at.level)) kept.2 };
+            let kept : AllHaveShape dims most f.mid.level (c.w ∷ c.ws') =
+            subst (AllHaveShape dims most f.mid.level) c.all_is s.kept in
+            let both =
+            insertion_keeps_loose_shape dims most (λ n. occurs_waiting n c.ws' + elsewhere n) c.w.branch
+            c.w.level f.mid done.new insertion enough kept.1 s.boxes s.tree in
+            record {
+              tree = both.0;
+              boxes = both.1;
+              kept = kept_higher dims most f.mid.level done.new.level c.ws'
+                  (omega (arith, rises, f.can.at.level, done.at.level)) kept.2;
+            };
       }
 
 -- nothing is left
-pub filled_end : (dims most : ℕ) (m m1 : PageMap) (t : Tree) (ws : List Waiter) (elsewhere : ℕ → ℕ) (now : Root) (held : List Held) → Filled dims most m m1 t ws elsewhere now held → held ≡ [] → FillsTo dims most m m1 t ws elsewhere now
+pub filled_end : (dims most : ℕ) (m m1 : PageMap) (t : Tree) (ws : List Waiter) (elsewhere : ℕ → ℕ)
+    (now : Root) (held : List Held) → Filled dims most m m1 t ws elsewhere now held → held ≡ []
+    → FillsTo dims most m m1 t ws elsewhere now
 filled_end dims most m m1 t ws elsewhere now held f none =
     let left : f.rest ≡ [] = none_kept f.rest (sym none ∙ f.can.holds) in
     record {

@@ -1,5 +1,5 @@
--- A worked example of a removal: of two leaves {1,2} and {3,4,5} the object 1 is removed, so the first leaf leaves, 2 comes
--- into the other one, and the root gives way to it. No other proof rests on it.
+-- A worked example of a removal: of two leaves {1,2} and {3,4,5} the object 1 is removed, so the first leaf
+-- leaves, 2 comes into the other one, and the root gives way to it. No other proof rests on it.
 use Rattle.std.proofs.Common.{◌≡◌, ℕ, zero, suc, ◌+◌, ◌<◌, [], ◌∷◌, None, refl, arith, pos}
 use Rattle.std.proofs.lemmas.Bool.Decides.{nat_tests}
 use Rattle.box_math.specs.Bounds.{Bounds}
@@ -26,17 +26,34 @@ abbrev right : Row
 right = row_of (object (point 2 0, 0) 3 ∷ object (point 3 0, 9) 4 ∷ object (point 10 0, 0) 5 ∷ [])
 
 abbrev before : Tree
-before = record { page = 5; level = 1; row = row_of (child (box 0 0 1 0) 3 left ∷ child (box 2 0 10 0) 4 right ∷ []) }
+before =
+    record {
+      page = 5;
+      level = 1;
+      row = row_of (child (box 0 0 1 0) 3 left ∷ child (box 2 0 10 0) 4 right ∷ []);
+    }
 
 -- the first leaf has too few entries, and its entry is kept
 abbrev out : Condensed
-out = record { row = row_of (child (box 2 0 10 0) 4 right ∷ []); kept = record { branch = object (point 1 0, 7) 2; level = 0 } ∷ [] }
+out = record {
+  row = row_of (child (box 2 0 10 0) 4 right ∷ []);
+  kept = record { branch = object (point 1 0, 7) 2; level = 0 } ∷ [];
+}
 
 takes_out : TakesOut 2 4 1 1 (point 0 0, 7) before.row out
-takes_out = (0, record { page = 3; row = left }, refl, record { row = row_of (object (point 1 0, 7) 2 ∷ []); kept = [] }, (0, refl, refl), refl)
+takes_out = (
+  0,
+  record { page = 3; row = left },
+  refl,
+  record { row = row_of (object (point 1 0, 7) 2 ∷ []); kept = [] },
+  (0, refl, refl),
+  refl,
+)
 
 abbrev filled_leaf : Row
-filled_leaf = row_of (object (point 2 0, 0) 3 ∷ object (point 3 0, 9) 4 ∷ object (point 10 0, 0) 5 ∷ object (point 1 0, 7) 2 ∷ [])
+filled_leaf =
+    row_of (object (point 2 0, 0) 3 ∷ object (point 3 0, 9) 4 ∷ object (point 10 0, 0) 5 ∷ object
+    (point 1 0, 7) 2 ∷ [])
 
 abbrev filled : Tree
 filled = record { page = 5; level = 1; row = row_of (child (box 1 0 10 0) 4 filled_leaf ∷ []) }
@@ -46,7 +63,9 @@ filled_box : least_box 2 (row_items filled_leaf) ≡ box 1 0 10 0
 unfolding least_box
 filled_box = refl
 
-only_one : (j : ℕ) → j < 1 → AtMost (child_key 2 1 (row_items out.row) (point 1 0) 0) (child_key 2 1 (row_items out.row) (point 1 0) j)
+only_one : (j : ℕ) → j < 1
+    → AtMost (child_key 2 1 (row_items out.row) (point 1 0) 0)
+    (child_key 2 1 (row_items out.row) (point 1 0) j)
 only_one zero lt = AtMost-itself (child_key 2 1 (row_items out.row) (point 1 0) 0)
 only_one (suc j) lt = absurd (omega (arith, lt))
 
@@ -57,10 +76,17 @@ abbrev after : Tree
 after = record { page = 4; level = 0; row = filled_leaf }
 
 gives_way : GivesWay 1 filled after
-gives_way = (omega arith, refl, record { page = 4; row = filled_leaf }, refl, (refl, λ above. absurd (omega (arith, above))))
+gives_way = (
+  omega arith,
+  refl,
+  record { page = 4; row = filled_leaf },
+  refl,
+  (refl, λ above. absurd (omega (arith, above))),
+)
 
 -- 2 comes back, into the leaf that is left
-comes_back : IsInsertion 2 4 (λ n. 0 + 0) (object (point 1 0, 7) 2) 0 (record { page = 5; level = 1; row = out.row }) filled
+comes_back : IsInsertion 2 4 (λ n. 0 + 0) (object (point 1 0, 7) 2) 0
+    (record { page = 5; level = 1; row = out.row }) filled
 unfolding least_box
 comes_back = record {
   count = 1;

@@ -1,5 +1,5 @@
--- What the code has done where kept entries are inserted again, and where the root gives way: the words of its inner
--- contracts (docs/RULES.md, "Removal").
+-- What the code has done where kept entries are inserted again, and where the root gives way: the words of
+-- its inner contracts (docs/RULES.md, "Removal").
 use Rattle.std.specs.Prelude.{◌≡◌, ℕ, ◌+◌, ◌<◌, ◌≤◌, List, map, reverse, IsSome}
 use Rattle.tree_node.specs.declared.node.Root.{Root}
 use Rattle.tree_node.specs.Boxes.{RowHasBoxes}
@@ -14,8 +14,9 @@ use Rattle.reinsert.specs.Kept.{AllHaveShape}
 use Rattle.reinsert.specs.Placed.{Held, held_in}
 use Rattle.condense.specs.Removal.{AreInserted, GivesWay}
 
--- A tree stands at the root, and so do the trees of what is kept, each entry for a node of a level of the tree. No page
--- is twice in them and elsewhere, and each that occurs elsewhere is live. The code holds what is kept, the first last.
+-- A tree stands at the root, and so do the trees of what is kept, each entry for a node of a level of the
+-- tree. No page is twice in them and elsewhere, and each that occurs elsewhere is live. The code holds what
+-- is kept, the first last.
 pub record CanFill (dims : ℕ) (m : PageMap) (root : Root) (t : Tree) (kept : List Waiter) (elsewhere : ℕ → ℕ)
     (held : List Held) : Type 0 where
   pub at : IsRootOf root t
@@ -26,7 +27,8 @@ pub record CanFill (dims : ℕ) (m : PageMap) (root : Root) (t : Tree) (kept : L
   pub holds : held ≡ reverse (map held_in kept)
 
 -- what is kept was inserted
-pub record FillsTo (dims most : ℕ) (m m' : PageMap) (t : Tree) (kept : List Waiter) (elsewhere : ℕ → ℕ) (root : Root)
+pub record FillsTo (dims most : ℕ) (m m' : PageMap) (t : Tree) (kept : List Waiter) (elsewhere : ℕ → ℕ)
+    (root : Root)
     : Type 0 where
   pub new : Tree
   pub at : IsRootOf root new

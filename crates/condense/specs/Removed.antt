@@ -1,5 +1,6 @@
 -- What a removal needs of the pages, and what it leaves (our rule, docs/FORMAT.md, "Trees of pages").
-use Rattle.std.specs.Prelude.{◌≡◌, ◌⊎◌, ℕ, ◌+◌, ◌*◌, ◌^◌, ◌<◌, ◌≤◌, List, [], ◌∷◌, IsSome, false, Result, IsErrAnd}
+use Rattle.std.specs.Prelude.{◌≡◌, ◌⊎◌, ℕ, ◌+◌, ◌*◌, ◌^◌, ◌<◌, ◌≤◌, List, [], ◌∷◌, IsSome, false, Result}
+use Rattle.std.specs.Prelude.{IsErrAnd}
 use Rattle.std.specs.List.Sorted.{IsPermutation}
 use Rattle.box_math.specs.Objects.{Object}
 use Rattle.page_file.specs.Fault.{IsOfDevice}
@@ -29,9 +30,10 @@ pub record CanRemove (dims : ℕ) (m : PageMap) (root : Root) (t : Tree) (elsewh
   pub apart : (n : ℕ) → occurs_in n t + elsewhere n ≤ 1
   pub live : (n : ℕ) → 0 < elsewhere n → IsSome (m n)
 
--- A tree stands at the root, which a lawful removal leads to. Pages that are in neither tree stay; those that came in
--- were not live, and those that went are no longer live.
-pub record RemovesTo (dims most : ℕ) (m m' : PageMap) (elsewhere : ℕ → ℕ) (id : ℕ) (removed : Object) (t : Tree)
+-- A tree stands at the root, which a lawful removal leads to. Pages that are in neither tree stay; those that
+-- came in were not live, and those that went are no longer live.
+pub record RemovesTo (dims most : ℕ) (m m' : PageMap) (elsewhere : ℕ → ℕ) (id : ℕ) (removed : Object)
+    (t : Tree)
     (root : Root) : Type 0 where
   pub new : Tree
   pub at : IsRootOf root new
@@ -39,8 +41,8 @@ pub record RemovesTo (dims most : ℕ) (m m' : PageMap) (elsewhere : ℕ → ℕ
   pub removal : IsRemoval dims most elsewhere id removed t new
   pub moves : Moves m m' (λ n. occurs_in n t) (λ n. occurs_in n new)
 
--- By how many pages the live ones grow at most: a removal keeps up to 39 entries of each of 40 levels, and inserts each
--- once.
+-- By how many pages the live ones grow at most: a removal keeps up to 39 entries of each of 40 levels, and
+-- inserts each once.
 abbrev pub most_removal_pages : ℕ
 most_removal_pages = 1560 * most_new_pages
 
@@ -50,10 +52,11 @@ pub record TookOut (dims most : ℕ) (m m' : PageMap) (root : Root) (t : Tree) (
   pub can : CanRemove dims m root t elsewhere
   pub taken : HasTaken dims most m m' t.level id removed t.row [] held items
 
--- no object was removed and no page touched: the root's page is answered as damaged, unless memory or the device
--- refused before
+-- no object was removed and no page touched: the root's page is answered as damaged, unless memory or the
+-- device refused before
 abbrev pub IsRefused : ℕ → Result Root Broken → Type 0
-IsRefused page result = IsErrAnd result (λ b. (b.touched ≡ false) × (IsOfDevice b.cause ⊎ (b.cause ≡ fault.Damaged page)))
+IsRefused page result =
+    IsErrAnd result (λ b. (b.touched ≡ false) × (IsOfDevice b.cause ⊎ (b.cause ≡ fault.Damaged page)))
 
 -- ---- laws
 

@@ -1,6 +1,7 @@
--- What the code has done where an object is taken out below a node: the words of its inner contracts (docs/RULES.md,
--- "Removal").
-use Rattle.std.specs.Prelude.{◌≡◌, ◌⊎◌, ℕ, ◌+◌, ◌-◌, ◌<◌, ◌≤◌, All, Some, List, ◌++◌, length, map, reverse, take, drop, slice_index_or, Bool, true}
+-- What the code has done where an object is taken out below a node: the words of its inner contracts
+-- (docs/RULES.md, "Removal").
+use Rattle.std.specs.Prelude.{◌≡◌, ◌⊎◌, ℕ, ◌+◌, ◌-◌, ◌<◌, ◌≤◌, All, Some, List, ◌++◌, length, map, reverse}
+use Rattle.std.specs.Prelude.{take, drop, slice_index_or, Bool, true}
 use Rattle.box_math.specs.Bounds.{Within}
 use Rattle.box_math.specs.Objects.{Object, bounds_of, tag_of}
 use Rattle.tree_node.specs.declared.node.Root.{Root}
@@ -45,7 +46,9 @@ items_without items at = take at items ++ drop (at + 1) items
 pub record IsTakenFrom (id : ℕ) (removed : Object) (before after : List Item) : Type 0 where
   pub at : ℕ
   pub within : at < length before
-  pub found : (d : Item) → slice_index_or before at d ≡ record { bounds = bounds_of removed; reference = id; tag = tag_of removed }
+  pub found : (d : Item)
+      → slice_index_or before at
+      d ≡ record { bounds = bounds_of removed; reference = id; tag = tag_of removed }
   pub rest : after ≡ items_without before at
 
 -- ---- where the object is
@@ -53,14 +56,15 @@ pub record IsTakenFrom (id : ℕ) (removed : Object) (before after : List Item) 
 -- a leaf below the node has the object, and each box on the way there encloses its box
 abbrev pub LeadsTo : ℕ → ℕ → Object → Row → Type 0
 LeadsTo dims id removed end = ⊥
-LeadsTo dims id removed (more (object kept i) rest) = ((kept ≡ removed) × (i ≡ id)) ⊎ LeadsTo dims id removed rest
+LeadsTo dims id removed (more (object kept i) rest) = ((kept ≡ removed) × (i ≡ id))
+    ⊎ LeadsTo dims id removed rest
 LeadsTo dims id removed (more (child b page below) rest) =
     (Within dims (bounds_of removed) b × LeadsTo dims id removed below) ⊎ LeadsTo dims id removed rest
 
 -- ---- what was taken
 
--- The object was taken out below the node. What the node has become is in hand, with these entries, and not yet written;
--- the trees below it and what is kept stand.
+-- The object was taken out below the node. What the node has become is in hand, with these entries, and not
+-- yet written; the trees below it and what is kept stand.
 pub record HasTaken (dims most : ℕ) (m m' : PageMap) (level id : ℕ) (removed : Object) (row : Row)
     (held held' : List Held) (items : List Item) : Type 0 where
   pub out : Condensed
@@ -72,7 +76,8 @@ pub record HasTaken (dims most : ℕ) (m m' : PageMap) (level id : ℕ) (removed
   pub holds : held' ≡ held ++ reverse (map held_in out.kept)
 
 -- a node stands with these entries, and the object was taken out below its child at a place, which is in hand
-pub record TookBelow (dims most : ℕ) (m m1 : PageMap) (page level id : ℕ) (removed : Object) (row : Row) (at : ℕ)
+pub record TookBelow (dims most : ℕ) (m m1 : PageMap) (page level id : ℕ) (removed : Object) (row : Row)
+    (at : ℕ)
     (held held1 : List Held) (entries lower : List Item) : Type 0 where
   pub stands : Stands dims m (record { page = page; level = level; row = row })
   pub are : row_items row ≡ entries

@@ -25,7 +25,8 @@ pub(crate) fn child_of<const D: usize>(node: &Node<D>, at: usize) -> Root
     requires within { at < array_vec_len node.now.entries }
     requires spellable { IsSpellable (content_of node.now) }
     ensures level { result.level ≡ node.now.level - 1 }
-    ensures page { (d : Item) → result.page ≡ (slice_index_or (map item_of node.now.entries.items) at d).reference }
+    ensures page { (d : Item) →
+        result.page ≡ (slice_index_or (map item_of node.now.entries.items) at d).reference }
     ensures low { 3 ≤ result.page }
     ensures small { result.page < 2 ^ 31 }
 {

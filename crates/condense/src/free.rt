@@ -21,10 +21,10 @@ use tree_node::Root;
 
 /// Frees all pages of the tree at that root. The gate has to be open.
 ///
-/// Where the pages are a sound map, and stand for a tree there, none of the tree's pages is live after `Ok`, and all
-/// others are as before. A refusal is of memory or of the device then, and the map stays sound. One that is not
-/// `touched` came before the first page was freed: pages were only asked for. In other pages one may also be damaged.
-/// Also after a refusal no more pages are live than before.
+/// Where the pages are a sound map, and stand for a tree there, none of the tree's pages is live after `Ok`,
+/// and all others are as before. A refusal is of memory or of the device then, and the map stays sound. One
+/// that is not `touched` came before the first page was freed: pages were only asked for. In other pages one
+/// may also be damaged. Also after a refusal no more pages are live than before.
 pub fn free_tree<const D: usize, B: BlockDevice, A: Allocator + Copy>(
     cache: &mut PageCache<B, A>,
     root: Root,

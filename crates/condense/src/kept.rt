@@ -15,7 +15,8 @@ pub(crate) struct Orphan<const D: usize> {
     pub(crate) level: u8,
 }
 
-/// Room for all entries that a removal keeps: at most 39 of each of 40 levels. It serves one removal after the other.
+/// Room for all entries that a removal keeps: at most 39 of each of 40 levels. It serves one removal after
+/// the other.
 #[derive(Drop)]
 pub struct Kept<const D: usize> {
     // the first to be inserted is the last

@@ -1,6 +1,7 @@
 //! An object taken out of its leaf.
 
-ghost use Rattle.std.specs.Prelude.{◌≡◌, ◌⊎◌, ◌<◌, ℕ, IfErr, IfNone, IfOk, IfSome, Some, false, true, length, map};
+ghost use Rattle.std.specs.Prelude.{◌≡◌, ◌⊎◌, ◌<◌, ℕ, IfErr, IfNone, IfOk, IfSome, Some, false, true, length};
+ghost use Rattle.std.specs.Prelude.{map};
 ghost use Rattle.std.specs.Prelude.{slice_index_or};
 ghost use Rattle.box_math.specs.Bounds.{IsDims};
 ghost use Rattle.page_file.specs.Fault.{IsDamage, IsOfDevice};
@@ -46,8 +47,8 @@ fn position_of<const D: usize>(
     None
 }
 
-// Takes the object out of the leaf at a page: whether it was there. `node` is then what the leaf has become, not yet
-// written. A leaf that lacks the object is not decoded.
+// Takes the object out of the leaf at a page: whether it was there. `node` is then what the leaf has become,
+// not yet written. A leaf that lacks the object is not decoded.
 pub(crate) fn take_here<const D: usize, B: BlockDevice, A: Allocator + Copy>(
     cache: &mut PageCache<B, A>,
     page: u32,

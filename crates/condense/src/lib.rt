@@ -1,5 +1,6 @@
-//! Lawful removals from trees of pages, and whole trees freed: an entry leaves its leaf, and the entries of each node
-//! that has too few are inserted again (Delete and CondenseTree of Guttman 1984; docs/RULES.md, "Removal").
+//! Lawful removals from trees of pages, and whole trees freed: an entry leaves its leaf, and the entries of
+//! each node that has too few are inserted again (Delete and CondenseTree of Guttman 1984; docs/RULES.md,
+//! "Removal").
 #![tactic(auto)]
 
 mod children;

@@ -36,8 +36,8 @@ fn first_enclosing<const D: usize>(node: &NodeView<D>, bounds: &BBox<D>) -> usiz
     place
 }
 
-// Reads the node of that level into a node where some entry's box encloses the object's: the place of the first. Where
-// there is none, the page is only viewed.
+// Reads the node of that level into a node where some entry's box encloses the object's: the place of the
+// first. Where there is none, the page is only viewed.
 pub(crate) fn read_enclosing<const D: usize, B: BlockDevice, A: Allocator + Copy>(
     cache: &mut PageCache<B, A>,
     at: Root,

@@ -33,7 +33,8 @@ pub(crate) fn give_way<const D: usize, B: BlockDevice, A: Allocator + Copy>(
     ensures grows { Grows 0 cache.old cache.new }
     ensures root { IfOk result IsRoot }
     ensures lowered { IsPageMap cache.old → (t : Tree) → IsRootOf root t → Stands D (pages cache.old) t
-        → IfOk result (λ after. IsPageMap cache.new × GivesWayTo D (pages cache.old) (pages cache.new) t after) }
+        → IfOk result (λ after. IsPageMap cache.new
+        × GivesWayTo D (pages cache.old) (pages cache.new) t after) }
     ensures faults { IsPageMap cache.old → (t : Tree) → IsRootOf root t → Stands D (pages cache.old) t
         → IfErr result IsOfDevice }
     ensures other_faults { IfErr result (λ f. IsOfDevice f ⊎ IsDamage f) }

@@ -1,4 +1,5 @@
-//! The child of which an object was taken: it leaves its parent where it has too few entries, else it is written.
+//! The child of which an object was taken: it leaves its parent where it has too few entries, else it is
+//! written.
 
 ghost use Rattle.std.specs.Prelude.{◌≡◌, ◌+◌, ◌*◌, ◌-◌, ◌<◌, ◌≤◌, ◌++◌, ℕ, List, IfErr, None, Some};
 ghost use Rattle.std.specs.Prelude.{◌⊎◌, OnOk, map, reverse, true};
@@ -37,9 +38,9 @@ fn least_entries(m_max: usize) -> usize
     (2 * m_max / 5).max(2)
 }
 
-// Puts a child of this node back, of which the object was taken: one of too few entries leaves, else it is written
-// where it is not settled. `settled` tells whether the page of the child has it as it is, and then whether the node is
-// as it was.
+// Puts a child of this node back, of which the object was taken: one of too few entries leaves, else it is
+// written where it is not settled. `settled` tells whether the page of the child has it as it is, and then
+// whether the node is as it was.
 pub(crate) fn put_child<const D: usize, B: BlockDevice, A: Allocator + Copy>(
     cache: &mut PageCache<B, A>,
     node: &mut Node<D>,
@@ -63,7 +64,8 @@ pub(crate) fn put_child<const D: usize, B: BlockDevice, A: Allocator + Copy>(
     ensures room { array_vec_len kept.new.orphans ≤ array_vec_len kept.old.orphans + 39 }
     ensures taken { IsPageMap cache.old → (m : PageMap) (page id : ℕ) (removed : Object) (row : Row)
         (held : List Held)
-        → TookBelow D m_max m (pages cache.old) page node.old.level id removed row place held (held_now kept.old)
+        → TookBelow D m_max m (pages cache.old) page node.old.level id removed row place held
+        (held_now kept.old)
         (map item_of node.old.entries.items) (map item_of lower.now.entries.items)
         → IsSettledBelow D (pages cache.old) (map item_of node.old.entries.items) place (content_of lower.now)
         settled.old
@@ -71,7 +73,8 @@ pub(crate) fn put_child<const D: usize, B: BlockDevice, A: Allocator + Copy>(
         node.old.level id removed row held (held_now kept.new) (map item_of node.new.entries.items)) }
     ensures faults { IsPageMap cache.old → (m : PageMap) (page id : ℕ) (removed : Object) (row : Row)
         (held : List Held)
-        → TookBelow D m_max m (pages cache.old) page node.old.level id removed row place held (held_now kept.old)
+        → TookBelow D m_max m (pages cache.old) page node.old.level id removed row place held
+        (held_now kept.old)
         (map item_of node.old.entries.items) (map item_of lower.now.entries.items)
         → IsSettledBelow D (pages cache.old) (map item_of node.old.entries.items) place (content_of lower.now)
         settled.old
@@ -109,7 +112,8 @@ fn leave_out<const D: usize, B: BlockDevice, A: Allocator + Copy>(
     ensures room { array_vec_len kept.new.orphans ≤ array_vec_len kept.old.orphans + 39 }
     ensures sound { IsPageMap cache.old → IsLive cache.old page → IsPageMap cache.new }
     ensures gone { IsPageMap cache.old → IsLive cache.old page → OnOk result (pages cache.new page ≡ None) }
-    ensures others { IsPageMap cache.old → IsLive cache.old page → SameBut page (pages cache.old) (pages cache.new) }
+    ensures others { IsPageMap cache.old → IsLive cache.old page →
+        SameBut page (pages cache.old) (pages cache.new) }
     ensures entries { OnOk result (map item_of node.new.entries.items
         ≡ items_without (map item_of node.old.entries.items) place) }
     ensures held { OnOk result (held_now kept.new ≡ held_now kept.old
@@ -123,8 +127,8 @@ fn leave_out<const D: usize, B: BlockDevice, A: Allocator + Copy>(
     Ok(())
 }
 
-// A child is written where it is not settled, and the box above it is made least. The node is settled where that box
-// stays.
+// A child is written where it is not settled, and the box above it is made least. The node is settled where
+// that box stays.
 fn write_back<const D: usize, B: BlockDevice, A: Allocator + Copy>(
     cache: &mut PageCache<B, A>,
     node: &mut Node<D>,
@@ -146,7 +150,8 @@ fn write_back<const D: usize, B: BlockDevice, A: Allocator + Copy>(
     ensures there { IsPageMap cache.old → IsLive cache.old page
         → (settled.old ≡ true → node_in D (pages cache.old page) ≡ Some (content_of lower.now))
         → OnOk result (node_in D (pages cache.new page) ≡ Some (content_of lower.now)) }
-    ensures others { IsPageMap cache.old → IsLive cache.old page → SameBut page (pages cache.old) (pages cache.new) }
+    ensures others { IsPageMap cache.old → IsLive cache.old page →
+        SameBut page (pages cache.old) (pages cache.new) }
     ensures entries { OnOk result (map item_of node.new.entries.items ≡ set_box
         (map item_of node.old.entries.items) place (least_box D (map item_of lower.now.entries.items))) }
     ensures settled { settled.new ≡ true → OnOk result (content_of node.new ≡ content_of node.old) }
@@ -176,7 +181,8 @@ pub(crate) fn settle<const D: usize, B: BlockDevice, A: Allocator + Copy>(
     ensures written { IsHonest cache.old → IsLive cache.old page
         → (settled ≡ true → node_in D (pages cache.old page) ≡ Some (content_of node.now))
         → OnOk result (node_in D (pages cache.new page) ≡ Some (content_of node.now)) }
-    ensures others { IsHonest cache.old → IsLive cache.old page → SameBut page (pages cache.old) (pages cache.new) }
+    ensures others { IsHonest cache.old → IsLive cache.old page →
+        SameBut page (pages cache.old) (pages cache.new) }
     ensures sound { IsPageMap cache.old → IsLive cache.old page → IsPageMap cache.new }
     ensures faults { IsHonest cache.old → IsLive cache.old page → IfErr result IsOfDevice }
     ensures other_faults { IfErr result (λ f. IsOfDevice f ⊎ IsDamage f) }

@@ -17,7 +17,8 @@ ghost use Rattle.node_page.specs.Broken.{Alters};
 ghost use Rattle.node_page.specs.Standing.{PageMap, Stands, node_in};
 ghost use Rattle.node_page.specs.Faults.{IsChangeFault, IsNoDamage};
 ghost use Rattle.reinsert.specs.Inserted.{IsRootOf, most_new_pages};
-ghost use Rattle.condense.specs.Removed.{CanRemove, IsRefused, IsRoot, RemovesTo, TookOut, most_removal_pages};
+ghost use Rattle.condense.specs.Removed.{CanRemove, IsRefused, IsRoot, RemovesTo, TookOut};
+ghost use Rattle.condense.specs.Removed.{most_removal_pages};
 ghost use Rattle.condense.specs.Taken.{IsCut, held_now};
 
 use crate::fill::insert_kept;
@@ -35,17 +36,18 @@ use reinsert::Waiting;
 use std::alloc::Allocator;
 use tree_node::{Node, Root};
 
-/// Removes the object of that identifier, box and tag from the tree at that root (docs/RULES.md). The gate has to be
-/// open.
+/// Removes the object of that identifier, box and tag from the tree at that root (docs/RULES.md). The gate
+/// has to be open.
 ///
-/// Where the map is sound and the pages stand for a tree at the root, they stand after `Ok` for a tree that a lawful
-/// removal leads to. Pages outside of these trees stay, those that came in were not live, and those that went are no
-/// longer live. A tree that has its shape keeps it, and has its objects but for the one.
+/// Where the map is sound and the pages stand for a tree at the root, they stand after `Ok` for a tree that a
+/// lawful removal leads to. Pages outside of these trees stay, those that came in were not live, and those
+/// that went are no longer live. A tree that has its shape keeps it, and has its objects but for the one.
 ///
-/// A refusal that is not `touched` leaves the map as it was; the room of what is kept and of what waits is taken before
-/// the first write. Where the tree has its shape and the object, a refusal is of memory or of the device, or each page
-/// number is live (`NoPages`). Where no leaf has the object, that is `Damaged` with the root's page, untouched, unless
-/// memory or the device refused before. Also after a refusal, at most `most_removal_pages` more pages are live.
+/// A refusal that is not `touched` leaves the map as it was; the room of what is kept and of what waits is
+/// taken before the first write. Where the tree has its shape and the object, a refusal is of memory or of
+/// the device, or each page number is live (`NoPages`). Where no leaf has the object, that is `Damaged` with
+/// the root's page, untouched, unless memory or the device refused before. Also after a refusal, at most
+/// `most_removal_pages` more pages are live.
 pub fn remove<const D: usize, B: BlockDevice, A: Allocator + Copy, H: Allocator + Copy>(
     alloc: H,
     cache: &mut PageCache<B, A>,
@@ -68,13 +70,16 @@ pub fn remove<const D: usize, B: BlockDevice, A: Allocator + Copy, H: Allocator 
     ensures shape { IsPageMap cache.old → (t : Tree) (elsewhere : ℕ → ℕ)
         → CanRemove D (pages cache.old) root t elsewhere → HasShape D m_max t → RowHasBoxes D t.row
         → IfOk result (λ after. (new : Tree) → IsRootOf after new → Stands D (pages cache.new) new
-        → HasShape D m_max new × IsPermutation ((id, (bounds.now, tag)) ∷ objects_in new.row) (objects_in t.row)) }
+        → HasShape D m_max new
+        × IsPermutation ((id, (bounds.now, tag)) ∷ objects_in new.row) (objects_in t.row)) }
     ensures absent { IsPageMap cache.old → (t : Tree) (elsewhere : ℕ → ℕ)
-        → CanRemove D (pages cache.old) root t elsewhere → ¬ Contains (objects_in t.row) (id, (bounds.now, tag))
+        → CanRemove D (pages cache.old) root t elsewhere →
+        ¬ Contains (objects_in t.row) (id, (bounds.now, tag))
         → IsRefused root.page result }
     ensures faults { IsPageMap cache.old → (t : Tree) (elsewhere : ℕ → ℕ)
         → CanRemove D (pages cache.old) root t elsewhere → HasShape D m_max t → RowHasBoxes D t.row
-        → Contains (objects_in t.row) (id, (bounds.now, tag)) → IfErr result (λ b. IsNoDamage cache.new b.cause) }
+        → Contains (objects_in t.row) (id, (bounds.now, tag)) →
+        IfErr result (λ b. IsNoDamage cache.new b.cause) }
     ensures other_faults { IfErr result (λ b. IsChangeFault b.cause) }
 {
     let mut waiting = Waiting::make(alloc)?;
@@ -82,8 +87,8 @@ pub fn remove<const D: usize, B: BlockDevice, A: Allocator + Copy, H: Allocator 
     remove_with(cache, root, id, bounds, tag, m_max, &mut waiting, &mut kept)
 }
 
-/// Removes an object as `remove` does, and takes no memory but what the cache takes. The `Waiting` and the `Kept` serve
-/// again afterwards, also after a refusal.
+/// Removes an object as `remove` does, and takes no memory but what the cache takes. The `Waiting` and the
+/// `Kept` serve again afterwards, also after a refusal.
 pub fn remove_with<const D: usize, B: BlockDevice, A: Allocator + Copy>(
     cache: &mut PageCache<B, A>,
     root: Root,
@@ -107,13 +112,16 @@ pub fn remove_with<const D: usize, B: BlockDevice, A: Allocator + Copy>(
     ensures shape { IsPageMap cache.old → (t : Tree) (elsewhere : ℕ → ℕ)
         → CanRemove D (pages cache.old) root t elsewhere → HasShape D m_max t → RowHasBoxes D t.row
         → IfOk result (λ after. (new : Tree) → IsRootOf after new → Stands D (pages cache.new) new
-        → HasShape D m_max new × IsPermutation ((id, (bounds.now, tag)) ∷ objects_in new.row) (objects_in t.row)) }
+        → HasShape D m_max new
+        × IsPermutation ((id, (bounds.now, tag)) ∷ objects_in new.row) (objects_in t.row)) }
     ensures absent { IsPageMap cache.old → (t : Tree) (elsewhere : ℕ → ℕ)
-        → CanRemove D (pages cache.old) root t elsewhere → ¬ Contains (objects_in t.row) (id, (bounds.now, tag))
+        → CanRemove D (pages cache.old) root t elsewhere →
+        ¬ Contains (objects_in t.row) (id, (bounds.now, tag))
         → IsRefused root.page result }
     ensures faults { IsPageMap cache.old → (t : Tree) (elsewhere : ℕ → ℕ)
         → CanRemove D (pages cache.old) root t elsewhere → HasShape D m_max t → RowHasBoxes D t.row
-        → Contains (objects_in t.row) (id, (bounds.now, tag)) → IfErr result (λ b. IsNoDamage cache.new b.cause) }
+        → Contains (objects_in t.row) (id, (bounds.now, tag)) →
+        IfErr result (λ b. IsNoDamage cache.new b.cause) }
     ensures other_faults { IfErr result (λ b. IsChangeFault b.cause) }
 {
     kept.begin();

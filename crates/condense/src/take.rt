@@ -27,10 +27,11 @@ use page_cache::PageCache;
 use std::alloc::Allocator;
 use tree_node::{Node, Root};
 
-// Takes the object out of the first leaf below this node that has it, and to which boxes lead that enclose its box, and
-// condenses the nodes between: whether there was one. `node` is then what this node has become, not yet written, and
-// `settled` tells whether its page has it as it is. Where no such leaf has the object, nothing is written. Pages are
-// viewed, and only those decoded that have the object or a child where it may be.
+// Takes the object out of the first leaf below this node that has it, and to which boxes lead that enclose
+// its box, and condenses the nodes between: whether there was one. `node` is then what this node has become,
+// not yet written, and `settled` tells whether its page has it as it is. Where no such leaf has the object,
+// nothing is written. Pages are viewed, and only those decoded that have the object or a child where it may
+// be.
 pub(crate) fn take_out<const D: usize, B: BlockDevice, A: Allocator + Copy>(
     cache: &mut PageCache<B, A>,
     at: Root,

@@ -7,7 +7,8 @@ use Rattle.device_pair.specs.Both.{Both, BothSince}
 module _ {A B : Type 0} (base : A → Blocks → Type 0) (journal : B → Blocks → Type 0) where
   -- a call of either
   pub both_elapse : (x x' : A) (y y' : B) (ps ps' : List (A × B)) → ps' ≡ (x, y) ∷ ps
-      → PairElapses (length ps) (length ps') (BothSince base journal x y ps) (BothSince base journal x' y' ps') (Both base journal x' y')
+      → PairElapses (length ps) (length ps') (BothSince base journal x y ps)
+      (BothSince base journal x' y' ps') (Both base journal x' y')
   both_elapse x x' y y' ps ps' e =
       rw e record {
         later = omega arith;

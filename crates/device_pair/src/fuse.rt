@@ -55,7 +55,8 @@ impl<P: DevicePair> FusePair<P> {
     fn blows(&mut self) -> bool
         ensures fails { result ≡ fails_next self.old }
         ensures calls { calls_of self.new ≡ one_more (calls_of self.old) }
-        ensures blown { blown_of self.new ≡ (if result then one_more (blown_of self.old) else blown_of self.old) }
+        ensures blown { blown_of self.new
+            ≡ (if result then one_more (blown_of self.old) else blown_of self.old) }
         ensures inner { inner_of self.new ≡ inner_of self.old }
         ensures passes { passes_of self.new ≡ passes_of self.old }
         ensures mode { mode_of self.new ≡ mode_of self.old }

@@ -6,10 +6,11 @@ ghost use Rattle.device_pair.specs.Pairs.{BaseFollows, JournalFollows, PairsNoMo
 
 use block_device::DeviceError;
 
-/// Two rows of blocks of 4096 bytes, each as a `BlockDevice` has them, of which a stop leaves both as they are at the
-/// same moment.
+/// Two rows of blocks of 4096 bytes, each as a `BlockDevice` has them, of which a stop leaves both as they
+/// are at the same moment.
 ///
-/// Each call is one of the base or one of the journal. The other stays as it is, and so does what a stop leaves of it.
+/// Each call is one of the base or one of the journal. The other stays as it is, and so does what a stop
+/// leaves of it.
 pub trait DevicePair {
     /// The blocks of the base, as a read returns them.
     ghost base: { Self → Blocks };
@@ -68,11 +69,13 @@ pub trait DevicePair {
         ensures honest { honest self.old ↔ honest self.new }
         ensures faults { Counts (faults self.old) (faults self.new) result };
 
-    /// Writes a block of the base, or appends it. Until a sync of the base succeeds, a stop may leave any bytes in it.
+    /// Writes a block of the base, or appends it. Until a sync of the base succeeds, a stop may leave any
+    /// bytes in it.
     fn write_base(&mut self, i: u32, bytes: &[u8; 4096]) -> Result<(), DeviceError>
         requires within { i ≤ length (base self.old) }
         requires small { i < 2 ^ 31 }
-        ensures written { honest self.old → OnOk result (base self.new ≡ written i bytes.now (base self.old)) }
+        ensures written { honest self.old →
+            OnOk result (base self.new ≡ written i bytes.now (base self.old)) }
         ensures torn { honest self.old → OnErr result (Torn i (base self.old) (base self.new)) }
         ensures journal { honest self.old → journal self.new ≡ journal self.old }
         ensures stops { honest self.old → BaseFollows (Torn i) (may_leave self.old) (may_leave self.new) }

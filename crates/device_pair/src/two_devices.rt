@@ -12,8 +12,8 @@ pub use memory::MemoryPair;
 
 /// Two devices of one disk, of which a stop leaves each as it is at the same moment.
 ///
-/// The pair is honest where both are. What a stop may leave of it is what it may leave of each, taken together at each
-/// moment: before each call, and now.
+/// The pair is honest where both are. What a stop may leave of it is what it may leave of each, taken
+/// together at each moment: before each call, and now.
 #[derive(Drop)]
 pub struct TwoDevices<B: BlockDevice, J: BlockDevice> {
     base: B,
@@ -116,13 +116,19 @@ impl<B: BlockDevice + Drop, J: BlockDevice + Drop> DevicePair for TwoDevices<B, 
       J.no_longer d.journal b honest.1 left.1,
     ) };
 
-    ghost whole = { λ d a b honest left. (B.whole d.base a honest.0 left.0, J.whole d.journal b honest.1 left.1) };
+    ghost whole = { λ d a b honest left. (
+      B.whole d.base a honest.0 left.0,
+      J.whole d.journal b honest.1 left.1,
+    ) };
 
-    ghost counts_now = { λ d t a b _ _ left. both_now B.may_leave J.may_leave d.base d.journal d.past.taken t a b left };
+    ghost counts_now = { λ d t a b _ _ left.
+        both_now B.may_leave J.may_leave d.base d.journal d.past.taken t a b left };
 
-    ghost only_now = { λ d a b _ left. both_only B.may_leave J.may_leave d.base d.journal d.past.taken a b left };
+    ghost only_now = { λ d a b _ left.
+        both_only B.may_leave J.may_leave d.base d.journal d.past.taken a b left };
 
-    ghost since_earlier = { λ d t u a b _ le left. both_earlier B.may_leave J.may_leave d.base d.journal d.past.taken t u
+    ghost since_earlier = { λ d t u a b _ le left.
+        both_earlier B.may_leave J.may_leave d.base d.journal d.past.taken t u
         a b le left };
 
     ghost faults_fit = { λ d. faults_with-fits (B.faults d.base) (J.faults d.journal) };

@@ -1,4 +1,5 @@
-//! Tests of the store where memory and the device fail: each growth and each call of the device is refused in turn.
+//! Tests of the store where memory and the device fail: each growth and each call of the device is refused in
+//! turn.
 #![tactic(auto)]
 
 #[cfg(test)]

@@ -1,5 +1,5 @@
-//! Each growth and each call of the device refused in turn. A command says so and the table stays, or in a change the
-//! store fails; and what is left is opened as the table that was closed last, or refused.
+//! Each growth and each call of the device refused in turn. A command says so and the table stays, or in a
+//! change the store fails; and what is left is opened as the table that was closed last, or refused.
 
 use block_device::{BlockDevice, FuseDevice, FuseMode, MemoryDevice};
 use layer_store::{RawBox, RawPoint, Refusal, Store, create_store, open_store};
@@ -196,8 +196,8 @@ fn say_that_it_failed<D: BlockDevice>(
     }
 }
 
-/// The store failed in this command: each command says so, and its device, which comes back with a closing, is that of
-/// a store that was not closed, or, after a reopening, has the table.
+/// The store failed in this command: each command says so, and its device, which comes back with a closing,
+/// is that of a store that was not closed, or, after a reopening, has the table.
 pub fn check_failed<'a, D: BlockDevice + Drop>(
     rt: &impl Abort,
     alloc: Global,

@@ -1,5 +1,5 @@
-//! Changes of a store that was opened, in which each growth, or each call of the device, is refused in turn. One that
-//! is refused before it wrote a page leaves a store that goes on.
+//! Changes of a store that was opened, in which each growth, or each call of the device, is refused in turn.
+//! One that is refused before it wrote a page leaves a store that goes on.
 
 use crate::refused::{Ending, Heap, check_failed, put};
 use block_device::{BlockDevice, FuseDevice, FuseMode, MemoryDevice};
@@ -81,7 +81,8 @@ fn change<'a, D: BlockDevice + Drop>(
     ending
 }
 
-// What becomes of the change where each of its growths is refused in turn, with all later ones, and at last none.
+// What becomes of the change where each of its growths is refused in turn, with all later ones, and at last
+// none.
 fn refuse_growths(
     rt: &impl Abort,
     alloc: Global,

@@ -13,11 +13,11 @@ pub fn journal_path<A: Allocator>(alloc: A, path: &str) -> Result<String<A>, All
     format!(in alloc; "{path}-journal")
 }
 
-/// Removes the journal at `path`, if there is one, and syncs its folder, so that a stop after this doesn't bring it
-/// back. A stop before leaves it or not.
+/// Removes the journal at `path`, if there is one, and syncs its folder, so that a stop after this doesn't
+/// bring it back. A stop before leaves it or not.
 ///
-/// So it is for a journal that recovery leaves out: one that is not complete. The folder is opened first: where it
-/// can't be, nothing is removed.
+/// So it is for a journal that recovery leaves out: one that is not complete. The folder is opened first:
+/// where it can't be, nothing is removed.
 pub fn remove_journal<R: Files<File = File>>(rt: &R, path: &str) -> io::Result<()> {
     let folder = File::open(rt, folder_of(path))?;
     match fs::remove_file(rt, path) {

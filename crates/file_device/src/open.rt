@@ -51,12 +51,12 @@ impl From<DeviceError> for OpenError {
     }
 }
 
-/// Opens the file at `path` for reading and writing, as a device. With `create` an empty one is made where there is
-/// none, and its folder is synced, so that a stop doesn't take the file away.
+/// Opens the file at `path` for reading and writing, as a device. With `create` an empty one is made where
+/// there is none, and its folder is synced, so that a stop doesn't take the file away.
 ///
-/// It is locked before a byte of it is read, right after it was made, and until it is closed: no other lock of it is
-/// given meanwhile (docs/FORMAT.md, "The lock"). No byte of it is changed. **Its number is none of a standard
-/// stream's**, so that nothing that is written to one goes to it.
+/// It is locked before a byte of it is read, right after it was made, and until it is closed: no other lock
+/// of it is given meanwhile (docs/FORMAT.md, "The lock"). No byte of it is changed. **Its number is none of a
+/// standard stream's**, so that nothing that is written to one goes to it.
 pub fn open_file<R: Files<File = File>>(
     rt: &R,
     path: &str,
@@ -71,8 +71,8 @@ pub fn open_file<R: Files<File = File>>(
 
 /// Opens the file at `path` for reading alone, which may lack the right to be written.
 ///
-/// Its lock is shared before a byte of it is read and until it is closed: any number of readers hold it, and nobody
-/// else (docs/FORMAT.md, "The lock"). Its number is none of a standard stream's.
+/// Its lock is shared before a byte of it is read and until it is closed: any number of readers hold it, and
+/// nobody else (docs/FORMAT.md, "The lock"). Its number is none of a standard stream's.
 pub fn open_reader<R: Files<File = File>>(
     rt: &R,
     path: &str,
@@ -103,8 +103,8 @@ fn made_or_opened<R: Files<File = File>>(
     opened(rt, path, OpenOptions::new().read(true).write(true))
 }
 
-// Opened and locked. An empty file is made where there is none, and in either case its folder is synced. The folder is
-// opened first: where it can't be, or would take the number of a standard stream, no file is made.
+// Opened and locked. An empty file is made where there is none, and in either case its folder is synced. The
+// folder is opened first: where it can't be, or would take the number of a standard stream, no file is made.
 pub(crate) fn made<R: Files<File = File>>(rt: &R, path: &str) -> Result<File, OpenError>
     ensures { IfOk result (λ f. IsOwnNumber (file_raw_fd f)) }
 {

@@ -9,8 +9,8 @@ use crate::device::{BLOCK, MAX_BLOCKS};
 use block_device::DeviceError;
 use read_only_device::BlockReader;
 
-/// A reader whose block i is the 4096 bytes of a file from 4096 times i on. A last block that is cut short counts, and
-/// its missing bytes read as zero.
+/// A reader whose block i is the 4096 bytes of a file from 4096 times i on. A last block that is cut short
+/// counts, and its missing bytes read as zero.
 ///
 /// It is honest where its file is kept. It takes no memory.
 #[derive(Drop)]

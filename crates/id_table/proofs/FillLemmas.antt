@@ -1,5 +1,6 @@
 -- Objects added run after run.
-use Rattle.std.proofs.Common.{◌≡◌, ◌∙◌, ◌⊎◌, ℕ, zero, suc, ◌+◌, ◌/◌, ◌<◌, ◌≤◌, None, List, [], ◌∷◌, ◌++◌, length, take, drop, get_or, refl, sym, ap, subst, ⊎_elim, arith, length-drop}
+use Rattle.std.proofs.Common.{◌≡◌, ◌∙◌, ◌⊎◌, ℕ, zero, suc, ◌+◌, ◌/◌, ◌<◌, ◌≤◌, None, List, [], ◌∷◌, ◌++◌}
+use Rattle.std.proofs.Common.{length, take, drop, get_or, refl, sym, ap, subst, ⊎_elim, arith, length-drop}
 use Rattle.box_math.specs.Objects.{Object}
 use Rattle.bucket_page.specs.Layout.{Entry}
 use Rattle.std.proofs.Math.Seq.{drop-cons, take-add}
@@ -20,7 +21,8 @@ use Rattle.id_table.specs.Table.{IdTable, IdsStand, class_of, objects_of, part_o
 use Rattle.id_table.proofs.BucketLemmas.{some_object}
 use Rattle.id_table.proofs.TableLemmas.{table_there}
 
-with_all-append : (m : FinMap nat_cmp Object) (xs ys : List Entry) → with_all m (xs ++ ys) ≡ with_all (with_all m xs) ys
+with_all-append : (m : FinMap nat_cmp Object) (xs ys : List Entry)
+    → with_all m (xs ++ ys) ≡ with_all (with_all m xs) ys
 with_all-append m [] ys = refl
 with_all-append m (x ∷ xs) ys = with_all-append (map.insert m x.0 x.1) xs ys
 
@@ -30,7 +32,8 @@ first_new zero es m new = tt
 first_new (suc n) [] m new = tt
 first_new (suc n) (e ∷ es) m new = (new.0, first_new n es (map.insert m e.0 e.1) new.1)
 
-others_new : (n : ℕ) (es : List Entry) (m : FinMap nat_cmp Object) → AreNew m es → AreNew (with_all m (take n es)) (drop n es)
+others_new : (n : ℕ) (es : List Entry) (m : FinMap nat_cmp Object) → AreNew m es
+    → AreNew (with_all m (take n es)) (drop n es)
 others_new zero es m new = new
 others_new (suc n) [] m new = tt
 others_new (suc n) (e ∷ es) m new = others_new n es (map.insert m e.0 e.1) new.1
@@ -44,33 +47,42 @@ pub next_is_low : (es : List Entry) → next_class es ≤ 1000
 next_is_low [] = omega arith
 next_is_low (e ∷ es) = omega arith
 
-pub next_of_some : (es : List Entry) → 0 < length es → (next_class es ≡ first_class es) × (next_class es < 1000)
+pub next_of_some : (es : List Entry) → 0 < length es
+    → (next_class es ≡ first_class es) × (next_class es < 1000)
 next_of_some [] some = absurd (omega (arith, some))
 next_of_some (e ∷ es) some = (refl, omega arith)
 
-next_at : (es : List Entry) (i : ℕ) → i < length es → next_class (drop i es) ≡ class_of (get_or es i some_object).0
+next_at : (es : List Entry) (i : ℕ) → i < length es
+    → next_class (drop i es) ≡ class_of (get_or es i some_object).0
 next_at es i within = ap (λ (rest : List Entry). next_class rest) (drop-cons es i some_object within)
 
-next_rises : (es : List Entry) (i j : ℕ) → AreInOrder es → i ≤ j → i < length es → next_class (drop i es) ≤ next_class (drop j es)
+next_rises : (es : List Entry) (i j : ℕ) → AreInOrder es → i ≤ j → i < length es
+    → next_class (drop i es) ≤ next_class (drop j es)
 next_rises es i j sorted later within = ⊎_elim
-    (λ (there : j < length es). omega (arith, next_at es i within, next_at es j there, sorted i j some_object later there))
-    (λ (past : length es ≤ j). omega (arith, next_is_low (drop i es), ap (λ (rest : List Entry). next_class rest) (drop_all j es past)))
+    (λ (there : j < length es). omega
+    (arith, next_at es i within, next_at es j there, sorted i j some_object later there))
+    (λ (past : length es ≤ j). omega
+    (arith, next_is_low (drop i es), ap (λ (rest : List Entry). next_class rest) (drop_all j es past)))
     (cases_lt j (length es))
 
 module _ {B A : Type 0} {m : _} where
   -- a run takes a page more only where it fills one, or is the last of its chain
-  pub run_takes : (old now new : PageCache B A m) (objects : List Entry) (count more : ℕ) → AreInOrder objects → count < length objects
+  pub run_takes : (old now new : PageCache B A m) (objects : List Entry) (count more : ℕ)
+      → AreInOrder objects → count < length objects
       → Grows (count / 100 + next_class (drop count objects)) old now → Grows 1 now new
-      → Grows 0 now new ⊎ IsWholeRun (drop count objects) more → Grows ((count + more) / 100 + next_class (drop (count + more) objects)) old new
+      → Grows 0 now new ⊎ IsWholeRun (drop count objects) more
+      → Grows ((count + more) / 100 + next_class (drop (count + more) objects)) old new
   run_takes old now new objects count more sorted within so_far one takes =
       let rises = next_rises objects count (count + more) sorted (omega arith) within in
       let first = next_of_some (drop count objects) (omega (arith, within, length-drop count objects)) in
-      let after : next_class (drop more (drop count objects)) ≡ next_class (drop (count + more) objects) = ap (λ (rest : List Entry). next_class rest) (drop-drop more count objects) in
+      let after : next_class (drop more (drop count objects)) ≡ next_class (drop (count + more) objects) =
+      ap (λ (rest : List Entry). next_class rest) (drop-drop more count objects) in
       ⊎_elim
       (λ (none : Grows 0 now new). omega (arith, so_far, none, rises))
       (λ (whole : IsWholeRun (drop count objects) more). ⊎_elim
       (λ (full : 100 ≤ more). omega (arith, so_far, one, rises, full))
-      (λ (ends : ¬ (next_class (drop more (drop count objects)) ≡ first_class (drop count objects))). omega (arith, so_far, one, rises, differ _ _ _ _ ends after first.0))
+      (λ (ends : ¬ (next_class (drop more (drop count objects)) ≡ first_class (drop count objects))). omega
+      (arith, so_far, one, rises, differ _ _ _ _ ends after first.0))
       whole)
       takes
     where
@@ -78,7 +90,8 @@ module _ {B A : Type 0} {m : _} where
       differ a b next first ends same is both = ends (same ∙ both ∙ is)
 
   -- the table with the objects so far
-  pub record Filled (dims : ℕ) (old now : PageCache B A m) (t : IdTable) (objects : List Entry) (count : ℕ) : Type 0 where
+  pub record Filled (dims : ℕ) (old now : PageCache B A m) (t : IdTable) (objects : List Entry)
+      (count : ℕ) : Type 0 where
     pub table : IdTable
     pub page : table.page ≡ t.page
     pub stands : IdsStand dims (pages now) table
@@ -87,11 +100,14 @@ module _ {B A : Type 0} {m : _} where
     pub rest : AreNew (objects_of table) (drop count objects)
     pub moves : Moves (pages old) (pages now) (part_of t) (part_of table)
 
-  pub record Filling (dims directory : ℕ) (old now : PageCache B A m) (objects : List Entry) (count : ℕ) : Type 0 where
+  pub record Filling (dims directory : ℕ) (old now : PageCache B A m) (objects : List Entry)
+      (count : ℕ) : Type 0 where
     pub changes : ChangesUntil old now None
-    pub left : IsPageMap old → (t : IdTable) → t.page ≡ directory → IdsStand dims (pages old) t → AreNew (objects_of t) objects → Filled dims old now t objects count
+    pub left : IsPageMap old → (t : IdTable) → t.page ≡ directory → IdsStand dims (pages old) t
+        → AreNew (objects_of t) objects → Filled dims old now t objects count
 
-  pub filling_begins : (dims directory : ℕ) (cache : PageCache B A m) (objects : List Entry) → ChangesUntil cache cache None → Filling dims directory cache cache objects 0
+  pub filling_begins : (dims directory : ℕ) (cache : PageCache B A m) (objects : List Entry)
+      → ChangesUntil cache cache None → Filling dims directory cache cache objects 0
   filling_begins dims directory cache objects changes = record {
     changes = changes;
     left = λ sound t at stands new. record {
@@ -101,14 +117,19 @@ module _ {B A : Type 0} {m : _} where
       map_is = sound;
       has = refl;
       rest = new;
-      moves = staying_moves (pages cache) (pages cache) (part_of t) (λ n. refl) stands.once (λ n here. table_there dims (pages cache) t n stands here);
+      moves = staying_moves (pages cache) (pages cache) (part_of t) (λ n. refl) stands.once
+          (λ n here. table_there dims (pages cache) t n stands here);
     };
   }
 
   -- so many more are added
-  pub fills_on : {dims directory : ℕ} {old now : PageCache B A m} {objects : List Entry} {count : ℕ} (so_far : Filling dims directory old now objects count) (more : ℕ) (new : PageCache B A m) → ChangesUntil now new None
+  pub fills_on : {dims directory : ℕ} {old now : PageCache B A m} {objects : List Entry} {count : ℕ}
+      (so_far : Filling dims directory old now objects count) (more : ℕ) (new : PageCache B A m)
+      → ChangesUntil now new None
       → (IsPageMap now → (t : IdTable) → t.page ≡ directory → IdsStand dims (pages now) t → IsPageMap new)
-      → (IsPageMap now → (t : IdTable) → t.page ≡ directory → IdsStand dims (pages now) t → AreNew (objects_of t) (drop count objects) → Fills dims (pages now) (pages new) t (take more (drop count objects)))
+      → (IsPageMap now → (t : IdTable) → t.page ≡ directory → IdsStand dims (pages now) t
+      → AreNew (objects_of t) (drop count objects)
+      → Fills dims (pages now) (pages new) t (take more (drop count objects)))
       → Filling dims directory old new objects (count + more)
   fills_on {dims} {directory} {old} {now} {objects} {count} so_far more new changes sound fills = record {
     changes = changes_in_turn old now new None so_far.changes changes;
@@ -121,19 +142,31 @@ module _ {B A : Type 0} {m : _} where
           page = filled.page ∙ f.page;
           stands = filled.stands;
           map_is = sound f.map_is f.table (f.page ∙ at) f.stands;
-          has = filled.objects ∙ ap (λ (k : FinMap nat_cmp Object). with_all k (take more rest)) f.has ∙ sym (with_all-append (objects_of t) (take count objects) (take more rest))
+          has = filled.objects ∙ ap (λ (k : FinMap nat_cmp Object). with_all k (take more rest)) f.has
+              ∙ sym (with_all-append (objects_of t) (take count objects) (take more rest))
               ∙ ap (with_all (objects_of t)) (sym (take-add count more objects));
-          rest = subst (AreNew (objects_of filled.table)) (drop-drop more count objects) (subst (λ (k : FinMap nat_cmp Object). AreNew k (drop more rest)) (sym filled.objects) (others_new more rest (objects_of f.table) f.rest));
-          moves = moves_in_turn (pages old) (pages now) (pages new) (part_of t) (part_of f.table) (part_of filled.table) f.moves filled.moves;
+          rest = subst (AreNew (objects_of filled.table)) (drop-drop more count objects)
+              (subst (λ (k : FinMap nat_cmp Object). AreNew k (drop more rest)) (sym filled.objects)
+              (others_new more rest (objects_of f.table) f.rest));
+          moves = moves_in_turn (pages old) (pages now) (pages new) (part_of t) (part_of f.table)
+              (part_of filled.table) f.moves filled.moves;
         };
   }
 
   -- all of them
-  pub all_filled : (dims directory : ℕ) (old now : PageCache B A m) (objects : List Entry) (count : ℕ) → length objects ≤ count → Filling dims directory old now objects count
-      → IsPageMap old → (t : IdTable) → t.page ≡ directory → IdsStand dims (pages old) t → AreNew (objects_of t) objects → Fills dims (pages old) (pages now) t objects
+  pub all_filled : (dims directory : ℕ) (old now : PageCache B A m) (objects : List Entry) (count : ℕ)
+      → length objects ≤ count → Filling dims directory old now objects count
+      → IsPageMap old → (t : IdTable) → t.page ≡ directory → IdsStand dims (pages old) t
+      → AreNew (objects_of t) objects → Fills dims (pages old) (pages now) t objects
   all_filled dims directory old now objects count all so_far sound t at stands new =
       let f = so_far.left sound t at stands new in
-      record { table = f.table; page = f.page; stands = f.stands; objects = f.has ∙ ap (with_all (objects_of t)) (take_whole objects count all); moves = f.moves }
+      record {
+        table = f.table;
+        page = f.page;
+        stands = f.stands;
+        objects = f.has ∙ ap (with_all (objects_of t)) (take_whole objects count all);
+        moves = f.moves;
+      }
     where
       take_whole : (xs : List Entry) (n : ℕ) → length xs ≤ n → take n xs ≡ xs
       take_whole [] zero le = refl

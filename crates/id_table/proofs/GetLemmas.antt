@@ -1,5 +1,6 @@
 -- A search at a cache.
-use Rattle.std.proofs.Common.{◌≡◌, ◌∙◌, ℕ, ◌+◌, ◌<◌, ◌≤◌, true, false, is_some, Some, None, Option, List, [], ◌∷◌, length, refl, sym, ap, subst, arith}
+use Rattle.std.proofs.Common.{◌≡◌, ◌∙◌, ℕ, ◌+◌, ◌<◌, ◌≤◌, true, false, is_some, Some, None, Option, List, []}
+use Rattle.std.proofs.Common.{◌∷◌, length, refl, sym, ap, subst, arith}
 use Rattle.box_math.specs.Objects.{Object}
 use Rattle.std.specs.FinMap as map
 use Rattle.bucket_page.specs.Layout.{BucketContent}
@@ -7,67 +8,96 @@ use Rattle.page_cache.specs.Cache.{IsHonest, next_of, pages}
 use Rattle.page_cache.specs.Calls.{AsksUntil, asks_in_turn}
 use Rattle.page_cache.specs.Laws.{a_live_page_was_given_out}
 use Rattle.page_cache.specs.declared.cache.PageCache.{PageCache}
-use Rattle.id_table.specs.Table.{Bucket, ChainStands, IdTable, IdsStand, IsDirectory, kept_in, bucket_in, chain_at, class_of, entries_in, link_at, objects_of}
+use Rattle.id_table.specs.Table.{Bucket, ChainStands, IdTable, IdsStand, IsDirectory, kept_in, bucket_in}
+use Rattle.id_table.specs.Table.{chain_at, class_of, entries_in, link_at, objects_of}
 use Rattle.id_table.proofs.TableLemmas.{chain_in_table, chain_short, found_by_class, table_there}
 use Rattle.id_table.proofs.WalkLemmas.{Rest, Here, all_left, found_here, is_here, nothing_left, walk_on}
 
 module _ {B A : Type 0} {m : _} where
   -- directory and chain are on pages of their own
-  pub chain_is_short : (dims : ℕ) (cache : PageCache B A m) (t : IdTable) (class : ℕ) → class < 1000 → IdsStand dims (pages cache) t → length (chain_at t class) < next_of cache
+  pub chain_is_short : (dims : ℕ) (cache : PageCache B A m) (t : IdTable) (class : ℕ) → class < 1000
+      → IdsStand dims (pages cache) t → length (chain_at t class) < next_of cache
   chain_is_short dims cache t class small stands =
       let chain = chain_at t class in
       let all : List Bucket = record { page = t.page; entries = [] } ∷ chain in
       let few : length all ≤ next_of cache = chain_short all (next_of cache)
-      (λ n. let part = chain_in_table n class t (omega (arith, small, stands.whole)) in omega (arith, part, stands.once n))
-      (λ n here. let part = chain_in_table n class t (omega (arith, small, stands.whole)) in (a_live_page_was_given_out cache n (table_there dims (pages cache) t n stands (omega (arith, part, here)))).1) in
+      (λ n. let part = chain_in_table n class t (omega (arith, small, stands.whole)) in
+      omega (arith, part, stands.once n))
+      (λ n here. let part = chain_in_table n class t (omega (arith, small, stands.whole)) in
+      (a_live_page_was_given_out cache n
+      (table_there dims (pages cache) t n stands (omega (arith, part, here)))).1) in
       omega (arith, few)
 
   -- the buckets so far have no such identifier, and what is left of the chain stands
   pub record Walking (dims id directory : ℕ) (old now : PageCache B A m) (walked number : ℕ) : Type 0 where
     pub asks : AsksUntil old now None
-    pub left : IsHonest old → (t : IdTable) → t.page ≡ directory → IdsStand dims (pages old) t → Rest dims (pages old) id (chain_at t (class_of id)) walked number
+    pub left : IsHonest old → (t : IdTable) → t.page ≡ directory → IdsStand dims (pages old) t
+        → Rest dims (pages old) id (chain_at t (class_of id)) walked number
 
   pub begins : (dims id directory class number : ℕ) (old now : PageCache B A m) → AsksUntil old now None
-      → class ≡ class_of id → (IsHonest old → (page : List ℕ) → pages old directory ≡ Some page → IsDirectory dims page → number ≡ link_at class page) → Walking dims id directory old now 0 number
+      → class ≡ class_of id
+      → (IsHonest old → (page : List ℕ) → pages old directory ≡ Some page → IsDirectory dims page
+      → number ≡ link_at class page) → Walking dims id directory old now 0 number
   begins dims id directory class number old now asks is reads = record {
     asks = asks;
     left = λ h t at stands.
-        let first = reads h stands.directory (ap (pages old) (sym at) ∙ stands.there) stands.spelled ∙ ap (λ k. link_at k stands.directory) is in
+        let first = reads h stands.directory (ap (pages old) (sym at) ∙ stands.there) stands.spelled
+        ∙ ap (λ k. link_at k stands.directory) is in
         let within : class_of id < 1000 = omega arith in
-        all_left dims (pages old) id (chain_at t (class_of id)) number (subst (λ n. ChainStands dims (pages old) n (chain_at t (class_of id))) (sym first) (stands.chains (class_of id) within));
+        all_left dims (pages old) id (chain_at t (class_of id)) number
+        (subst (λ n. ChainStands dims (pages old) n (chain_at t (class_of id))) (sym first)
+        (stands.chains (class_of id) within));
   }
 
-  module _ {dims id directory : ℕ} {old now : PageCache B A m} {walked number : ℕ} (so_far : Walking dims id directory old now walked number) where
+  module _ {dims id directory : ℕ} {old now : PageCache B A m} {walked number : ℕ}
+      (so_far : Walking dims id directory old now walked number) where
     -- what the chain has is what the table has
-    has : (t : IdTable) → IdsStand dims (pages old) t → map.get (objects_of t) id ≡ kept_in id (entries_in (chain_at t (class_of id)))
+    has : (t : IdTable) → IdsStand dims (pages old) t
+        → map.get (objects_of t) id ≡ kept_in id (entries_in (chain_at t (class_of id)))
     has t stands = found_by_class t id stands.whole stands.filled
 
-    pub ends_without : number ≡ 0 → IsHonest old → (t : IdTable) → t.page ≡ directory → IdsStand dims (pages old) t → None ≡ map.get (objects_of t) id
-    ends_without none h t at stands = sym (has t stands ∙ nothing_left dims (pages old) id (chain_at t (class_of id)) walked number (so_far.left h t at stands) none)
+    pub ends_without : number ≡ 0 → IsHonest old → (t : IdTable) → t.page ≡ directory
+        → IdsStand dims (pages old) t → None ≡ map.get (objects_of t) id
+    ends_without none h t at stands =
+        sym (has t stands
+        ∙ nothing_left dims (pages old) id (chain_at t (class_of id)) walked number
+        (so_far.left h t at stands) none)
 
-    pub here_is : ¬ (number ≡ 0) → IsHonest old → (t : IdTable) → t.page ≡ directory → IdsStand dims (pages old) t → Here dims (pages old) id (chain_at t (class_of id)) walked number
-    here_is some h t at stands = is_here dims (pages old) id (chain_at t (class_of id)) walked number (so_far.left h t at stands) some
+    pub here_is : ¬ (number ≡ 0) → IsHonest old → (t : IdTable) → t.page ≡ directory
+        → IdsStand dims (pages old) t → Here dims (pages old) id (chain_at t (class_of id)) walked number
+    here_is some h t at stands =
+        is_here dims (pages old) id (chain_at t (class_of id)) walked number (so_far.left h t at stands) some
 
-    pub there_now : (some : ¬ (number ≡ 0)) → (h : IsHonest old) → (t : IdTable) → (at : t.page ≡ directory) → (stands : IdsStand dims (pages old) t)
+    pub there_now : (some : ¬ (number ≡ 0)) → (h : IsHonest old) → (t : IdTable) → (at : t.page ≡ directory)
+        → (stands : IdsStand dims (pages old) t)
         → bucket_in dims (pages now number) ≡ Some ((here_is some h t at stands).content)
-    there_now some h t at stands = ap (bucket_in dims) (so_far.asks.map.pages_stay h number) ∙ (here_is some h t at stands).there
+    there_now some h t at stands = ap (bucket_in dims) (so_far.asks.map.pages_stay h number)
+        ∙ (here_is some h t at stands).there
 
-    pub ends_with : (b : Option Object) → ¬ (number ≡ 0) → is_some b ≡ true → (IsHonest now → (c : BucketContent) → bucket_in dims (pages now number) ≡ Some c → b ≡ kept_in id c.entries)
-        → IsHonest old → (t : IdTable) → t.page ≡ directory → IdsStand dims (pages old) t → b ≡ map.get (objects_of t) id
+    pub ends_with : (b : Option Object) → ¬ (number ≡ 0) → is_some b ≡ true
+        → (IsHonest now → (c : BucketContent) → bucket_in dims (pages now number) ≡ Some c
+        → b ≡ kept_in id c.entries)
+        → IsHonest old → (t : IdTable) → t.page ≡ directory → IdsStand dims (pages old) t
+        → b ≡ map.get (objects_of t) id
     ends_with None some there reads h t at stands = absurd (cc)
     ends_with (Some b) some there reads h t at stands =
         let here = here_is some h t at stands in
         let read = reads (so_far.asks.gate.honest.0 h) here.content (there_now some h t at stands) in
-        sym (has t stands ∙ found_here dims (pages old) id (chain_at t (class_of id)) walked number b here (sym read))
+        sym (has t stands
+        ∙ found_here dims (pages old) id (chain_at t (class_of id)) walked number b here (sym read))
 
-    pub goes_on : (b : Option Object) (next_number : ℕ) (next : PageCache B A m) → ¬ (number ≡ 0) → is_some b ≡ false → AsksUntil now next None
-        → (IsHonest now → (c : BucketContent) → bucket_in dims (pages now number) ≡ Some c → (b ≡ kept_in id c.entries) × (next_number ≡ c.next)) → Walking dims id directory old next (walked + 1) next_number
+    pub goes_on : (b : Option Object) (next_number : ℕ) (next : PageCache B A m) → ¬ (number ≡ 0)
+        → is_some b ≡ false → AsksUntil now next None
+        → (IsHonest now → (c : BucketContent) → bucket_in dims (pages now number) ≡ Some c
+        → (b ≡ kept_in id c.entries) × (next_number ≡ c.next))
+        → Walking dims id directory old next (walked + 1) next_number
     goes_on b next_number next some none asks reads = record {
       asks = asks_in_turn old now next None so_far.asks asks;
       left = λ h t at stands.
           let here = here_is some h t at stands in
           let read = reads (so_far.asks.gate.honest.0 h) here.content (there_now some h t at stands) in
-          walk_on dims (pages old) id (chain_at t (class_of id)) walked number next_number here (sym read.0 ∙ is_none b none) read.1;
+          walk_on dims (pages old) id (chain_at t (class_of id)) walked number next_number here
+          (sym read.0 ∙ is_none b none) read.1;
     }
       where
         is_none : (b : Option Object) → is_some b ≡ false → b ≡ None
@@ -75,7 +105,13 @@ module _ {B A : Type 0} {m : _} where
         is_none (Some x) e = absurd (cc)
 
     -- so the walk ends before it has made as many steps as there are pages
-    pub never_as_long : next_of old ≤ walked → IsHonest old → (t : IdTable) → t.page ≡ directory → IdsStand dims (pages old) t → ⊥
+    pub never_as_long : next_of old ≤ walked → IsHonest old → (t : IdTable) → t.page ≡ directory
+        → IdsStand dims (pages old) t → ⊥
     never_as_long many h t at stands =
         let small : class_of id < 1000 = omega arith in
-        omega (arith, chain_is_short dims old t (class_of id) small stands, many, (so_far.left h t at stands).long)
+        omega (
+          arith,
+          chain_is_short dims old t (class_of id) small stands,
+          many,
+          (so_far.left h t at stands).long,
+        )

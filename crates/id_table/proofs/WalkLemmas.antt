@@ -1,5 +1,6 @@
 -- A chain walked bucket by bucket.
-use Rattle.std.proofs.Common.{◌≡◌, ◌∙◌, ℕ, suc, ◌+◌, ◌<◌, Bool, true, false, cond, eqb, Some, None, Option, List, [], ◌∷◌, ◌++◌, length, refl, sym, ap, subst, arith}
+use Rattle.std.proofs.Common.{◌≡◌, ◌∙◌, ℕ, suc, ◌+◌, ◌<◌, Bool, true, false, cond, eqb, Some, None, Option}
+use Rattle.std.proofs.Common.{List, [], ◌∷◌, ◌++◌, length, refl, sym, ap, subst, arith}
 use Rattle.box_math.specs.Objects.{Object}
 use Rattle.bucket_page.specs.Layout.{BucketContent, Entry}
 use Rattle.node_page.specs.Standing.{PageMap}
@@ -10,7 +11,8 @@ in_front : (q : ℕ) (xs ys : List Entry) (b : Object) → kept_in q xs ≡ Some
 in_front q [] ys b is = absurd (cc)
 in_front q (x ∷ xs) ys b is = step (eqb x.0 q) (kept_in q xs) (kept_in q (xs ++ ys)) (in_front q xs ys b) is
   where
-    step : (t : Bool) (front all : Option Object) → (front ≡ Some b → all ≡ Some b) → cond t (Some x.1) front ≡ Some b → cond t (Some x.1) all ≡ Some b
+    step : (t : Bool) (front all : Option Object) → (front ≡ Some b → all ≡ Some b)
+        → cond t (Some x.1) front ≡ Some b → cond t (Some x.1) all ≡ Some b
     step true front all later e = e
     step false front all later e = later e
 
@@ -25,10 +27,12 @@ module _ (dims : ℕ) (pages : PageMap) (id : ℕ) (chain : List Bucket) where
   pub all_left : (number : ℕ) → ChainStands dims pages number chain → Rest dims pages id chain 0 number
   all_left number stands = record { rest = chain; stands = stands; same = refl; long = omega arith }
 
-  pub nothing_left : (walked number : ℕ) → Rest dims pages id chain walked number → number ≡ 0 → kept_in id (entries_in chain) ≡ None
+  pub nothing_left : (walked number : ℕ) → Rest dims pages id chain walked number → number ≡ 0
+      → kept_in id (entries_in chain) ≡ None
   nothing_left walked number r none = end r.rest r.stands r.same
     where
-      end : (bs : List Bucket) → ChainStands dims pages number bs → kept_in id (entries_in chain) ≡ kept_in id (entries_in bs) → kept_in id (entries_in chain) ≡ None
+      end : (bs : List Bucket) → ChainStands dims pages number bs
+          → kept_in id (entries_in chain) ≡ kept_in id (entries_in bs) → kept_in id (entries_in chain) ≡ None
       end [] stands same = same
       end (b ∷ bs) stands same = absurd (omega (arith, none, stands.1))
 
@@ -43,10 +47,13 @@ module _ (dims : ℕ) (pages : PageMap) (id : ℕ) (chain : List Bucket) where
     pub same : kept_in id (entries_in chain) ≡ kept_in id (bucket.entries ++ entries_in behind)
     pub long : length chain ≡ walked + suc (length behind)
 
-  pub is_here : (walked number : ℕ) → Rest dims pages id chain walked number → ¬ (number ≡ 0) → Here walked number
+  pub is_here : (walked number : ℕ) → Rest dims pages id chain walked number → ¬ (number ≡ 0)
+      → Here walked number
   is_here walked number r some = at r.rest r.stands r.same r.long
     where
-      at : (bs : List Bucket) → ChainStands dims pages number bs → kept_in id (entries_in chain) ≡ kept_in id (entries_in bs) → length chain ≡ walked + length bs → Here walked number
+      at : (bs : List Bucket) → ChainStands dims pages number bs
+          → kept_in id (entries_in chain) ≡ kept_in id (entries_in bs) → length chain ≡ walked + length bs
+          → Here walked number
       at [] stands same long = absurd (some stands)
       at (b ∷ bs) stands same long = record {
         bucket = b;
@@ -59,16 +66,22 @@ module _ (dims : ℕ) (pages : PageMap) (id : ℕ) (chain : List Bucket) where
         long = long;
       }
 
-  pub walk_on : (walked number next : ℕ) → (here : Here walked number) → kept_in id here.content.entries ≡ None → next ≡ here.content.next → Rest dims pages id chain (walked + 1) next
+  pub walk_on : (walked number next : ℕ) → (here : Here walked number)
+      → kept_in id here.content.entries ≡ None → next ≡ here.content.next
+      → Rest dims pages id chain (walked + 1) next
   walk_on walked number next here none is = record {
     rest = here.behind;
     stands = subst (λ n. ChainStands dims pages n here.behind) (sym is) here.stands;
-    same = here.same ∙ not_here id here.bucket.entries (entries_in here.behind) (ap (kept_in id) (sym here.entries) ∙ none);
+    same = here.same
+        ∙ not_here id here.bucket.entries (entries_in here.behind)
+        (ap (kept_in id) (sym here.entries) ∙ none);
     long = omega (arith, here.long);
   }
 
-  pub found_here : (walked number : ℕ) (b : Object) (here : Here walked number) → kept_in id here.content.entries ≡ Some b → kept_in id (entries_in chain) ≡ Some b
-  found_here walked number b here is = here.same ∙ in_front id here.bucket.entries (entries_in here.behind) b (ap (kept_in id) (sym here.entries) ∙ is)
+  pub found_here : (walked number : ℕ) (b : Object) (here : Here walked number)
+      → kept_in id here.content.entries ≡ Some b → kept_in id (entries_in chain) ≡ Some b
+  found_here walked number b here is = here.same
+      ∙ in_front id here.bucket.entries (entries_in here.behind) b (ap (kept_in id) (sym here.entries) ∙ is)
 
 -- ---- the first bucket
 
@@ -84,7 +97,8 @@ pub record Begins (dims : ℕ) (pages : PageMap) (first : ℕ) (chain : List Buc
   pub there : bucket_in dims (pages first) ≡ Some content
   pub rest : ChainStands dims pages content.next behind
 
-pub begins_at : (dims : ℕ) (pages : PageMap) (first : ℕ) (chain : List Bucket) → ChainStands dims pages first chain → ¬ (first ≡ 0) → Begins dims pages first chain
+pub begins_at : (dims : ℕ) (pages : PageMap) (first : ℕ) (chain : List Bucket)
+    → ChainStands dims pages first chain → ¬ (first ≡ 0) → Begins dims pages first chain
 begins_at dims pages first [] stands some = absurd (some stands)
 begins_at dims pages first (b ∷ bs) stands some = record {
   bucket = b;

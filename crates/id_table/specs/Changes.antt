@@ -23,7 +23,8 @@ pub record Makes (dims : ℕ) (old new : PageMap) (directory : ℕ) : Type 0 whe
 abbrev pub with_box : Object → Bounds → Object
 with_box object box = (box, tag_of object)
 
--- the table with an object with this identifier, of which this is kept: with one more, or another box of one that it has
+-- the table with an object with this identifier, of which this is kept: with one more, or another box of one
+-- that it has
 pub record Sets (dims : ℕ) (old new : PageMap) (t : IdTable) (id : ℕ) (kept : Object) : Type 0 where
   pub table : IdTable
   pub page : table.page ≡ t.page
@@ -47,7 +48,8 @@ with_all m (object ∷ objects) = with_all (map.insert m object.0 object.1) obje
 -- none of the objects has an identifier of the map, or one that an object before it has
 abbrev pub AreNew : FinMap nat_cmp Object → List Entry → Type 0
 AreNew m [] = ⊤
-AreNew m (object ∷ objects) = (map.contains_key m object.0 ≡ false) × AreNew (map.insert m object.0 object.1) objects
+AreNew m (object ∷ objects) = (map.contains_key m object.0 ≡ false)
+    × AreNew (map.insert m object.0 object.1) objects
 
 -- the table with all these objects more
 pub record Fills (dims : ℕ) (old new : PageMap) (t : IdTable) (added : List Entry) : Type 0 where

@@ -1,5 +1,6 @@
 -- What writes into the pages of a table leave (our rule, docs/FORMAT.md, "Identifier tables").
-use Rattle.std.specs.Prelude.{◌≡◌, ◌⊎◌, ℕ, ◌<◌, ◌≤◌, All, List, [], ◌∷◌, ◌++◌, Option, Some, None, length, slice_index_or, take, drop, IfSome, IsSome, IsSomeAnd, ⊤}
+use Rattle.std.specs.Prelude.{◌≡◌, ◌⊎◌, ℕ, ◌<◌, ◌≤◌, All, List, [], ◌∷◌, ◌++◌, Option, Some, None, length}
+use Rattle.std.specs.Prelude.{slice_index_or, take, drop, IfSome, IsSome, IsSomeAnd, ⊤}
 use Rattle.block_bytes.specs.Numbers.{number_at}
 use Rattle.box_math.specs.Bounds.{Bounds}
 use Rattle.bucket_page.specs.Layout.{BucketContent, Entry, bucket_at, popped}
@@ -26,8 +27,10 @@ abbrev pub BeginsFull : List Bucket → Type 0
 BeginsFull [] = ⊤
 BeginsFull (b ∷ bs) = length b.entries ≡ 100
 
--- a page that was not live has a bucket of these objects, and the directory names it as the first of its chain
-pub record PutsBefore (dims : ℕ) (old new : PageMap) (directory class first : ℕ) (objects : List Entry) (page : List ℕ) : Type 0 where
+-- a page that was not live has a bucket of these objects, and the directory names it as the first of its
+-- chain
+pub record PutsBefore (dims : ℕ) (old new : PageMap) (directory class first : ℕ) (objects : List Entry)
+    (page : List ℕ) : Type 0 where
   pub number : ℕ
   pub low : 2 < number
   pub fresh : old number ≡ None
@@ -70,8 +73,10 @@ pub record Shortens (dims : ℕ) (old new : PageMap) (first : ℕ) (c : BucketCo
   pub bucket : bucket_in dims (new first) ≡ Some (popped c)
   pub others : SameBut first old new
 
--- It lost its only one: its page is no longer live, and the directory names the next one as the first of the chain.
-pub record Unlinks (old new : PageMap) (directory class first : ℕ) (c : BucketContent) (page : List ℕ) : Type 0 where
+-- It lost its only one: its page is no longer live, and the directory names the next one as the first of the
+-- chain.
+pub record Unlinks (old new : PageMap) (directory class first : ℕ) (c : BucketContent) (page : List ℕ) : Type
+    0 where
   pub only : length c.entries ≡ 1
   pub gone : new first ≡ None
   pub after : List ℕ
@@ -81,9 +86,11 @@ pub record Unlinks (old new : PageMap) (directory class first : ℕ) (c : Bucket
 
 -- one or the other
 abbrev pub Shrinks : ℕ → PageMap → PageMap → ℕ → ℕ → ℕ → BucketContent → List ℕ → Type 0
-Shrinks dims old new directory class first c page = Shortens dims old new first c ⊎ Unlinks old new directory class first c page
+Shrinks dims old new directory class first c page = Shortens dims old new first c
+    ⊎ Unlinks old new directory class first c page
 
--- A bucket page lost its last object, where it has more; where it has one, the next page of its chain was told.
+-- A bucket page lost its last object, where it has more; where it has one, the next page of its chain was
+-- told.
 pub record PopsLast (dims : ℕ) (old new : List ℕ) (told : Option ℕ) : Type 0 where
   pub popped : told ≡ None → (c : BucketContent) → bucket_at dims old ≡ Some c
       → (1 < length c.entries) × (bucket_at dims new ≡ Some (popped c))
@@ -122,7 +129,8 @@ abbrev pub with_more : BucketContent → List Entry → BucketContent
 with_more c objects = record { next = c.next; entries = c.entries ++ objects }
 
 -- A run of objects is added to a bucket page that has room, which tells how many.
-pub record PushesRun (dims class : ℕ) (objects : List Entry) (old new : List ℕ) (told : Option ℕ) : Type 0 where
+pub record PushesRun (dims class : ℕ) (objects : List Entry) (old new : List ℕ) (told : Option ℕ) : Type
+    0 where
   pub run : IfSome told (IsRun class objects)
   pub pushed : (c : BucketContent) → bucket_at dims old ≡ Some c → length c.entries < 100
       → IsSomeAnd told (λ count. bucket_at dims new ≡ Some (with_more c (take count objects)))

@@ -1,6 +1,7 @@
--- Identifier tables, and the pages that they stand in (our rule, docs/FORMAT.md, "Identifier tables"): a directory, and
--- for each remainder of an identifier by 1000 a chain of buckets.
-use Rattle.std.specs.Prelude.{◌≡◌, ℕ, ◌+◌, ◌*◌, ◌%◌, ◌<◌, ◌≤◌, List, [], ◌∷◌, length, drop, slice_index_or, All, Option, Some, None, if◌then◌else◌, ◌==◌, option_and_then, sum_by}
+-- Identifier tables, and the pages that they stand in (our rule, docs/FORMAT.md, "Identifier tables"): a
+-- directory, and for each remainder of an identifier by 1000 a chain of buckets.
+use Rattle.std.specs.Prelude.{◌≡◌, ℕ, ◌+◌, ◌*◌, ◌%◌, ◌<◌, ◌≤◌, List, [], ◌∷◌, length, drop, slice_index_or}
+use Rattle.std.specs.Prelude.{All, Option, Some, None, if◌then◌else◌, ◌==◌, option_and_then, sum_by}
 use Rattle.std.specs.FinMap.{FinMap, from_entries}
 use Rattle.std.specs.List.{flat_map}
 use Rattle.std.specs.Ordering.{nat_cmp}
@@ -74,9 +75,11 @@ abbrev pub ChainStands : ℕ → PageMap → ℕ → List Bucket → Type 0
 ChainStands dims pages first [] = first ≡ 0
 ChainStands dims pages first (b ∷ bs) =
     (first ≡ b.page) × (2 < first) × (next : ℕ)
-    × (bucket_in dims (pages b.page) ≡ Some (record { next = next; entries = b.entries })) × ChainStands dims pages next bs
+    × (bucket_in dims (pages b.page) ≡ Some (record { next = next; entries = b.entries }))
+    × ChainStands dims pages next bs
 
--- every bucket of a chain but the first is full, the identifiers of all have the remainder, and none is there twice
+-- every bucket of a chain but the first is full, the identifiers of all have the remainder, and none is there
+-- twice
 pub record IsFilled (class : ℕ) (chain : List Bucket) : Type 0 where
   pub full : All (λ b. length b.entries ≡ 100) (drop 1 chain)
   pub placed : All (λ object. class_of object.0 ≡ class) (entries_in chain)
@@ -101,6 +104,7 @@ pub record IdsStand (dims : ℕ) (pages : PageMap) (t : IdTable) : Type 0 where
   pub low : 2 < t.page
   pub spelled : IsDirectory dims directory
   pub whole : length t.chains ≡ 1000
-  pub chains : (class : ℕ) → class < 1000 → ChainStands dims pages (link_at class directory) (chain_at t class)
+  pub chains : (class : ℕ) → class < 1000
+      → ChainStands dims pages (link_at class directory) (chain_at t class)
   pub filled : (class : ℕ) → class < 1000 → IsFilled class (chain_at t class)
   pub once : (n : ℕ) → occurs_in_ids n t ≤ 1

@@ -1,6 +1,7 @@
 //! An object added.
 
-ghost use Rattle.std.specs.Prelude.{◌≡◌, ◌≤◌, ◌<◌, ◌⊎◌, List, ℕ, Some, false, length, take, IfErr, IfOk, OnOk};
+ghost use Rattle.std.specs.Prelude.{◌≡◌, ◌≤◌, ◌<◌, ◌⊎◌, List, ℕ, Some, false, length, take, IfErr, IfOk};
+ghost use Rattle.std.specs.Prelude.{OnOk};
 ghost use Rattle.std.specs.FinMap as map;
 ghost use Rattle.block_bytes.specs.Numbers.{number_at};
 ghost use Rattle.box_math.specs.Bounds.{IsDims};
@@ -28,11 +29,11 @@ use page_cache::PageCache;
 use page_file::Fault;
 use std::alloc::Allocator;
 
-/// Adds an object to the table, which does not have its identifier: into the first page of its chain, or into a new
-/// page before that one where it is full. The gate has to be open.
+/// Adds an object to the table, which does not have its identifier: into the first page of its chain, or into
+/// a new page before that one where it is full. The gate has to be open.
 ///
-/// With a sound map, where the pages stand for a table at that directory, a refusal is `Memory` or `Device`, or
-/// `NoPages` where each page number is live.
+/// With a sound map, where the pages stand for a table at that directory, a refusal is `Memory` or `Device`,
+/// or `NoPages` where each page number is live.
 pub fn add<const D: usize, B: BlockDevice, A: Allocator + Copy>(
     cache: &mut PageCache<B, A>,
     directory: u32,
@@ -59,8 +60,8 @@ pub fn add<const D: usize, B: BlockDevice, A: Allocator + Copy>(
     }
 }
 
-// Adds the objects from the first one on that are of its chain: as many as the first page of the chain has room for, or
-// a new page before that one where it is full. Answers how many these are.
+// Adds the objects from the first one on that are of its chain: as many as the first page of the chain has
+// room for, or a new page before that one where it is full. Answers how many these are.
 pub(crate) fn add_run<const D: usize, B: BlockDevice, A: Allocator + Copy>(
     cache: &mut PageCache<B, A>,
     directory: u32,
@@ -91,8 +92,8 @@ pub(crate) fn add_run<const D: usize, B: BlockDevice, A: Allocator + Copy>(
     midway(put_alone(cache, directory, class, first, objects))
 }
 
-// Adds to the bucket at a page with room the objects from the first one on that are of the chain, where the page lies
-// in memory. Answers how many these are. A page without room is `Damaged`.
+// Adds to the bucket at a page with room the objects from the first one on that are of the chain, where the
+// page lies in memory. Answers how many these are. A page without room is `Damaged`.
 #[tactic(auto, using(page_cache::specs::Calls::ends_so))]
 fn put_in<const D: usize, B: BlockDevice, A: Allocator + Copy>(
     cache: &mut PageCache<B, A>,
@@ -109,7 +110,8 @@ fn put_in<const D: usize, B: BlockDevice, A: Allocator + Copy>(
     ensures run { IfOk result (IsRun class objects.now) }
     ensures written { IsHonest cache.old → (c : BucketContent) → bucket_in D (pages cache.old number) ≡ Some c
         → length c.entries < 100
-        → IfOk result (λ count. bucket_in D (pages cache.new number) ≡ Some (with_more c (take count objects.now))) }
+        → IfOk result (λ count. bucket_in D (pages cache.new number)
+        ≡ Some (with_more c (take count objects.now))) }
     ensures others { IsHonest cache.old → IsLive cache.old number
         → SameBut number (pages cache.old) (pages cache.new) }
     ensures sound { IsPageMap cache.old → IsLive cache.old number → IsPageMap cache.new }
@@ -148,8 +150,8 @@ fn push_where_room<const D: usize>(
     Some(push_run(page, class, objects))
 }
 
-// Adds to a bucket page the objects from the first one on that are of the chain, as many as it has room for. Answers
-// how many these are.
+// Adds to a bucket page the objects from the first one on that are of the chain, as many as it has room for.
+// Answers how many these are.
 fn push_run<const D: usize>(
     page: &mut [u8; 4096],
     class: usize,

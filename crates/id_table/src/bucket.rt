@@ -25,7 +25,8 @@ use std::alloc::Allocator;
 // or that object has no box.
 pub(crate) fn kept_on<const D: usize>(page: &[u8; 4096], id: u64) -> Option<Option<(BBox<D>, u32)>>
     requires dims { IsDims D }
-    ensures of_bucket { (c : BucketContent) → bucket_at D page.now ≡ Some c → result ≡ Some (kept_in id c.entries) }
+    ensures of_bucket { (c : BucketContent) → bucket_at D page.now ≡ Some c →
+        result ≡ Some (kept_in id c.entries) }
 {
     if !has_bucket_head::<D>(page) {
         return None;
@@ -65,8 +66,8 @@ pub(crate) fn look<const D: usize, B: BlockDevice, A: Allocator + Copy>(
     }
 }
 
-// The place of an identifier on a bucket page, if an object there has it: identifiers are compared in their places.
-// `None` where the page begins as no bucket of this dimension.
+// The place of an identifier on a bucket page, if an object there has it: identifiers are compared in their
+// places. `None` where the page begins as no bucket of this dimension.
 pub(crate) fn place_on<const D: usize>(page: &[u8; 4096], id: u64) -> Option<Option<usize>>
     requires dims { IsDims D }
     ensures of_bucket { (c : BucketContent) → bucket_at D page.now ≡ Some c
@@ -110,7 +111,8 @@ pub(crate) fn place_at<const D: usize, B: BlockDevice, A: Allocator + Copy>(
     }
 }
 
-// Whether the first page of a chain has room for an object more. There is none where there is no page, or it is full.
+// Whether the first page of a chain has room for an object more. There is none where there is no page, or it
+// is full.
 #[tactic(auto, using(page_cache::specs::Calls::ends_so))]
 pub(crate) fn has_room<const D: usize, B: BlockDevice, A: Allocator + Copy>(
     cache: &mut PageCache<B, A>,

@@ -1,6 +1,7 @@
 //! Identifier tables checked: whether one stands.
 
-ghost use Rattle.std.specs.Prelude.{◌≡◌, ◌≤◌, ◌<◌, ◌+◌, ◌++◌, ◌∷◌, ◌⊎◌, ◌↔◌, [], List, ℕ, Some, true, false, All};
+ghost use Rattle.std.specs.Prelude.{◌≡◌, ◌≤◌, ◌<◌, ◌+◌, ◌++◌, ◌∷◌, ◌⊎◌, ◌↔◌, [], List, ℕ, Some, true, false};
+ghost use Rattle.std.specs.Prelude.{All};
 ghost use Rattle.std.specs.Prelude.{IfErr, IfOk, OnErr, OnOk, IsTrue, length};
 ghost use Rattle.block_bytes.specs.Numbers.{number_at};
 ghost use Rattle.box_math.specs.Bounds.{IsDims};
@@ -38,10 +39,10 @@ pub struct TableFacts<const D: usize, H: Allocator> {
 
 /// Checks the table with its directory at a page, and answers what it holds.
 ///
-/// On an honest device it answers so only where a table stands there; else it is `Damaged` with the number of a page:
-/// that of the directory, or one that a walk along a chain comes to. Where a table stands, a refusal is `Memory` or
-/// `Device`. It makes no more looks than the file's next number, whatever the pages are. Map and gate stay, also
-/// after a refusal.
+/// On an honest device it answers so only where a table stands there; else it is `Damaged` with the number of
+/// a page: that of the directory, or one that a walk along a chain comes to. Where a table stands, a refusal
+/// is `Memory` or `Device`. It makes no more looks than the file's next number, whatever the pages are. Map
+/// and gate stay, also after a refusal.
 pub fn check_table<const D: usize, B: BlockDevice, A: Allocator + Copy, H: Allocator + Copy>(
     alloc: H,
     cache: &mut PageCache<B, A>,
@@ -51,7 +52,8 @@ pub fn check_table<const D: usize, B: BlockDevice, A: Allocator + Copy, H: Alloc
     ensures asks { Asks cache.old cache.new result }
     ensures table { IsPageMap cache.old → IfOk result (λ facts. IsCheckedTable D (pages cache.old) directory
         facts.pairs.items facts.pages.items) }
-    ensures given_table { IsHonest cache.old → IfOk result (λ facts. IsCheckedTable D (given cache.old) directory
+    ensures given_table { IsHonest cache.old →
+        IfOk result (λ facts. IsCheckedTable D (given cache.old) directory
         facts.pairs.items facts.pages.items) }
     ensures stands { IsHonest cache.old → (t : IdTable) → t.page ≡ directory → IdsStand D (pages cache.old) t
         → IfErr result IsOfDevice }
@@ -78,7 +80,8 @@ fn come_to<H: Allocator + Copy>(page: u32, visits: &mut Visits<H>) -> Result<(),
     ensures low { OnOk result (2 < page) }
     ensures marks { length visits.new.marks.items ≡ length visits.old.marks.items }
     ensures unchanged { OnErr result (visits.new.pages.items ≡ visits.old.pages.items) }
-    ensures first { 2 < page → named_pages visits.old.pages.items page ≡ 0 → page < length visits.old.marks.items
+    ensures first { 2 < page → named_pages visits.old.pages.items page ≡ 0 →
+        page < length visits.old.marks.items
         → IfErr result (λ f. f ≡ fault.Memory) }
     ensures faults { IfErr result (λ f. (f ≡ fault.Memory) ⊎ (f ≡ fault.Damaged page)) }
 {
@@ -138,7 +141,8 @@ fn add_chain<const D: usize, B: BlockDevice, A: Allocator + Copy, H: Allocator +
     ensures found { IsHonest cache.old → OnOk result (AddsChain D (given cache.old) class first
         pairs.old.items pairs.new.items visits.old.pages.items visits.new.pages.items) }
     ensures stands { IsHonest cache.old → (chain : List Bucket) → ChainStands D (given cache.old) first chain
-        → IsFilled class chain → ((n : ℕ) → named_pages visits.old.pages.items n + occurs_in_chain n chain ≤ 1)
+        → IsFilled class chain →
+        ((n : ℕ) → named_pages visits.old.pages.items n + occurs_in_chain n chain ≤ 1)
         → IfErr result IsOfDevice }
     ensures numbers { length visits.new.marks.items ≡ length visits.old.marks.items }
     ensures looks { looks_of cache.new + length visits.old.pages.items
@@ -166,8 +170,8 @@ fn add_chain<const D: usize, B: BlockDevice, A: Allocator + Copy, H: Allocator +
     Err(Fault::Damaged(number))
 }
 
-// Checks the bucket at a page, which has to be full or not, and appends its objects and its page. Answers the page of
-// the next one.
+// Checks the bucket at a page, which has to be full or not, and appends its objects and its page. Answers the
+// page of the next one.
 #[tactic(auto, using(page_cache::specs::Calls::ends_so))]
 fn add_bucket<const D: usize, B: BlockDevice, A: Allocator + Copy, H: Allocator + Copy>(
     cache: &mut PageCache<B, A>,
@@ -181,7 +185,8 @@ fn add_bucket<const D: usize, B: BlockDevice, A: Allocator + Copy, H: Allocator 
     requires dims { IsDims D }
     requires numbers { length visits.old.marks.items ≡ next_of cache.old }
     ensures asks { Asks cache.old cache.new result }
-    ensures found { IsHonest cache.old → IfOk result (λ next. AddsBucket D (given cache.old) class number next whole
+    ensures found { IsHonest cache.old →
+        IfOk result (λ next. AddsBucket D (given cache.old) class number next whole
         pairs.old.items pairs.new.items visits.old.pages.items visits.new.pages.items seen.old seen.new) }
     ensures stands { IsHonest cache.old → (c : BucketContent) → bucket_in D (given cache.old number) ≡ Some c
         → MayFollow class number whole c visits.old.pages.items seen.old → IfErr result IsOfDevice }
@@ -207,7 +212,8 @@ fn is_in_chain<const D: usize>(page: &[u8; 4096], whole: bool) -> bool
     has_bucket_head::<D>(page) && (!whole || count_at(page) == 100)
 }
 
-// Appends the objects of a bucket page, each of which has the remainder and an identifier that was not seen before.
+// Appends the objects of a bucket page, each of which has the remainder and an identifier that was not seen
+// before.
 fn add_objects<const D: usize, H: Allocator + Copy>(
     page: &[u8; 4096],
     number: u32,
@@ -219,11 +225,13 @@ fn add_objects<const D: usize, H: Allocator + Copy>(
     requires few { number_at 2 2 page.now ≤ 100 }
     ensures ordered { OnOk result ((place : ℕ) → place < number_at 2 2 page.now
         → HasOrderedBox D (object_at D page.now place)) }
-    ensures found { OnOk result (AddsObjects class (objects_at D page.now (number_at 2 2 page.now)) pairs.old.items
+    ensures found { OnOk result
+        (AddsObjects class (objects_at D page.now (number_at 2 2 page.now)) pairs.old.items
         pairs.new.items seen.old seen.new) }
     ensures stands { (c : BucketContent) → bucket_at D page.now ≡ Some c
         → All (λ object. class_of object.0 ≡ class) c.entries
-        → ((id : ℕ) → seen_times seen.old id + times_in id c.entries ≤ 1) → IfErr result (λ f. f ≡ fault.Memory) }
+        → ((id : ℕ) → seen_times seen.old id + times_in id c.entries ≤ 1) →
+        IfErr result (λ f. f ≡ fault.Memory) }
     ensures faults { IfErr result (λ f. (f ≡ fault.Memory) ⊎ (f ≡ fault.Damaged number)) }
 {
     for place in 0..count_at(page) {

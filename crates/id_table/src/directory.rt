@@ -6,7 +6,8 @@ ghost use Rattle.page_file.specs.Fault.{IsDamage, IsOfDevice};
 ghost use Rattle.page_file.specs.Pages.{SameBut};
 ghost use Rattle.page_file.specs.declared.fault.Fault.TheVariants as fault;
 ghost use Rattle.page_file.specs.declared.gate.Gate.TheVariants.{Open};
-ghost use Rattle.page_cache.specs.Cache.{Grows, IsHonest, IsLive, IsPageMap, gate_of, given, looks_of, next_of, pages};
+ghost use Rattle.page_cache.specs.Cache.{Grows, IsHonest, IsLive, IsPageMap, gate_of, given, looks_of};
+ghost use Rattle.page_cache.specs.Cache.{next_of, pages};
 ghost use Rattle.page_cache.specs.Calls.{Asks, Changes};
 ghost use Rattle.id_table.specs.Table.{IsDirectory, class_of, link_at};
 ghost use Rattle.id_table.specs.Pages.{NewDirectory, SetsLink};
@@ -67,9 +68,11 @@ pub(crate) fn read_link<const D: usize, B: BlockDevice, A: Allocator + Copy>(
 ) -> Result<u32, Fault>
     requires class { class < 1000 }
     ensures asks { Asks cache.old cache.new result }
-    ensures link { IsHonest cache.old → (page : List ℕ) → pages cache.old directory ≡ Some page → IsDirectory D page
+    ensures link { IsHonest cache.old → (page : List ℕ) → pages cache.old directory ≡ Some page →
+        IsDirectory D page
         → IfOk result (λ first. first ≡ link_at class page) }
-    ensures there { IsHonest cache.old → (page : List ℕ) → pages cache.old directory ≡ Some page → IsDirectory D page
+    ensures there { IsHonest cache.old → (page : List ℕ) → pages cache.old directory ≡ Some page →
+        IsDirectory D page
         → IfErr result IsOfDevice }
     ensures damage { IsHonest cache.old → IfErr result (λ f. IsOfDevice f ⊎ (f ≡ fault.Damaged directory)) }
     ensures other_faults { IfErr result (λ f. IsOfDevice f ⊎ IsDamage f) }
@@ -91,7 +94,8 @@ pub(crate) fn copy_page<B: BlockDevice, A: Allocator + Copy>(
     ensures bytes { IsHonest cache.old → IsLive cache.old number
         → IfOk result (λ bytes. pages cache.old number ≡ Some bytes) }
     ensures given_bytes { IsHonest cache.old → IfOk result (λ bytes. given cache.old number ≡ Some bytes) }
-    ensures given_faults { IsHonest cache.old → 2 ≤ number → number < next_of cache.old → IfErr result IsOfDevice }
+    ensures given_faults { IsHonest cache.old → 2 ≤ number → number < next_of cache.old →
+        IfErr result IsOfDevice }
     ensures looks { looks_of cache.new ≤ looks_of cache.old + 1 }
     ensures faults { IsHonest cache.old → IsLive cache.old number → IfErr result IsOfDevice }
     ensures damage { IsHonest cache.old → IfErr result (λ f. IsOfDevice f ⊎ (f ≡ fault.Damaged number)) }
@@ -100,7 +104,8 @@ pub(crate) fn copy_page<B: BlockDevice, A: Allocator + Copy>(
     Ok(*cache.page(number)?)
 }
 
-// Writes the first page of a chain into the directory at a live page. After a refusal that page may hold any bytes.
+// Writes the first page of a chain into the directory at a live page. After a refusal that page may hold any
+// bytes.
 pub(crate) fn write_link<B: BlockDevice, A: Allocator + Copy>(
     cache: &mut PageCache<B, A>,
     directory: u32,
@@ -112,7 +117,8 @@ pub(crate) fn write_link<B: BlockDevice, A: Allocator + Copy>(
     ensures changes { Changes cache.old cache.new result }
     ensures next { next_of cache.new ≡ next_of cache.old }
     ensures written { IsHonest cache.old → (page : List ℕ) → pages cache.old directory ≡ Some page
-        → OnOk result ((after : List ℕ) × (pages cache.new directory ≡ Some after) × SetsLink class first page after) }
+        → OnOk result ((after : List ℕ) × (pages cache.new directory ≡ Some after)
+        × SetsLink class first page after) }
     ensures live { IsHonest cache.old → IsLive cache.old directory → IsLive cache.new directory }
     ensures others { IsHonest cache.old → IsLive cache.old directory
         → SameBut directory (pages cache.old) (pages cache.new) }

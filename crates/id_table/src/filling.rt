@@ -18,16 +18,16 @@ use node_page::Broken;
 use page_cache::PageCache;
 use std::alloc::Allocator;
 
-/// Adds objects to the table, none of which has an identifier that is there or that one before it has. No chain is
-/// walked: those of one chain that stand in a row are put into its first page together, as many as it has room for, and
-/// then into a new page before it. So in the order of the remainders by 1000 each page of objects is written once. The
-/// gate has to be open.
+/// Adds objects to the table, none of which has an identifier that is there or that one before it has. No
+/// chain is walked: those of one chain that stand in a row are put into its first page together, as many as
+/// it has room for, and then into a new page before it. So in the order of the remainders by 1000 each page
+/// of objects is written once. The gate has to be open.
 ///
-/// It makes at most one page more live for each object, and in that order one for each 100 objects and each remainder,
-/// also where it is refused.
+/// It makes at most one page more live for each object, and in that order one for each 100 objects and each
+/// remainder, also where it is refused.
 ///
-/// With a sound map, where the pages stand for a table at that directory, a refusal is `Memory` or `Device`, or
-/// `NoPages` where each page number is live. It is untouched where the first object was refused so.
+/// With a sound map, where the pages stand for a table at that directory, a refusal is `Memory` or `Device`,
+/// or `NoPages` where each page number is live. It is untouched where the first object was refused so.
 pub fn fill<const D: usize, B: BlockDevice, A: Allocator + Copy>(
     cache: &mut PageCache<B, A>,
     directory: u32,

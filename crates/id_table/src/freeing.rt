@@ -12,7 +12,8 @@ ghost use Rattle.page_cache.specs.Calls.{Asks, Changes};
 ghost use Rattle.node_page.specs.Broken.{Alters};
 ghost use Rattle.node_page.specs.Parts.{Moves, no_page};
 ghost use Rattle.id_table.specs.Pages.{Frees};
-ghost use Rattle.id_table.specs.Table.{Bucket, ChainStands, IdTable, IdsStand, bucket_in, occurs_in_chain, part_of};
+ghost use Rattle.id_table.specs.Table.{Bucket, ChainStands, IdTable, IdsStand, bucket_in, occurs_in_chain};
+ghost use Rattle.id_table.specs.Table.{part_of};
 
 use crate::broken::midway;
 use crate::directory::{copy_page, is_directory, link_of};
@@ -94,7 +95,8 @@ fn free_chain<const D: usize, B: BlockDevice, A: Allocator + Copy>(
     ensures next { next_of cache.new ≡ next_of cache.old }
     ensures grows { Grows 0 cache.old cache.new }
     ensures faults { IsPageMap cache.old → (chain : List Bucket) → ChainStands D (pages cache.old) first chain
-        → ((n : ℕ) → occurs_in_chain n chain ≤ 1) → length chain < next_of cache.old → IfErr result IsOfDevice }
+        → ((n : ℕ) → occurs_in_chain n chain ≤ 1) → length chain < next_of cache.old →
+        IfErr result IsOfDevice }
     ensures other_faults { IfErr result (λ f. IsOfDevice f ⊎ IsDamage f) }
 {
     let mut number = first;
@@ -115,9 +117,11 @@ fn free_bucket<const D: usize, B: BlockDevice, A: Allocator + Copy>(
     requires dims { IsDims D }
     requires open { gate_of cache.old ≡ Open }
     ensures changes { Changes cache.old cache.new result }
-    ensures following { IsPageMap cache.old → (c : BucketContent) → bucket_in D (pages cache.old number) ≡ Some c
+    ensures following { IsPageMap cache.old → (c : BucketContent) →
+        bucket_in D (pages cache.old number) ≡ Some c
         → IfOk result (λ next. next ≡ c.next) }
-    ensures gone { IsPageMap cache.old → IsLive cache.old number → OnOk result (pages cache.new number ≡ None) }
+    ensures gone { IsPageMap cache.old → IsLive cache.old number →
+        OnOk result (pages cache.new number ≡ None) }
     ensures others { IsPageMap cache.old → IsLive cache.old number
         → SameBut number (pages cache.old) (pages cache.new) }
     ensures sound { IsPageMap cache.old → IsLive cache.old number → IsPageMap cache.new }
@@ -140,7 +144,8 @@ fn next_after<const D: usize, B: BlockDevice, A: Allocator + Copy>(
 ) -> Result<u32, Fault>
     requires dims { IsDims D }
     ensures asks { Asks cache.old cache.new result }
-    ensures following { IsHonest cache.old → (c : BucketContent) → bucket_in D (pages cache.old number) ≡ Some c
+    ensures following { IsHonest cache.old → (c : BucketContent) →
+        bucket_in D (pages cache.old number) ≡ Some c
         → IfOk result (λ next. next ≡ c.next) }
     ensures there { IsHonest cache.old → (c : BucketContent) → bucket_in D (pages cache.old number) ≡ Some c
         → IfErr result IsOfDevice }

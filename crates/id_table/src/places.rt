@@ -1,12 +1,14 @@
 //! The place of an object in its chain: found by a walk along it, and written anew.
 
-ghost use Rattle.std.specs.Prelude.{◌≡◌, ◌≤◌, ◌<◌, ◌⊎◌, List, Some, length, slice_index_or, IfErr, IfOk, OnErr, OnOk};
+ghost use Rattle.std.specs.Prelude.{◌≡◌, ◌≤◌, ◌<◌, ◌⊎◌, List, Some, length, slice_index_or, IfErr, IfOk};
+ghost use Rattle.std.specs.Prelude.{OnErr, OnOk};
 ghost use Rattle.box_math.specs.Bounds.{IsDims};
 ghost use Rattle.bucket_page.specs.Layout.{BucketContent, Entry, bucket_at, replaced};
 ghost use Rattle.page_file.specs.Fault.{IsDamage, IsOfDevice};
 ghost use Rattle.page_file.specs.Pages.{SameBut};
 ghost use Rattle.page_file.specs.declared.gate.Gate.TheVariants.{Open};
-ghost use Rattle.page_cache.specs.Cache.{Grows, IsHonest, IsLive, IsPageMap, KeepsMap, gate_of, next_of, pages};
+ghost use Rattle.page_cache.specs.Cache.{Grows, IsHonest, IsLive, IsPageMap, KeepsMap, gate_of, next_of};
+ghost use Rattle.page_cache.specs.Cache.{pages};
 ghost use Rattle.page_cache.specs.Calls.{Asks, Changes};
 ghost use Rattle.id_table.specs.Pages.{HasObject, IsInChain, moved};
 ghost use Rattle.id_table.specs.Table.{Bucket, ChainStands, bucket_in};
@@ -45,8 +47,8 @@ pub(crate) fn place_in<const D: usize, B: BlockDevice, A: Allocator + Copy>(
     Err(Fault::Damaged(number))
 }
 
-// Writes an object into the place of one of a bucket page, where it lies in memory. After a refusal the map is as
-// before.
+// Writes an object into the place of one of a bucket page, where it lies in memory. After a refusal the map
+// is as before.
 pub(crate) fn put_at<const D: usize, B: BlockDevice, A: Allocator + Copy>(
     cache: &mut PageCache<B, A>,
     number: u32,
@@ -79,7 +81,8 @@ pub(crate) fn put_at<const D: usize, B: BlockDevice, A: Allocator + Copy>(
     )
 }
 
-// Writes another box of an object of a bucket page, where it lies in memory. After a refusal the map is as before.
+// Writes another box of an object of a bucket page, where it lies in memory. After a refusal the map is as
+// before.
 pub(crate) fn move_at<const D: usize, B: BlockDevice, A: Allocator + Copy>(
     cache: &mut PageCache<B, A>,
     number: u32,
@@ -106,20 +109,22 @@ pub(crate) fn move_at<const D: usize, B: BlockDevice, A: Allocator + Copy>(
         number,
         |page: &mut [u8; 4096]|
             requires { IsDims D × (place < 100) }
-            ensures { (c : BucketContent) (other : Entry) → bucket_at D page.old ≡ Some c → place < length c.entries
+            ensures { (c : BucketContent) (other : Entry) → bucket_at D page.old ≡ Some c →
+                place < length c.entries
                 → bucket_at D page.new
                 ≡ Some (replaced c place (moved (slice_index_or c.entries place other) bounds.entry.now)) }
         { set_box(page, place, bounds) },
     )
 }
 
-// Writes another box of the object in a place of a bucket page, and keeps its identifier and its tag. A place without
-// an object stays.
+// Writes another box of the object in a place of a bucket page, and keeps its identifier and its tag. A place
+// without an object stays.
 fn set_box<const D: usize>(page: &mut [u8; 4096], place: usize, bounds: &BBox<D>)
     requires dims { IsDims D }
     requires within { place < 100 }
     ensures { (c : BucketContent) (other : Entry) → bucket_at D page.old ≡ Some c → place < length c.entries
-        → bucket_at D page.new ≡ Some (replaced c place (moved (slice_index_or c.entries place other) bounds.now)) }
+        → bucket_at D page.new
+        ≡ Some (replaced c place (moved (slice_index_or c.entries place other) bounds.now)) }
 {
     if let Some((id, (_, tag))) = entry_at::<D>(page, place) {
         set_entry(page, place, &(id, (*bounds, tag)));

@@ -25,8 +25,8 @@ use page_cache::PageCache;
 use page_file::Fault;
 use std::alloc::Allocator;
 
-/// Removes an object from the table, which has its identifier: the last object of the first page of its chain fills the
-/// place, and a first page that becomes empty is freed. The gate has to be open.
+/// Removes an object from the table, which has its identifier: the last object of the first page of its chain
+/// fills the place, and a first page that becomes empty is freed. The gate has to be open.
 ///
 /// With a sound map, where the pages stand for a table at that directory, a refusal is `Memory` or `Device`.
 #[tactic(auto, using(node_page::specs::Broken::breaks))]
@@ -40,7 +40,8 @@ pub fn remove<const D: usize, B: BlockDevice, A: Allocator + Copy>(
     ensures alters { Alters cache.old cache.new result }
     ensures sound { IsPageMap cache.old → (t : IdTable) → t.page ≡ directory → IdsStand D (pages cache.old) t
         → IsPageMap cache.new }
-    ensures removed { IsPageMap cache.old → (t : IdTable) → t.page ≡ directory → IdsStand D (pages cache.old) t
+    ensures removed { IsPageMap cache.old → (t : IdTable) → t.page ≡ directory →
+        IdsStand D (pages cache.old) t
         → map.contains_key (objects_of t) id ≡ true
         → OnOk result (Removes D (pages cache.old) (pages cache.new) t id) }
     ensures grows { Grows 0 cache.old cache.new }
@@ -78,8 +79,8 @@ fn last_in<const D: usize, B: BlockDevice, A: Allocator + Copy>(
     }
 }
 
-// The last object of a bucket page, or `None` where the page begins as none of this dimension, or that object has no
-// box.
+// The last object of a bucket page, or `None` where the page begins as none of this dimension, or that object
+// has no box.
 fn last_on<const D: usize>(page: &[u8; 4096]) -> Option<(u64, (BBox<D>, u32))>
     requires dims { IsDims D }
     ensures of_bucket { (c : BucketContent) (other : Entry) → bucket_at D page.now ≡ Some c
@@ -104,7 +105,8 @@ fn drop_last<const D: usize, B: BlockDevice, A: Allocator + Copy>(
     requires open { gate_of cache.old ≡ Open }
     ensures changes { Changes cache.old cache.new result }
     ensures less { IsPageMap cache.old → ¬ (directory ≡ first) → (links : List ℕ)
-        → pages cache.old directory ≡ Some links → (c : BucketContent) → bucket_in D (pages cache.old first) ≡ Some c
+        → pages cache.old directory ≡ Some links → (c : BucketContent) →
+        bucket_in D (pages cache.old first) ≡ Some c
         → OnOk result (Shrinks D (pages cache.old) (pages cache.new) directory class first c links) }
     ensures sound { IsPageMap cache.old → IsLive cache.old first → IsLive cache.old directory
         → ¬ (directory ≡ first) → IsPageMap cache.new }
@@ -126,7 +128,8 @@ fn drop_last<const D: usize, B: BlockDevice, A: Allocator + Copy>(
     }
 }
 
-// Takes the last object out of a bucket page that has more. The next page of its chain is answered where it has not.
+// Takes the last object out of a bucket page that has more. The next page of its chain is answered where it
+// has not.
 fn pop_or_next<const D: usize>(page: &mut [u8; 4096]) -> Option<u32>
     requires { IsDims D }
     ensures { PopsLast D page.old page.new result }

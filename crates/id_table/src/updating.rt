@@ -19,11 +19,11 @@ use page_cache::PageCache;
 use page_file::Fault;
 use std::alloc::Allocator;
 
-/// Gives the object with that identifier, which the table has, another box, where it lies: one page is written. Its
-/// tag stays. The gate has to be open.
+/// Gives the object with that identifier, which the table has, another box, where it lies: one page is
+/// written. Its tag stays. The gate has to be open.
 ///
-/// With a sound map, where the pages stand for a table at that directory, a refusal is `Memory` or `Device`. After one
-/// the map is as before.
+/// With a sound map, where the pages stand for a table at that directory, a refusal is `Memory` or `Device`.
+/// After one the map is as before.
 #[tactic(auto, using(page_cache::specs::Calls::turns))]
 pub fn update<const D: usize, B: BlockDevice, A: Allocator + Copy>(
     cache: &mut PageCache<B, A>,
@@ -37,7 +37,8 @@ pub fn update<const D: usize, B: BlockDevice, A: Allocator + Copy>(
     ensures refused { OnErr result (KeepsMap cache.old cache.new) }
     ensures sound { IsPageMap cache.old → (t : IdTable) → t.page ≡ directory → IdsStand D (pages cache.old) t
         → IsPageMap cache.new }
-    ensures updated { IsPageMap cache.old → (t : IdTable) → t.page ≡ directory → IdsStand D (pages cache.old) t
+    ensures updated { IsPageMap cache.old → (t : IdTable) → t.page ≡ directory →
+        IdsStand D (pages cache.old) t
         → (kept : Object) → map.get (objects_of t) id ≡ Some kept
         → OnOk result (Sets D (pages cache.old) (pages cache.new) t id (with_box kept bounds.now)) }
     ensures grows { Grows 0 cache.old cache.new }

@@ -1,5 +1,5 @@
-//! Tests of tables in two and three dimensions against what was added and removed, of the pages that they take, and of
-//! pages that stand for no table.
+//! Tests of tables in two and three dimensions against what was added and removed, of the pages that they
+//! take, and of pages that stand for no table.
 
 ghost use Rattle.std.specs.Prelude.{◌≡◌, ◌≤◌, IfOk};
 ghost use Rattle.page_file.specs.declared.gate.Gate.TheVariants.{Open};

@@ -1,5 +1,5 @@
-//! Files written by hand, byte for byte as docs/FORMAT.md says: they are opened, or refused for what is damaged. And
-//! the blocks of a new store.
+//! Files written by hand, byte for byte as docs/FORMAT.md says: they are opened, or refused for what is
+//! damaged. And the blocks of a new store.
 
 use crate::blocks::{block_of, patch, put, set};
 use block_device::{BlockDevice, DeviceError, MemoryDevice};

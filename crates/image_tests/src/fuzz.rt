@@ -1,5 +1,5 @@
-//! Files that are damaged by chance: each command returns with an answer or a refusal that it may have, and where a
-//! check finds nothing wrong the store answers as the plain list that its dump makes again.
+//! Files that are damaged by chance: each command returns with an answer or a refusal that it may have, and
+//! where a check finds nothing wrong the store answers as the plain list that its dump makes again.
 
 use crate::blocks::{block_of, patch, put};
 use crate::language::may_answer;
@@ -177,7 +177,8 @@ fn damage_node(
     }
 }
 
-// A new number for a bucket: the next page, its count, an identifier, a bound, a tag, or its kind or dimension.
+// A new number for a bucket: the next page, its count, an identifier, a bound, a tag, or its kind or
+// dimension.
 fn damage_bucket(
     dice: &mut Dice,
     device: &mut MemoryDevice,

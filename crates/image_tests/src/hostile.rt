@@ -1,5 +1,5 @@
-//! Files written by hand with one thing wrong in their trees, tables or free pages: each command returns, those that
-//! meet the damage name its page, and a check finds it.
+//! Files written by hand with one thing wrong in their trees, tables or free pages: each command returns,
+//! those that meet the damage name its page, and a check finds it.
 
 use crate::blocks::{patch, put as put_block, set};
 use crate::language::may_answer;
@@ -423,8 +423,8 @@ fn file(alloc: Global, numbers: &[Number]) -> Result<MemoryDevice, DeviceError> 
     Ok(device)
 }
 
-// How many blocks a command that was refused may have written by the closing: none, but for the gate, the header and
-// the gate again in a change that met damage before it changed a page.
+// How many blocks a command that was refused may have written by the closing: none, but for the gate, the
+// header and the gate again in a change that met damage before it changed a page.
 fn most_writes(ask: Command<'_>, given: &Answer) -> u64 {
     match given {
         Ok(_) if ask.is_change() => u64::MAX,
@@ -433,8 +433,8 @@ fn most_writes(ask: Command<'_>, given: &Answer) -> u64 {
     }
 }
 
-// Puts a command to the store of that file, and closes it: a refusal leaves the pages as they were, or is the end of
-// the store, whose file then was not closed.
+// Puts a command to the store of that file, and closes it: a refusal leaves the pages as they were, or is the
+// end of the store, whose file then was not closed.
 fn ask_once(
     rt: &impl Abort,
     alloc: Global,
@@ -522,8 +522,8 @@ fn the_file_without_damage_is_sound(rt: HostRuntime) -> Result<(), Fail> {
     Ok(())
 }
 
-// A file of one layer whose tree has a root on level 40, and in each node above the leaf the same child a hundred
-// times.
+// A file of one layer whose tree has a root on level 40, and in each node above the leaf the same child a
+// hundred times.
 fn shared_file(alloc: Global) -> Result<MemoryDevice, DeviceError> {
     let mut device = MemoryDevice::new(alloc);
     for block in 0..3 {

@@ -30,8 +30,8 @@ fn refusals_of(command: Command<'_>) -> &'static [u8] {
     }
 }
 
-/// Whether a live store over any file on a device that works may answer so. Damage is met where a page is read, and in
-/// a change perhaps half way through.
+/// Whether a live store over any file on a device that works may answer so. Damage is met where a page is
+/// read, and in a change perhaps half way through.
 pub fn may_answer(command: Command<'_>, given: &Answer) -> bool {
     match given {
         Ok(_) => true,

@@ -1,4 +1,5 @@
-//! Tests of what a store leaves in its file and finds in one: files byte by byte, stops, and files with damage.
+//! Tests of what a store leaves in its file and finds in one: files byte by byte, stops, and files with
+//! damage.
 #![tactic(auto)]
 
 #[cfg(test)]

@@ -1,5 +1,5 @@
-//! Files of format 1, which has no tags: they are read as they are, and become files of format 2 page by page as they
-//! are changed.
+//! Files of format 1, which has no tags: they are read as they are, and become files of format 2 page by page
+//! as they are changed.
 
 use crate::blocks::{block_of, patch, put, set};
 use crate::files::file;
@@ -22,8 +22,8 @@ const OLD_BUCKET: u64 = 4;
 
 const NEW_BUCKET: u8 = 7;
 
-// The first six blocks of the file written by hand, of which the catalog has the layer `a` alone. The bytes where
-// format 2 has the tags of the leaf are no tags.
+// The first six blocks of the file written by hand, of which the catalog has the layer `a` alone. The bytes
+// where format 2 has the tags of the leaf are no tags.
 fn small_file(alloc: Global) -> Result<MemoryDevice, Fail> {
     let mut device = file(alloc, 6)?;
     patch(&mut device, 1, 12, 4, 6)?;

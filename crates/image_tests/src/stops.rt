@@ -1,5 +1,5 @@
-//! A stop at each call of the device: what is left is opened as the table that was closed last, or whose closing was in
-//! progress, or is refused; and it is not refused where nothing was changed since a closing.
+//! A stop at each call of the device: what is left is opened as the table that was closed last, or whose
+//! closing was in progress, or is refused; and it is not refused where nothing was changed since a closing.
 
 use block_device::{BlockDevice, FuseDevice, FuseMode, Left, MemoryDevice};
 use layer_store::{RawBox, Refusal, Store, create_store};
@@ -294,8 +294,8 @@ fn run_to_the_end(
     Ok(closed(store))
 }
 
-// The closing's last call is the sync of the shut gate. Where it fails the gate may be lost in a stop, and so the
-// opening that follows syncs it.
+// The closing's last call is the sync of the shut gate. Where it fails the gate may be lost in a stop, and so
+// the opening that follows syncs it.
 #[test]
 fn an_opening_syncs_what_was_read(rt: HostRuntime) -> Result<(), Fail> {
     let (refusal, device) = run_to_the_end(rt.alloc(), u32::MAX)?;

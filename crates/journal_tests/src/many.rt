@@ -119,8 +119,8 @@ fn each_is<D: BlockDevice>(device: &mut D, rounds: &[u8; FEW as usize]) -> bool 
     true
 }
 
-// Changes each of a few blocks. A write that is refused has to say so and to change nothing, and is tried again where
-// memory is there. Tells whether one was refused, or answers None.
+// Changes each of a few blocks. A write that is refused has to say so and to change nothing, and is tried
+// again where memory is there. Tells whether one was refused, or answers None.
 fn changes<D: BlockDevice>(device: &mut D, heap: &Refusing<Global>) -> Option<bool> {
     let mut rounds = [1; FEW as usize];
     let mut refused = false;

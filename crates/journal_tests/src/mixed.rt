@@ -1,4 +1,5 @@
-//! Stops that leave block by block: each block that was not synced as it was at the sync, as written, or full of a byte.
+//! Stops that leave block by block: each block that was not synced as it was at the sync, as written, or full
+//! of a byte.
 ghost use Rattle.std.specs.Prelude.{◌<◌, ◌-◌, ◌^◌};
 
 use crate::session::{ALL, stopped};
@@ -16,7 +17,8 @@ fn chosen(choice: u32, synced: &[u8; 4096], written: &[u8; 4096]) -> [u8; 4096] 
     }
 }
 
-// Writes into the base of `left` what the choices make of its unsynced blocks. Gives the choices that are left over.
+// Writes into the base of `left` what the choices make of its unsynced blocks. Gives the choices that are
+// left over.
 fn mix_base<P: DevicePair>(
     left: &mut P,
     written: &mut P,
@@ -82,7 +84,8 @@ fn mix_journal<P: DevicePair>(
     Ok(choices)
 }
 
-// The pair that a stop leaves after so many calls by these choices, and the commits that were begun and ended.
+// The pair that a stop leaves after so many calls by these choices, and the commits that were begun and
+// ended.
 fn left_by(alloc: Global, passes: u64, choices: u32) -> Result<(MemoryPair, u32, u32), DeviceError>
     requires { passes < 2 ^ 64 - 1 }
 {

@@ -15,8 +15,8 @@ const GATE_TEXT: u64 = 0x5253_5441_5247_4154;
 
 const HEADER_TEXT: u64 = 0x5253_5441_5248_4452;
 
-/// Block i of a file of at least three blocks: a gate that is shut or not, a header in which nothing but the catalog was
-/// given out, or a page. What is left of it is full of a byte.
+/// Block i of a file of at least three blocks: a gate that is shut or not, a header in which nothing but the
+/// catalog was given out, or a page. What is left of it is full of a byte.
 pub fn block(i: u32, byte: u8, shut: bool) -> [u8; 4096] {
     let mut bytes = [byte; 4096];
     if i == 0 {
@@ -125,7 +125,8 @@ pub fn committed(n: u32) -> &'static [u8] {
     }
 }
 
-/// The pair that is left where the calls from number `passes` on fail, and how many commits were begun and ended.
+/// The pair that is left where the calls from number `passes` on fail, and how many commits were begun and
+/// ended.
 pub fn stopped(alloc: Global, passes: u64) -> (MemoryPair, u32, u32, bool)
     requires { passes < 2 ^ 64 - 1 }
 {

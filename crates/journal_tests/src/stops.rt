@@ -9,7 +9,8 @@ use std::alloc::Global;
 
 const KINDS: [Left; 3] = [Left::Written, Left::Synced, Left::Filled(0xEE)];
 
-// Opens what is left, with so many calls that pass. Says whether it was refused as no journal, and whether it opened.
+// Opens what is left, with so many calls that pass. Says whether it was refused as no journal, and whether it
+// opened.
 fn opened(alloc: Global, left: MemoryPair, passes: u64) -> (MemoryPair, bool, bool)
     requires { passes < 2 ^ 64 - 1 }
 {
@@ -42,8 +43,8 @@ fn a_session_gives_what_was_written(rt: HostRuntime) {
     assert!(rt; gives_a_commit(alloc, pair, 3, 3));
 }
 
-// Whether a session that is stopped after so many calls leaves a commit, and whether it was at its end. The recovery is
-// stopped too: at each of its calls, or after the last one alone.
+// Whether a session that is stopped after so many calls leaves a commit, and whether it was at its end. The
+// recovery is stopped too: at each of its calls, or after the last one alone.
 fn leaves_a_commit(alloc: Global, passes: u64, one: Left, other: Left, each: bool) -> (bool, bool)
     requires { passes < 2 ^ 64 - 1 }
 {

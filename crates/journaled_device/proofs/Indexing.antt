@@ -1,5 +1,6 @@
 -- The index written, block by block, and what is then recorded.
-use Rattle.std.proofs.Common.{◌≡◌, ◌∙◌, ◌↔◌, ◌^◌, ℕ, suc, ◌+◌, ◌*◌, ◌<◌, ◌≤◌, nat_le, List, [], ◌∷◌, length, refl, sym, ap, subst, arith, inl, ⊎_elim}
+use Rattle.std.proofs.Common.{◌≡◌, ◌∙◌, ◌↔◌, ◌^◌, ℕ, suc, ◌+◌, ◌*◌, ◌<◌, ◌≤◌, nat_le, List, [], ◌∷◌, length}
+use Rattle.std.proofs.Common.{refl, sym, ap, subst, arith, inl, ⊎_elim}
 use Rattle.std.specs.Prelude.{◌/◌, ◌%◌, slice_index}
 use Rattle.std.proofs.lemmas.Bool.{cases_lt, cases_eq}
 use Rattle.std.proofs.lemmas.Bool.Decides.{nat_tests}
@@ -9,8 +10,10 @@ use Rattle.block_bytes.specs.Numbers.{number_at, put_number}
 use Rattle.block_bytes.specs.Laws.{length-put, number_at-put, number_at-put_other}
 use Rattle.journaled_device.specs.GateLaws.{count-read}
 use Rattle.journaled_device.specs.Index.{IsIndexed, HasIndex}
-use Rattle.journaled_device.specs.Journal.{Entry, count_block, count_in, entries_from, entries_in, home_in, index_blocks, slots_from}
-use Rattle.journaled_device.specs.Standing.{IsHonest, KeepsTo, SameSlots, commits_of, homes_of, journal_of, shown_of}
+use Rattle.journaled_device.specs.Journal.{Entry, count_block, count_in, entries_from, entries_in, home_in}
+use Rattle.journaled_device.specs.Journal.{index_blocks, slots_from}
+use Rattle.journaled_device.specs.Standing.{IsHonest, KeepsTo, SameSlots, commits_of, homes_of, journal_of}
+use Rattle.journaled_device.specs.Standing.{shown_of}
 use Rattle.journaled_device.specs.Stages.{IsRecorded}
 use Rattle.journaled_device.specs.Torn.{within_written}
 use Rattle.journaled_device.specs.declared.pair.JournaledPair.{JournaledPair}
@@ -23,18 +26,24 @@ pub record IsPageTo (homes : List ℕ) (from m : ℕ) (page : List ℕ) : Type 0
   pub size : length page ≡ 4096
   pub there : (j : ℕ) → j < m → number_at 4 (4 * j) page ≡ slice_index homes (from + j)
 
-pub page_step : (homes : List ℕ) (from m x : ℕ) (page : List ℕ) → m < 1024 → x < 2 ^ 32 → slice_index homes (from + m) ≡ x → IsPageTo homes from m page → IsPageTo homes from (m + 1) (put_number 4 (4 * m) x page)
+pub page_step : (homes : List ℕ) (from m x : ℕ) (page : List ℕ) → m < 1024 → x < 2 ^ 32
+    → slice_index homes (from + m) ≡ x → IsPageTo homes from m page
+    → IsPageTo homes from (m + 1) (put_number 4 (4 * m) x page)
 page_step homes from m x page lt small is p = record {
   size = length-put 4 (4 * m) x page (omega (arith, lt, p.size)) ∙ p.size;
   there = λ j less. ⊎_elim
-      (λ (here : j ≡ m). subst (λ (n : ℕ). number_at 4 (4 * n) (put_number 4 (4 * m) x page) ≡ slice_index homes (from + n)) (sym here)
+      (λ (here : j ≡ m). subst
+      (λ (n : ℕ). number_at 4 (4 * n) (put_number 4 (4 * m) x page) ≡ slice_index homes (from + n))
+      (sym here)
       (number_at-put 4 (4 * m) x page (omega (arith, lt, p.size)) small ∙ sym is))
-      (λ (apart : ¬ (j ≡ m)). number_at-put_other 4 (4 * j) 4 (4 * m) x page (omega (arith, lt, p.size)) (inl (before j less apart)) ∙ p.there j (below j less apart))
+      (λ (apart : ¬ (j ≡ m)). number_at-put_other 4 (4 * j) 4 (4 * m) x page (omega (arith, lt, p.size))
+      (inl (before j less apart)) ∙ p.there j (below j less apart))
       (cases_eq j m);
 }
   where
     below : (j : ℕ) → j < m + 1 → ¬ (j ≡ m) → j < m
-    below j less ne = ⊎_elim (λ (l : j < m). l) (λ (ge : m ≤ j). absurd (ne (omega (arith, ge, less)))) (cases_lt j m)
+    below j less ne =
+        ⊎_elim (λ (l : j < m). l) (λ (ge : m ≤ j). absurd (ne (omega (arith, ge, less)))) (cases_lt j m)
 
     before : (j : ℕ) → j < m + 1 → ¬ (j ≡ m) → 4 * j + 4 ≤ 4 * m
     before j less ne = omega (arith, below j less ne)
@@ -42,20 +51,28 @@ page_step homes from m x page lt small is p = record {
 -- ---- the index
 
 index_first : (homes : List ℕ) (b : Blocks) → 2 + length homes ≤ length b → IsIndexed 0 homes b
-index_first homes b room = record { room = omega (arith, room); there = λ k lt less. absurd (omega (arith, less)) }
+index_first homes b room =
+    record { room = omega (arith, room); there = λ k lt less. absurd (omega (arith, less)) }
 
-pub index_more : (homes : List ℕ) (j at from : ℕ) (b b' : Blocks) (page : List ℕ) → at ≡ 2 + length homes + j → from ≡ 1024 * j → ((m : ℕ) → m < 1024 → from + m < length homes → number_at 4 (4 * m) page ≡ slice_index homes (from + m))
+pub index_more : (homes : List ℕ) (j at from : ℕ) (b b' : Blocks) (page : List ℕ) → at ≡ 2 + length homes + j
+    → from ≡ 1024 * j
+    → ((m : ℕ) → m < 1024 → from + m < length homes → number_at 4 (4 * m) page ≡ slice_index homes (from + m))
     → b' ≡ written at page b → IsIndexed j homes b → IsIndexed (j + 1) homes b'
 unfolding home_in
 index_more homes j at from b b' page at_is from_is holds w i = record {
   room = omega (arith, ap length w, within_written at page b (omega (arith, at_is, i.room)), at_is);
-  there = λ k lt less. ap (λ (c : Blocks). number_at 4 (4 * (k % 1024)) (block_at (2 + length homes + k / 1024) c)) w ∙ ⊎_elim
+  there = λ k lt less. ap
+      (λ (c : Blocks). number_at 4 (4 * (k % 1024)) (block_at (2 + length homes + k / 1024) c)) w ∙ ⊎_elim
       (λ (here : k / 1024 ≡ j).
-      ap (number_at 4 (4 * (k % 1024))) (subst (λ (n : ℕ). block_at n (written at page b) ≡ page) (place k here) (block_at-written at page b (omega (arith, at_is, i.room))))
+      ap (number_at 4 (4 * (k % 1024)))
+      (subst (λ (n : ℕ). block_at n (written at page b) ≡ page) (place k here)
+      (block_at-written at page b (omega (arith, at_is, i.room))))
       ∙ holds (k % 1024) (omega arith) (omega (arith, from_is, here, lt))
       ∙ ap (slice_index homes) (whole k here))
       (λ (apart : ¬ (k / 1024 ≡ j)).
-      ap (number_at 4 (4 * (k % 1024))) (block_at-written_other at (2 + length homes + k / 1024) page b (omega (arith, at_is, i.room)) (λ e. apart (omega (arith, e, at_is))))
+      ap (number_at 4 (4 * (k % 1024)))
+      (block_at-written_other at (2 + length homes + k / 1024) page b (omega (arith, at_is, i.room))
+      (λ e. apart (omega (arith, e, at_is))))
       ∙ i.there k lt (below k less apart))
       (cases_eq (k / 1024) j);
 }
@@ -67,7 +84,9 @@ index_more homes j at from b b' page at_is from_is holds w i = record {
     whole k here = omega (arith, from_is, here)
 
     below : (k : ℕ) → k / 1024 < j + 1 → ¬ (k / 1024 ≡ j) → k / 1024 < j
-    below k less ne = ⊎_elim (λ (l : k / 1024 < j). l) (λ (ge : j ≤ k / 1024). absurd (ne (omega (arith, ge, less)))) (cases_lt (k / 1024) j)
+    below k less ne =
+        ⊎_elim (λ (l : k / 1024 < j). l) (λ (ge : j ≤ k / 1024). absurd (ne (omega (arith, ge, less))))
+        (cases_lt (k / 1024) j)
 
 -- ---- the loop over the index blocks
 
@@ -89,11 +108,18 @@ indexed_start d = record {
   index = λ h. index_first (homes_of d) (journal_of d) (d.standing h).slots;
 }
 
-pub indexed_step : {P A : Type 0} {m : _} (j : ℕ) (old mid new : JournaledPair P A m) → IndexedTo j old mid → SameSlots mid new → (IsHonest mid ↔ IsHonest new) → m.faults new.pair ≡ m.faults mid.pair
-    → (IsHonest mid → shown_of new ≡ shown_of mid) → (IsHonest mid → KeepsTo (commits_of mid) mid new) → (IsHonest old → IsIndexed j (homes_of old) (journal_of mid) → IsIndexed (j + 1) (homes_of old) (journal_of new))
+pub indexed_step : {P A : Type 0} {m : _} (j : ℕ) (old mid new : JournaledPair P A m) → IndexedTo j old mid
+    → SameSlots mid new → (IsHonest mid ↔ IsHonest new) → m.faults new.pair ≡ m.faults mid.pair
+    → (IsHonest mid → shown_of new ≡ shown_of mid) → (IsHonest mid → KeepsTo (commits_of mid) mid new)
+    → (IsHonest old → IsIndexed j (homes_of old) (journal_of mid)
+    → IsIndexed (j + 1) (homes_of old) (journal_of new))
     → IndexedTo (j + 1) old new
 indexed_step j old mid new c slots honest faults shown keeps more = record {
-  slots = record { stage = slots.stage ∙ c.slots.stage; kept = slots.kept ∙ c.slots.kept; homes = slots.homes ∙ c.slots.homes };
+  slots = record {
+    stage = slots.stage ∙ c.slots.stage;
+    kept = slots.kept ∙ c.slots.kept;
+    homes = slots.homes ∙ c.slots.homes;
+  };
   honest = (λ h. honest.0 (c.honest.0 h), λ h. c.honest.1 (honest.1 h));
   faults = faults ∙ c.faults;
   shown = λ h. shown (c.honest.0 h) ∙ c.shown h;
@@ -103,11 +129,17 @@ indexed_step j old mid new c slots honest faults shown keeps more = record {
 
 -- ---- what is recorded
 
-pub entries_tail : (n k : ℕ) (hs : List ℕ) (b : Blocks) → ((j : ℕ) → j < length hs → home_in n (k + j) b ≡ slice_index hs j) → entries_from n k (length hs) b ≡ slots_from k hs b
+pub entries_tail : (n k : ℕ) (hs : List ℕ) (b : Blocks)
+    → ((j : ℕ) → j < length hs → home_in n (k + j) b ≡ slice_index hs j)
+    → entries_from n k (length hs) b ≡ slots_from k hs b
 entries_tail n k [] b homes = refl
 entries_tail n k (h ∷ hs) b homes =
-    ap (λ (x : ℕ). record { home = x; bytes = block_at (2 + k) b } ∷ entries_from n (suc k) (length hs) b) (subst (λ (i : ℕ). home_in n i b ≡ h) (here k) (homes 0 (omega arith)))
-    ∙ ap (λ (l : List Entry). record { home = h; bytes = block_at (2 + k) b } ∷ l) (entries_tail n (suc k) hs b (λ j lt. subst (λ (i : ℕ). home_in n i b ≡ slice_index hs j) (next k j) (homes (suc j) (omega (arith, lt)))))
+    ap (λ (x : ℕ). record { home = x; bytes = block_at (2 + k) b } ∷ entries_from n (suc k) (length hs) b)
+    (subst (λ (i : ℕ). home_in n i b ≡ h) (here k) (homes 0 (omega arith)))
+    ∙ ap (λ (l : List Entry). record { home = h; bytes = block_at (2 + k) b } ∷ l)
+    (entries_tail n (suc k) hs b
+    (λ j lt. subst (λ (i : ℕ). home_in n i b ≡ slice_index hs j) (next k j)
+    (homes (suc j) (omega (arith, lt)))))
   where
     here : (k : ℕ) → k + 0 ≡ k
     here k = omega arith
@@ -118,27 +150,42 @@ entries_tail n k (h ∷ hs) b homes =
 last_block : (k n : ℕ) → k < n → k / 1024 < index_blocks n
 last_block k n lt = grind (arith)
 
-count_is : (n : ℕ) (b b' : Blocks) → n < 2 ^ 31 → 1 ≤ length b → b' ≡ written 1 (count_block n) b → count_in b' ≡ n
+count_is : (n : ℕ) (b b' : Blocks) → n < 2 ^ 31 → 1 ≤ length b → b' ≡ written 1 (count_block n) b
+    → count_in b' ≡ n
 unfolding count_in
-count_is n b b' small room w = ap (λ (c : Blocks). number_at 4 8 (block_at 1 c)) w ∙ ap (number_at 4 8) (block_at-written 1 (count_block n) b room) ∙ count-read n (omega (arith, small))
+count_is n b b' small room w = ap (λ (c : Blocks). number_at 4 8 (block_at 1 c)) w
+    ∙ ap (number_at 4 8) (block_at-written 1 (count_block n) b room) ∙ count-read n (omega (arith, small))
 
-index_stays : (homes : List ℕ) (j : ℕ) (x : List ℕ) (b b' : Blocks) → 0 < length homes + length b → 1 < length b → b' ≡ written 1 x b → IsIndexed j homes b → IsIndexed j homes b'
+index_stays : (homes : List ℕ) (j : ℕ) (x : List ℕ) (b b' : Blocks) → 0 < length homes + length b
+    → 1 < length b → b' ≡ written 1 x b → IsIndexed j homes b → IsIndexed j homes b'
 unfolding home_in
 index_stays homes j x b b' some room w i = record {
-  room = omega (arith, ap length w, Rattle.block_device.specs.Written.length-written_within 1 x b room, i.room);
-  there = λ k lt less. ap (λ (c : Blocks). number_at 4 (4 * (k % 1024)) (block_at (2 + length homes + k / 1024) c)) w
-      ∙ ap (number_at 4 (4 * (k % 1024))) (block_at-written_other 1 (2 + length homes + k / 1024) x b (omega (arith, room)) (λ e. omega (arith, e)))
+  room = omega
+      (arith, ap length w, Rattle.block_device.specs.Written.length-written_within 1 x b room, i.room);
+  there = λ k lt less. ap
+      (λ (c : Blocks). number_at 4 (4 * (k % 1024)) (block_at (2 + length homes + k / 1024) c)) w
+      ∙ ap (number_at 4 (4 * (k % 1024)))
+      (block_at-written_other 1 (2 + length homes + k / 1024) x b (omega (arith, room))
+      (λ e. omega (arith, e)))
       ∙ i.there k lt less;
 }
 
-pub recorded_now : (homes : List ℕ) (n : ℕ) (b b' : Blocks) → n ≡ length homes → n < 2 ^ 31 → b' ≡ written 1 (count_block n) b → HasIndex homes b → IsRecorded homes b'
+pub recorded_now : (homes : List ℕ) (n : ℕ) (b b' : Blocks) → n ≡ length homes → n < 2 ^ 31
+    → b' ≡ written 1 (count_block n) b → HasIndex homes b → IsRecorded homes b'
 unfolding entries_in
 recorded_now homes n b b' n_is small w i =
-    let i' : HasIndex homes b' = index_stays homes (index_blocks (length homes)) (count_block n) b b' (omega (arith, i.room)) (omega (arith, i.room)) w i in
+    let i' : HasIndex homes b' =
+    index_stays homes (index_blocks (length homes)) (count_block n) b b' (omega (arith, i.room))
+    (omega (arith, i.room)) w i in
     let count : count_in b' ≡ length homes = count_is n b b' small (omega (arith, i.room)) w ∙ n_is in
     record {
-      room = ap (λ (k : ℕ). nat_le (2 + k + index_blocks k) (length b')) count ∙ (let le : 2 + length homes + index_blocks (length homes) ≤ length b' = i'.room in grind (arith, nat_tests));
-      entries = ap (λ (k : ℕ). entries_from k 0 k b') count ∙ entries_tail (length homes) 0 homes b' (λ j lt. subst (λ (k : ℕ). home_in (length homes) k b' ≡ slice_index homes j) (zero_more j) (i'.there j lt (last_block j (length homes) lt)));
+      room = ap (λ (k : ℕ). nat_le (2 + k + index_blocks k) (length b')) count
+          ∙ (let le : 2 + length homes + index_blocks (length homes) ≤ length b' = i'.room in
+          grind (arith, nat_tests));
+      entries = ap (λ (k : ℕ). entries_from k 0 k b') count
+          ∙ entries_tail (length homes) 0 homes b'
+          (λ j lt. subst (λ (k : ℕ). home_in (length homes) k b' ≡ slice_index homes j) (zero_more j)
+          (i'.there j lt (last_block j (length homes) lt)));
     }
   where
     zero_more : (n : ℕ) → n ≡ 0 + n

@@ -1,11 +1,14 @@
 -- An empty journal made: at no moment is there one that is to be copied.
-use Rattle.std.proofs.Common.{◌≡◌, ◌∙◌, ℕ, ◌<◌, ◌≤◌, Bool, true, false, ◌&&◌, List, [], length, Ok, Err, OnOk, ap, arith, ⊎_elim, if◌then◌else◌}
+use Rattle.std.proofs.Common.{◌≡◌, ◌∙◌, ℕ, ◌<◌, ◌≤◌, Bool, true, false, ◌&&◌, List, [], length, Ok, Err, OnOk}
+use Rattle.std.proofs.Common.{ap, arith, ⊎_elim, if◌then◌else◌}
 use Rattle.std.proofs.lemmas.Bool.{cases_Bool, cases_lt}
 use Rattle.std.proofs.lemmas.Bool.Decides.{nat_tests}
 use Rattle.block_device.specs.Device.{Blocks, Torn, block_at, written}
-use Rattle.block_device.specs.Written.{block_at-written, length-written_behind, length-written_within, torn_length}
+use Rattle.block_device.specs.Written.{block_at-written, length-written_behind, length-written_within}
+use Rattle.block_device.specs.Written.{torn_length}
 use Rattle.journaled_device.specs.GateLaws.{says-empty}
-use Rattle.journaled_device.specs.Journal.{Entry, count_in, entries_from, entries_in, gate_block, gate_says, has_room, is_complete, recovered, replayed}
+use Rattle.journaled_device.specs.Journal.{Entry, count_in, entries_from, entries_in, gate_block, gate_says}
+use Rattle.journaled_device.specs.Journal.{has_room, is_complete, recovered, replayed}
 use Rattle.journaled_device.specs.Opening.{AreSynced}
 use Rattle.device_pair.specs.Pairs.{JournalFollows, PairElapses, PairLeaves}
 use Rattle.journaled_device.specs.Torn.{torn_size, written_before}
@@ -28,7 +31,8 @@ pub tiny : (a b : Blocks) → length b ≤ 2 → recovered a b ≡ a
 tiny a b small = ⊎_elim
     (λ (whole : is_complete b ≡ true).
     ap (λ (t : Bool). if t then replayed (entries_in b) a else a) whole
-    ∙ ap (λ (es : List Entry). replayed es a) (no_entries b (room_says b (both (gate_says (block_at 0 b)) (has_room b) whole) small)))
+    ∙ ap (λ (es : List Entry). replayed es a)
+    (no_entries b (room_says b (both (gate_says (block_at 0 b)) (has_room b) whole) small)))
     (λ (none : is_complete b ≡ false). ap (λ (t : Bool). if t then replayed (entries_in b) a else a) none)
     (cases_Bool (is_complete b))
 
@@ -42,8 +46,10 @@ pub on_fine : (r : Answer) (P : Type 0) → P → OnOk r P
 on_fine (Ok u) P p = p
 on_fine (Err e) P p = tt
 
-module _ {D : Type 0} (moment : D → ℕ) (left_since : D → ℕ → Blocks → Blocks → Type 0) (may_leave : D → Blocks → Blocks → Type 0) (base journal : Blocks) (old mid : D)
-    (few : length journal < 2) (synced : AreSynced base journal (may_leave old)) (follows : JournalFollows (Torn 0) (may_leave old) (may_leave mid))
+module _ {D : Type 0} (moment : D → ℕ) (left_since : D → ℕ → Blocks → Blocks → Type 0)
+    (may_leave : D → Blocks → Blocks → Type 0) (base journal : Blocks) (old mid : D)
+    (few : length journal < 2) (synced : AreSynced base journal (may_leave old))
+    (follows : JournalFollows (Torn 0) (may_leave old) (may_leave mid))
     (time : PairElapses (moment old) (moment mid) (left_since old) (left_since mid) (may_leave mid)) where
   first : (a b : Blocks) → may_leave mid a b → (a ≡ base) × (length b ≤ 1)
   first a b left =
@@ -55,7 +61,8 @@ module _ {D : Type 0} (moment : D → ℕ) (left_since : D → ℕ → Blocks �
   first_now a b left = let f = first a b left in tiny a b (omega (arith, f.1)) ∙ f.0
 
   pub first_stops : PairLeaves moment left_since old mid (λ a b. recovered a b ≡ base)
-  first_stops = pair_call moment left_since old mid (λ a b. recovered a b ≡ base) (may_leave mid) time first_now
+  first_stops =
+      pair_call moment left_since old mid (λ a b. recovered a b ≡ base) (may_leave mid) time first_now
 
   module _ (new : D) (follows2 : JournalFollows (Torn 1) (may_leave mid) (may_leave new))
       (time2 : PairElapses (moment mid) (moment new) (left_since mid) (left_since new) (may_leave new)) where
@@ -66,10 +73,13 @@ module _ {D : Type 0} (moment : D → ℕ) (left_since : D → ℕ → Blocks �
         tiny a b (omega (arith, f.1, torn_length 1 from.0 b from.2)) ∙ f.0
 
     pub second_stops : PairLeaves moment left_since old new (λ a b. recovered a b ≡ base)
-    second_stops = pair_then moment left_since old mid new (λ a b. recovered a b ≡ base) first_stops (pair_call moment left_since mid new (λ a b. recovered a b ≡ base) (may_leave new) time2 second_now)
+    second_stops =
+        pair_then moment left_since old mid new (λ a b. recovered a b ≡ base) first_stops
+        (pair_call moment left_since mid new (λ a b. recovered a b ≡ base) (may_leave new) time2 second_now)
 
 -- what is read at last
-pub two_blocks : (old mid new : Blocks) (x y : List ℕ) → length old < 2 → 0 < length mid → mid ≡ written 0 x old → new ≡ written 1 y mid → length new ≡ 2
+pub two_blocks : (old mid new : Blocks) (x y : List ℕ) → length old < 2 → 0 < length mid
+    → mid ≡ written 0 x old → new ≡ written 1 y mid → length new ≡ 2
 two_blocks old mid new x y few some w v =
     let one : length mid ≡ 1 = ⊎_elim
     (λ (there : 0 < length old). omega (arith, few, ap length w, length-written_within 0 x old there))
@@ -77,6 +87,9 @@ two_blocks old mid new x y few some w v =
     (cases_lt 0 (length old)) in
     omega (arith, ap length v, one, length-written_behind 1 y mid (omega (arith, one)))
 
-pub made_empty : (old mid new : Blocks) (x y : List ℕ) → 0 < length mid → x ≡ gate_block 0 → mid ≡ written 0 x old → new ≡ written 1 y mid → gate_says (block_at 0 new) ≡ false
+pub made_empty : (old mid new : Blocks) (x y : List ℕ) → 0 < length mid → x ≡ gate_block 0
+    → mid ≡ written 0 x old → new ≡ written 1 y mid → gate_says (block_at 0 new) ≡ false
 made_empty old mid new x y some is w v =
-    ap gate_says (ap (block_at 0) v ∙ written_before 0 1 y mid (omega arith) some ∙ ap (block_at 0) w ∙ block_at-written 0 x old (omega arith) ∙ is) ∙ says-empty
+    ap gate_says
+    (ap (block_at 0) v ∙ written_before 0 1 y mid (omega arith) some ∙ ap (block_at 0) w
+    ∙ block_at-written 0 x old (omega arith) ∙ is) ∙ says-empty

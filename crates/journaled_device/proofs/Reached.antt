@@ -10,11 +10,14 @@ use Rattle.journaled_device.proofs.Stood.{Answer}
 pub not_filling : (stage : Stage) → stage ≡ Deciding → ¬ (stage ≡ Filling)
 not_filling stage e f = let no : Deciding ≡ Filling = sym e ∙ f in cc
 
-pub same_shown : (r : Answer) (commits : Blocks → Type 0) (a b : Blocks) → a ≡ b → OnOk r ((c : Blocks) → commits c → c ≡ a) → OnOk r ((c : Blocks) → commits c → c ≡ b)
+pub same_shown : (r : Answer) (commits : Blocks → Type 0) (a b : Blocks) → a ≡ b
+    → OnOk r ((c : Blocks) → commits c → c ≡ a) → OnOk r ((c : Blocks) → commits c → c ≡ b)
 same_shown (Ok u) commits a b e all = λ c is. all c is ∙ e
 same_shown (Err x) commits a b e all = tt
 
-pub reached : (r : Answer) (stage : Stage) (kept : ℕ) (homes : List ℕ) (base journal s : Blocks) → OnOk r (stage ≡ Filling) → OnErr r (¬ (stage ≡ Filling)) → OnOk r ((c : Blocks) → CommitsIn stage kept homes base journal c → c ≡ s)
+pub reached : (r : Answer) (stage : Stage) (kept : ℕ) (homes : List ℕ) (base journal s : Blocks)
+    → OnOk r (stage ≡ Filling) → OnErr r (¬ (stage ≡ Filling))
+    → OnOk r ((c : Blocks) → CommitsIn stage kept homes base journal c → c ≡ s)
     → overlaid homes journal base ≡ s → CommitsIn stage kept homes base journal s
 reached (Ok u) Filling kept homes base journal s done on durable shown = sym (durable (take kept base) refl)
 reached (Err e) Filling kept homes base journal s done on durable shown = absurd (on refl)

@@ -10,4 +10,5 @@ pub record IsStill {P A : Type 0} {m : _} (old new : JournaledPair P A m) : Type
   pub base : base_of new ≡ base_of old
   pub journal : journal_of new ≡ journal_of old
   pub now : PairsNoMore (m.may_leave old.pair) (m.may_leave new.pair)
-  pub time : PairElapses (m.moment old.pair) (m.moment new.pair) (m.left_since old.pair) (m.left_since new.pair) (m.may_leave new.pair)
+  pub time : PairElapses (m.moment old.pair) (m.moment new.pair) (m.left_since old.pair)
+      (m.left_since new.pair) (m.may_leave new.pair)

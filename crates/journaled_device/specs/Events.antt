@@ -1,6 +1,7 @@
--- The writes and syncs of a journaled device, noted by the pair as it was before each of them (our disk model,
--- docs/FORMAT.md, "The disk model of a stop").
-use Rattle.std.specs.Prelude.{◌≡◌, ◌≤◌, ◌+◌, ℕ, suc, nat_lt, if◌then◌else◌, List, [], ◌∷◌, length, Option, Some, None}
+-- The writes and syncs of a journaled device, noted by the pair as it was before each of them (our disk
+-- model, docs/FORMAT.md, "The disk model of a stop").
+use Rattle.std.specs.Prelude.{◌≡◌, ◌≤◌, ◌+◌, ℕ, suc, nat_lt, if◌then◌else◌, List, [], ◌∷◌, length, Option}
+use Rattle.std.specs.Prelude.{Some, None}
 use Rattle.std.specs.List.{All}
 use Rattle.block_device.specs.Device.{Blocks, IsBlock, block_at}
 use Rattle.block_device.specs.History.{Event, Synced, Wrote, IsHistory, unsynced}
@@ -8,7 +9,8 @@ use Rattle.page_file.specs.Opening.{failed_check}
 use Rattle.journaled_device.specs.Standing.{commits_of, shown_of}
 use Rattle.journaled_device.specs.declared.pair.JournaledPair.{JournaledPair}
 
--- what a note says of blocks that were read so before: the number of the one that was written, or none for a sync
+-- what a note says of blocks that were read so before: the number of the one that was written, or none for a
+-- sync
 abbrev pub event : Blocks → Option ℕ → Event
 event blocks None = Synced
 event blocks (Some i) = Wrote i (if nat_lt i (length blocks) then Some (block_at i blocks) else None)
@@ -28,15 +30,18 @@ abbrev pub Fall : ℕ → List ℕ → Type 0
 Fall now [] = Unit {0}
 Fall now (t ∷ ts) = (t ≤ now) × Fall t ts
 
--- How many events there were before moment t of the device, at which each of them is one moment more than at the pair.
+-- How many events there were before moment t of the device, at which each of them is one moment more than at
+-- the pair.
 abbrev pub events_until : List ℕ → ℕ → ℕ
 events_until [] t = 0
 events_until (p ∷ ps) t = if nat_lt (p + length ps) t then suc (length ps) else events_until ps t
 
 -- what stands of a pair with these notes, where it is honest
-pub record IsNoted {P A : Type 0} {m : _} (d : JournaledPair P A m) (ns : List (JournaledPair P A m × Option ℕ)) : Type 0 where
+pub record IsNoted {P A : Type 0} {m : _} (d : JournaledPair P A m)
+    (ns : List (JournaledPair P A m × Option ℕ)) : Type 0 where
   pub whole : All IsBlock (shown_of d)
   pub leads : IsHistory (shown_of d) (events ns)
   pub falls : Fall (m.moment d.pair) (moments ns)
   -- where all is synced and opening takes what is read, that is the one commit
-  pub durable : unsynced (events ns) ≡ [] → failed_check (shown_of d) ≡ None → (k : Blocks) → commits_of d k → k ≡ shown_of d
+  pub durable : unsynced (events ns) ≡ [] → failed_check (shown_of d) ≡ None → (k : Blocks) → commits_of d k
+      → k ≡ shown_of d

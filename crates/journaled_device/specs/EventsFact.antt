@@ -14,11 +14,14 @@ there_is_fact i None blocks = hlevel props
 history_is_fact : (blocks : Blocks) (es : List Event) → IsProp (IsHistory blocks es)
 history_is_fact blocks [] = hlevel props
 history_is_fact blocks (Synced ∷ es) = history_is_fact blocks es
-history_is_fact blocks (Wrote i old ∷ es) = hlevel (props, there_is_fact i old blocks, history_is_fact (undone i old blocks) es)
+history_is_fact blocks (Wrote i old ∷ es) =
+    hlevel (props, there_is_fact i old blocks, history_is_fact (undone i old blocks) es)
 
 fall_is_fact : (now : ℕ) (ts : List ℕ) → IsProp (Fall now ts)
 fall_is_fact now [] = hlevel props
 fall_is_fact now (t ∷ ts) = hlevel (props, fall_is_fact t ts)
 
-pub noted_is_fact : {P A : Type 0} {m : _} (d : JournaledPair P A m) (ns : List (JournaledPair P A m × Option ℕ)) → IsProp (IsNoted d ns)
-noted_is_fact {m = m} d ns = hlevel (props, history_is_fact (shown_of d) (events ns), fall_is_fact (m.moment d.pair) (moments ns))
+pub noted_is_fact : {P A : Type 0} {m : _} (d : JournaledPair P A m)
+    (ns : List (JournaledPair P A m × Option ℕ)) → IsProp (IsNoted d ns)
+noted_is_fact {m = m} d ns =
+    hlevel (props, history_is_fact (shown_of d) (events ns), fall_is_fact (m.moment d.pair) (moments ns))

@@ -1,7 +1,8 @@
--- A journaled device as its contracts see it: a plain disk after the same writes and syncs, and beside that what a stop
--- really brings back.
+-- A journaled device as its contracts see it: a plain disk after the same writes and syncs, and beside that
+-- what a stop really brings back.
 use Rattle.std.specs.Prelude.{◌≡◌, ◌+◌, ◌-◌, ℕ, List, length, None, Result, OnOk, OnErr}
-use Rattle.block_device.specs.Device.{Blocks, Brings, Elapses, Follows, LeavesNoMore, Only, Recovery, Torn, written}
+use Rattle.block_device.specs.Device.{Blocks, Brings, Elapses, Follows, LeavesNoMore, Only, Recovery, Torn}
+use Rattle.block_device.specs.Device.{written}
 use Rattle.block_device.specs.History.{Event, LeftSince, MayLeave}
 use Rattle.block_device.specs.declared.device.DeviceError.{DeviceError}
 use Rattle.page_file.specs.Opening.{failed_check}
@@ -32,7 +33,8 @@ moment_of {m = m} d = m.moment d.pair.pair + length (moments d.past.taken)
 
 -- what a stop since a moment would have left of a plain disk
 abbrev pub left_since_of : {P A : Type 0} {m : _} → JournaledDevice P A m → ℕ → Blocks → Type 0
-left_since_of d t c = LeftSince (shown_of (inner_of d)) (events_of d) (events_until (moments d.past.taken) t) c
+left_since_of d t c =
+    LeftSince (shown_of (inner_of d)) (events_of d) (events_until (moments d.past.taken) t) c
 
 -- the moment of the pair at one of the device
 abbrev pub pair_moment_of : {P A : Type 0} {m : _} → JournaledDevice P A m → ℕ → ℕ
@@ -44,20 +46,29 @@ found_since_of d t c = pair.left_since_of (inner_of d) (pair_moment_of d t) c
 
 -- What a stop really brings back: one of the commits of the pair. Each is of blocks that opening takes.
 abbrev pub recovery_of : {P A : Type 0} {m : _} → Recovery (JournaledDevice P A m)
-recovery_of = record { commits = λ d k. commits_of (inner_of d) k; found_since = λ d t c. found_since_of d t c; takes = λ k. failed_check k ≡ None }
+recovery_of =
+    record {
+      commits = λ d k. commits_of (inner_of d) k;
+      found_since = λ d t c. found_since_of d t c;
+      takes = λ k. failed_check k ≡ None;
+    }
 
 -- block i was written, or the write was refused
-pub record HasWritten {P A : Type 0} {m : _} (i : ℕ) (bytes : List ℕ) (old : JournaledDevice P A m) (result : Result (Unit {0}) DeviceError) (new : JournaledDevice P A m) : Type 0 where
+pub record HasWritten {P A : Type 0} {m : _} (i : ℕ) (bytes : List ℕ) (old : JournaledDevice P A m)
+    (result : Result (Unit {0}) DeviceError) (new : JournaledDevice P A m) : Type 0 where
   pub done : OnOk result (shown_of (inner_of new) ≡ written i bytes (shown_of (inner_of old)))
   pub torn : OnErr result (Torn i (shown_of (inner_of old)) (shown_of (inner_of new)))
   pub stops : Follows (Torn i) (may_leave_of old) (may_leave_of new)
-  pub time : Elapses (moment_of old) (moment_of new) (left_since_of old) (left_since_of new) (may_leave_of new)
+  pub time : Elapses (moment_of old) (moment_of new) (left_since_of old) (left_since_of new)
+      (may_leave_of new)
   pub brings : Brings moment_of recovery_of old new (may_leave_of new)
 
 -- a sync was done, or was refused
-pub record HasSynced {P A : Type 0} {m : _} (old : JournaledDevice P A m) (result : Result (Unit {0}) DeviceError) (new : JournaledDevice P A m) : Type 0 where
+pub record HasSynced {P A : Type 0} {m : _} (old : JournaledDevice P A m)
+    (result : Result (Unit {0}) DeviceError) (new : JournaledDevice P A m) : Type 0 where
   pub durable : OnOk result (Only (shown_of (inner_of old)) (may_leave_of new))
   pub shown : shown_of (inner_of new) ≡ shown_of (inner_of old)
   pub stops : LeavesNoMore (may_leave_of old) (may_leave_of new)
-  pub time : Elapses (moment_of old) (moment_of new) (left_since_of old) (left_since_of new) (may_leave_of new)
+  pub time : Elapses (moment_of old) (moment_of new) (left_since_of old) (left_since_of new)
+      (may_leave_of new)
   pub brings : Brings moment_of recovery_of old new (may_leave_of new)

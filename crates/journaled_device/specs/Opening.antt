@@ -17,7 +17,8 @@ pub record AreHomes (n : ℕ) (homes : List ℕ) (b : Blocks) : Type 0 where
   pub as_many : length homes ≡ n
   pub there : (k : ℕ) → k < n → home_in n k b ≡ slice_index homes k
 
--- a journal whose gate says that it is complete has room for its entries, and their homes are blocks of the base
+-- a journal whose gate says that it is complete has room for its entries, and their homes are blocks of the
+-- base
 pub record IsWellFormed (a b : Blocks) : Type 0 where
   pub room : has_room b ≡ true
   pub homes : (k : ℕ) → k < count_in b → home_in (count_in b) k b < length a

@@ -13,14 +13,23 @@ begins_then k b c x y = record {
   same = λ i lt. y.same i (omega (arith, lt, x.no_shorter)) ∙ x.same i lt;
 }
 
-pub begins_one_then : (commits : Blocks → Type 0) (b c : Blocks) → BeginsOne commits b → Begins b c → BeginsOne commits c
+pub begins_one_then : (commits : Blocks → Type 0) (b c : Blocks) → BeginsOne commits b → Begins b c
+    → BeginsOne commits c
 begins_one_then commits b c one more = (one.0, one.1, begins_then one.0 b c one.2 more)
 
--- What leaves what was left, or begins with what is read recovered, leaves one of these commits where all of that does.
-pub opening_keeps : {D : Type 0} (moment : D → ℕ) (left_since : D → ℕ → Blocks → Blocks → Type 0) (may_leave : Blocks → Blocks → Type 0) (commits : Blocks → Type 0) (blocks : Blocks) (old new : D)
-    → ((a b : Blocks) → may_leave a b → BeginsOne commits (recovered a b)) → BeginsOne commits blocks → PairLeaves moment left_since old new (LeavesOr may_leave blocks) → PairLeaves moment left_since old new (λ a b. BeginsOne commits (recovered a b))
+-- What leaves what was left, or begins with what is read recovered, leaves one of these commits where all of
+-- that does.
+pub opening_keeps : {D : Type 0} (moment : D → ℕ) (left_since : D → ℕ → Blocks → Blocks → Type 0)
+    (may_leave : Blocks → Blocks → Type 0) (commits : Blocks → Type 0) (blocks : Blocks) (old new : D)
+    → ((a b : Blocks) → may_leave a b → BeginsOne commits (recovered a b)) → BeginsOne commits blocks
+    → PairLeaves moment left_since old new (LeavesOr may_leave blocks)
+    → PairLeaves moment left_since old new (λ a b. BeginsOne commits (recovered a b))
 opening_keeps moment left_since may_leave commits blocks old new all one x = record {
   later = x.later;
-  before = λ t a b le left. ⊎_elim (λ was. inl was) (λ now. inr (⊎_elim (λ l. all a b l) (λ more. begins_one_then commits blocks (recovered a b) one more) now)) (x.before t a b le left);
+  before =
+      λ t a b le left. ⊎_elim (λ was. inl was)
+      (λ now. inr
+      (⊎_elim (λ l. all a b l) (λ more. begins_one_then commits blocks (recovered a b) one more) now))
+      (x.before t a b le left);
   keeps = x.keeps;
 }

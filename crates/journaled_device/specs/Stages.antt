@@ -59,7 +59,8 @@ CommitsIn Copying kept homes base journal c = c ≡ overlaid homes journal base
 CommitsIn Clearing kept homes base journal c = c ≡ overlaid homes journal base
 
 -- what stands of a journaled device on an honest pair
-pub record IsStanding (stage : Stage) (kept : ℕ) (homes : List ℕ) (base journal : Blocks) (may_leave : Blocks → Blocks → Type 0) : Type 0 where
+pub record IsStanding (stage : Stage) (kept : ℕ) (homes : List ℕ) (base journal : Blocks)
+    (may_leave : Blocks → Blocks → Type 0) : Type 0 where
   pub kept_there : kept ≤ length base
   pub homes_below : All (λ h. h < kept) homes
   pub slots : 2 + length homes ≤ length journal

@@ -52,7 +52,8 @@ abbrev pub left_since_of : {P A : Type 0} {m : _} → JournaledPair P A m → �
 left_since_of {m = m} d t c = (a : Blocks) × (b : Blocks) × m.left_since d.pair t a b × (c ≡ recovered a b)
 
 -- A run of calls leaves these commits and no other: now, and at each stop within it, once it is recovered.
-pub record KeepsTo {P A : Type 0} {m : _} (commits : Blocks → Type 0) (old new : JournaledPair P A m) : Type 0 where
+pub record KeepsTo {P A : Type 0} {m : _} (commits : Blocks → Type 0) (old new : JournaledPair P A m) : Type
+    0 where
   pub now : CommitsNoMore commits (commits_of new)
   pub stops : PairLeaves m.moment m.left_since old.pair new.pair (λ a b. BeginsOne commits (recovered a b))
 

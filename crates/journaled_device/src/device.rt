@@ -13,13 +13,14 @@ use std::alloc::{Allocator, Global};
 
 /// A device over a base and its journal, of which a stop brings back the last commit, or the one in progress.
 ///
-/// To its callers it is a plain disk: its contract says what a stop would leave of one after the same writes and syncs.
-/// Beside that it tells what a stop really brings back. A sync commits what is read where `page_file` would open it,
-/// and makes no call but reads where it would not.
+/// To its callers it is a plain disk: its contract says what a stop would leave of one after the same writes
+/// and syncs. Beside that it tells what a stop really brings back. A sync commits what is read where
+/// `page_file` would open it, and makes no call but reads where it would not.
 #[derive(Drop)]
 pub struct JournaledDevice<P: DevicePair, A: Allocator + Copy = Global> {
     pair: JournaledPair<P, A>,
     // the pair before each write and sync, and the number of the block that was written
     past: Snapshots<JournaledPair<P, A>, Option<u32>>,
-    ghost noted: { IsHonest pair → IsNoted pair past.taken } by { λ p q i h. noted_is_fact pair past.taken (p h) (q h) i },
+    ghost noted: { IsHonest pair →
+        IsNoted pair past.taken } by { λ p q i h. noted_is_fact pair past.taken (p h) (q h) i },
 }

@@ -11,38 +11,41 @@ ghost use Rattle.journaled_device.specs.declared.device.JournaledDevice.{Journal
 use device_pair::DevicePair;
 use std::alloc::Allocator;
 
-/// Whatever a stop of both devices leaves at one moment, recovery makes of it blocks that begin with a commit.
+/// Whatever a stop of both devices leaves at one moment, recovery makes of it blocks that begin with a
+/// commit.
 pub fn recovery_gives_a_commit<P: DevicePair, A: Allocator + Copy>()
     ensures { (d : JournaledDevice P A ⟦<P as DevicePair>⟧) (a b : Blocks) → IsHonest (inner_of d) →
         P.may_leave (pair_of d) a b → BeginsOne (commits_of (inner_of d)) (recovered a b) }
 {}
 
-/// Whatever a stop of both has left since a moment is found, once it is recovered, since that moment of the device: it
-/// has one moment more with each write and sync, and as many as the pair when it is opened.
+/// Whatever a stop of both has left since a moment is found, once it is recovered, since that moment of the
+/// device: it has one moment more with each write and sync, and as many as the pair when it is opened.
 pub fn stops_of_the_pair_are_found<P: DevicePair, A: Allocator + Copy>()
     ensures { (d : JournaledDevice P A ⟦<P as DevicePair>⟧) (t u : ℕ) (a b : Blocks) → IsHonest (inner_of d) →
         t ≤ u → P.left_since (pair_of d) u a b → found_since_of d t (recovered a b) }
 {}
 
-/// Over a pair that a stop of a device has left, opening is such that a stop within it, or after it, leaves one of the
-/// device's commits again.
+/// Over a pair that a stop of a device has left, opening is such that a stop within it, or after it, leaves
+/// one of the device's commits again.
 pub fn a_stop_within_opening_leaves_a_commit<P: DevicePair, A: Allocator + Copy>()
     ensures { (d : JournaledDevice P A ⟦<P as DevicePair>⟧) (pair opened : P) → IsHonest (inner_of d) →
         P.honest pair → PairsNoMore (P.may_leave (pair_of d)) (P.may_leave pair) →
         PairLeaves P.moment P.left_since pair opened
         (LeavesOr (P.may_leave pair) (recovered (P.base pair) (P.journal pair))) →
-        PairLeaves P.moment P.left_since pair opened (λ a b. BeginsOne (commits_of (inner_of d)) (recovered a b)) }
+        PairLeaves P.moment P.left_since pair opened
+        (λ a b. BeginsOne (commits_of (inner_of d)) (recovered a b)) }
 {}
 
-/// A device that was given up, and whose pair is then opened, shows blocks that begin with one of its commits.
+/// A device that was given up, and whose pair is then opened, shows blocks that begin with one of its
+/// commits.
 pub fn what_is_given_up_is_a_commit_again<P: DevicePair, A: Allocator + Copy>()
     ensures { (d opened : JournaledDevice P A ⟦<P as DevicePair>⟧) → IsHonest (inner_of d) →
         shown_of (inner_of opened) ≡ recovered (P.base (pair_of d)) (P.journal (pair_of d)) →
         BeginsOne (commits_of (inner_of d)) (shown_of (inner_of opened)) }
 {}
 
-/// Whatever a stop of both devices leaves, a journal whose gate says that it is complete is so, with room for its
-/// entries and homes that are there: opening finds none malformed.
+/// Whatever a stop of both devices leaves, a journal whose gate says that it is complete is so, with room for
+/// its entries and homes that are there: opening finds none malformed.
 pub fn a_journal_that_is_left_is_well_formed<P: DevicePair, A: Allocator + Copy>()
     ensures { (d : JournaledDevice P A ⟦<P as DevicePair>⟧) (a b : Blocks) → IsHonest (inner_of d) →
         P.may_leave (pair_of d) a b → gate_says (block_at 0 b) ≡ true → IsWellFormed a b }

@@ -1,4 +1,5 @@
-//! A device over a base and its journal: a stop leaves the blocks of its last commit, or of the one in progress.
+//! A device over a base and its journal: a stop leaves the blocks of its last commit, or of the one in
+//! progress.
 #![tactic(auto)]
 
 mod device;

@@ -16,11 +16,12 @@ use device_pair::DevicePair;
 pub use open::OpenFault;
 use std::alloc::{Allocator, Global};
 
-/// A device over a base and its journal. A sync commits what was written since the last one, or nothing of it.
+/// A device over a base and its journal. A sync commits what was written since the last one, or nothing of
+/// it.
 ///
-/// A block that was there at the last commit is written into a slot of the journal, and read from there, until a sync
-/// copies it into the base. Blocks behind those go straight into the base. Memory is the index of the slots, which is
-/// taken before the write that needs it and given back by a commit.
+/// A block that was there at the last commit is written into a slot of the journal, and read from there,
+/// until a sync copies it into the base. Blocks behind those go straight into the base. Memory is the index
+/// of the slots, which is taken before the write that needs it and given back by a commit.
 #[derive(Drop)]
 pub struct JournaledPair<P: DevicePair, A: Allocator + Copy = Global> {
     pair: P,
@@ -29,6 +30,7 @@ pub struct JournaledPair<P: DevicePair, A: Allocator + Copy = Global> {
     kept: u32,
     stage: Stage,
     ghost standing: { P.honest pair → IsStanding stage kept slots.homes.items (P.base pair) (P.journal pair)
-        (P.may_leave pair) } by { λ p q i h. standing_fact stage kept slots.homes.items (P.base pair) (P.journal pair)
+        (P.may_leave pair) } by { λ p q i h.
+            standing_fact stage kept slots.homes.items (P.base pair) (P.journal pair)
             (P.may_leave pair) (p h) (q h) i },
 }

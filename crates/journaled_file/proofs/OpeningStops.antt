@@ -10,7 +10,8 @@ use Rattle.titled_pair.specs.Title.{untitled}
 use Rattle.titled_pair.specs.Titled.{Untitled}
 
 -- a call leaves what one before it might have left
-abbrev pub GoesBack : (Blocks → Blocks → Type 0) → (Blocks → Blocks → Type 0) → (Blocks → Blocks → Type 0) → Type 0
+abbrev pub GoesBack : (Blocks → Blocks → Type 0) → (Blocks → Blocks → Type 0) → (Blocks → Blocks → Type 0)
+    → Type 0
 GoesBack past now may_leave = (a b : Blocks) → now a b → past a b ⊎ may_leave a b
 
 -- and that counts as left since
@@ -20,8 +21,10 @@ Counts may_leave past = (a b : Blocks) → may_leave a b → past a b
 -- What stops left since one moment: of the files, once their title is taken over, and once their mark is.
 module _ (files titled marked : Blocks → Blocks → Type 0) (m0 m1 m2 : Blocks → Blocks → Type 0)
     (n0 : Counts m0 files) (n1 : Counts m1 titled) (n2 : Counts m2 marked)
-    (of_title : GoesBack files titled m0) (of_mark : GoesBack (Untitled titled) (Untitled marked) (Untitled m1)) where
-  to_files : (a e : Blocks) → Untitled titled a (untitled e) → (d : Blocks) × files a d × (untitled e ≡ untitled d)
+    (of_title : GoesBack files titled m0)
+    (of_mark : GoesBack (Untitled titled) (Untitled marked) (Untitled m1)) where
+  to_files : (a e : Blocks) → Untitled titled a (untitled e)
+      → (d : Blocks) × files a d × (untitled e ≡ untitled d)
   to_files a e s = (s.0, ⊎_elim (λ was. was) (λ now. n0 a s.0 now) (of_title a s.0 s.1), s.2)
 
   to_titled : (a e : Blocks) → Untitled marked a (untitled e) → Untitled titled a (untitled e)

@@ -29,17 +29,20 @@ torn_header base a torn = ⊎_elim
 
 -- what is left once the end is there is judged to be ended
 pub is_ended : (base a e : Blocks) → IsJournal e → IsEnding base a e → IsJudged Ended a e
-is_ended base a e is ending = (is, ending.end ∙ sym (ap (with_text end_text) (torn_header base a ending.gate)))
+is_ended base a e is ending =
+    (is, ending.end ∙ sym (ap (with_text end_text) (torn_header base a ending.gate)))
 
 -- and the gate that is then written takes the torn one's place
 pub gate_again : (g : List ℕ) (base a : Blocks) → Torn 0 base a → written 0 g a ≡ written 0 g base
 gate_again g base a torn = ⊎_elim
     (λ (e : a ≡ base). ap (written 0 g) e)
-    (λ (w : (b : List ℕ) × IsBlock b × (a ≡ written 0 b base)). ap (written 0 g) w.2 ∙ written_again g w.0 base)
+    (λ (w : (b : List ℕ) × IsBlock b × (a ≡ written 0 b base)). ap (written 0 g) w.2
+    ∙ written_again g w.0 base)
     torn
 
 -- an end that is torn leaves the title, and the journal behind it
-pub torn_end : (d e : Blocks) → 2 ≤ length d → Torn 1 d e → (block_at 0 e ≡ block_at 0 d) × (untitled e ≡ untitled d)
+pub torn_end : (d e : Blocks) → 2 ≤ length d → Torn 1 d e
+    → (block_at 0 e ≡ block_at 0 d) × (untitled e ≡ untitled d)
 torn_end d e two torn = ⊎_elim
     (λ (same : e ≡ d). (ap (block_at 0) same, ap untitled same))
     (λ (w : (b : List ℕ) × IsBlock b × (e ≡ written 1 b d)).

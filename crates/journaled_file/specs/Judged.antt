@@ -1,4 +1,5 @@
--- What the file that has the name of a base's journal is to the base (our format, docs/FORMAT.md, "The journal", "Files").
+-- What the file that has the name of a base's journal is to the base (our format, docs/FORMAT.md, "The
+-- journal", "Files").
 use Rattle.std.specs.Prelude.{◌≡◌, ◌<◌, ◌≤◌, ◌⊎◌, true, length}
 use Rattle.block_device.specs.Device.{Blocks, block_at}
 use Rattle.journaled_device.specs.Journal.{gate_says}
@@ -34,6 +35,7 @@ IsJudged Ended a e = IsJournal e × HasEnded a e
 IsJudged Missing a e = (¬ IsJournal e) × (IsMarked a ⊎ (2 < length e))
 IsJudged Foreign a e = (¬ IsMarked a) × HasEntries e × ¬ IsOf a e
 
--- it has no title, or has entries beside a base without a header, or what stands behind its title is no journal
+-- it has no title, or has entries beside a base without a header, or what stands behind its title is no
+-- journal
 abbrev pub IsNoJournal : Blocks → Blocks → Type 0
 IsNoJournal a e = (length e < 2) ⊎ ((length a < 2) × (4 < length e)) ⊎ IsMalformed (unmarked a) (untitled e)

@@ -1,5 +1,6 @@
 -- Laws of what is found beside a base.
-use Rattle.std.proofs.Common.{◌≡◌, ◌∙◌, ◌<◌, ◌≤◌, ℕ, true, List, [], length, zero, suc, refl, sym, ap, subst, arith, ⊎_elim}
+use Rattle.std.proofs.Common.{◌≡◌, ◌∙◌, ◌<◌, ◌≤◌, ℕ, true, List, [], length, zero, suc, refl, sym, ap, subst}
+use Rattle.std.proofs.Common.{arith, ⊎_elim}
 use Rattle.std.proofs.lemmas.List.{get_or_default}
 use Rattle.block_bytes.specs.Numbers.{zeros}
 use Rattle.block_device.specs.Device.{Blocks, block_at}
@@ -8,15 +9,18 @@ use Rattle.journaled_file.specs.declared.judging.Found.{Found}
 use Rattle.journaled_file.specs.declared.judging.Found.TheVariants.{Missing, Foreign}
 use Rattle.marked_pair.specs.Behind.{IsLeft, IsPlain}
 use Rattle.marked_pair.specs.Mark.{IsMarked}
-use Rattle.titled_pair.specs.Title.{header_in, reads_title, title_of, title_text, untitled, with_text, HasTitle}
+use Rattle.titled_pair.specs.Title.{header_in, reads_title, title_of, title_text, untitled, with_text}
+use Rattle.titled_pair.specs.Title.{HasTitle}
 use Rattle.titled_pair.specs.TitleLaws.{length-untitled}
 
 -- a base all of whose blocks but the gate are another's, of two blocks at least, has its title
-same_title : (n : ℕ) (base a b : Blocks) → n ≡ length base → 2 ≤ n → IsPlain n base a b → title_of a ≡ title_of base
+same_title : (n : ℕ) (base a b : Blocks) → n ≡ length base → 2 ≤ n → IsPlain n base a b
+    → title_of a ≡ title_of base
 same_title n base a b size two plain =
     let same : block_at 1 a ≡ block_at 1 base = plain.same 1 (omega arith) (omega (arith, two)) in
     ap (with_text title_text)
-    (get_or_default a 1 zeros [] (omega (arith, plain.there, two)) ∙ same ∙ get_or_default base 1 [] zeros (omega (arith, size, two)))
+    (get_or_default a 1 zeros [] (omega (arith, plain.there, two)) ∙ same
+    ∙ get_or_default base 1 [] zeros (omega (arith, size, two)))
 
 -- a journal with the title of a journal is one
 pub is_journal : (journal e : Blocks) → IsJournal journal → HasTitle journal e → IsJournal e
@@ -26,11 +30,15 @@ is_journal journal e is has = record { room = has.room; title = ap reads_title h
 pub none_missing : (journal a e : Blocks) → IsJournal journal → HasTitle journal e → ¬ IsJudged Missing a e
 none_missing journal a e is has judged = judged.0 (is_journal journal e is has)
 
-pub none_foreign : (n : ℕ) (base journal a e : Blocks) → n ≡ length base → (¬ IsMarked base → IsOf base journal) → HasTitle journal e → IsLeft n base a (untitled e) → ¬ IsJudged Foreign a e
+pub none_foreign : (n : ℕ) (base journal a e : Blocks) → n ≡ length base
+    → (¬ IsMarked base → IsOf base journal) → HasTitle journal e → IsLeft n base a (untitled e)
+    → ¬ IsJudged Foreign a e
 none_foreign n base journal a e size of has left judged =
     let plain = left.plain judged.0 in
     let two : 2 ≤ n = many n plain.few in
-    judged.2 (has.title ∙ of (λ m. judged.0 (left.found m)) ∙ sym (same_title n base a (untitled e) size two plain))
+    judged.2
+    (has.title ∙ of (λ m. judged.0 (left.found m))
+    ∙ sym (same_title n base a (untitled e) size two plain))
   where
     many : (k : ℕ) → (k < 2 → length (untitled e) ≤ 2) → 2 ≤ k
     many zero few = absurd (omega (arith, few (omega arith), length-untitled e, judged.1.room))

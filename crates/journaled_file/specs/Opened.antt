@@ -1,5 +1,5 @@
--- What is read of a base and its journal once they are opened, and what a stop within that leaves (our format,
--- docs/FORMAT.md, "The journal", "Files").
+-- What is read of a base and its journal once they are opened, and what a stop within that leaves (our
+-- format, docs/FORMAT.md, "The journal", "Files").
 use Rattle.std.specs.Prelude.{◌≡◌, ◌⊎◌}
 use Rattle.block_device.specs.Device.{Begins, Blocks}
 use Rattle.journaled_device.specs.Journal.{recovered}

@@ -18,9 +18,9 @@ use std::alloc::{Alloc, Global};
 use std::fs::{File, Files};
 use titled_pair::end_of_base;
 
-/// Ends a run over the file at `path`: what was not committed is given up, the mark is taken away, and the journal is
-/// removed. Whether it could be done is answered. Where it could not, or where this is cut short, the next opening
-/// brings the same blocks back.
+/// Ends a run over the file at `path`: what was not committed is given up, the mark is taken away, and the
+/// journal is removed. Whether it could be done is answered. Where it could not, or where this is cut short,
+/// the next opening brings the same blocks back.
 pub fn end_journaled<R: Files<File = File> + Alloc>(
     rt: &R,
     alloc: Global,
@@ -38,8 +38,9 @@ pub fn end_journaled<R: Files<File = File> + Alloc>(
     }
 }
 
-/// Takes the mark of the base away, once the journal says that the session has ended. Whether the base is then read
-/// without its journal is answered: it is not where a commit was not finished, and then nothing is written.
+/// Takes the mark of the base away, once the journal says that the session has ended. Whether the base is
+/// then read without its journal is answered: it is not where a commit was not finished, and then nothing is
+/// written.
 pub fn end_session<P: DevicePair>(pair: &mut P) -> Result<bool, DeviceError>
     ensures ended { P.honest pair.old → IfOk result (λ t. t ≡ true → ¬ HasEntries (P.journal pair.old)) }
     ensures not_ended { P.honest pair.old →
@@ -51,7 +52,8 @@ pub fn end_session<P: DevicePair>(pair: &mut P) -> Result<bool, DeviceError>
     ensures durable { P.honest pair.old → IsMarked (P.base pair.old) →
         IfOk result (λ t. t ≡ true → LeavesBase (P.base pair.new) (P.may_leave pair.new)) }
 
-    // Before its end stands in the journal, a stop leaves what one left before, and from then on a base that is ending.
+    // Before its end stands in the journal, a stop leaves what one left before, and from then on a base that
+    // is ending.
     ensures stops { P.honest pair.old →
         PairLeaves P.moment P.left_since pair.old pair.new
         (LeavesEnding (P.may_leave pair.old) (P.base pair.old)) }
@@ -70,8 +72,8 @@ pub fn end_session<P: DevicePair>(pair: &mut P) -> Result<bool, DeviceError>
     Ok(true)
 }
 
-// Has the journal say that the session has ended with the base as it is, all of it synced. Whether it has room for that
-// is answered.
+// Has the journal say that the session has ended with the base as it is, all of it synced. Whether it has
+// room for that is answered.
 fn put_end<P: DevicePair>(pair: &mut P) -> Result<bool, DeviceError>
     ensures base { P.honest pair.old → P.base pair.new ≡ P.base pair.old }
     ensures end { P.honest pair.old →

@@ -28,10 +28,11 @@ pub enum Found {
     Foreign,
 }
 
-/// Tells what the journal of a pair is to its base (docs/FORMAT.md, "The journal", "Files"). Nothing is written. It
-/// fails where the pair does.
+/// Tells what the journal of a pair is to its base (docs/FORMAT.md, "The journal", "Files"). Nothing is
+/// written. It fails where the pair does.
 pub fn judge<P: DevicePair>(pair: &mut P) -> Result<Found, DeviceError>
-    ensures judged { P.honest pair.old → IfOk result (λ found. IsJudged found (P.base pair.old) (P.journal pair.old)) }
+    ensures judged { P.honest pair.old →
+        IfOk result (λ found. IsJudged found (P.base pair.old) (P.journal pair.old)) }
     ensures quiet { P.honest pair.old → IsQuiet P.DevicePair pair.old pair.new }
     ensures honest { P.honest pair.old ↔ P.honest pair.new }
 {
@@ -64,7 +65,8 @@ fn judge_titled<P: DevicePair>(
     requires unmarked { P.honest pair.old → marked ≡ false → ¬ IsMarked (P.base pair.old) }
     requires title { P.honest pair.old → title.now ≡ block_at 0 (P.journal pair.old) }
     requires reads { reads_title title.now ≡ true }
-    ensures judged { P.honest pair.old → IfOk result (λ found. IsJudged found (P.base pair.old) (P.journal pair.old)) }
+    ensures judged { P.honest pair.old →
+        IfOk result (λ found. IsJudged found (P.base pair.old) (P.journal pair.old)) }
     ensures quiet { P.honest pair.old → IsQuiet P.DevicePair pair.old pair.new }
     ensures honest { P.honest pair.old ↔ P.honest pair.new }
 {
@@ -103,7 +105,8 @@ pub(crate) fn is_marked<P: DevicePair>(pair: &mut P) -> Result<bool, DeviceError
 // Whether the journal says that its session has ended with this base.
 fn has_ended<P: DevicePair>(pair: &mut P) -> Result<bool, DeviceError>
     requires room { P.honest pair.old → 2 ≤ length (P.journal pair.old) }
-    ensures is { P.honest pair.old → IfOk result (λ t. t ≡ true → HasEnded (P.base pair.old) (P.journal pair.old)) }
+    ensures is { P.honest pair.old →
+        IfOk result (λ t. t ≡ true → HasEnded (P.base pair.old) (P.journal pair.old)) }
     ensures none { P.honest pair.old →
         IfOk result (λ t. t ≡ false → ¬ HasEnded (P.base pair.old) (P.journal pair.old)) }
     ensures quiet { P.honest pair.old → IsQuiet P.DevicePair pair.old pair.new }

@@ -9,8 +9,8 @@ ghost use Rattle.marked_pair.specs.Mark.{IsMarked};
 ghost use Rattle.page_file.specs.Layout.{gate_block};
 ghost use Rattle.titled_pair.specs.Title.{untitled, HasTitle};
 
-/// What a session leaves of a base and its journal is opened: where its journal had a title, of the base that it found
-/// or beside a base with the mark, the file beside the base is not missing, and not another's.
+/// What a session leaves of a base and its journal is opened: where its journal had a title, of the base that
+/// it found or beside a base with the mark, the file beside the base is not missing, and not another's.
 ///
 /// What a stop leaves is so by the laws `marked_pair::laws::a_stop_leaves_a_mark_or_the_base_as_it_was` and
 /// `titled_pair::laws::a_stop_leaves_the_title`.
@@ -20,9 +20,9 @@ pub fn what_a_session_leaves_is_its_own()
         IsLeft (length base) base a (untitled e) → ¬ IsJudged Foreign a e }
 {}
 
-/// A clean end that is cut short is finished by the next opening: what is left once its end is in the journal is judged to
-/// be ended, whatever bytes the gate of its base has, and the gate that is then written makes the base what it was to be.
-/// Before that an end that is torn leaves the title, and the journal behind it.
+/// A clean end that is cut short is finished by the next opening: what is left once its end is in the journal
+/// is judged to be ended, whatever bytes the gate of its base has, and the gate that is then written makes
+/// the base what it was to be. Before that an end that is torn leaves the title, and the journal behind it.
 pub fn an_end_that_is_cut_short_is_finished()
     ensures ended { (base a e : Blocks) → IsJournal e → IsEnding base a e → IsJudged Ended a e }
     ensures shut { (base a e : Blocks) → IsEnding base a e →

@@ -1,7 +1,8 @@
 //! A file with its journal beside it, `FILE-journal`: opened as one device, and ended.
 //!
-//! The device commits, so a run that is cut short loses nothing that it had closed (docs/FORMAT.md, "The journal").
-//! While a run has committed and has not ended, the file alone is refused by whoever knows no journal.
+//! The device commits, so a run that is cut short loses nothing that it had closed (docs/FORMAT.md, "The
+//! journal"). While a run has committed and has not ended, the file alone is refused by whoever knows no
+//! journal.
 #![tactic(auto)]
 
 mod end;

@@ -34,12 +34,13 @@ pub type JournaledFile = JournaledOver<Pair, Global>;
 // A file and its journal.
 type Pair = TwoDevices<FileDevice<HostFile<File>>, FileDevice<HostFile<File>>>;
 
-/// Opens the file at `path` for reading and writing, and its journal beside it, which is made where there is none. With
-/// `create` an empty file is made where there is none.
+/// Opens the file at `path` for reading and writing, and its journal beside it, which is made where there is
+/// none. With `create` an empty file is made where there is none.
 ///
-/// Both are locked until they are closed. What a run that was cut short had closed is brought back; the answer says
-/// whether such a run had closed anything and not ended. A journal without entries, beside a file that needs none, is
-/// made anew. Where the journal is none or another file's, nothing is written into either.
+/// Both are locked until they are closed. What a run that was cut short had closed is brought back; the
+/// answer says whether such a run had closed anything and not ended. A journal without entries, beside a file
+/// that needs none, is made anew. Where the journal is none or another file's, nothing is written into
+/// either.
 pub fn open_journaled<R: Files<File = File> + Alloc>(
     rt: &R,
     alloc: Global,
@@ -55,8 +56,8 @@ pub fn open_journaled<R: Files<File = File> + Alloc>(
     }
 }
 
-/// The path of the journal of the file that this path leads to: it lies beside the file itself, and not beside a link
-/// to it.
+/// The path of the journal of the file that this path leads to: it lies beside the file itself, and not
+/// beside a link to it.
 pub(crate) fn journal_name<R: Files<File = File> + Alloc>(
     rt: &R,
     alloc: Global,
@@ -68,7 +69,8 @@ pub(crate) fn journal_name<R: Files<File = File> + Alloc>(
     }
 }
 
-// Opens the journal of a file, and judges both. The pair has a title; whether the last run had not ended is told.
+// Opens the journal of a file, and judges both. The pair has a title; whether the last run had not ended is
+// told.
 fn paired<R: Files<File = File>>(
     rt: &R,
     name: &str,
@@ -120,7 +122,8 @@ fn renewed<R: Files<File = File>>(rt: &R, name: &str, pair: Pair) -> Result<Pair
 
 /// Judges, and finishes a clean end that was cut short, after which the base is read without its journal.
 pub fn judge_and_finish<P: DevicePair>(pair: &mut P) -> Result<Found, DeviceError>
-    ensures judged { P.honest pair.old → IfOk result (λ found. IsJudged found (P.base pair.old) (P.journal pair.old)) }
+    ensures judged { P.honest pair.old →
+        IfOk result (λ found. IsJudged found (P.base pair.old) (P.journal pair.old)) }
     ensures finished { P.honest pair.old → 0 < length (P.base pair.old) →
         IfOk result (λ found. found ≡ Ended → P.base pair.new ≡ written 0 (gate_block 1) (P.base pair.old)) }
     ensures other { P.honest pair.old →
@@ -155,9 +158,9 @@ pub(crate) fn shut_gate<P: DevicePair>(pair: &mut P) -> Result<(), DeviceError>
     pair.sync_base()
 }
 
-/// Opens a pair whose journal has a title. Where the pair is honest, what is then read is what recovery makes of the
-/// base, a gate with the mark as a shut one, and of the journal behind its title; and a stop within leaves what is read
-/// so again. Where it is refused, the pair is given back.
+/// Opens a pair whose journal has a title. Where the pair is honest, what is then read is what recovery makes
+/// of the base, a gate with the mark as a shut one, and of the journal behind its title; and a stop within
+/// leaves what is read so again. Where it is refused, the pair is given back.
 pub fn open_over<P: DevicePair + Drop, A: Allocator + Copy>(
     pair: P,
     alloc: A,

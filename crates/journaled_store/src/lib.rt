@@ -26,12 +26,13 @@ use marked_pair::MarkedPair;
 use std::alloc::Allocator;
 use titled_pair::TitledPair;
 
-/// **Whatever a stop leaves of base and journal, recovery makes of it an image of a table that was closed, which opening
-/// does not refuse.**
+/// **Whatever a stop leaves of base and journal, recovery makes of it an image of a table that was closed,
+/// which opening does not refuse.**
 ///
-/// Of a stop now, between two calls of a store, it is the table that the state of the session keeps: the one that was
-/// closed last, or one whose closing was tried since. Of one at any moment since the beginning, also within a call, it
-/// is one of those that were kept since. So it is, too, where the store is given up and its pair opened again.
+/// Of a stop now, between two calls of a store, it is the table that the state of the session keeps: the one
+/// that was closed last, or one whose closing was tried since. Of one at any moment since the beginning, also
+/// within a call, it is one of those that were kept since. So it is, too, where the store is given up and its
+/// pair opened again.
 pub fn a_stop_leaves_a_table_that_was_closed<P: DevicePair, A: Allocator + Copy, S: Allocator>()
     ensures now { (store : Store (Journaled P A ⟦<P as DevicePair>⟧) S ⟦<JournaledDevice<P, A> as BlockDevice>⟧)
         (s : SessionState) (a b : Blocks) → Represents store s → P.may_leave (pair_of (device_in store)) a b →
@@ -52,19 +53,22 @@ pub fn a_stop_leaves_a_table_that_was_closed<P: DevicePair, A: Allocator + Copy,
     a_stop_is_found_to_have_left_a_closed_table::<JournaledDevice<P, A>, S>();
 }
 
-/// **The same of two files as they lie on disk, the base with its mark and the journal with its title**: what recovery
-/// makes of them, as `journaled_file::open_over` opens them, is such a table, now and at any moment since the beginning.
+/// **The same of two files as they lie on disk, the base with its mark and the journal with its title**: what
+/// recovery makes of them, as `journaled_file::open_over` opens them, is such a table, now and at any moment
+/// since the beginning.
 pub fn a_stop_of_both_files_leaves_a_table_that_was_closed<
     P: DevicePair + Drop,
     A: Allocator + Copy,
     S: Allocator,
 >()
-    ensures now { (store : Store (Journaled (Marked (Titled P ⟦<P as DevicePair>⟧) ⟦<TitledPair<P> as DevicePair>⟧) A
+    ensures now { (store : Store
+        (Journaled (Marked (Titled P ⟦<P as DevicePair>⟧) ⟦<TitledPair<P> as DevicePair>⟧) A
         ⟦<MarkedPair<TitledPair<P>> as DevicePair>⟧) S
         ⟦<JournaledDevice<MarkedPair<TitledPair<P>>, A> as BlockDevice>⟧) (s : SessionState) (a e : Blocks) →
         Represents store s → P.may_leave (files_of (titled_of (pair_of (device_in store)))) a e →
         IsImageOfOne s.stops.kept (recovered (unmarked a) (untitled e)) }
-    ensures so_far { (store : Store (Journaled (Marked (Titled P ⟦<P as DevicePair>⟧) ⟦<TitledPair<P> as DevicePair>⟧) A
+    ensures so_far { (store : Store
+        (Journaled (Marked (Titled P ⟦<P as DevicePair>⟧) ⟦<TitledPair<P> as DevicePair>⟧) A
         ⟦<MarkedPair<TitledPair<P>> as DevicePair>⟧) S
         ⟦<JournaledDevice<MarkedPair<TitledPair<P>>, A> as BlockDevice>⟧) (s : SessionState) (a e : Blocks) →
         Represents store s →

@@ -1,14 +1,18 @@
 -- What a check of a layer finds: a tree and a table of the same objects, on pages of their own.
-use Rattle.std.proofs.Common.{Result, Ok, Err, IfErr, IfOk, ◌⊎◌, ◌≡◌, ◌∙◌, ℕ, suc, ◌+◌, ◌<◌, ◌≤◌, ◌==◌, ◌||◌, Bool, true, false, cond, eqb, Option, Some, None, IsSome, List, [], ◌∷◌, ◌++◌, length, get_or, not, All, refl, sym, ap, subst, ⊎_elim, inl, inr, arith}
+use Rattle.std.proofs.Common.{Result, Ok, Err, IfErr, IfOk, ◌⊎◌, ◌≡◌, ◌∙◌, ℕ, suc, ◌+◌, ◌<◌, ◌≤◌, ◌==◌, ◌||◌}
+use Rattle.std.proofs.Common.{Bool, true, false, cond, eqb, Option, Some, None, IsSome, List, [], ◌∷◌, ◌++◌}
+use Rattle.std.proofs.Common.{length, get_or, not, All, refl, sym, ap, subst, ⊎_elim, inl, inr, arith}
 use Rattle.std.specs.Prelude.{IsPermutation, is_some}
 use Rattle.std.specs.Cmp.{nat_cmp_total}
-use Rattle.std.specs.FinMap.{contains_key, entries, entries_sorted, from_entries, get-from_entries, len-entries}
+use Rattle.std.specs.FinMap.{contains_key, entries, entries_sorted, from_entries, get-from_entries}
+use Rattle.std.specs.FinMap.{len-entries}
 use Rattle.std.specs.List.{flat_map}
 use Rattle.std.specs.List.Sorted.{IsNonDecreasingBy}
 use Rattle.std.specs.Ordering.{nat_cmp}
 use Rattle.std.proofs.lemmas.Bool.{cases_eq}
 use Rattle.std.proofs.lemmas.Bool.Decides.{nat_tests}
-use Rattle.std.proofs.lemmas.List.Sorted.{IsPermutation-cons, IsPermutation-sym, IsPermutation-trans, length_permutation}
+use Rattle.std.proofs.lemmas.List.Sorted.{IsPermutation-cons, IsPermutation-sym, IsPermutation-trans}
+use Rattle.std.proofs.lemmas.List.Sorted.{length_permutation}
 use Rattle.block_bytes.specs.Kinds.{directory_kind, node_kind, untagged_node_kind}
 use Rattle.box_math.specs.Bounds.{IsBox}
 use Rattle.box_math.specs.Objects.{bounds_of}
@@ -33,7 +37,9 @@ use Rattle.node_page.proofs.PartLemmas.{none_or_some}
 use Rattle.node_page.proofs.Reading.{spells as node_spells}
 use Rattle.node_page.proofs.StandingLemmas.{one_tree_stands, pages_are_there}
 use Rattle.id_table.specs.Checked.{IsCheckedTable}
-use Rattle.id_table.specs.Table.{Bucket, ChainStands, IdTable, IdsStand, IsDirectory, kept_in, bucket_in, class_of, entries_in, entries_of, link_at, objects_of, occurs_in_ids, times_in}
+use Rattle.id_table.specs.Table.{Bucket, ChainStands, IdTable, IdsStand, IsDirectory, kept_in, bucket_in}
+use Rattle.id_table.specs.Table.{class_of, entries_in, entries_of, link_at, objects_of, occurs_in_ids}
+use Rattle.id_table.specs.Table.{times_in}
 use Rattle.id_table.proofs.AddLemmas.{none_times}
 use Rattle.id_table.proofs.CheckLemmas.{times-append}
 use Rattle.id_table.proofs.CheckedLemmas.{live_table_is_given, one_chain, table_carried}
@@ -48,54 +54,75 @@ use Rattle.layer_pages.proofs.ObjectLemmas.{no_objects, one_entry_more, one_orde
 abbrev IsOfClass : ℕ → Entry → Type 0
 IsOfClass class object = class_of object.0 ≡ class
 
--- in chains of remainders from one on, an identifier is once, and not at all where its remainder lies before them
-once_in_chains : (q class : ℕ) (cs : List (List Bucket)) → ((i : ℕ) → i < length cs → All (IsOfClass (class + i)) (entries_in (get_or cs i []))) → ((i : ℕ) → i < length cs → times_in q (entries_in (get_or cs i [])) ≤ 1)
-    → (times_in q (flat_map entries_in cs) ≤ 1) × (class_of q < class → times_in q (flat_map entries_in cs) ≡ 0)
+-- in chains of remainders from one on, an identifier is once, and not at all where its remainder lies before
+-- them
+once_in_chains : (q class : ℕ) (cs : List (List Bucket))
+    → ((i : ℕ) → i < length cs → All (IsOfClass (class + i)) (entries_in (get_or cs i [])))
+    → ((i : ℕ) → i < length cs → times_in q (entries_in (get_or cs i [])) ≤ 1)
+    → (times_in q (flat_map entries_in cs) ≤ 1)
+    × (class_of q < class → times_in q (flat_map entries_in cs) ≡ 0)
 once_in_chains q class [] placed single = (omega arith, λ before. refl)
 once_in_chains q class (c ∷ cs) placed single =
-    let here : All (IsOfClass class) (entries_in c) = (let same : class + 0 ≡ class = omega arith in subst (λ (k : ℕ). All (IsOfClass k) (entries_in c)) same (placed 0 (omega arith))) in
+    let here : All (IsOfClass class) (entries_in c) =
+    (let same : class + 0 ≡ class = omega arith in
+    subst (λ (k : ℕ). All (IsOfClass k) (entries_in c)) same (placed 0 (omega arith))) in
     let later = once_in_chains q (class + 1) cs
-    (λ i lt. let next : class + suc i ≡ (class + 1) + i = omega arith in subst (λ (k : ℕ). All (IsOfClass k) (entries_in (get_or cs i []))) next (placed (suc i) (omega (arith, lt))))
+    (λ i lt. let next : class + suc i ≡ (class + 1) + i = omega arith in
+    subst (λ (k : ℕ). All (IsOfClass k) (entries_in (get_or cs i []))) next
+    (placed (suc i) (omega (arith, lt))))
     (λ i lt. single (suc i) (omega (arith, lt))) in
-    let none : ¬ (class_of q ≡ class) → times_in q (entries_in c) ≡ 0 = λ other. none_times q (entries_in c) (elsewhere q class (entries_in c) here other) in
+    let none : ¬ (class_of q ≡ class)
+    → times_in q (entries_in c) ≡ 0 =
+    λ other. none_times q (entries_in c) (elsewhere q class (entries_in c) here other) in
     let sum = times-append q (entries_in c) (flat_map entries_in cs) in (
       ⊎_elim
-          (λ (is : class_of q ≡ class). omega (arith, sum, single 0 (omega arith), later.1 (omega (arith, is))))
+          (λ (is : class_of q ≡ class). omega
+          (arith, sum, single 0 (omega arith), later.1 (omega (arith, is))))
           (λ (other : ¬ (class_of q ≡ class)). omega (arith, sum, none other, later.0))
           (cases_eq (class_of q) class),
       λ before. omega (arith, sum, none (λ is. omega (arith, is, before)), later.1 (omega (arith, before))),
     )
 
-once_in_table : (dims : ℕ) (pages : PageMap) (t : IdTable) (q : ℕ) → IdsStand dims pages t → times_in q (entries_of t) ≤ 1
+once_in_table : (dims : ℕ) (pages : PageMap) (t : IdTable) (q : ℕ) → IdsStand dims pages t
+    → times_in q (entries_of t) ≤ 1
 once_in_table dims pages t q stands =
     (once_in_chains q 0 t.chains
-    (λ i lt. let same : i ≡ 0 + i = omega arith in subst (λ (k : ℕ). All (IsOfClass k) (entries_in (get_or t.chains i []))) same (stands.filled i (omega (arith, lt, stands.whole))).placed)
+    (λ i lt. let same : i ≡ 0 + i = omega arith in
+    subst (λ (k : ℕ). All (IsOfClass k) (entries_in (get_or t.chains i []))) same
+    (stands.filled i (omega (arith, lt, stands.whole))).placed)
     (λ i lt. (stands.filled i (omega (arith, lt, stands.whole))).single q)).0
 
 none_found : (q : ℕ) (es : List Entry) → times_in q es ≡ 0 → kept_in q es ≡ None
 none_found q [] none = refl
 none_found q (e ∷ es) none = step (eqb e.0 q) (times_in q es) none (none_found q es)
   where
-    step : (b : Bool) (n : ℕ) → cond b 1 0 + n ≡ 0 → (n ≡ 0 → kept_in q es ≡ None) → cond b (Some e.1) (kept_in q es) ≡ None
+    step : (b : Bool) (n : ℕ) → cond b 1 0 + n ≡ 0 → (n ≡ 0 → kept_in q es ≡ None)
+        → cond b (Some e.1) (kept_in q es) ≡ None
     step true n none rest = absurd (omega (arith, none))
     step false n none rest = rest (omega (arith, none))
 
 -- so its objects are the entries of their map
-entries_once : (es : List Entry) → ((q : ℕ) → times_in q es ≤ 1) → IsPermutation es (entries (from_entries {R = nat_cmp} es))
+entries_once : (es : List Entry) → ((q : ℕ) → times_in q es ≤ 1)
+    → IsPermutation es (entries (from_entries {R = nat_cmp} es))
 entries_once [] once = no_objects
 entries_once (e ∷ es) once =
     let alone : times_in e.0 es ≡ 0 = omega (arith, once e.0, occurs_here e.0) in
     let rest = entries_once es (λ q. omega (arith, once q)) in
-    let absent : contains_key (from_entries {R = nat_cmp} es) e.0 ≡ false = ap is_some (get-from_entries nat_cmp_total es e.0 ∙ found_is e.0 es ∙ none_found e.0 es alone) in
-    IsPermutation-trans (e ∷ es) (e ∷ entries (from_entries {R = nat_cmp} es)) (entries (from_entries {R = nat_cmp} (e ∷ es)))
-    (IsPermutation-cons e es (entries (from_entries {R = nat_cmp} es)) rest) (one_entry_more (from_entries {R = nat_cmp} es) e.0 e.1 absent)
+    let absent : contains_key (from_entries {R = nat_cmp} es) e.0 ≡ false =
+    ap is_some (get-from_entries nat_cmp_total es e.0 ∙ found_is e.0 es ∙ none_found e.0 es alone) in
+    IsPermutation-trans (e ∷ es) (e ∷ entries (from_entries {R = nat_cmp} es))
+    (entries (from_entries {R = nat_cmp} (e ∷ es)))
+    (IsPermutation-cons e es (entries (from_entries {R = nat_cmp} es)) rest)
+    (one_entry_more (from_entries {R = nat_cmp} es) e.0 e.1 absent)
 
-pub table_entries : (dims : ℕ) (pages : PageMap) (t : IdTable) → IdsStand dims pages t → IsPermutation (entries_of t) (entries (objects_of t))
+pub table_entries : (dims : ℕ) (pages : PageMap) (t : IdTable) → IdsStand dims pages t
+    → IsPermutation (entries_of t) (entries (objects_of t))
 table_entries dims pages t stands = entries_once (entries_of t) (λ q. once_in_table dims pages t q stands)
 
 -- ---- one tree and one table stand
 
-same_lists : {X : Type 0} (xs ys : List X) (d : X) → length xs ≡ length ys → ((k : ℕ) → k < length xs → get_or xs k d ≡ get_or ys k d) → xs ≡ ys
+same_lists : {X : Type 0} (xs ys : List X) (d : X) → length xs ≡ length ys
+    → ((k : ℕ) → k < length xs → get_or xs k d ≡ get_or ys k d) → xs ≡ ys
 same_lists [] [] d many same = refl
 same_lists [] (y ∷ ys) d many same = absurd (omega (arith, many))
 same_lists (x ∷ xs) [] d many same = absurd (omega (arith, many))
@@ -104,14 +131,19 @@ same_lists (x ∷ xs) (y ∷ ys) d many same =
     let rest = same_lists xs ys d (omega (arith, many)) (λ k lt. same (suc k) (omega (arith, lt))) in
     cc
 
-pub one_table : (dims : ℕ) (m : PageMap) (s t : IdTable) → s.page ≡ t.page → IdsStand dims m s → IdsStand dims m t → s ≡ t
+pub one_table : (dims : ℕ) (m : PageMap) (s t : IdTable) → s.page ≡ t.page → IdsStand dims m s
+    → IdsStand dims m t → s ≡ t
 one_table dims m s t at a b =
-    let there : ◌≡◌ {A = Option (List ℕ)} (Some a.directory) (Some b.directory) = sym a.there ∙ ap m at ∙ b.there in
+    let there : ◌≡◌ {A = Option (List ℕ)} (Some a.directory) (Some b.directory) = sym a.there ∙ ap m at
+    ∙ b.there in
     let same : ◌≡◌ {A = List ℕ} a.directory b.directory = cc in
     let chains = same_lists s.chains t.chains [] (a.whole ∙ sym b.whole) (λ class lt.
-    one_chain dims m (link_at class a.directory) (get_or s.chains class []) (get_or t.chains class []) (a.chains class (omega (arith, lt, a.whole)))
-    (subst (λ (d : List ℕ). ChainStands dims m (link_at class d) (get_or t.chains class [])) (sym same) (b.chains class (omega (arith, lt, a.whole))))) in
-    ap (λ (p : ℕ). record { page = p; chains = s.chains }) at ∙ ap (λ (cs : List (List Bucket)). record { page = t.page; chains = cs }) chains
+    one_chain dims m (link_at class a.directory) (get_or s.chains class []) (get_or t.chains class [])
+    (a.chains class (omega (arith, lt, a.whole)))
+    (subst (λ (d : List ℕ). ChainStands dims m (link_at class d) (get_or t.chains class [])) (sym same)
+    (b.chains class (omega (arith, lt, a.whole))))) in
+    ap (λ (p : ℕ). record { page = p; chains = s.chains }) at
+    ∙ ap (λ (cs : List (List Bucket)). record { page = t.page; chains = cs }) chains
 
 -- ---- no page of a tree is one of a table
 
@@ -120,7 +152,8 @@ abbrev passing : (List ℕ → Bool) → Option (List ℕ) → Option (List ℕ)
 passing test None = None
 passing test (Some page) = cond (test page) (Some page) None
 
-passes : (test : List ℕ → Bool) (page : Option (List ℕ)) (bytes : List ℕ) → page ≡ Some bytes → test bytes ≡ true → passing test page ≡ Some bytes
+passes : (test : List ℕ → Bool) (page : Option (List ℕ)) (bytes : List ℕ) → page ≡ Some bytes
+    → test bytes ≡ true → passing test page ≡ Some bytes
 passes test page bytes is good = ap (passing test) is ∙ ap (λ (b : Bool). cond b (Some bytes) None) good
 
 abbrev is_node_kind : ℕ → Bool
@@ -143,16 +176,26 @@ bucket_is_other kind (inr is) = grind (arith, nat_tests)
 directory_is_other : (kind : ℕ) → kind ≡ directory_kind → not (is_node_kind kind) ≡ true
 directory_is_other kind is = grind (arith, nat_tests)
 
-nodes_pass : (dims : ℕ) (page : Option (List ℕ)) (c : NodeContent) → node_in dims page ≡ Some c → node_in dims (passing is_node page) ≡ Some c
+nodes_pass : (dims : ℕ) (page : Option (List ℕ)) (c : NodeContent) → node_in dims page ≡ Some c
+    → node_in dims (passing is_node page) ≡ Some c
 nodes_pass dims None c is = absurd (cc)
-nodes_pass dims (Some page) c is = ap (node_in dims) (passes is_node (Some page) page refl (node_is (kind_of page) (node_spells dims page c is).head.kind)) ∙ is
+nodes_pass dims (Some page) c is =
+    ap (node_in dims)
+    (passes is_node (Some page) page refl (node_is (kind_of page) (node_spells dims page c is).head.kind))
+    ∙ is
 
-buckets_pass : (dims : ℕ) (page : Option (List ℕ)) (c : BucketContent) → bucket_in dims page ≡ Some c → bucket_in dims (passing is_other page) ≡ Some c
+buckets_pass : (dims : ℕ) (page : Option (List ℕ)) (c : BucketContent) → bucket_in dims page ≡ Some c
+    → bucket_in dims (passing is_other page) ≡ Some c
 buckets_pass dims None c is = absurd (cc)
-buckets_pass dims (Some page) c is = ap (bucket_in dims) (passes is_other (Some page) page refl (bucket_is_other (kind_of page) (bucket_spells dims page c is).head.kind)) ∙ is
+buckets_pass dims (Some page) c is =
+    ap (bucket_in dims)
+    (passes is_other (Some page) page refl
+    (bucket_is_other (kind_of page) (bucket_spells dims page c is).head.kind)) ∙ is
 
-directories_pass : (dims : ℕ) (page : Option (List ℕ)) (bytes : List ℕ) → page ≡ Some bytes → IsDirectory dims bytes → passing is_other page ≡ Some bytes
-directories_pass dims page bytes is spelled = passes is_other page bytes is (directory_is_other (kind_of bytes) spelled.kind)
+directories_pass : (dims : ℕ) (page : Option (List ℕ)) (bytes : List ℕ) → page ≡ Some bytes
+    → IsDirectory dims bytes → passing is_other page ≡ Some bytes
+directories_pass dims page bytes is spelled =
+    passes is_other page bytes is (directory_is_other (kind_of bytes) spelled.kind)
 
 not_both : (page : Option (List ℕ)) → IsSome (passing is_node page) → IsSome (passing is_other page) → ⊥
 not_both None node other = absurd (cc)
@@ -162,15 +205,21 @@ not_both (Some page) node other = case (is_node_kind (kind_of page)) node other
     case true node other = absurd (cc)
     case false node other = absurd (cc)
 
-tree_apart : (dims : ℕ) (m : PageMap) (t : Tree) (ids : IdTable) (n : ℕ) → Stands dims m t → IdsStand dims m ids → 0 < occurs_in n t → 0 < occurs_in_ids n ids → ⊥
+tree_apart : (dims : ℕ) (m : PageMap) (t : Tree) (ids : IdTable) (n : ℕ) → Stands dims m t
+    → IdsStand dims m ids → 0 < occurs_in n t → 0 < occurs_in_ids n ids → ⊥
 tree_apart dims m t ids n tree table here there =
-    let at = tree_carried dims m (λ k. passing is_node (m k)) (λ k c is. nodes_pass dims (m k) c is) t.page t.level t.row (record { node = tree.root; below = tree.below }) in
+    let at =
+    tree_carried dims m (λ k. passing is_node (m k)) (λ k c is. nodes_pass dims (m k) c is) t.page
+    t.level t.row (record { node = tree.root; below = tree.below }) in
     not_both (m n)
-    (pages_are_there dims (λ k. passing is_node (m k)) t n (record { root = at.node; below = at.below; distinct = tree.distinct }) here)
+    (pages_are_there dims (λ k. passing is_node (m k)) t n
+    (record { root = at.node; below = at.below; distinct = tree.distinct }) here)
     (table_there dims (λ k. passing is_other (m k)) ids n
-    (table_carried dims m (λ k. passing is_other (m k)) (λ k c is. buckets_pass dims (m k) c is) (λ k page is spelled. directories_pass dims (m k) page is spelled) ids table) there)
+    (table_carried dims m (λ k. passing is_other (m k)) (λ k c is. buckets_pass dims (m k) c is)
+    (λ k page is spelled. directories_pass dims (m k) page is spelled) ids table) there)
 
-once_in_both : (dims : ℕ) (m : PageMap) (t : Tree) (ids : IdTable) (n : ℕ) → Stands dims m t → IdsStand dims m ids → occurs_in n t + occurs_in_ids n ids ≤ 1
+once_in_both : (dims : ℕ) (m : PageMap) (t : Tree) (ids : IdTable) (n : ℕ) → Stands dims m t
+    → IdsStand dims m ids → occurs_in n t + occurs_in_ids n ids ≤ 1
 once_in_both dims m t ids n tree table = ⊎_elim
     (λ (none : occurs_in n t ≡ 0). omega (arith, none, table.once n))
     (λ (some : 0 < occurs_in n t). ⊎_elim
@@ -181,57 +230,95 @@ once_in_both dims m t ids n tree table = ⊎_elim
 
 -- ---- a tree and a table that were checked
 
-module _ (dims most : ℕ) (m : PageMap) (root : Root) (directory : ℕ) (pairs listed : List Entry) (held_pages listed_pages : List ℕ) (tree : IsCheckedTree dims most m root.page root.level pairs held_pages) (table : IsCheckedTable dims m directory listed listed_pages) where
+module _ (dims most : ℕ) (m : PageMap) (root : Root) (directory : ℕ) (pairs listed : List Entry)
+    (held_pages listed_pages : List ℕ)
+    (tree : IsCheckedTree dims most m root.page root.level pairs held_pages)
+    (table : IsCheckedTable dims m directory listed listed_pages) where
   -- their pages together
-  both_pages : (n : ℕ) → named_pages (held_pages ++ listed_pages) n ≡ part_of_layer (record { tree = tree.tree; ids = table.table }) n
-  both_pages n = omega (arith, total-append (λ (page : ℕ). cond (eqb page n) 1 0) held_pages listed_pages, tree.pages_are n, table.pages_are n)
+  both_pages : (n : ℕ)
+      → named_pages (held_pages ++ listed_pages) n ≡ part_of_layer
+      (record { tree = tree.tree; ids = table.table }) n
+  both_pages n =
+      omega (
+        arith,
+        total-append (λ (page : ℕ). cond (eqb page n) 1 0) held_pages listed_pages,
+        tree.pages_are n,
+        table.pages_are n,
+      )
 
   -- are a layer where they have the same objects
-  pub layer_checked : (count : ℕ) → IsPermutation pairs listed → All (λ (object : Entry). IsBox dims (bounds_of object.1)) pairs → length pairs ≡ count → IsCheckedLayer dims most m root directory count (held_pages ++ listed_pages)
+  pub layer_checked : (count : ℕ) → IsPermutation pairs listed
+      → All (λ (object : Entry). IsBox dims (bounds_of object.1)) pairs → length pairs ≡ count
+      → IsCheckedLayer dims most m root directory count (held_pages ++ listed_pages)
   layer_checked count same boxes many =
       let all = table_entries dims m table.table table.stands in
-      let held = IsPermutation-trans pairs (entries_of table.table) (entries (objects_of table.table)) (subst (IsPermutation pairs) table.pairs_are same) all in
+      let held =
+      IsPermutation-trans pairs (entries_of table.table) (entries (objects_of table.table))
+      (subst (IsPermutation pairs) table.pairs_are same) all in
       record {
         layer = record { tree = tree.tree; ids = table.table };
         objects = objects_of table.table;
         stands = record {
-          tree = record { page_is = tree.page_is; level_is = tree.level_is; stands = tree.stands; shape = tree.shape };
-          boxes = row_boxes dims most tree.tree.row tree.shape.below (subst (All (λ (object : Entry). IsBox dims (bounds_of object.1))) tree.pairs_are boxes);
+          tree = record {
+            page_is = tree.page_is;
+            level_is = tree.level_is;
+            stands = tree.stands;
+            shape = tree.shape;
+          };
+          boxes = row_boxes dims most tree.tree.row tree.shape.below
+              (subst (All (λ (object : Entry). IsBox dims (bounds_of object.1))) tree.pairs_are boxes);
           directory_is = table.page_is;
           ids = table.stands;
-          leaves = subst (λ (os : List Entry). IsPermutation os (entries (objects_of table.table))) tree.pairs_are held;
+          leaves =
+              subst (λ (os : List Entry). IsPermutation os (entries (objects_of table.table))) tree.pairs_are
+              held;
           table = refl;
           once = λ n. once_in_both dims m tree.tree table.table n tree.stands table.stands;
         };
-        count_is = len-entries (objects_of table.table) ∙ (let n = length_permutation pairs (entries (objects_of table.table)) held in omega (arith, n, many));
+        count_is = len-entries (objects_of table.table)
+            ∙ (let n = length_permutation pairs (entries (objects_of table.table)) held in
+            omega (arith, n, many));
         pages_are = both_pages;
       }
 
   -- where a layer stands there, they are its tree and its table
   module _ (l : LayerPages) (objects : Objects) (is : IsLayerAt dims most m root directory l objects) where
     tree_same : tree.tree ≡ l.tree
-    tree_same = one_tree_stands dims m tree.tree l.tree (tree.page_is ∙ sym is.tree.page_is) tree.stands is.tree.stands
+    tree_same =
+        one_tree_stands dims m tree.tree l.tree (tree.page_is ∙ sym is.tree.page_is) tree.stands
+        is.tree.stands
 
     table_same : table.table ≡ l.ids
     table_same = one_table dims m table.table l.ids (table.page_is ∙ sym is.directory_is) table.stands is.ids
 
     pub pairs_there : IsPermutation pairs (entries objects)
-    pairs_there = subst (λ (os : List Entry). IsPermutation os (entries objects)) (sym (tree.pairs_are ∙ ap (λ (t : Tree). objects_in t.row) tree_same)) is.leaves
+    pairs_there =
+        subst (λ (os : List Entry). IsPermutation os (entries objects))
+        (sym (tree.pairs_are ∙ ap (λ (t : Tree). objects_in t.row) tree_same)) is.leaves
 
     pub listed_there : IsPermutation listed (entries objects)
-    listed_there = subst (λ (os : List Entry). IsPermutation os (entries objects)) (sym (table.pairs_are ∙ ap entries_of table_same))
-        (subst (λ (o : Objects). IsPermutation (entries_of l.ids) (entries o)) is.table (table_entries dims m l.ids is.ids))
+    listed_there =
+        subst (λ (os : List Entry). IsPermutation os (entries objects))
+        (sym (table.pairs_are ∙ ap entries_of table_same))
+        (subst (λ (o : Objects). IsPermutation (entries_of l.ids) (entries o)) is.table
+        (table_entries dims m l.ids is.ids))
 
 -- ---- lists in the order of identifiers
 
-pub in_order : (objects sorted : List Entry) (all : Objects) → IsPermutation objects sorted → IsNonDecreasingBy (λ (o : Entry). o.0) sorted → IsPermutation objects (entries all) → sorted ≡ entries all
-in_order objects sorted all moved order same = one_order sorted (entries all) order (entries_sorted all) (IsPermutation-trans sorted objects (entries all) (IsPermutation-sym objects sorted moved) same)
+pub in_order : (objects sorted : List Entry) (all : Objects) → IsPermutation objects sorted
+    → IsNonDecreasingBy (λ (o : Entry). o.0) sorted → IsPermutation objects (entries all)
+    → sorted ≡ entries all
+in_order objects sorted all moved order same =
+    one_order sorted (entries all) order (entries_sorted all)
+    (IsPermutation-trans sorted objects (entries all) (IsPermutation-sym objects sorted moved) same)
 
 -- ---- in the pages given out
 
 module _ {B A : Type 0} {m : _} where
   -- a layer of live pages stands in those given out
-  pub layer_given : (dims most : ℕ) (cache : PageCache B A m) (root : Root) (directory : ℕ) (l : LayerPages) (objects : Objects) → IsLayerAt dims most (pages cache) root directory l objects → IsLayerAt dims most (given cache) root directory l objects
+  pub layer_given : (dims most : ℕ) (cache : PageCache B A m) (root : Root) (directory : ℕ) (l : LayerPages)
+      (objects : Objects) → IsLayerAt dims most (pages cache) root directory l objects
+      → IsLayerAt dims most (given cache) root directory l objects
   layer_given dims most cache root directory l objects is =
       let at = live_tree_is_given dims cache l.tree l.tree.page l.tree.level refl refl is.tree.stands in
       record {
@@ -252,7 +339,9 @@ module _ {B A : Type 0} {m : _} where
 -- ---- a check, call after call
 
 -- a table that was checked in equal pages
-pub table_on : (dims : ℕ) (old new : PageMap) (directory : ℕ) (listed : List Entry) (list : List ℕ) → ((n : ℕ) → new n ≡ old n) → IsCheckedTable dims old directory listed list → IsCheckedTable dims new directory listed list
+pub table_on : (dims : ℕ) (old new : PageMap) (directory : ℕ) (listed : List Entry) (list : List ℕ)
+    → ((n : ℕ) → new n ≡ old n) → IsCheckedTable dims old directory listed list
+    → IsCheckedTable dims new directory listed list
 table_on dims old new directory listed list same table = record {
   table = table.table;
   page_is = table.page_is;
@@ -261,18 +350,34 @@ table_on dims old new directory listed list same table = record {
   pages_are = table.pages_are;
 }
 
-module _ (dims most : ℕ) (m : PageMap) (root : Root) (directory count : ℕ) (held listed : List Entry) (held_pages listed_pages : List ℕ) (tree : IsCheckedTree dims most m root.page root.level held held_pages) (table : IsCheckedTable dims m directory listed listed_pages) where
+module _ (dims most : ℕ) (m : PageMap) (root : Root) (directory count : ℕ) (held listed : List Entry)
+    (held_pages listed_pages : List ℕ)
+    (tree : IsCheckedTree dims most m root.page root.level held held_pages)
+    (table : IsCheckedTable dims m directory listed listed_pages) where
   -- what was joined is a layer
-  pub all_checked : {V : Type 0} (r : Result V Fault) (list_of : V → List ℕ) → IfOk r (λ v. AreOfOneLayer dims count held listed held_pages listed_pages (list_of v)) → IfOk r (λ v. IsCheckedLayer dims most m root directory count (list_of v))
+  pub all_checked : {V : Type 0} (r : Result V Fault) (list_of : V → List ℕ)
+      → IfOk r (λ v. AreOfOneLayer dims count held listed held_pages listed_pages (list_of v))
+      → IfOk r (λ v. IsCheckedLayer dims most m root directory count (list_of v))
   all_checked (Ok v) list_of a = subst (IsCheckedLayer dims most m root directory count) (sym a.pages_are)
-      (layer_checked dims most m root directory held listed held_pages listed_pages tree table count a.same a.boxes a.many)
+      (layer_checked dims most m root directory held listed held_pages listed_pages tree table count a.same
+      a.boxes a.many)
   all_checked (Err f) list_of a = tt
 
 module _ {B A : Type 0} {m : _} where
   -- an answer that wants no page
-  pub quiet_asks : {T : Type 0} (old now : PageCache B A m) (result : Result T Fault) → IfErr result (λ f. (f ≡ fault.Memory) ⊎ IsDamage f) → AsksUntil old now None → Asks old now result
+  pub quiet_asks : {T : Type 0} (old now : PageCache B A m) (result : Result T Fault)
+      → IfErr result (λ f. (f ≡ fault.Memory) ⊎ IsDamage f) → AsksUntil old now None → Asks old now result
   quiet_asks old now (Ok x) either a = a
-  quiet_asks old now (Err f) either a = record { gate = a.gate; map = a.map; capacity = a.capacity; looks = a.looks; faults = a.faults ∙ sym (quiet _) }
+  quiet_asks old now (Err f) either a =
+      record {
+        gate = a.gate;
+        map = a.map;
+        capacity = a.capacity;
+        looks = a.looks;
+        faults = a.faults ∙ sym (quiet _);
+      }
     where
       quiet : (n : ℕ) → faults_after f n ≡ n
-      quiet n = ⊎_elim (λ (is : f ≡ fault.Memory). ap (λ (e : Fault). faults_after e n) is) (λ (is : IsDamage f). ap (λ (e : Fault). faults_after e n) is.1) either
+      quiet n =
+          ⊎_elim (λ (is : f ≡ fault.Memory). ap (λ (e : Fault). faults_after e n) is)
+          (λ (is : IsDamage f). ap (λ (e : Fault). faults_after e n) is.1) either

@@ -12,8 +12,10 @@ use Rattle.id_table.proofs.CountLemmas.{pages_of_ids}
 use Rattle.layer_pages.specs.Layers.{IsLayerAt, LayerPages, Objects, part_of_layer}
 use Rattle.layer_pages.proofs.CheckLemmas.{table_entries}
 
--- Its tree has at most a page more than the layer has objects, and its table a page for each hundred of them and 1,001 more.
-pub pages_of_layer : (dims most limit : ℕ) (pages : PageMap) (root : Root) (directory : ℕ) (l : LayerPages) (objects : Objects) → IsLayerAt dims most pages root directory l objects
+-- Its tree has at most a page more than the layer has objects, and its table a page for each hundred of them
+-- and 1,001 more.
+pub pages_of_layer : (dims most limit : ℕ) (pages : PageMap) (root : Root) (directory : ℕ) (l : LayerPages)
+    (objects : Objects) → IsLayerAt dims most pages root directory l objects
     → 100 * sum_over limit (part_of_layer l) ≤ 101 * length (entries objects) + 100200
 pages_of_layer dims most limit pages root directory l objects is =
     omega (
@@ -22,6 +24,7 @@ pages_of_layer dims most limit pages root directory l objects is =
       pages_of_tree dims most limit l.tree is.tree.shape,
       length_permutation (objects_in l.tree.row) (entries objects) is.leaves,
       pages_of_ids dims limit pages l.ids is.ids,
-      length_permutation (entries_of l.ids) (entries (objects_of l.ids)) (table_entries dims pages l.ids is.ids),
+      length_permutation (entries_of l.ids) (entries (objects_of l.ids))
+          (table_entries dims pages l.ids is.ids),
       ap (λ (o : Objects). length (entries o)) is.table,
     )

@@ -9,7 +9,8 @@ use Rattle.tree_node.specs.declared.node.Root.{Root}
 use Rattle.node_page.specs.Parts.{Moves, Part, both, no_page}
 use Rattle.node_page.specs.Standing.{PageMap, Stands}
 use Rattle.node_page.proofs.ChangeLemmas.{trees_beside_stand}
-use Rattle.node_page.proofs.PartLemmas.{moves_beside, moves_in_turn, moves_same, none_or_some, not_new, staying_moves}
+use Rattle.node_page.proofs.PartLemmas.{moves_beside, moves_in_turn, moves_same, none_or_some, not_new}
+use Rattle.node_page.proofs.PartLemmas.{staying_moves}
 use Rattle.node_page.proofs.StandingLemmas.{pages_are_there}
 use Rattle.id_table.specs.Table.{IdTable, IdsStand, chain_at, link_at, objects_of, occurs_in_ids, part_of}
 use Rattle.id_table.proofs.ReplaceLemmas.{chain_stays}
@@ -22,7 +23,8 @@ use Rattle.layer_pages.specs.Layers.{IsLayerAt, LayerPages, Objects, part_of_lay
 -- ---- tables
 
 -- a table stands in pages that are equal where it stands
-equal_pages_ids : (dims : ℕ) (old new : PageMap) (t : IdTable) → ((n : ℕ) → 0 < occurs_in_ids n t → new n ≡ old n) → IdsStand dims old t → IdsStand dims new t
+equal_pages_ids : (dims : ℕ) (old new : PageMap) (t : IdTable)
+    → ((n : ℕ) → 0 < occurs_in_ids n t → new n ≡ old n) → IdsStand dims old t → IdsStand dims new t
 equal_pages_ids dims old new t same s = record {
   directory = s.directory;
   there = (let here = occurs_here t.page in same t.page (omega (arith, here))) ∙ s.there;
@@ -37,10 +39,13 @@ equal_pages_ids dims old new t same s = record {
 }
 
 -- a table that stands beside a change stands after it, and shares no page with it
-pub ids_beside : (dims : ℕ) (old new : PageMap) (was now : Part) (t : IdTable) → Moves old new was now → IdsStand dims old t → ((n : ℕ) → 0 < occurs_in_ids n t → was n ≡ 0)
+pub ids_beside : (dims : ℕ) (old new : PageMap) (was now : Part) (t : IdTable) → Moves old new was now
+    → IdsStand dims old t → ((n : ℕ) → 0 < occurs_in_ids n t → was n ≡ 0)
     → IdsStand dims new t × ((n : ℕ) → 0 < occurs_in_ids n t → now n ≡ 0)
 ids_beside dims old new was now t moves stands apart =
-    let none : (n : ℕ) → 0 < occurs_in_ids n t → now n ≡ 0 = λ n here. not_new old new was now n moves (apart n here) (table_there dims old t n stands here) in
+    let none : (n : ℕ) → 0 < occurs_in_ids n t
+    → now n ≡ 0 =
+    λ n here. not_new old new was now n moves (apart n here) (table_there dims old t n stands here) in
     (equal_pages_ids dims old new t (λ n here. moves.outside n (apart n here) (none n here)) stands, none)
 
 -- ---- layers
@@ -53,10 +58,17 @@ pages_of_a_layer dims most pages root directory l objects is n here = ⊎_elim
 
 pub layers_beside : LayersBesideStand
 layers_beside dims most old new was now root directory l objects moves is apart =
-    let tree = trees_beside_stand dims old new was now l.tree moves is.tree.stands (λ n here. apart n (omega (arith, here))) in
+    let tree =
+    trees_beside_stand dims old new was now l.tree moves is.tree.stands
+    (λ n here. apart n (omega (arith, here))) in
     let ids = ids_beside dims old new was now l.ids moves is.ids (λ n here. apart n (omega (arith, here))) in (
       record {
-        tree = record { page_is = is.tree.page_is; level_is = is.tree.level_is; stands = tree.0; shape = is.tree.shape };
+        tree = record {
+          page_is = is.tree.page_is;
+          level_is = is.tree.level_is;
+          stands = tree.0;
+          shape = is.tree.shape;
+        };
         boxes = is.boxes;
         directory_is = is.directory_is;
         ids = ids.0;
@@ -73,16 +85,21 @@ layers_beside dims most old new was now root directory l objects moves is apart 
 pub layers_in_equal_pages : LayersStandInEqualPages
 layers_in_equal_pages dims most old new root directory l objects same is =
     (layers_beside dims most old new no_page no_page root directory l objects
-    (staying_moves old new no_page same (λ n. omega arith) (λ n here. absurd (omega (arith, here)))) is (λ n here. omega arith)).0
+    (staying_moves old new no_page same (λ n. omega arith) (λ n here. absurd (omega (arith, here)))) is
+    (λ n here. omega arith)).0
 
 -- ---- two changes in turn, each of a part of its own
 
-module _ (old mid new : PageMap) (was now a b : Part) (first : Moves old mid was now) (second : Moves mid new a b) (live : (n : ℕ) → 0 < a n → IsSome (old n)) (apart : (n : ℕ) → both was a n ≤ 1) where
+module _ (old mid new : PageMap) (was now a b : Part) (first : Moves old mid was now)
+    (second : Moves mid new a b) (live : (n : ℕ) → 0 < a n → IsSome (old n))
+    (apart : (n : ℕ) → both was a n ≤ 1) where
   first_beside : Moves old mid (both was a) (both now a)
   first_beside = moves_beside old mid was now a first live apart
 
   second_beside : Moves mid new (both now a) (both now b)
-  second_beside = moves_same mid new (both a now) (both now a) (both b now) (both now b) (λ n. omega arith) (λ n. omega arith)
+  second_beside =
+      moves_same mid new (both a now) (both now a) (both b now) (both now b) (λ n. omega arith)
+      (λ n. omega arith)
       (moves_beside mid new a b now second first.live (λ n. omega (arith, first_beside.once n)))
 
   pub both_change : Moves old new (both was a) (both now b)
@@ -94,7 +111,8 @@ module _ (old mid new : PageMap) (was now a b : Part) (first : Moves old mid was
 
 -- ---- the tree of a layer is changed, and then its table
 
-module _ (dims most : ℕ) (old : PageMap) (root : Root) (directory : ℕ) (l : LayerPages) (objects : Objects) (is : IsLayerAt dims most old root directory l objects) where
+module _ (dims most : ℕ) (old : PageMap) (root : Root) (directory : ℕ) (l : LayerPages) (objects : Objects)
+    (is : IsLayerAt dims most old root directory l objects) where
   pub root_of : IsRootOf root l.tree
   root_of = record { page = is.tree.page_is; level = is.tree.level_is }
 
@@ -104,22 +122,34 @@ module _ (dims most : ℕ) (old : PageMap) (root : Root) (directory : ℕ) (l : 
   module _ (mid : PageMap) (now : Part) (tree : Moves old mid (λ n. occurs_in n l.tree) now) where
     -- the table stands as it did
     pub ids_still : IdsStand dims mid l.ids
-    ids_still = (ids_beside dims old mid (λ n. occurs_in n l.tree) now l.ids tree is.ids (λ n here. omega (arith, here, is.once n))).0
+    ids_still =
+        (ids_beside dims old mid (λ n. occurs_in n l.tree) now l.ids tree is.ids
+        (λ n here. omega (arith, here, is.once n))).0
 
-    pub layer_moves : (new : PageMap) (ids : Part) → Moves mid new (part_of l.ids) ids → Moves old new (part_of_layer l) (both now ids)
-    layer_moves new ids table = both_change old mid new (λ n. occurs_in n l.tree) now (part_of l.ids) ids tree table ids_live is.once
+    pub layer_moves : (new : PageMap) (ids : Part) → Moves mid new (part_of l.ids) ids
+        → Moves old new (part_of_layer l) (both now ids)
+    layer_moves new ids table =
+        both_change old mid new (λ n. occurs_in n l.tree) now (part_of l.ids) ids tree table ids_live is.once
 
   -- a tree of the shape and a table of the same objects are the layer then
-  module _ (mid new : PageMap) (t : Tree) (ids : IdTable) (tree : Moves old mid (λ n. occurs_in n l.tree) (λ n. occurs_in n t)) (table : Moves mid new (part_of l.ids) (part_of ids)) where
-    pub layer_changed : (after : Root) (all : Objects) (IsSo : Tree → Type 0) → IsRootOf after t → Stands dims mid t → HasShape dims most t → RowHasBoxes dims t.row → ids.page ≡ l.ids.page → IdsStand dims new ids → objects_of ids ≡ all
-        → IsPermutation (objects_in t.row) (entries all) → IsSo t → BecomesLayer dims most old new (part_of_layer l) after directory all IsSo
+  module _ (mid new : PageMap) (t : Tree) (ids : IdTable)
+      (tree : Moves old mid (λ n. occurs_in n l.tree) (λ n. occurs_in n t))
+      (table : Moves mid new (part_of l.ids) (part_of ids)) where
+    pub layer_changed : (after : Root) (all : Objects) (IsSo : Tree → Type 0) → IsRootOf after t
+        → Stands dims mid t → HasShape dims most t → RowHasBoxes dims t.row → ids.page ≡ l.ids.page
+        → IdsStand dims new ids → objects_of ids ≡ all
+        → IsPermutation (objects_in t.row) (entries all) → IsSo t
+        → BecomesLayer dims most old new (part_of_layer l) after directory all IsSo
     layer_changed after all IsSo at stands shape boxes page ids_stand objects_are leaves is_so = record {
       layer = record { tree = t; ids = ids };
       stands = record {
         tree = record {
           page_is = at.page;
           level_is = at.level;
-          stands = (trees_beside_stand dims mid new (part_of l.ids) (part_of ids) t table stands (made_apart old mid new (λ n. occurs_in n l.tree) (λ n. occurs_in n t) (part_of l.ids) (part_of ids) tree table ids_live is.once)).0;
+          stands =
+              (trees_beside_stand dims mid new (part_of l.ids) (part_of ids) t table stands
+              (made_apart old mid new (λ n. occurs_in n l.tree) (λ n. occurs_in n t) (part_of l.ids)
+              (part_of ids) tree table ids_live is.once)).0;
           shape = shape;
         };
         boxes = boxes;

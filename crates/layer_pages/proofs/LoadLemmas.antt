@@ -1,5 +1,6 @@
 -- All objects of a layer at once: a packed tree beside the old one, and then the table.
-use Rattle.std.proofs.Common.{◌≡◌, ◌∙◌, ℕ, ◌^◌, ◌<◌, ◌≤◌, List, [], ◌∷◌, ◌++◌, map as each, All, IsSome, refl, sym, ap, subst, arith}
+use Rattle.std.proofs.Common.{◌≡◌, ◌∙◌, ℕ, ◌^◌, ◌<◌, ◌≤◌, List, [], ◌∷◌, ◌++◌, map as each, All, IsSome, refl}
+use Rattle.std.proofs.Common.{sym, ap, subst, arith}
 use Rattle.std.specs.Prelude.{IsPermutation}
 use Rattle.std.specs.FinMap as map
 use Rattle.std.specs.FinMap.{entries}
@@ -28,25 +29,33 @@ use Rattle.reinsert.proofs.LevelLemmas.{shape_bounds_level}
 use Rattle.layer_pages.specs.Changes.{BecomesLayer, BecomesTable, HasPacked, item_of_object}
 use Rattle.layer_pages.specs.Laws.{NewObjectsAreEntries}
 use Rattle.layer_pages.specs.Layers.{CanBeRoot, IsLayerAt, LayerPages, Objects, part_of_layer}
-use Rattle.layer_pages.proofs.LayerLemmas.{both_change, ids_beside, layers_beside, made_apart, pages_of_a_layer}
+use Rattle.layer_pages.proofs.LayerLemmas.{both_change, ids_beside, layers_beside, made_apart}
+use Rattle.layer_pages.proofs.LayerLemmas.{pages_of_a_layer}
 use Rattle.layer_pages.proofs.ObjectLemmas.{all_are_new, entries_of_all, no_entries, row_boxes}
 
 -- ---- the table
 
 pub new_objects_are_entries : NewObjectsAreEntries
-new_objects_are_entries pairs fresh = subst (λ (es : List Entry). IsPermutation (es ++ pairs) (entries (with_all map.empty pairs))) no_entries (entries_of_all pairs map.empty fresh)
+new_objects_are_entries pairs fresh =
+    subst (λ (es : List Entry). IsPermutation (es ++ pairs) (entries (with_all map.empty pairs))) no_entries
+    (entries_of_all pairs map.empty fresh)
 
-module _ (dims most : ℕ) (old : PageMap) (root : Root) (directory : ℕ) (l : LayerPages) (is : IsLayerAt dims most old root directory l map.empty) (objects : List Entry) (all : Objects) (same : IsPermutation objects (entries all)) where
+module _ (dims most : ℕ) (old : PageMap) (root : Root) (directory : ℕ) (l : LayerPages)
+    (is : IsLayerAt dims most old root directory l map.empty) (objects : List Entry) (all : Objects)
+    (same : IsPermutation objects (entries all)) where
   both_facts : AreNew (objects_of l.ids) objects × (with_all (objects_of l.ids) objects ≡ all)
   both_facts = all_are_new objects (objects_of l.ids) all
-      (subst (λ (es : List Entry). IsPermutation (es ++ objects) (entries all)) (sym (ap (λ (m : Objects). entries m) is.table ∙ no_entries)) same)
+      (subst (λ (es : List Entry). IsPermutation (es ++ objects) (entries all))
+      (sym (ap (λ (m : Objects). entries m) is.table ∙ no_entries)) same)
 
   pub all_new : AreNew (objects_of l.ids) objects
   all_new = both_facts.0
 
   module _ (mid : PageMap) (fills : Fills dims old mid l.ids objects) where
     pub tree_still : Stands dims mid l.tree
-    tree_still = (trees_beside_stand dims old mid (part_of l.ids) (part_of fills.table) l.tree fills.moves is.tree.stands (λ n here. omega (arith, here, is.once n))).0
+    tree_still =
+        (trees_beside_stand dims old mid (part_of l.ids) (part_of fills.table) l.tree fills.moves
+        is.tree.stands (λ n here. omega (arith, here, is.once n))).0
 
     tree_live : (n : ℕ) → 0 < occurs_in n l.tree → IsSome (old n)
     tree_live n here = pages_are_there dims old l.tree n is.tree.stands here
@@ -54,15 +63,19 @@ module _ (dims most : ℕ) (old : PageMap) (root : Root) (directory : ℕ) (l : 
     turned : (n : ℕ) → both (part_of l.ids) (λ n. occurs_in n l.tree) n ≤ 1
     turned n = omega (arith, is.once n)
 
-    pub table_left : (new : PageMap) → Moves mid new (λ n. occurs_in n l.tree) no_page → BecomesTable dims old new (part_of_layer l) directory all
+    pub table_left : (new : PageMap) → Moves mid new (λ n. occurs_in n l.tree) no_page
+        → BecomesTable dims old new (part_of_layer l) directory all
     table_left new freed = record {
       table = fills.table;
       page = fills.page ∙ is.directory_is;
       stands = (ids_beside dims mid new (λ n. occurs_in n l.tree) no_page fills.table freed fills.stands
-          (made_apart old mid new (part_of l.ids) (part_of fills.table) (λ n. occurs_in n l.tree) no_page fills.moves freed tree_live turned)).0;
+          (made_apart old mid new (part_of l.ids) (part_of fills.table) (λ n. occurs_in n l.tree) no_page
+          fills.moves freed tree_live turned)).0;
       objects_are = fills.objects ∙ both_facts.1;
-      moves = moves_same old new (both (part_of l.ids) (λ n. occurs_in n l.tree)) (part_of_layer l) (both (part_of fills.table) no_page) (part_of fills.table) (λ n. omega arith) (λ n. omega arith)
-          (both_change old mid new (part_of l.ids) (part_of fills.table) (λ n. occurs_in n l.tree) no_page fills.moves freed tree_live turned);
+      moves = moves_same old new (both (part_of l.ids) (λ n. occurs_in n l.tree)) (part_of_layer l)
+          (both (part_of fills.table) no_page) (part_of fills.table) (λ n. omega arith) (λ n. omega arith)
+          (both_change old mid new (part_of l.ids) (part_of fills.table) (λ n. occurs_in n l.tree) no_page
+          fills.moves freed tree_live turned);
     }
 
 -- ---- the tree, and the whole layer
@@ -74,13 +87,18 @@ as_they_were : (objects : List Entry) → each object_of (each item_of_object ob
 as_they_were [] = refl
 as_they_were (o ∷ objects) = ap (λ (os : List Entry). o ∷ os) (as_they_were objects)
 
-module _ (dims most before : ℕ) (old mid : PageMap) (root after : Root) (directory : ℕ) (l : LayerPages) (is : IsLayerAt dims before old root directory l map.empty) (objects : List Entry)
+module _ (dims most before : ℕ) (old mid : PageMap) (root after : Root) (directory : ℕ) (l : LayerPages)
+    (is : IsLayerAt dims before old root directory l map.empty) (objects : List Entry)
     (loads : Loads dims most old mid (each item_of_object objects) after) where
   -- the layer meanwhile
   pub layer_still : IsLayerAt dims before mid root directory l map.empty
-  layer_still = (layers_beside dims before old mid no_page (λ n. occurs_in n loads.tree) root directory l map.empty loads.moves is (λ n here. refl)).0
+  layer_still =
+      (layers_beside dims before old mid no_page (λ n. occurs_in n loads.tree) root directory l map.empty
+      loads.moves is (λ n here. refl)).0
 
-  module _ (new : PageMap) (all : Objects) (same : IsPermutation objects (entries all)) (boxes : All (λ (item : Item). IsBox dims item.bounds) (each item_of_object objects)) (ids : BecomesTable dims mid new (part_of_layer l) directory all) where
+  module _ (new : PageMap) (all : Objects) (same : IsPermutation objects (entries all))
+      (boxes : All (λ (item : Item). IsBox dims item.bounds) (each item_of_object objects))
+      (ids : BecomesTable dims mid new (part_of_layer l) directory all) where
     all_live : (n : ℕ) → 0 < part_of_layer l n → IsSome (old n)
     all_live n here = pages_of_a_layer dims before old root directory l map.empty is n here
 
@@ -88,44 +106,62 @@ module _ (dims most before : ℕ) (old mid : PageMap) (root after : Root) (direc
     alone n = omega (arith, is.once n)
 
     held : IsPermutation objects (objects_in loads.tree.row)
-    held = subst (λ (os : List Entry). IsPermutation os (objects_in loads.tree.row)) (as_they_were objects) loads.objects
+    held = subst (λ (os : List Entry). IsPermutation os (objects_in loads.tree.row)) (as_they_were objects)
+        loads.objects
 
     boxes_held : All (λ (o : Entry). IsBox dims (bounds_of o.1)) (objects_in loads.tree.row)
-    boxes_held = All-permutation (λ (o : Entry). IsBox dims (bounds_of o.1)) (each object_of (each item_of_object objects)) (objects_in loads.tree.row) loads.objects
+    boxes_held =
+        All-permutation (λ (o : Entry). IsBox dims (bounds_of o.1))
+        (each object_of (each item_of_object objects)) (objects_in loads.tree.row) loads.objects
         (All-map (λ (o : Entry). IsBox dims (bounds_of o.1)) object_of (each item_of_object objects) boxes)
 
-    all_moves : Moves old new (both no_page (part_of_layer l)) (both (λ n. occurs_in n loads.tree) (part_of ids.table))
-    all_moves = both_change old mid new no_page (λ n. occurs_in n loads.tree) (part_of_layer l) (part_of ids.table) loads.moves ids.moves all_live alone
+    all_moves : Moves old new (both no_page (part_of_layer l))
+        (both (λ n. occurs_in n loads.tree) (part_of ids.table))
+    all_moves =
+        both_change old mid new no_page (λ n. occurs_in n loads.tree) (part_of_layer l) (part_of ids.table)
+        loads.moves ids.moves all_live alone
 
-    pub layer_loaded : BecomesLayer dims most old new (part_of_layer l) after directory all (HasPacked dims most objects)
+    pub layer_loaded : BecomesLayer dims most old new (part_of_layer l) after directory all
+        (HasPacked dims most objects)
     layer_loaded = record {
       layer = record { tree = loads.tree; ids = ids.table };
       stands = record {
         tree = record {
           page_is = loads.page;
           level_is = loads.level;
-          stands = (trees_beside_stand dims mid new (part_of_layer l) (part_of ids.table) loads.tree ids.moves loads.stands
-              (made_apart old mid new no_page (λ n. occurs_in n loads.tree) (part_of_layer l) (part_of ids.table) loads.moves ids.moves all_live alone)).0;
+          stands =
+              (trees_beside_stand dims mid new (part_of_layer l) (part_of ids.table) loads.tree ids.moves
+              loads.stands
+              (made_apart old mid new no_page (λ n. occurs_in n loads.tree) (part_of_layer l)
+              (part_of ids.table) loads.moves ids.moves all_live alone)).0;
           shape = loads.shape;
         };
         boxes = row_boxes dims most loads.tree.row loads.shape.below boxes_held;
         directory_is = ids.page;
         ids = ids.stands;
-        leaves = IsPermutation-trans (objects_in loads.tree.row) objects (entries all) (IsPermutation-sym objects (objects_in loads.tree.row) held) same;
+        leaves =
+            IsPermutation-trans (objects_in loads.tree.row) objects (entries all)
+            (IsPermutation-sym objects (objects_in loads.tree.row) held) same;
         table = ids.objects_are;
         once = all_moves.once;
       };
       tree_is = loads.packed;
-      moves = moves_same old new (both no_page (part_of_layer l)) (part_of_layer l) (both (λ n. occurs_in n loads.tree) (part_of ids.table)) (both (λ n. occurs_in n loads.tree) (part_of ids.table)) (λ n. omega arith) (λ n. refl) all_moves;
+      moves = moves_same old new (both no_page (part_of_layer l)) (part_of_layer l)
+          (both (λ n. occurs_in n loads.tree) (part_of ids.table))
+          (both (λ n. occurs_in n loads.tree) (part_of ids.table)) (λ n. omega arith) (λ n. refl) all_moves;
     }
 
 -- ---- where its tree begins
 
 module _ {D A : Type 0} {m : _} where
-  pub low_root : (old now : PageCache D A m) (dims most : ℕ) (items : List Item) (root : Root) → Loads dims most (pages old) (pages now) items root → CanBeRoot root
+  pub low_root : (old now : PageCache D A m) (dims most : ℕ) (items : List Item) (root : Root)
+      → Loads dims most (pages old) (pages now) items root → CanBeRoot root
   low_root old now dims most items root loads = record {
-    level = (let low = shape_bounds_level dims most loads.tree (loose dims most loads.tree loads.shape) loads.stands.distinct (λ n here. below n here) in omega (arith, low, loads.level));
-    page = (let given = a_live_page_was_given_out now root.page live_root in (omega (arith, given.0, apart), below root.page at_root));
+    level = (let low =
+        shape_bounds_level dims most loads.tree (loose dims most loads.tree loads.shape)
+        loads.stands.distinct (λ n here. below n here) in omega (arith, low, loads.level));
+    page = (let given = a_live_page_was_given_out now root.page live_root in
+        (omega (arith, given.0, apart), below root.page at_root));
   }
     where
       live : (n : ℕ) → 0 < occurs_in n loads.tree → IsSome (pages now n)
@@ -135,13 +171,19 @@ module _ {D A : Type 0} {m : _} where
       within n next limit lt le = omega (arith, lt, le)
 
       below : (n : ℕ) → 0 < occurs_in n loads.tree → n < 2 ^ 31
-      below n here = let given = a_live_page_was_given_out now n (live n here) in within n (next_of now) (2 ^ 31) given.1 given.2
+      below n here = let given = a_live_page_was_given_out now n (live n here) in
+          within n (next_of now) (2 ^ 31) given.1 given.2
 
       at_root : 0 < occurs_in root.page loads.tree
-      at_root = subst (λ (n : ℕ). 0 < occurs_in n loads.tree) loads.page (let here = occurs_here loads.tree.page in omega (arith, here))
+      at_root =
+          subst (λ (n : ℕ). 0 < occurs_in n loads.tree) loads.page
+          (let here = occurs_here loads.tree.page in omega (arith, here))
 
       live_root : IsSome (pages now root.page)
       live_root = live root.page at_root
 
       apart : ¬ (root.page ≡ 2)
-      apart is = there_not_missing (pages old root.page) (subst (λ (n : ℕ). IsSome (pages old n)) (sym is) (the_catalog_is_live old)) (loads.moves.came root.page refl at_root)
+      apart is =
+          there_not_missing (pages old root.page)
+          (subst (λ (n : ℕ). IsSome (pages old n)) (sym is) (the_catalog_is_live old))
+          (loads.moves.came root.page refl at_root)

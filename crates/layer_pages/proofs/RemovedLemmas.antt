@@ -19,7 +19,8 @@ use Rattle.layer_pages.proofs.ObjectLemmas.{fewer_leaves, object_known, object_t
 
 -- ---- an object fewer
 
-module _ (dims most : ℕ) (old : PageMap) (root : Root) (directory : ℕ) (l : LayerPages) (objects : Objects) (is : IsLayerAt dims most old root directory l objects) where
+module _ (dims most : ℕ) (old : PageMap) (root : Root) (directory : ℕ) (l : LayerPages) (objects : Objects)
+    (is : IsLayerAt dims most old root directory l objects) where
   pub can_remove : CanRemove dims old root l.tree (part_of l.ids)
   can_remove = record {
     at = root_of dims most old root directory l objects is;
@@ -41,14 +42,23 @@ module _ (dims most : ℕ) (old : PageMap) (root : Root) (directory : ℕ) (l : 
     pub in_table : map.get objects id ≡ Some kept → map.contains_key (objects_of l.ids) id ≡ true
     in_table there = ap is_some (kept_in_table there)
 
-    module _ (mid : PageMap) (after : Root) (to : RemovesTo dims most old mid (part_of l.ids) id kept l.tree after) where
+    module _ (mid : PageMap) (after : Root)
+        (to : RemovesTo dims most old mid (part_of l.ids) id kept l.tree after) where
       pub ids_between : IdsStand dims mid l.ids
       ids_between = ids_still dims most old root directory l objects is mid (λ n. occurs_in n to.new) to.moves
 
-      pub layer_removed : (new : PageMap) → Removes dims mid new l.ids id → 4 ≤ most → map.get objects id ≡ Some kept
-          → BecomesLayer dims most old new (part_of_layer l) after directory (map.remove objects id) (HasRemoved dims most l id kept)
+      pub layer_removed : (new : PageMap) → Removes dims mid new l.ids id → 4 ≤ most
+          → map.get objects id ≡ Some kept
+          → BecomesLayer dims most old new (part_of_layer l) after directory (map.remove objects id)
+          (HasRemoved dims most l id kept)
       layer_removed new ids four there =
-          let shape = removal_keeps_shape dims most (part_of l.ids) id kept l.tree to.new to.removal four is.boxes is.tree.shape in
-          layer_changed dims most old root directory l objects is mid new to.new ids.table to.moves ids.moves after (map.remove objects id) (HasRemoved dims most l id kept) to.at to.stands shape.0 shape.1 ids.page ids.stands
+          let shape =
+          removal_keeps_shape dims most (part_of l.ids) id kept l.tree to.new to.removal four is.boxes
+          is.tree.shape in
+          layer_changed dims most old root directory l objects is mid new to.new ids.table to.moves ids.moves
+          after (map.remove objects id) (HasRemoved dims most l id kept) to.at to.stands shape.0 shape.1
+          ids.page ids.stands
           (ids.objects ∙ ap (λ (m : Objects). map.remove m id) is.table)
-          (fewer_leaves _ _ objects id kept (removal_keeps_objects dims most (part_of l.ids) id kept l.tree to.new to.removal) is.leaves there) to.removal
+          (fewer_leaves _ _ objects id kept
+          (removal_keeps_objects dims most (part_of l.ids) id kept l.tree to.new to.removal) is.leaves
+          there) to.removal

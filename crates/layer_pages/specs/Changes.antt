@@ -1,5 +1,5 @@
--- What the calls on the pages of a layer make of them (our rule, docs/FORMAT.md, "Trees of pages" and "Identifier
--- tables").
+-- What the calls on the pages of a layer make of them (our rule, docs/FORMAT.md, "Trees of pages" and
+-- "Identifier tables").
 use Rattle.std.specs.Prelude.{◌≡◌, ℕ, ◌+◌, ◌/◌, List, map}
 use Rattle.box_math.specs.Objects.{Object, bounds_of, tag_of}
 use Rattle.tree_node.specs.Nodes.{Item}
@@ -15,8 +15,8 @@ use Rattle.condense.specs.Removed.{most_removal_pages}
 use Rattle.bulk_load.specs.Packed.{IsPacked}
 use Rattle.layer_pages.specs.Layers.{IsLayerAt, LayerPages, Objects, part_of_layer}
 
--- A part of the pages became those of a layer with these objects, at that root and directory, whose tree is so. All
--- other pages stay, and those that came in were not live.
+-- A part of the pages became those of a layer with these objects, at that root and directory, whose tree is
+-- so. All other pages stay, and those that came in were not live.
 pub record BecomesLayer (dims most : ℕ) (old new : PageMap) (was : Part) (root : Root) (directory : ℕ)
     (objects : Objects) (IsSo : Tree → Type 0) : Type 0 where
   pub layer : LayerPages
@@ -52,7 +52,8 @@ abbrev pub HasPacked : ℕ → ℕ → List (ℕ × Object) → Tree → Type 0
 HasPacked dims most objects t = IsPacked dims most (map item_of_object objects) t
 
 -- A part of the pages became those of an identifier table of these objects.
-pub record BecomesTable (dims : ℕ) (old new : PageMap) (was : Part) (directory : ℕ) (objects : Objects) : Type 0 where
+pub record BecomesTable (dims : ℕ) (old new : PageMap) (was : Part) (directory : ℕ)
+    (objects : Objects) : Type 0 where
   pub table : IdTable
   pub page : table.page ≡ directory
   pub stands : IdsStand dims new table

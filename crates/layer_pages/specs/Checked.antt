@@ -1,4 +1,5 @@
--- What a check of the pages of a layer finds (our rule, docs/FORMAT.md, "Trees of pages" and "Identifier tables").
+-- What a check of the pages of a layer finds (our rule, docs/FORMAT.md, "Trees of pages" and "Identifier
+-- tables").
 use Rattle.std.specs.Prelude.{◌≡◌, ℕ, List, ◌++◌, ◌==◌, All, IsPermutation, if◌then◌else◌, length}
 use Rattle.std.specs.FinMap.{len}
 use Rattle.box_math.specs.Bounds.{IsBox}
@@ -10,7 +11,8 @@ use Rattle.node_page.specs.Standing.{PageMap}
 use Rattle.layer_pages.specs.Layers.{IsLayerAt, LayerPages, Objects, part_of_layer}
 
 -- the pages stand for a layer at that root and directory, of so many objects, and the list has its pages
-pub record IsCheckedLayer (dims most : ℕ) (pages : PageMap) (root : Root) (directory count : ℕ) (list : List ℕ)
+pub record IsCheckedLayer (dims most : ℕ) (pages : PageMap) (root : Root) (directory count : ℕ)
+    (list : List ℕ)
     : Type 0 where
   pub layer : LayerPages
   pub objects : Objects
@@ -18,8 +20,8 @@ pub record IsCheckedLayer (dims most : ℕ) (pages : PageMap) (root : Root) (dir
   pub count_is : len objects ≡ count
   pub pages_are : (n : ℕ) → named_pages list n ≡ part_of_layer layer n
 
--- the page of a tree of these objects and a table that are no layer of so many: that of the catalog, and where the tree
--- has so many, that of the directory
+-- the page of a tree of these objects and a table that are no layer of so many: that of the catalog, and
+-- where the tree has so many, that of the directory
 abbrev pub odd_page : ℕ → ℕ → List Entry → ℕ
 odd_page directory count held = if length held == count then directory else 2
 

@@ -42,7 +42,8 @@ LayersStandInEqualPages =
 -- the boxes of a tree are boxes where those of its objects are, since each box above them is a least box
 abbrev pub ObjectsGiveBoxes : Type 0
 ObjectsGiveBoxes =
-    (dims most : ℕ) (t : Tree) → HasShape dims most t → All (λ (o : ℕ × Object). IsBox dims (bounds_of o.1)) (objects_in t.row)
+    (dims most : ℕ) (t : Tree) → HasShape dims most t
+    → All (λ (o : ℕ × Object). IsBox dims (bounds_of o.1)) (objects_in t.row)
     → RowHasBoxes dims t.row
 
 -- ---- objects
@@ -55,7 +56,8 @@ NewObjectsAreEntries =
 
 -- ---- answers
 
--- a range query of the tree answers the objects of the layer that pass, of those with the tag that is asked for, if one is
+-- a range query of the tree answers the objects of the layer that pass, of those with the tag that is asked
+-- for, if one is
 abbrev pub RangesAnswerObjects : Type 0
 RangesAnswerObjects =
     (dims most : ℕ) (pages : PageMap) (root : Root) (directory : ℕ) (l : LayerPages) (objects : Objects)
@@ -66,6 +68,7 @@ RangesAnswerObjects =
 -- a search for the nearest answers the nearest objects of the layer
 abbrev pub NearestAreObjects : Type 0
 NearestAreObjects =
-    (dims most : ℕ) (pages : PageMap) (root : Root) (directory : ℕ) (l : LayerPages) (objects : Objects) (k : ℕ)
+    (dims most : ℕ) (pages : PageMap) (root : Root) (directory : ℕ) (l : LayerPages) (objects : Objects)
+    (k : ℕ)
     (point : List ℤ) → IsLayerAt dims most pages root directory l objects
     → nearest_rows dims k point l.tree ≡ nearest_objects dims k point objects

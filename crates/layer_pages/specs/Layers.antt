@@ -1,5 +1,5 @@
--- The pages of a layer: a tree, and an identifier table of the same objects (our rule, docs/FORMAT.md, "Trees of pages"
--- and "Identifier tables").
+-- The pages of a layer: a tree, and an identifier table of the same objects (our rule, docs/FORMAT.md, "Trees
+-- of pages" and "Identifier tables").
 use Rattle.std.specs.Prelude.{◌≡◌, ℕ, ◌+◌, ◌^◌, ◌<◌, ◌≤◌, IsPermutation}
 use Rattle.std.specs.FinMap.{FinMap, entries}
 use Rattle.std.specs.Ordering.{nat_cmp}
@@ -30,8 +30,8 @@ pub record CanBeRoot (root : Root) : Type 0 where
   pub level : root.level ≤ 40
   pub page : (3 ≤ root.page) × (root.page < 2 ^ 31)
 
--- The pages stand for the layer, whose tree is at that root, with nodes of at most so many entries, and whose table is
--- at that directory. Both hold just these objects, and no page is in the layer twice.
+-- The pages stand for the layer, whose tree is at that root, with nodes of at most so many entries, and whose
+-- table is at that directory. Both hold just these objects, and no page is in the layer twice.
 pub record IsLayerAt (dims most : ℕ) (pages : PageMap) (root : Root) (directory : ℕ) (l : LayerPages)
     (objects : Objects) : Type 0 where
   pub tree : IsTreeAt dims most pages root l.tree

@@ -10,7 +10,8 @@ use Rattle.layer_pages.specs.Layers.{Objects}
 
 -- the objects whose boxes pass the test and that have the tag that is asked for, if one is, by identifier
 abbrev pub objects_that : (Bounds → Bool) → Option ℕ → Objects → List (ℕ × Object)
-objects_that test asked objects = filter (λ object. test (bounds_of object.1) && has_tag asked (tag_of object.1)) (entries objects)
+objects_that test asked objects =
+    filter (λ object. test (bounds_of object.1) && has_tag asked (tag_of object.1)) (entries objects)
 
 -- the k objects nearest to a point, or all of fewer, by distance and then by identifier
 abbrev pub nearest_objects : ℕ → ℕ → List ℤ → Objects → List (ℕ × ℕ)

@@ -1,6 +1,7 @@
 //! Layers checked: whether one stands.
 
-ghost use Rattle.std.specs.Prelude.{◌≡◌, ◌⊎◌, ◌+◌, ◌*◌, ◌≤◌, ◌↔◌, true, All, IfErr, IfOk, IsPermutation, IsTrue};
+ghost use Rattle.std.specs.Prelude.{◌≡◌, ◌⊎◌, ◌+◌, ◌*◌, ◌≤◌, ◌↔◌, true, All, IfErr, IfOk, IsPermutation};
+ghost use Rattle.std.specs.Prelude.{IsTrue};
 ghost use Rattle.std.specs.FinMap as map;
 ghost use Rattle.box_math.specs.Bounds.{IsBox, IsDims};
 ghost use Rattle.box_math.specs.Objects.{bounds_of};
@@ -22,13 +23,14 @@ use std::alloc::Allocator;
 // The page that says how many objects each layer has.
 const CATALOG: u32 = 2;
 
-/// Checks the layer of `count` objects at a root and a directory, whose tree has nodes of at most `m_max` entries, and
-/// answers its pages.
+/// Checks the layer of `count` objects at a root and a directory, whose tree has nodes of at most `m_max`
+/// entries, and answers its pages.
 ///
-/// On an honest device it answers so only where such a layer stands there; else it is `Damaged` with the number of a
-/// page: that of the catalog where there is another count of objects, and that of the directory where the table has
-/// others than the tree. Where such a layer stands, a refusal is `Memory` or `Device`. It makes no more than two looks
-/// for each number below the next one, whatever the pages are. Map and gate stay, also after a refusal.
+/// On an honest device it answers so only where such a layer stands there; else it is `Damaged` with the
+/// number of a page: that of the catalog where there is another count of objects, and that of the directory
+/// where the table has others than the tree. Where such a layer stands, a refusal is `Memory` or `Device`. It
+/// makes no more than two looks for each number below the next one, whatever the pages are. Map and gate
+/// stay, also after a refusal.
 pub fn check<'a, const D: usize, B: BlockDevice, A: Allocator + Copy, H: Allocator>(
     alloc: &'a H,
     cache: &mut PageCache<B, A>,
@@ -54,8 +56,8 @@ pub fn check<'a, const D: usize, B: BlockDevice, A: Allocator + Copy, H: Allocat
     pages_of_both(directory, count, tree, table)
 }
 
-// The pages of a tree and a table, where both have the same objects, so many. No page is in both, since those of a tree
-// are of another kind.
+// The pages of a tree and a table, where both have the same objects, so many. No page is in both, since those
+// of a tree are of another kind.
 fn pages_of_both<'a, const D: usize, H: Allocator>(
     directory: u32,
     count: u64,

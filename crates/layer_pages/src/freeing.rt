@@ -18,8 +18,8 @@ use std::alloc::Allocator;
 
 /// Frees all pages of a layer. The gate has to be open.
 ///
-/// With a sound map, where the pages stand for a layer at that root and directory, a refusal is `Memory` or `Device`.
-/// No page more is live, also after a refusal.
+/// With a sound map, where the pages stand for a layer at that root and directory, a refusal is `Memory` or
+/// `Device`. No page more is live, also after a refusal.
 pub fn free<const D: usize, B: BlockDevice, A: Allocator + Copy>(
     cache: &mut PageCache<B, A>,
     root: Root,
@@ -36,7 +36,8 @@ pub fn free<const D: usize, B: BlockDevice, A: Allocator + Copy>(
         → OnOk result (Moves (pages cache.old) (pages cache.new) (part_of_layer l) no_page) }
     ensures grows { Grows 0 cache.old cache.new }
     ensures faults { IsPageMap cache.old → (l : LayerPages) (most : ℕ) (objects : Objects)
-        → IsLayerAt D most (pages cache.old) root directory l objects → IfErr result (λ b. IsOfDevice b.cause) }
+        → IsLayerAt D most (pages cache.old) root directory l objects →
+        IfErr result (λ b. IsOfDevice b.cause) }
     ensures other_faults { IfErr result (λ b. IsOfDevice b.cause ⊎ IsDamage b.cause) }
 {
     free_tree::<D, B, A>(cache, root)?;

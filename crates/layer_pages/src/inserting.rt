@@ -16,14 +16,14 @@ use page_cache::PageCache;
 use reinsert::{Waiting, insert_with};
 use std::alloc::Allocator;
 
-/// Inserts an object, whose identifier the layer does not have, and answers the root of its tree: by a lawful insertion
-/// into the tree, whose nodes have at most `m_max` entries, and then into the identifier table. The gate has to be
-/// open.
+/// Inserts an object, whose identifier the layer does not have, and answers the root of its tree: by a lawful
+/// insertion into the tree, whose nodes have at most `m_max` entries, and then into the identifier table. The
+/// gate has to be open.
 ///
-/// With a sound map, where the pages stand for a layer at that root and directory, a refusal is `Memory` or `Device`,
-/// or `NoPages` where each page number is live. One that is not `touched` leaves the map as it was; each one of the
-/// table is touched, since the tree was changed before it. Also after a refusal at most `most_inserted_pages` more
-/// pages are live.
+/// With a sound map, where the pages stand for a layer at that root and directory, a refusal is `Memory` or
+/// `Device`, or `NoPages` where each page number is live. One that is not `touched` leaves the map as it was;
+/// each one of the table is touched, since the tree was changed before it. Also after a refusal at most
+/// `most_inserted_pages` more pages are live.
 pub fn insert<const D: usize, B: BlockDevice, A: Allocator + Copy>(
     cache: &mut PageCache<B, A>,
     root: Root,
@@ -39,7 +39,8 @@ pub fn insert<const D: usize, B: BlockDevice, A: Allocator + Copy>(
     ensures alters { Alters cache.old cache.new result }
     ensures root { IfOk result CanBeRoot }
     ensures sound { IsPageMap cache.old → (l : LayerPages) (objects : Objects)
-        → IsLayerAt D m_max (pages cache.old) root directory l objects → IfOk result (λ _. IsPageMap cache.new) }
+        → IsLayerAt D m_max (pages cache.old) root directory l objects →
+        IfOk result (λ _. IsPageMap cache.new) }
     ensures inserted { IsPageMap cache.old → (l : LayerPages) (objects : Objects)
         → IsLayerAt D m_max (pages cache.old) root directory l objects
         → map.contains_key objects object.now.reference ≡ false → IfOk result (λ after.

@@ -1,5 +1,5 @@
-//! What stands beside a change of pages, and what searches of a layer's tree answer: each law is the contract of a
-//! function that does nothing.
+//! What stands beside a change of pages, and what searches of a layer's tree answer: each law is the contract
+//! of a function that does nothing.
 
 ghost use Rattle.std.specs.Prelude.{◌≡◌};
 ghost use Rattle.layer_pages.specs.Laws.{LayersBesideStand, LayersStandInEqualPages, NearestAreObjects};
@@ -11,7 +11,8 @@ pub fn pages_of_a_layer_are_there()
     ensures { PagesOfALayerAreThere }
 {}
 
-/// A layer that stands beside the pages of a change stands after it, and one that stands does so in equal pages.
+/// A layer that stands beside the pages of a change stands after it, and one that stands does so in equal
+/// pages.
 pub fn layers_stand_beside_changes()
     ensures beside { LayersBesideStand }
     ensures equal { LayersStandInEqualPages }
@@ -22,7 +23,8 @@ pub fn boxes_of_objects_make_boxes()
     ensures { ObjectsGiveBoxes }
 {}
 
-/// Objects whose identifiers are all different are the entries of the map that they make, so `load` takes them.
+/// Objects whose identifiers are all different are the entries of the map that they make, so `load` takes
+/// them.
 pub fn new_objects_are_entries()
     ensures { NewObjectsAreEntries }
 {}

@@ -23,13 +23,13 @@ use page_cache::PageCache;
 use page_file::Fault;
 use std::alloc::Allocator;
 
-/// Puts these objects into a layer without objects, and answers the root of its tree, which is packed and has nodes of
-/// at most `m_max` entries. Their identifiers are all different. The gate has to be open. The objects are left in
-/// another order.
+/// Puts these objects into a layer without objects, and answers the root of its tree, which is packed and has
+/// nodes of at most `m_max` entries. Their identifiers are all different. The gate has to be open. The
+/// objects are left in another order.
 ///
-/// With a sound map, where the pages stand for a layer without objects at that root and directory, a refusal is
-/// `Memory` or `Device`, or `NoPages` where each page number is live. Also after a refusal at most `most_loaded_pages`
-/// more pages are live.
+/// With a sound map, where the pages stand for a layer without objects at that root and directory, a refusal
+/// is `Memory` or `Device`, or `NoPages` where each page number is live. Also after a refusal at most
+/// `most_loaded_pages` more pages are live.
 pub fn load<const D: usize, B: BlockDevice, A: Allocator + Copy, H: Allocator + Copy>(
     alloc: H,
     cache: &mut PageCache<B, A>,
@@ -45,16 +45,20 @@ pub fn load<const D: usize, B: BlockDevice, A: Allocator + Copy, H: Allocator + 
     ensures alters { Alters cache.old cache.new result }
     ensures root { IfOk result CanBeRoot }
     ensures sound { IsPageMap cache.old → (l : LayerPages) (most : ℕ) (all : Objects)
-        → IsLayerAt D most (pages cache.old) root directory l map.empty → IsPermutation objects.old (map.entries all)
+        → IsLayerAt D most (pages cache.old) root directory l map.empty →
+        IsPermutation objects.old (map.entries all)
         → IfOk result (λ _. IsPageMap cache.new) }
     ensures loaded { IsPageMap cache.old → (l : LayerPages) (most : ℕ) (all : Objects)
-        → IsLayerAt D most (pages cache.old) root directory l map.empty → IsPermutation objects.old (map.entries all)
-        → IfOk result (λ after. BecomesLayer D m_max (pages cache.old) (pages cache.new) (part_of_layer l) after
+        → IsLayerAt D most (pages cache.old) root directory l map.empty →
+        IsPermutation objects.old (map.entries all)
+        → IfOk result (λ after.
+        BecomesLayer D m_max (pages cache.old) (pages cache.new) (part_of_layer l) after
         directory all (HasPacked D m_max objects.old)) }
     ensures same { IsPermutation objects.old objects.new }
     ensures grows { Grows (most_loaded_pages (length objects.old)) cache.old cache.new }
     ensures faults { IsPageMap cache.old → (l : LayerPages) (most : ℕ) (all : Objects)
-        → IsLayerAt D most (pages cache.old) root directory l map.empty → IsPermutation objects.old (map.entries all)
+        → IsLayerAt D most (pages cache.old) root directory l map.empty →
+        IsPermutation objects.old (map.entries all)
         → IfErr result (λ b. IsNoDamage cache.new b.cause) }
 {
     let mut entries = entries_of(alloc, objects)?;
@@ -110,15 +114,18 @@ fn put_ids<const D: usize, B: BlockDevice, A: Allocator + Copy>(
     requires root { CanBeRoot root }
     ensures alters { Alters cache.old cache.new result }
     ensures sound { IsPageMap cache.old → (l : LayerPages) (most : ℕ) (all : Objects)
-        → IsLayerAt D most (pages cache.old) root directory l map.empty → IsPermutation objects.old (map.entries all)
+        → IsLayerAt D most (pages cache.old) root directory l map.empty →
+        IsPermutation objects.old (map.entries all)
         → OnOk result (IsPageMap cache.new) }
     ensures put { IsPageMap cache.old → (l : LayerPages) (most : ℕ) (all : Objects)
-        → IsLayerAt D most (pages cache.old) root directory l map.empty → IsPermutation objects.old (map.entries all)
+        → IsLayerAt D most (pages cache.old) root directory l map.empty →
+        IsPermutation objects.old (map.entries all)
         → OnOk result (BecomesTable D (pages cache.old) (pages cache.new) (part_of_layer l) directory all) }
     ensures same { IsPermutation objects.old objects.new }
     ensures grows { Grows (most_filled_pages (length objects.old)) cache.old cache.new }
     ensures faults { IsPageMap cache.old → (l : LayerPages) (most : ℕ) (all : Objects)
-        → IsLayerAt D most (pages cache.old) root directory l map.empty → IsPermutation objects.old (map.entries all)
+        → IsLayerAt D most (pages cache.old) root directory l map.empty →
+        IsPermutation objects.old (map.entries all)
         → IfErr result (λ b. IsNoDamage cache.new b.cause) }
 {
     // each page of the table is then looked at in a row

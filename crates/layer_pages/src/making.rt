@@ -19,11 +19,12 @@ use node_page::{Broken, Node, Root, write_node};
 use page_cache::PageCache;
 use std::alloc::Allocator;
 
-/// Makes a layer of no objects in pages that were not live, and answers its root and the page of its directory. The
-/// gate has to be open.
+/// Makes a layer of no objects in pages that were not live, and answers its root and the page of its
+/// directory. The gate has to be open.
 ///
-/// With a sound map a refusal is `Memory` or `Device`, or `NoPages` where each page number is live. It is untouched
-/// where no page was given out, and no free page was lost. Also after a refusal at most two more pages are live.
+/// With a sound map a refusal is `Memory` or `Device`, or `NoPages` where each page number is live. It is
+/// untouched where no page was given out, and no free page was lost. Also after a refusal at most two more
+/// pages are live.
 pub fn make<const D: usize, B: BlockDevice, A: Allocator + Copy>(
     cache: &mut PageCache<B, A>,
 ) -> Result<(Root, u32), Broken>
@@ -48,7 +49,8 @@ pub fn make<const D: usize, B: BlockDevice, A: Allocator + Copy>(
     }
 }
 
-// Gives out a page and writes an empty leaf into it. Where the page is refused and as many are free, the map stays.
+// Gives out a page and writes an empty leaf into it. Where the page is refused and as many are free, the map
+// stays.
 fn make_leaf<const D: usize, B: BlockDevice, A: Allocator + Copy>(
     cache: &mut PageCache<B, A>,
 ) -> Result<u32, Broken>
@@ -60,7 +62,8 @@ fn make_leaf<const D: usize, B: BlockDevice, A: Allocator + Copy>(
     ensures fresh { IsPageMap cache.old → IfOk result (λ page. pages cache.old page ≡ None) }
     ensures leaf { IsPageMap cache.old → IfOk result (λ page.
         node_in D (pages cache.new page) ≡ Some (record { level = 0; entries = [] })) }
-    ensures others { IsPageMap cache.old → IfOk result (λ page. SameBut page (pages cache.old) (pages cache.new)) }
+    ensures others { IsPageMap cache.old →
+        IfOk result (λ page. SameBut page (pages cache.old) (pages cache.new)) }
     ensures grows { Grows 1 cache.old cache.new }
     ensures faults { IsPageMap cache.old → IfErr result (λ b. IsNoDamage cache.new b.cause) }
     ensures other_faults { IfErr result (λ b. IsChangeFault b.cause) }

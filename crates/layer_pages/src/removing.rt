@@ -19,15 +19,15 @@ use page_cache::PageCache;
 use reinsert::Waiting;
 use std::alloc::Allocator;
 
-/// Removes the object with that identifier, which the layer has with that box and that tag, and answers the root of its
-/// tree: by a lawful removal from the tree, whose nodes have at most `m_max` entries, and then from the identifier
-/// table. The gate has to be open.
+/// Removes the object with that identifier, which the layer has with that box and that tag, and answers the
+/// root of its tree: by a lawful removal from the tree, whose nodes have at most `m_max` entries, and then
+/// from the identifier table. The gate has to be open.
 ///
-/// With a sound map, where the pages stand for a layer at that root and directory, a refusal is `Memory` or `Device`,
-/// or `NoPages` where each page number is live. One that is not `touched` leaves the map as it was; each one of the
-/// table is touched, since the tree was changed before it. Where the layer does not have the object with that box and
-/// that tag, that is `Damaged` with the root's page, untouched, unless memory or the device refused before. Also after
-/// a refusal at most `most_removal_pages` more pages are live.
+/// With a sound map, where the pages stand for a layer at that root and directory, a refusal is `Memory` or
+/// `Device`, or `NoPages` where each page number is live. One that is not `touched` leaves the map as it was;
+/// each one of the table is touched, since the tree was changed before it. Where the layer does not have the
+/// object with that box and that tag, that is `Damaged` with the root's page, untouched, unless memory or the
+/// device refused before. Also after a refusal at most `most_removal_pages` more pages are live.
 pub fn remove<const D: usize, B: BlockDevice, A: Allocator + Copy>(
     cache: &mut PageCache<B, A>,
     root: Root,
@@ -46,17 +46,22 @@ pub fn remove<const D: usize, B: BlockDevice, A: Allocator + Copy>(
     ensures alters { Alters cache.old cache.new result }
     ensures root { IfOk result CanBeRoot }
     ensures sound { IsPageMap cache.old → (l : LayerPages) (objects : Objects)
-        → IsLayerAt D m_max (pages cache.old) root directory l objects → IfOk result (λ _. IsPageMap cache.new) }
+        → IsLayerAt D m_max (pages cache.old) root directory l objects →
+        IfOk result (λ _. IsPageMap cache.new) }
     ensures removed { IsPageMap cache.old → (l : LayerPages) (objects : Objects)
-        → IsLayerAt D m_max (pages cache.old) root directory l objects → map.get objects id ≡ Some (bounds.now, tag)
-        → IfOk result (λ after. BecomesLayer D m_max (pages cache.old) (pages cache.new) (part_of_layer l) after
+        → IsLayerAt D m_max (pages cache.old) root directory l objects →
+        map.get objects id ≡ Some (bounds.now, tag)
+        → IfOk result (λ after.
+        BecomesLayer D m_max (pages cache.old) (pages cache.new) (part_of_layer l) after
         directory (map.remove objects id) (HasRemoved D m_max l id (bounds.now, tag))) }
     ensures absent { IsPageMap cache.old → (l : LayerPages) (objects : Objects)
-        → IsLayerAt D m_max (pages cache.old) root directory l objects → ¬ (map.get objects id ≡ Some (bounds.now, tag))
+        → IsLayerAt D m_max (pages cache.old) root directory l objects →
+        ¬ (map.get objects id ≡ Some (bounds.now, tag))
         → IsRefused root.page result }
     ensures grows { Grows most_removal_pages cache.old cache.new }
     ensures faults { IsPageMap cache.old → (l : LayerPages) (objects : Objects)
-        → IsLayerAt D m_max (pages cache.old) root directory l objects → map.get objects id ≡ Some (bounds.now, tag)
+        → IsLayerAt D m_max (pages cache.old) root directory l objects →
+        map.get objects id ≡ Some (bounds.now, tag)
         → IfErr result (λ b. IsNoDamage cache.new b.cause) }
     ensures other_faults { IfErr result (λ b. IsChangeFault b.cause) }
 {

@@ -19,15 +19,17 @@ use page_cache::PageCache;
 use reinsert::{Waiting, insert_with};
 use std::alloc::Allocator;
 
-/// Gives the object with that identifier, which the layer has with the box `old` and that tag, the box `new`, and
-/// answers the root of its tree: by a lawful removal from the tree, whose nodes have at most `m_max` entries, then a
-/// lawful insertion, and then its other box in the identifier table. Its tag stays. The gate has to be open.
+/// Gives the object with that identifier, which the layer has with the box `old` and that tag, the box `new`,
+/// and answers the root of its tree: by a lawful removal from the tree, whose nodes have at most `m_max`
+/// entries, then a lawful insertion, and then its other box in the identifier table. Its tag stays. The gate
+/// has to be open.
 ///
-/// With a sound map, where the pages stand for a layer at that root and directory, a refusal is `Memory` or `Device`,
-/// or `NoPages` where each page number is live. One that is not `touched` leaves the map as it was; each one of the
-/// insertion and of the table is touched, since the object was removed before them. Where the layer does not have the
-/// object with the box `old` and that tag, that is `Damaged` with the root's page, untouched, unless memory or the
-/// device refused before. Also after a refusal at most `most_replaced_pages` more pages are live.
+/// With a sound map, where the pages stand for a layer at that root and directory, a refusal is `Memory` or
+/// `Device`, or `NoPages` where each page number is live. One that is not `touched` leaves the map as it was;
+/// each one of the insertion and of the table is touched, since the object was removed before them. Where the
+/// layer does not have the object with the box `old` and that tag, that is `Damaged` with the root's page,
+/// untouched, unless memory or the device refused before. Also after a refusal at most `most_replaced_pages`
+/// more pages are live.
 pub fn replace<const D: usize, B: BlockDevice, A: Allocator + Copy>(
     cache: &mut PageCache<B, A>,
     root: Root,
@@ -47,18 +49,24 @@ pub fn replace<const D: usize, B: BlockDevice, A: Allocator + Copy>(
     ensures alters { Alters cache.old cache.new result }
     ensures root { IfOk result CanBeRoot }
     ensures sound { IsPageMap cache.old → (l : LayerPages) (objects : Objects)
-        → IsLayerAt D m_max (pages cache.old) root directory l objects → map.get objects id ≡ Some (old.now, tag)
+        → IsLayerAt D m_max (pages cache.old) root directory l objects →
+        map.get objects id ≡ Some (old.now, tag)
         → IfOk result (λ _. IsPageMap cache.new) }
     ensures replaced { IsPageMap cache.old → (l : LayerPages) (objects : Objects)
-        → IsLayerAt D m_max (pages cache.old) root directory l objects → map.get objects id ≡ Some (old.now, tag)
-        → IfOk result (λ after. BecomesLayer D m_max (pages cache.old) (pages cache.new) (part_of_layer l) after
-        directory (map.insert objects id (new.now, tag)) (HasReplaced D m_max l id (old.now, tag) (new.now, tag))) }
+        → IsLayerAt D m_max (pages cache.old) root directory l objects →
+        map.get objects id ≡ Some (old.now, tag)
+        → IfOk result (λ after.
+        BecomesLayer D m_max (pages cache.old) (pages cache.new) (part_of_layer l) after
+        directory (map.insert objects id (new.now, tag))
+        (HasReplaced D m_max l id (old.now, tag) (new.now, tag))) }
     ensures absent { IsPageMap cache.old → (l : LayerPages) (objects : Objects)
-        → IsLayerAt D m_max (pages cache.old) root directory l objects → ¬ (map.get objects id ≡ Some (old.now, tag))
+        → IsLayerAt D m_max (pages cache.old) root directory l objects →
+        ¬ (map.get objects id ≡ Some (old.now, tag))
         → IsRefused root.page result }
     ensures grows { Grows most_replaced_pages cache.old cache.new }
     ensures faults { IsPageMap cache.old → (l : LayerPages) (objects : Objects)
-        → IsLayerAt D m_max (pages cache.old) root directory l objects → map.get objects id ≡ Some (old.now, tag)
+        → IsLayerAt D m_max (pages cache.old) root directory l objects →
+        map.get objects id ≡ Some (old.now, tag)
         → IfErr result (λ b. IsNoDamage cache.new b.cause) }
     ensures other_faults { IfErr result (λ b. IsChangeFault b.cause) }
 {

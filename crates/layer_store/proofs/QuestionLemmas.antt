@@ -25,31 +25,49 @@ use Rattle.layer_store.specs.Representation.{KeepsStore, Represents, StopsLeave,
 use Rattle.layer_store.specs.declared.store.Store.{Store}
 use Rattle.layer_store.proofs.ChangeLemmas.{kept_spelled}
 use Rattle.layer_store.proofs.StopLemmas.{OnlyNow, kept_leaves}
-use Rattle.layer_store.proofs.StoreLemmas.{blames_none, dead_tells, err_so, goes_on_tells, is_dead, is_settled, no_fewer_faults, not_both, replies_nothing, replies_question, replies_reply, settled_so, takes_nothing, takes_question, takes_reply, what_is_kept}
+use Rattle.layer_store.proofs.StoreLemmas.{blames_none, dead_tells, err_so, goes_on_tells, is_dead}
+use Rattle.layer_store.proofs.StoreLemmas.{is_settled, no_fewer_faults, not_both, replies_nothing}
+use Rattle.layer_store.proofs.StoreLemmas.{replies_question, replies_reply, settled_so, takes_nothing}
+use Rattle.layer_store.proofs.StoreLemmas.{takes_question, takes_reply, what_is_kept}
 
 module _ {D A : Type 0} {m : _} where
   -- what a question keeps of its store
-  pub keeps_asked : {T : Type 0} {result : Result T Refusal} (old : Store D A m) (mid : Layers D A m) → KeepsInQuestion old.layers mid result → KeepsStore old (record old { layers = mid })
+  pub keeps_asked : {T : Type 0} {result : Result T Refusal} (old : Store D A m) (mid : Layers D A m)
+      → KeepsInQuestion old.layers mid result → KeepsStore old (record old { layers = mid })
   keeps_asked old mid keeps = record {
     gate = keeps.gate;
     trees = keeps.trees;
-    settled = λ was. let settled = is_settled old was in settled_so (record old { layers = mid }) (keeps.gate.gate ∙ settled.0, keeps.trees.written settled.1);
-    spelled = λ honest was. kept_spelled old.layers mid honest keeps.trees (λ opened. keeps.gate.gate ∙ opened) was;
+    settled = λ was. let settled = is_settled old was in
+        settled_so (record old { layers = mid }) (keeps.gate.gate ∙ settled.0, keeps.trees.written settled.1);
+    spelled =
+        λ honest was. kept_spelled old.layers mid honest keeps.trees (λ opened. keeps.gate.gate ∙ opened) was;
   }
 
   -- nothing was asked
   nothing_asked : (store : Store D A m) → KeepsStore store store
-  nothing_asked store = record { gate = no_call_keeps_the_gate (cache_in store); trees = nothing_moved store.layers; settled = λ was. was; spelled = λ honest was. was }
+  nothing_asked store =
+      record {
+        gate = no_call_keeps_the_gate (cache_in store);
+        trees = nothing_moved store.layers;
+        settled = λ was. was;
+        spelled = λ honest was. was;
+      }
 
   -- what stops leave of one
-  stops_asked : (old new : Store D A m) → (IsHonest (cache_in old) → OnlyNow (cache_in old)) → KeepsStore old new → (s : SessionState) → Represents old s → StopsLeave old new (MayRemain s.stops.now)
+  stops_asked : (old new : Store D A m) → (IsHonest (cache_in old) → OnlyNow (cache_in old))
+      → KeepsStore old new → (s : SessionState) → Represents old s
+      → StopsLeave old new (MayRemain s.stops.now)
   stops_asked old new now keeps s represents =
       let kept = what_is_kept old s represents in
-      kept_leaves (cache_in old) (cache_in new) s.stops.now kept.honest (now kept.honest) kept.leaves.now keeps.gate
+      kept_leaves (cache_in old) (cache_in new) s.stops.now kept.honest (now kept.honest) kept.leaves.now
+      keeps.gate
 
   module _ {T : Type 0} {c : Command} {answer : Result T Refusal → Answer} where
     -- one of a store that failed
-    pub failed_answers : {store : Store D A m} → store.failed ≡ true → (IsHonest (cache_in store) → OnlyNow (cache_in store)) → answer (Err (refusal.StoreFailed 19)) ≡ Refused (refusal.StoreFailed 19) → Answers store store c answer (Err (refusal.StoreFailed 19))
+    pub failed_answers : {store : Store D A m} → store.failed ≡ true
+        → (IsHonest (cache_in store) → OnlyNow (cache_in store))
+        → answer (Err (refusal.StoreFailed 19)) ≡ Refused (refusal.StoreFailed 19)
+        → Answers store store c answer (Err (refusal.StoreFailed 19))
     failed_answers {store = store} failed now refused = record {
       step = subst (TakesStep store store c) (sym refused) (takes_nothing store c failed);
       reply = subst (TakesReply store store c) (sym refused) (replies_nothing store c failed);
@@ -61,11 +79,16 @@ module _ {D A : Type 0} {m : _} where
     }
 
     -- one that a live store answers without a call of the device
-    pub reply_answers : {store : Store D A m} (result : Result T Refusal) → store.failed ≡ false → (IsHonest (cache_in store) → OnlyNow (cache_in store)) → ((t : Table) → changes t c ≡ false) → ((t : Table) (stops : Stops) → after_command t stops c (answer result) ≡ stops)
-        → ((t : Table) → IsSound store.layers t → answer result ≡ reply_of t c) → IfErr result (λ r. is_plain r ≡ true) → Answers store store c answer result
+    pub reply_answers : {store : Store D A m} (result : Result T Refusal) → store.failed ≡ false
+        → (IsHonest (cache_in store) → OnlyNow (cache_in store)) → ((t : Table) → changes t c ≡ false)
+        → ((t : Table) (stops : Stops) → after_command t stops c (answer result) ≡ stops)
+        → ((t : Table) → IsSound store.layers t → answer result ≡ reply_of t c)
+        → IfErr result (λ r. is_plain r ≡ true) → Answers store store c answer result
     reply_answers {store = store} result going now unchanged quiet replied plain = record {
-      step = takes_reply store c (answer result) going (λ t. no_change_leaves_the_table t c (unchanged t)) quiet replied;
-      reply = replies_reply store c (answer result) going (λ t. no_change_leaves_the_table t c (unchanged t)) replied;
+      step = takes_reply store c (answer result) going (λ t. no_change_leaves_the_table t c (unchanged t))
+          quiet replied;
+      reply = replies_reply store c (answer result) going (λ t. no_change_leaves_the_table t c (unchanged t))
+          replied;
       kept = nothing_asked store;
       stops = stops_asked store store now (nothing_asked store);
       ended = err_so result (λ r p. goes_on_tells store r going (plain_goes_on r p)) plain;
@@ -74,17 +97,28 @@ module _ {D A : Type 0} {m : _} where
     }
 
     -- one of the layers of a live store
-    pub asked_answers : {old : Store D A m} {mid : Layers D A m} {result : Result T Refusal} → old.failed ≡ false → (IsHonest (cache_in old) → OnlyNow (cache_in old)) → ((t : Table) → changes t c ≡ false) → ((t : Table) (stops : Stops) → after_command t stops c (answer result) ≡ stops)
-        → MayGiveUp c → m.faults (device_in old) < 2 ^ 64 → ((t : Table) → IsSound old.layers t → IsAnswered old.layers mid t c (answer result)) → KeepsInQuestion old.layers mid result → Answers old (record old { layers = mid }) c answer result
-    asked_answers {old = old} {mid = mid} {result = result} going now unchanged quiet may fits answered keeps =
+    pub asked_answers : {old : Store D A m} {mid : Layers D A m} {result : Result T Refusal}
+        → old.failed ≡ false → (IsHonest (cache_in old) → OnlyNow (cache_in old))
+        → ((t : Table) → changes t c ≡ false)
+        → ((t : Table) (stops : Stops) → after_command t stops c (answer result) ≡ stops)
+        → MayGiveUp c → m.faults (device_in old) < 2 ^ 64
+        → ((t : Table) → IsSound old.layers t → IsAnswered old.layers mid t c (answer result))
+        → KeepsInQuestion old.layers mid result → Answers old (record old { layers = mid }) c answer result
+    asked_answers {old = old} {mid = mid} {result = result} going now unchanged quiet may fits answered
+        keeps =
         let kept = keeps_asked old mid keeps in
         let new : Store D A m = record old { layers = mid } in
         record {
-          step = takes_question old new c (answer result) going going may (λ t. no_change_leaves_the_table t c (unchanged t)) quiet answered
-              (λ t stops sound was. leaves_kept old.layers.cache mid.cache stops sound.map.honest keeps.gate was)
-              (no_fewer_faults (m.faults (device_in old)) (m.faults (device_of mid.cache)) result fits keeps.cause);
-          reply = replies_question old new c (answer result) going going may (λ t. no_change_leaves_the_table t c (unchanged t)) answered
-              (no_fewer_faults (m.faults (device_in old)) (m.faults (device_of mid.cache)) result fits keeps.cause);
+          step = takes_question old new c (answer result) going going may
+              (λ t. no_change_leaves_the_table t c (unchanged t)) quiet answered
+              (λ t stops sound was. leaves_kept old.layers.cache mid.cache stops sound.map.honest keeps.gate
+              was)
+              (no_fewer_faults (m.faults (device_in old)) (m.faults (device_of mid.cache)) result fits
+              keeps.cause);
+          reply = replies_question old new c (answer result) going going may
+              (λ t. no_change_leaves_the_table t c (unchanged t)) answered
+              (no_fewer_faults (m.faults (device_in old)) (m.faults (device_of mid.cache)) result fits
+              keeps.cause);
           kept = kept;
           stops = stops_asked old new now kept;
           ended = err_so result (λ r. goes_on_tells new r going) keeps.goes_on;

@@ -1,5 +1,5 @@
--- Lawful answers of a store of which nothing is known of stops, as after a check of a file that holds no image. Our rule,
--- docs/COMMANDS.md.
+-- Lawful answers of a store of which nothing is known of stops, as after a check of a file that holds no
+-- image. Our rule, docs/COMMANDS.md.
 use Rattle.std.specs.Prelude.{ℕ, ◌≡◌, ◌≤◌, List, [], ◌∷◌, ⊤}
 use Rattle.block_device.specs.Device.{HasRisen}
 use Rattle.plain_table.specs.Commands.Command.{Check}
@@ -13,14 +13,15 @@ use Rattle.store_law.specs.States.Request.{Asks}
 use Rattle.store_law.specs.States.StoreState.{Alive}
 
 -- steps, each from what the one before left
-abbrev pub StepsBy : {T : Type 0} → (T → Request → Answer → T → Type 0) → T → List Request → List Answer → T → Type 0
+abbrev pub StepsBy : {T : Type 0} → (T → Request → Answer → T → Type 0) → T → List Request → List Answer → T
+    → Type 0
 StepsBy Step old [] [] new = new ≡ old
 StepsBy {T = T} Step old (r ∷ rs) (a ∷ as') new = (mid : T) × Step old r a mid × StepsBy Step mid rs as' new
 StepsBy Step old [] (a ∷ as') new = ⊥
 StepsBy Step old (r ∷ rs) [] new = ⊥
 
--- What is known of a store between two requests where a stop may leave anything: its state, and how often the device has
--- failed so far.
+-- What is known of a store between two requests where a stop may leave anything: its state, and how often the
+-- device has failed so far.
 pub record Standing : Type 0 where
   pub state : StoreState
   pub faults : ℕ
@@ -51,8 +52,8 @@ pub record LawfulTo (P : Standing → Type 0) (requests : List Request) (answers
 abbrev pub IsPassedCheck : Request → Answer → Type 0
 IsPassedCheck r a = (r ≡ Asks Check) × (a ≡ Done)
 
--- Each request has one answer, and after each check that was answered ok, so after the first, the rest was answered
--- lawfully from some table on.
+-- Each request has one answer, and after each check that was answered ok, so after the first, the rest was
+-- answered lawfully from some table on.
 abbrev pub LawfulOnceChecked : (Standing → Type 0) → List Request → List Answer → Type 0
 LawfulOnceChecked P [] [] = ⊤
 LawfulOnceChecked P (r ∷ rs) (a ∷ as') = (IsPassedCheck r a → LawfulTo P rs as') × LawfulOnceChecked P rs as'

@@ -1,4 +1,5 @@
--- What each command keeps of the store that it works on: one word for commands that change, and one for those that ask.
+-- What each command keeps of the store that it works on: one word for commands that change, and one for those
+-- that ask.
 use Rattle.std.specs.Prelude.{◌≡◌, ◌⊎◌, ◌↔◌, Bool, true, false, Result, Err, OnErr, IfErr}
 use Rattle.live_layers.specs.Faults.{HasRefusalCause}
 use Rattle.live_layers.specs.Image.{IsRefusedOrImageOf, MayRemain}
@@ -20,14 +21,17 @@ use Rattle.store_law.specs.Sessions.{LawfulStep, SessionState, Takes}
 use Rattle.store_law.specs.States.Request.{Asks}
 use Rattle.store_law.specs.States.StoreState.{Alive, Dead}
 use Rattle.store_law.specs.Stops.{is_end, tables_left}
-use Rattle.layer_store.specs.Representation.{IsInState, IsSettled, KeepsStore, Represents, RepresentsTable, SpellsUnchanged, StandsAs, StopsLeave, cache_in, device_in, layers_in}
+use Rattle.layer_store.specs.Representation.{IsInState, IsSettled, KeepsStore, Represents, RepresentsTable}
+use Rattle.layer_store.specs.Representation.{SpellsUnchanged, StandsAs, StopsLeave, cache_in, device_in}
+use Rattle.layer_store.specs.Representation.{layers_in}
 use Rattle.layer_store.specs.declared.store.Store.{Store}
 
 -- the command was answered so, by one lawful step from whatever state of a session the store was in
 abbrev pub TakesStep : {D A : Type 0} {m : _} → Store D A m → Store D A m → Command → Answer → Type 0
 TakesStep old new c a = Takes Represents old new (λ s s'. LawfulStep s (Asks c) a s')
 
--- and lawfully from whatever state the store was in, whatever stops leave of it, as after a check that was answered ok
+-- and lawfully from whatever state the store was in, whatever stops leave of it, as after a check that was
+-- answered ok
 abbrev pub TakesReply : {D A : Type 0} {m : _} → Store D A m → Store D A m → Command → Answer → Type 0
 TakesReply old new c a = Takes StandsAs old new (λ s s'. LawfulReply s (Asks c) a s')
 
@@ -36,32 +40,40 @@ abbrev pub StaysHonest : {D A : Type 0} {m : _} → Store D A m → Store D A m 
 StaysHonest old new = IsHonest (cache_in old) → IsHonest (cache_in new)
 
 -- a store that had failed answers so, and stays as it was, on any device
-abbrev pub StaysDead : {D A : Type 0} {m : _} {T : Type 0} → Store D A m → Store D A m → Result T Refusal → Type 0
+abbrev pub StaysDead : {D A : Type 0} {m : _} {T : Type 0} → Store D A m → Store D A m → Result T Refusal
+    → Type 0
 StaysDead old new result = IsInState old Dead → (result ≡ Err (refusal.StoreFailed 19)) × (new ≡ old)
 
 -- the count of the device's faults rose by one where it was refused with a fault of the device, and else not
-abbrev pub CountsFaults : {D A : Type 0} {m : _} {T : Type 0} → Store D A m → Store D A m → Result T Refusal → Type 0
-CountsFaults {m = m} old new result = HasRefusalCause (m.faults (device_in old)) (m.faults (device_in new)) result
+abbrev pub CountsFaults : {D A : Type 0} {m : _} {T : Type 0} → Store D A m → Store D A m → Result T Refusal
+    → Type 0
+CountsFaults {m = m} old new result =
+    HasRefusalCause (m.faults (device_in old)) (m.faults (device_in new)) result
 
 -- the refusal is StoreFailed exactly where the store is dead
 abbrev pub TellsOfEnd : {D A : Type 0} {m : _} → Store D A m → Refusal → Type 0
 TellsOfEnd store r = (is_end r ≡ true) ↔ IsInState store Dead
 
 -- A command that may change the table was asked, and done or refused.
-pub record Changes {D A : Type 0} {m : _} (old new : Store D A m) (c : Command) (result : Result (Unit {0}) Refusal) : Type 0 where
+pub record Changes {D A : Type 0} {m : _} (old new : Store D A m) (c : Command)
+    (result : Result (Unit {0}) Refusal) : Type 0 where
   -- it was answered by one lawful step
   pub step : TakesStep old new c (done_answer result)
   -- and lawfully of each store that is alive with a table or dead, whatever stops leave of it
   pub reply : TakesReply old new c (done_answer result)
   pub honest : StaysHonest old new
   -- a stop leaves what one before the call leaves, or blocks that opening refuses
-  pub stops : (s : SessionState) (t : Table) → Represents old s → s.state ≡ Alive t → StopsLeave old new (IsRefusedOrImageOf (tables_left s.stops.now))
+  pub stops : (s : SessionState) (t : Table) → Represents old s → s.state ≡ Alive t
+      → StopsLeave old new (IsRefusedOrImageOf (tables_left s.stops.now))
   -- where the table stays, it leaves nothing else than before
-  pub quiet : (s : SessionState) (t : Table) → Represents old s → s.state ≡ Alive t → changes t c ≡ false → StopsLeave old new (MayRemain s.stops.now)
+  pub quiet : (s : SessionState) (t : Table) → Represents old s → s.state ≡ Alive t → changes t c ≡ false
+      → StopsLeave old new (MayRemain s.stops.now)
   -- and what was settled is so still
   pub settled : (t : Table) → RepresentsTable old t → changes t c ≡ false → IsSettled old → IsSettled new
-  -- where nothing was changed since the last closing, or the last that was tried, page 2 spells the records still
-  pub spelled : (t : Table) → IsInState old (Alive t) → SpellsUnchanged old → IsInState new Dead ⊎ SpellsUnchanged new
+  -- where nothing was changed since the last closing, or the last that was tried, page 2 spells the records
+  -- still
+  pub spelled : (t : Table) → IsInState old (Alive t) → SpellsUnchanged old
+      → IsInState new Dead ⊎ SpellsUnchanged new
   -- refused, it keeps pages and records, so each tree, but where the store has failed
   pub refused : OnErr result (IsInState new Dead ⊎ KeepsPagesAndRecords (layers_in old) (layers_in new))
   -- by StoreFailed exactly then
@@ -72,7 +84,8 @@ pub record Changes {D A : Type 0} {m : _} (old new : Store D A m) (c : Command) 
   pub cause : CountsFaults old new result
 
 -- A command that only asks was asked, and its result is the answer.
-pub record Answers {D A : Type 0} {m : _} {T : Type 0} (old new : Store D A m) (c : Command) (answer : Result T Refusal → Answer) (result : Result T Refusal) : Type 0 where
+pub record Answers {D A : Type 0} {m : _} {T : Type 0} (old new : Store D A m) (c : Command)
+    (answer : Result T Refusal → Answer) (result : Result T Refusal) : Type 0 where
   -- it was answered by one lawful step
   pub step : TakesStep old new c (answer result)
   -- and lawfully of each store that is alive with a table or dead, whatever stops leave of it
@@ -88,8 +101,8 @@ pub record Answers {D A : Type 0} {m : _} {T : Type 0} (old new : Store D A m) (
   -- faults of the device are counted
   pub cause : CountsFaults old new result
 
--- A closing that was refused, and not finished: the device is that of a store that goes on, as after a reopening that was
--- refused so, with each tree, and its gate is not shut.
+-- A closing that was refused, and not finished: the device is that of a store that goes on, as after a
+-- reopening that was refused so, with each tree, and its gate is not shut.
 pub record IsUnfinished {D A : Type 0} {m : _} (old : Store D A m) (r : Refusal) (device : D) : Type 0 where
   pub left : Store D A m
   pub has : device ≡ device_in left
@@ -99,6 +112,7 @@ pub record IsUnfinished {D A : Type 0} {m : _} (old : Store D A m) (r : Refusal)
   pub unshut : ¬ (gate_of (cache_in left) ≡ Shut)
 
 -- What was made of the layers is told, and where it broke off half way a store that was alive has failed.
-pub record Tells (old new : Bool) (made : Result (Unit {0}) Unmade) (result : Result (Unit {0}) Refusal) : Type 0 where
+pub record Tells (old new : Bool) (made : Result (Unit {0}) Unmade)
+    (result : Result (Unit {0}) Refusal) : Type 0 where
   pub answer : result ≡ told made
   pub failed : old ≡ false → new ≡ is_broken made

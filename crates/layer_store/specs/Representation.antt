@@ -38,8 +38,8 @@ looks_in store = looks_of (cache_in store)
 unfoldable pub IsSettled : {D A : Type 0} {m : _} → Store D A m → Type 0
 IsSettled store = keeping.IsSettled store.layers
 
--- Page 2, of the catalog, spells the records of its layers; and so it is where nothing was changed since the last closing, or
--- the last that was tried.
+-- Page 2, of the catalog, spells the records of its layers; and so it is where nothing was changed since the
+-- last closing, or the last that was tried.
 abbrev pub SpellsRecords : {D A : Type 0} {m : _} → Store D A m → Type 0
 SpellsRecords store = keeping.SpellsRecords (layers_in store)
 
@@ -72,12 +72,14 @@ RepresentsTable store t = Reaches Represents store (λ s. s.state ≡ Alive t)
 
 -- a table was closed, and since that moment no other
 abbrev pub closed_since : ℕ → Table → Stops
-closed_since moment t = record { now = Surely t; since = moment; so_far = t ∷ []; kept = t ∷ []; kept_so_far = t ∷ [] }
+closed_since moment t =
+    record { now = Surely t; since = moment; so_far = t ∷ []; kept = t ∷ []; kept_so_far = t ∷ [] }
 
--- The store is sound and alive, and represents the table: a stop now leaves an image of it and nothing else, and one since
--- that moment left that, or blocks that opening refuses.
+-- The store is sound and alive, and represents the table: a stop now leaves an image of it and nothing else,
+-- and one since that moment left that, or blocks that opening refuses.
 abbrev pub BeginsWith : {D A : Type 0} {m : _} → Store D A m → ℕ → Table → Type 0
-BeginsWith store moment t = Reaches Represents store (λ s. (s.state ≡ Alive t) × (s.stops ≡ closed_since moment t))
+BeginsWith store moment t =
+    Reaches Represents store (λ s. (s.state ≡ Alive t) × (s.stops ≡ closed_since moment t))
 
 -- alive with some table; and one that begins so
 abbrev pub IsAliveWithSome : {D A : Type 0} {m : _} → Store D A m → Type 0
@@ -88,7 +90,14 @@ BeginsWithSome store moment = (t : Table) × BeginsWith store moment t
 
 -- what stops leave, seen from this moment on
 abbrev pub stops_from_now : Stops → ℕ → Stops
-stops_from_now stops moment = record { now = stops.now; since = moment; so_far = tables_left stops.now; kept = stops.kept; kept_so_far = stops.kept }
+stops_from_now stops moment =
+    record {
+      now = stops.now;
+      since = moment;
+      so_far = tables_left stops.now;
+      kept = stops.kept;
+      kept_so_far = stops.kept;
+    }
 
 -- the same state of a session, seen from this moment on
 abbrev pub from_now : SessionState → ℕ → SessionState
@@ -98,7 +107,13 @@ from_now s moment = record { state = s.state; stops = stops_from_now s.stops mom
 abbrev pub resting_on : SessionState → ℕ → Table → SessionState
 resting_on s moment t = record {
   state = s.state;
-  stops = record { now = Perhaps (t ∷ []); since = moment; so_far = t ∷ []; kept = t ∷ s.stops.kept; kept_so_far = t ∷ s.stops.kept };
+  stops = record {
+    now = Perhaps (t ∷ []);
+    since = moment;
+    so_far = t ∷ [];
+    kept = t ∷ s.stops.kept;
+    kept_so_far = t ∷ s.stops.kept;
+  };
   faults = s.faults;
 }
 
@@ -112,8 +127,8 @@ HasFailed store = Reaches Represents store (λ s. s.state ≡ Dead)
 abbrev pub StopsLeave : {D A : Type 0} {m : _} → Store D A m → Store D A m → (Blocks → Type 0) → Type 0
 StopsLeave {m = m} old new P = LeavesOnly m.moment m.left_since m.recovery (device_in old) (device_in new) P
 
--- a question keeps the gate with its moment, and pages and records, so each tree; what was settled is so still, and where page
--- 2 spelled the records, it does so still
+-- a question keeps the gate with its moment, and pages and records, so each tree; what was settled is so
+-- still, and where page 2 spelled the records, it does so still
 pub record KeepsStore {D A : Type 0} {m : _} (old new : Store D A m) : Type 0 where
   pub gate : KeepsGate (cache_in old) (cache_in new)
   pub trees : KeepsPagesAndRecords (layers_in old) (layers_in new)

@@ -1,5 +1,5 @@
-//! The spatial store: layers of boxes in trees of pages in a file, their commands, and the theorem that each answers as
-//! a plain table does.
+//! The spatial store: layers of boxes in trees of pages in a file, their commands, and the theorem that each
+//! answers as a plain table does.
 #![tactic(auto)]
 
 pub mod laws;

@@ -222,8 +222,8 @@ impl<A: Allocator + Copy> ListTable<A> {
         Ok(rows)
     }
 
-    /// The k objects nearest to the point, or all of fewer: identifiers with squared distances, by distance, and of
-    /// equal distances by identifier.
+    /// The k objects nearest to the point, or all of fewer: identifiers with squared distances, by distance,
+    /// and of equal distances by identifier.
     pub fn nearest(
         &self,
         name: &[u8],
@@ -252,7 +252,8 @@ impl<A: Allocator + Copy> ListTable<A> {
         Ok(rows)
     }
 
-    /// All pairs of an object of the first layer and one of the second whose boxes have at most this squared distance.
+    /// All pairs of an object of the first layer and one of the second whose boxes have at most this squared
+    /// distance.
     pub fn join(
         &self,
         first: &[u8],

@@ -1,5 +1,6 @@
 -- The layer of a name, rows of either dimension, and faults of a question.
-use Rattle.std.proofs.Common.{◌≡◌, ◌∙◌, ℕ, ◌+◌, List, [], ◌∷◌, map, true, false, refl, sym, ap, subst, arith, inl, inr, ⊎_elim}
+use Rattle.std.proofs.Common.{◌≡◌, ◌∙◌, ℕ, ◌+◌, List, [], ◌∷◌, map, true, false, refl, sym, ap, subst, arith}
+use Rattle.std.proofs.Common.{inl, inr, ⊎_elim}
 use Rattle.std.specs.Prelude.{◌==◌, ◌^◌, ◌-◌, is_some}
 use Rattle.std.proofs.Math.Nat.{min-eq_left, min-eq_right}
 use Rattle.std.proofs.lemmas.Bool.{cases_lt}
@@ -34,10 +35,12 @@ one_more_risen old new e = ⊎_elim
     (cases_lt (old + 1) (2 ^ 64 - 1))
 
 -- the device's count rose where it was the cause
-pub risen_of : (before now : ℕ) (f : Fault) → now ≡ faults_after f before → f ≡ fault.Device → HasRisen before now
+pub risen_of : (before now : ℕ) (f : Fault) → now ≡ faults_after f before → f ≡ fault.Device
+    → HasRisen before now
 risen_of before now f e is = one_more_risen before now (e ∙ ap (λ (x : Fault). faults_after x before) is)
 
-pub device_refuses : (rose : Type 0) (f : Fault) → IsOfDevice f → (f ≡ fault.Device → rose) → IsFault rose (as_refusal f)
+pub device_refuses : (rose : Type 0) (f : Fault) → IsOfDevice f → (f ≡ fault.Device → rose)
+    → IsFault rose (as_refusal f)
 device_refuses rose f (inl e) risen = subst (λ (x : Fault). IsFault rose (as_refusal x)) (sym e) tt
 device_refuses rose f (inr e) risen = subst (λ (x : Fault). IsFault rose (as_refusal x)) (sym e) (risen e)
 
@@ -53,11 +56,13 @@ same_count fault.NoPages before = refl
 
 -- ---- rows of either dimension
 
-pub two_rows : (rows : List (ℕ × Object)) → map row_of (map (λ (row : ℕ × Object). (row.0, Two (bounds_of row.1), tag_of row.1)) rows) ≡ rows
+pub two_rows : (rows : List (ℕ × Object))
+    → map row_of (map (λ (row : ℕ × Object). (row.0, Two (bounds_of row.1), tag_of row.1)) rows) ≡ rows
 two_rows [] = refl
 two_rows (r ∷ rs) = ap (λ (xs : List (ℕ × Object)). r ∷ xs) (two_rows rs)
 
-pub three_rows : (rows : List (ℕ × Object)) → map row_of (map (λ (row : ℕ × Object). (row.0, Three (bounds_of row.1), tag_of row.1)) rows) ≡ rows
+pub three_rows : (rows : List (ℕ × Object))
+    → map row_of (map (λ (row : ℕ × Object). (row.0, Three (bounds_of row.1), tag_of row.1)) rows) ≡ rows
 three_rows [] = refl
 three_rows (r ∷ rs) = ap (λ (xs : List (ℕ × Object)). r ∷ xs) (three_rows rs)
 

@@ -25,17 +25,22 @@ use Rattle.live_layers.proofs.StopLemmas.{gate_opened, none_made, pages_written}
 
 -- since its moment a device leaves nothing but what it may leave now
 abbrev pub OnlyNow : {D A : Type 0} {m : _} → Layers D A m → Type 0
-OnlyNow {D = D} {m = m} kept = (d : D) (b : Blocks) → m.honest d → m.left_since d (m.moment d) b → m.may_leave d b
+OnlyNow {D = D} {m = m} kept = (d : D) (b : Blocks) → m.honest d → m.left_since d (m.moment d) b
+    → m.may_leave d b
 
 module _ {D A : Type 0} {m : _} {T : Type 0} where
   -- an answer that hands on why a change broke off
-  pub handed_on : (old new : PageCache D A m) (b : Broken) (result : Result T Broken) → IsErrAnd result (λ e. e ≡ b) → Begins {T = T} old new (Err b) → Begins old new result
+  pub handed_on : (old new : PageCache D A m) (b : Broken) (result : Result T Broken)
+      → IsErrAnd result (λ e. e ≡ b) → Begins {T = T} old new (Err b) → Begins old new result
   handed_on old new b (Ok x) is begins = elim is [ ]
-  handed_on old new b (Err e) is begins = subst (λ (f : Broken). Begins {T = T} old new (Err f)) (sym is) begins
+  handed_on old new b (Err e) is begins =
+      subst (λ (f : Broken). Begins {T = T} old new (Err f)) (sym is) begins
 
   -- the gate was not opened: there was no memory
-  none_begun : (cache : PageCache D A m) (f : Fault) (result : Result T Broken) → IsErrAnd result (λ e. e ≡ before f) → f ≡ fault.Memory
-      → (IsHonest cache → (c : Blocks) → m.left_since (device_of cache) (m.moment (device_of cache)) c → m.may_leave (device_of cache) c) → Begins cache cache result
+  none_begun : (cache : PageCache D A m) (f : Fault) (result : Result T Broken)
+      → IsErrAnd result (λ e. e ≡ before f) → f ≡ fault.Memory
+      → (IsHonest cache → (c : Blocks) → m.left_since (device_of cache) (m.moment (device_of cache)) c
+      → m.may_leave (device_of cache) c) → Begins cache cache result
   none_begun cache f result is memory now = handed_on cache cache (before f) result is (record {
     stops = λ ts honest rests. none_made cache ts honest (now honest) rests;
     rests = λ ts honest rests. rests;
@@ -48,14 +53,27 @@ module _ {D A : Type 0} {m : _} {T : Type 0} where
   })
 
   -- it was opened, was open, or was not opened
-  pub gate_begun : (old new : PageCache D A m) (result : Result T Broken) → (IsHonest old → (c : Blocks) → m.left_since (device_of old) (m.moment (device_of old)) c → m.may_leave (device_of old) c)
-      → (gate_of old ≡ Open → IsUnchanged old new) → (IsHonest old → SameButGate (blocks_of new) (blocks_of old)) → (IsHonest old → ¬ (gate_of old ≡ Open) → LeavesOnly m.moment m.left_since m.recovery (device_of old) (device_of new) (λ c. SameButGate c (blocks_of old)))
-      → (IsHonest old ↔ IsHonest new) → KeepsMap old new → OnOk result (gate_of new ≡ Open) → IfErr result (λ b. b.touched ≡ false) → m.faults (device_of new) ≡ faults_behind (cause_in result) (m.faults (device_of old)) → Begins old new result
+  pub gate_begun : (old new : PageCache D A m) (result : Result T Broken)
+      → (IsHonest old → (c : Blocks) → m.left_since (device_of old) (m.moment (device_of old)) c
+      → m.may_leave (device_of old) c)
+      → (gate_of old ≡ Open → IsUnchanged old new)
+      → (IsHonest old → SameButGate (blocks_of new) (blocks_of old))
+      → (IsHonest old → ¬ (gate_of old ≡ Open)
+      → LeavesOnly m.moment m.left_since m.recovery (device_of old) (device_of new)
+      (λ c. SameButGate c (blocks_of old)))
+      → (IsHonest old ↔ IsHonest new) → KeepsMap old new → OnOk result (gate_of new ≡ Open)
+      → IfErr result (λ b. b.touched ≡ false)
+      → m.faults (device_of new) ≡ faults_behind (cause_in result) (m.faults (device_of old))
+      → Begins old new result
   gate_begun old new result now was_open blocks stops honest map opened untouched faults = record {
-    stops = λ ts there rests. gate_opened old new ts there (now there) (λ open'. (was_open open').device) (stops there) rests;
-    rests = λ ts there rests closed c same. rests (λ open'. closed ((was_open open').gate ∙ open')) c (same ∙ blocks there);
+    stops = λ ts there rests. gate_opened old new ts there (now there) (λ open'. (was_open open').device)
+        (stops there) rests;
+    rests = λ ts there rests closed c same. rests (λ open'. closed ((was_open open').gate ∙ open')) c
+        (same ∙ blocks there);
     opened = opened;
-    broke_open = if_err result (λ b quiet touched. absurd (let no : true ≡ false = sym touched ∙ quiet in cc)) untouched;
+    broke_open =
+        if_err result (λ b quiet touched. absurd (let no : true ≡ false = sym touched ∙ quiet in cc))
+        untouched;
     stays_open = λ open'. (was_open open').gate ∙ open';
     honest = honest;
     next = omega (arith, map.next);
@@ -63,9 +81,11 @@ module _ {D A : Type 0} {m : _} {T : Type 0} where
   }
 
   -- and pages were changed behind it
-  begun_and_made : {S : Type 0} (old mid new : PageCache D A m) (x : S) (y : T) → Begins old mid (Ok x) → ChangesUntil mid new None → Begins old new (Ok y)
+  begun_and_made : {S : Type 0} (old mid new : PageCache D A m) (x : S) (y : T) → Begins old mid (Ok x)
+      → ChangesUntil mid new None → Begins old new (Ok y)
   begun_and_made old mid new x y begun changes = record {
-    stops = λ ts honest rests. pages_written old mid new ts (begun.honest.0 honest) begun.opened (begun.stops ts honest rests) changes.gate;
+    stops = λ ts honest rests. pages_written old mid new ts (begun.honest.0 honest) begun.opened
+        (begun.stops ts honest rests) changes.gate;
     rests = λ ts honest rests closed. absurd (closed (changes.gate.gate ∙ begun.opened));
     opened = changes.gate.gate ∙ begun.opened;
     broke_open = tt;
@@ -76,14 +96,20 @@ module _ {D A : Type 0} {m : _} {T : Type 0} where
   }
 
   -- or half changed
-  begun_and_broke : {R S : Type 0} (old mid new : PageCache D A m) (x : R) (b : Broken) (result : Result T Broken) → IsErrAnd result (λ e. e ≡ b) → Begins old mid (Ok x) → Alters {T = S} mid new (Err b) → Begins old new result
+  begun_and_broke : {R S : Type 0} (old mid new : PageCache D A m) (x : R) (b : Broken)
+      (result : Result T Broken) → IsErrAnd result (λ e. e ≡ b) → Begins old mid (Ok x)
+      → Alters {T = S} mid new (Err b) → Begins old new result
   begun_and_broke old mid new x b result is begun alters = handed_on old new b result is (record {
-    stops = λ ts honest rests. pages_written old mid new ts (begun.honest.0 honest) begun.opened (begun.stops ts honest rests) alters.changes.gate;
+    stops = λ ts honest rests. pages_written old mid new ts (begun.honest.0 honest) begun.opened
+        (begun.stops ts honest rests) alters.changes.gate;
     rests = λ ts honest rests closed. absurd (closed (alters.changes.gate.gate ∙ begun.opened));
     opened = tt;
     broke_open = λ touched. alters.changes.gate.gate ∙ begun.opened;
     stays_open = λ open'. alters.changes.gate.gate ∙ begun.opened;
-    honest = (λ h. alters.changes.gate.honest.0 (begun.honest.0 h), λ h. begun.honest.1 (alters.changes.gate.honest.1 h));
+    honest = (
+      λ h. alters.changes.gate.honest.0 (begun.honest.0 h),
+      λ h. begun.honest.1 (alters.changes.gate.honest.1 h),
+    );
     next = omega (arith, begun.next, alters.changes.next);
     faults = alters.changes.faults ∙ ap (faults_after b.cause) begun.faults;
   })
@@ -91,16 +117,20 @@ module _ {D A : Type 0} {m : _} {T : Type 0} where
   -- ---- of layers
 
   -- there was no memory
-  pub no_memory : (kept : Layers D A m) (f : Fault) (result : Result T Broken) → IsErrAnd result (λ e. e ≡ before f) → f ≡ fault.Memory → OnlyNow kept → BeginsChange kept kept result
+  pub no_memory : (kept : Layers D A m) (f : Fault) (result : Result T Broken)
+      → IsErrAnd result (λ e. e ≡ before f) → f ≡ fault.Memory → OnlyNow kept → BeginsChange kept kept result
   no_memory kept f result is memory now = record {
-    begins = none_begun kept.cache f result is memory (λ honest c left. now (device_of kept.cache) c honest left);
+    begins =
+        none_begun kept.cache f result is memory (λ honest c left. now (device_of kept.cache) c honest left);
     untouched = λ t sound. any_err result _ (λ b quiet. sound);
     kept = any_err result _ (λ b quiet. nothing_moved kept);
     written = on_any_err result _ (λ was. was);
   }
 
   -- the gate was not opened
-  pub not_opened : (old new : Layers D A m) (b : Broken) (result : Result T Broken) → IsErrAnd result (λ e. e ≡ b) → Begins {T = T} old.cache new.cache (Err b) → ((t : Table) → IsSound old t → IsSound new t) → KeepsPagesAndRecords old new
+  pub not_opened : (old new : Layers D A m) (b : Broken) (result : Result T Broken)
+      → IsErrAnd result (λ e. e ≡ b) → Begins {T = T} old.cache new.cache (Err b)
+      → ((t : Table) → IsSound old t → IsSound new t) → KeepsPagesAndRecords old new
       → BeginsChange old new result
   not_opened old new b result is begins sound keeps = record {
     begins = handed_on old.cache new.cache b result is begins;
@@ -110,19 +140,34 @@ module _ {D A : Type 0} {m : _} {T : Type 0} where
   }
 
   -- it was, and pages were half changed, or changed
-  pub broke_behind : {R S : Type 0} (old mid new : Layers D A m) {x : R} (b : Broken) (result : Result T Broken) → IsErrAnd result (λ e. e ≡ b) → IsSameBut mid new → Begins old.cache mid.cache (Ok x)
-      → ((t : Table) → IsSound old t → IsSound mid t) → KeepsPagesAndRecords old mid → Alters {T = S} mid.cache new.cache (Err b) → BeginsChange old new result
+  pub broke_behind : {R S : Type 0} (old mid new : Layers D A m) {x : R} (b : Broken)
+      (result : Result T Broken) → IsErrAnd result (λ e. e ≡ b) → IsSameBut mid new
+      → Begins old.cache mid.cache (Ok x)
+      → ((t : Table) → IsSound old t → IsSound mid t) → KeepsPagesAndRecords old mid
+      → Alters {T = S} mid.cache new.cache (Err b) → BeginsChange old new result
   broke_behind old mid new {x} b result is same begun sound keeps alters = record {
     begins = begun_and_broke old.cache mid.cache new.cache x b result is begun alters;
-    untouched = λ t was. the_err result b (λ e. e.touched ≡ false → IsSound new t) is (λ quiet. sound_kept mid new t (alters.untouched quiet) same.0 same.1 (λ w. sym same.2 ∙ w) (sound t was));
+    untouched =
+        λ t was. the_err result b (λ e. e.touched ≡ false → IsSound new t) is
+        (λ quiet. sound_kept mid new t (alters.untouched quiet) same.0 same.1 (λ w. sym same.2 ∙ w)
+        (sound t was));
     kept = the_err result b (λ e. e.touched ≡ false → KeepsPagesAndRecords old new) is
-        (λ quiet. stays_in_turn old mid new begun.honest.0 keeps (record { map = alters.untouched quiet; records = ap records_of same.0; written = λ was. same.2 ∙ was }));
+        (λ quiet. stays_in_turn old mid new begun.honest.0 keeps
+        (record {
+          map = alters.untouched quiet;
+          records = ap records_of same.0;
+          written = λ was. same.2 ∙ was;
+        }));
     written = on_any_err result _ (λ was. same.2 ∙ keeps.written was);
   }
 
-  pub made_behind : {S : Type 0} (old mid new : Layers D A m) (cache : PageCache D A m) {x : S} {y : T} → new.cache ≡ cache → Begins old.cache mid.cache (Ok x) → ChangesUntil mid.cache cache None → BeginsChange old new (Ok y)
+  pub made_behind : {S : Type 0} (old mid new : Layers D A m) (cache : PageCache D A m) {x : S} {y : T}
+      → new.cache ≡ cache → Begins old.cache mid.cache (Ok x) → ChangesUntil mid.cache cache None
+      → BeginsChange old new (Ok y)
   made_behind old mid new cache {x} {y} same begun changes = record {
-    begins = subst (λ (c : PageCache D A m). Begins old.cache c (Ok y)) (sym same) (begun_and_made old.cache mid.cache cache x y begun changes);
+    begins =
+        subst (λ (c : PageCache D A m). Begins old.cache c (Ok y)) (sym same)
+        (begun_and_made old.cache mid.cache cache x y begun changes);
     untouched = λ t sound. tt;
     kept = tt;
     written = tt;

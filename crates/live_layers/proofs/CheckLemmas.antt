@@ -1,5 +1,6 @@
 -- Layers that are checked one after the other, and their pages.
-use Rattle.std.proofs.Common.{◌≡◌, ◌∙◌, ℕ, ◌+◌, ◌<◌, cond, eqb, List, [], ◌∷◌, ◌++◌, length, get_or, map, take, refl, sym, ap, subst, arith}
+use Rattle.std.proofs.Common.{◌≡◌, ◌∙◌, ℕ, ◌+◌, ◌<◌, cond, eqb, List, [], ◌∷◌, ◌++◌, length, get_or, map}
+use Rattle.std.proofs.Common.{take, refl, sym, ap, subst, arith}
 use Rattle.std.specs.FinMap.{len, len-entries}
 use Rattle.std.proofs.lemmas.List.{get_or-map, length-map, map-append, take_more}
 use Rattle.catalog_page.specs.Layout.{Record, record_of}
@@ -17,25 +18,40 @@ use Rattle.live_layers.proofs.LayerLemmas.{layer_at_stands, layer_stays, layers_
 -- ---- one layer
 
 -- a layer that was checked, its pages appended
-pub adds_layer : (dims : ℕ) (pages : PageMap) (r : Record) (list before now : List ℕ) → r.dims ≡ dims → IsCheckedLayer dims r.fanout pages (root_of r) r.directory r.count list → now ≡ before ++ list → AddsLayer pages r before now
+pub adds_layer : (dims : ℕ) (pages : PageMap) (r : Record) (list before now : List ℕ) → r.dims ≡ dims
+    → IsCheckedLayer dims r.fanout pages (root_of r) r.directory r.count list → now ≡ before ++ list
+    → AddsLayer pages r before now
 adds_layer dims pages r list before now axes checked is = record {
-  layer = record { row = r; pages = checked.layer; layer = record { dims = r.dims; fanout = r.fanout; objects = checked.objects } };
+  layer = record {
+    row = r;
+    pages = checked.layer;
+    layer = record { dims = r.dims; fanout = r.fanout; objects = checked.objects };
+  };
   row = refl;
   stands = record {
-    at = subst (λ (d : ℕ). IsLayerAt d r.fanout pages (root_of r) r.directory checked.layer checked.objects) (sym axes) checked.stands;
+    at = subst (λ (d : ℕ). IsLayerAt d r.fanout pages (root_of r) r.directory checked.layer checked.objects)
+        (sym axes) checked.stands;
     dims = refl;
     fanout = refl;
     count = sym (len-entries checked.objects) ∙ checked.count_is;
   };
-  listed = λ n. omega (arith, ap (λ (xs : List ℕ). named_pages xs n) is, total-append (λ (page : ℕ). cond (eqb page n) 1 0) before list, checked.pages_are n);
+  listed =
+      λ n. omega (
+        arith,
+        ap (λ (xs : List ℕ). named_pages xs n) is,
+        total-append (λ (page : ℕ). cond (eqb page n) 1 0) before list,
+        checked.pages_are n,
+      );
 }
 
 -- a layer that stands, as it is checked
-module _ (dims : ℕ) (pages : PageMap) (r : Record) (h : Reading) (row : h.row ≡ r) (axes : r.dims ≡ dims) (stands : LayerStands pages h) where
+module _ (dims : ℕ) (pages : PageMap) (r : Record) (h : Reading) (row : h.row ≡ r) (axes : r.dims ≡ dims)
+    (stands : LayerStands pages h) where
   pub layer_of_row : IsLayerAt dims r.fanout pages (root_of r) r.directory h.pages h.layer.objects
   layer_of_row =
       subst (λ (d : ℕ). IsLayerAt d r.fanout pages (root_of r) r.directory h.pages h.layer.objects) axes
-      (subst (λ (x : Record). IsLayerAt x.dims x.fanout pages (root_of x) x.directory h.pages h.layer.objects) row stands.at)
+      (subst (λ (x : Record). IsLayerAt x.dims x.fanout pages (root_of x) x.directory h.pages
+      h.layer.objects) row stands.at)
 
   pub count_of_row : len h.layer.objects ≡ r.count
   count_of_row = len-entries h.layer.objects ∙ stands.count ∙ ap (λ (x : Record). x.count) row
@@ -43,51 +59,65 @@ module _ (dims : ℕ) (pages : PageMap) (r : Record) (h : Reading) (row : h.row 
 -- ---- the layer of the record at a place
 
 -- it comes after those before it
-pub records_more : (items : List LayerRecord) (i : ℕ) (r : LayerRecord) → i < length items → r ≡ get_or items i r → map record_of (take (i + 1) items) ≡ map record_of (take i items) ++ record_of r ∷ []
+pub records_more : (items : List LayerRecord) (i : ℕ) (r : LayerRecord) → i < length items
+    → r ≡ get_or items i r
+    → map record_of (take (i + 1) items) ≡ map record_of (take i items) ++ record_of r ∷ []
 records_more items i r lt is =
     ap (map record_of) (take_more items i r lt) ∙ map-append record_of (take i items) (get_or items i r ∷ [])
     ∙ ap (λ (x : LayerRecord). map record_of (take i items) ++ record_of x ∷ []) (sym is)
 
-module _ (items : List LayerRecord) (hs : List Reading) (rows : map row_of hs ≡ map record_of items) (i : ℕ) (r : LayerRecord) (lt : i < length items) (is : r ≡ get_or items i r) where
+module _ (items : List LayerRecord) (hs : List Reading) (rows : map row_of hs ≡ map record_of items) (i : ℕ)
+    (r : LayerRecord) (lt : i < length items) (is : r ≡ get_or items i r) where
   pub in_readings : i < length hs
   in_readings = omega (arith, lt, ap length rows, length-map hs row_of, length-map items record_of)
 
   pub row_here : (get_or hs i no_reading).row ≡ record_of r
   row_here =
-      sym (get_or-map row_of hs i no_reading (record_of r) in_readings) ∙ ap (λ (rs : List Record). get_or rs i (record_of r)) rows
+      sym (get_or-map row_of hs i no_reading (record_of r) in_readings)
+      ∙ ap (λ (rs : List Record). get_or rs i (record_of r)) rows
       ∙ get_or-map record_of items i r (record_of r) lt ∙ ap record_of (sym is)
 
   -- it stands, also in equal pages
-  pub stands_here : (old new : PageMap) → ((n : ℕ) → new n ≡ old n) → LayersStand old hs → LayerStands new (get_or hs i no_reading)
-  stands_here old new same stand = layer_stays old new (get_or hs i no_reading) (λ n p. same n) (layer_at_stands old hs i no_reading in_readings stand)
+  pub stands_here : (old new : PageMap) → ((n : ℕ) → new n ≡ old n) → LayersStand old hs
+      → LayerStands new (get_or hs i no_reading)
+  stands_here old new same stand =
+      layer_stays old new (get_or hs i no_reading) (λ n p. same n)
+      (layer_at_stands old hs i no_reading in_readings stand)
 
 -- ---- one layer after the other
 
-stand_more : (pages : PageMap) (hs : List Reading) (h : Reading) → LayersStand pages hs → LayerStands pages h → LayersStand pages (hs ++ h ∷ [])
+stand_more : (pages : PageMap) (hs : List Reading) (h : Reading) → LayersStand pages hs → LayerStands pages h
+    → LayersStand pages (hs ++ h ∷ [])
 stand_more pages [] h all stands = (stands, tt)
 stand_more pages (k ∷ ks) h all stands = (all.0, stand_more pages ks h all.1 stands)
 
-parts_more : (hs : List Reading) (h : Reading) (n : ℕ) → of_layers (hs ++ h ∷ []) n ≡ of_layers hs n + of_layer h n
+parts_more : (hs : List Reading) (h : Reading) (n : ℕ)
+    → of_layers (hs ++ h ∷ []) n ≡ of_layers hs n + of_layer h n
 parts_more [] h n = omega arith
 parts_more (k ∷ ks) h n = omega (arith, parts_more ks h n)
 
 pub adds_none : (pages : PageMap) (list : List ℕ) → AddsLayers pages [] list list
 adds_none pages list = record { layers = []; rows = refl; stand = tt; listed = λ n. omega arith }
 
-pub adds_more : (pages : PageMap) (rs : List Record) (r : Record) (before mid now : List ℕ) → AddsLayers pages rs before mid → AddsLayer pages r mid now → AddsLayers pages (rs ++ r ∷ []) before now
+pub adds_more : (pages : PageMap) (rs : List Record) (r : Record) (before mid now : List ℕ)
+    → AddsLayers pages rs before mid → AddsLayer pages r mid now → AddsLayers pages (rs ++ r ∷ []) before now
 adds_more pages rs r before mid now a b = record {
   layers = a.layers ++ b.layer ∷ [];
-  rows = map-append row_of a.layers (b.layer ∷ []) ∙ ap (λ (xs : List Record). xs ++ b.layer.row ∷ []) a.rows ∙ ap (λ (x : Record). rs ++ x ∷ []) b.row;
+  rows = map-append row_of a.layers (b.layer ∷ []) ∙ ap (λ (xs : List Record). xs ++ b.layer.row ∷ []) a.rows
+      ∙ ap (λ (x : Record). rs ++ x ∷ []) b.row;
   stand = stand_more pages a.layers b.layer a.stand b.stands;
   listed = λ n. omega (arith, a.listed n, b.listed n, parts_more a.layers b.layer n);
 }
 
 -- in equal pages
-pub adds_in : (old new : PageMap) (r : Record) (before now : List ℕ) → ((n : ℕ) → new n ≡ old n) → AddsLayer new r before now → AddsLayer old r before now
+pub adds_in : (old new : PageMap) (r : Record) (before now : List ℕ) → ((n : ℕ) → new n ≡ old n)
+    → AddsLayer new r before now → AddsLayer old r before now
 adds_in old new r before now same a = subst (λ (p : PageMap). AddsLayer p r before now) (λ i n. same n i) a
 
-pub all_in : (old new : PageMap) (rs : List Record) (before now : List ℕ) → ((n : ℕ) → new n ≡ old n) → AddsLayers new rs before now → AddsLayers old rs before now
+pub all_in : (old new : PageMap) (rs : List Record) (before now : List ℕ) → ((n : ℕ) → new n ≡ old n)
+    → AddsLayers new rs before now → AddsLayers old rs before now
 all_in old new rs before now same a = subst (λ (p : PageMap). AddsLayers p rs before now) (λ i n. same n i) a
 
-pub stand_in : (old new : PageMap) (hs : List Reading) → ((n : ℕ) → new n ≡ old n) → LayersStand old hs → LayersStand new hs
+pub stand_in : (old new : PageMap) (hs : List Reading) → ((n : ℕ) → new n ≡ old n) → LayersStand old hs
+    → LayersStand new hs
 stand_in old new hs same stand = layers_stay old new hs (λ n p. same n) stand

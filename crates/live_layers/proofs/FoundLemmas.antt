@@ -18,15 +18,21 @@ use Rattle.live_layers.proofs.CatalogGood.{few_good, names_good}
 use Rattle.live_layers.proofs.HoldLemmas.{counted}
 use Rattle.live_layers.proofs.TableLemmas.{same_order}
 
-names_of_layers : (hs : List Reading) → map (λ (e : List ℕ × Record). e.0) (by_name (map row_of hs)) ≡ map (λ (e : List ℕ × Layer). e.0) (map entry_of hs)
+names_of_layers : (hs : List Reading)
+    → map (λ (e : List ℕ × Record). e.0) (by_name (map row_of hs)) ≡ map (λ (e : List ℕ × Layer). e.0)
+    (map entry_of hs)
 names_of_layers [] = refl
 names_of_layers (h ∷ hs) = ap (λ (ns : List (List ℕ)). h.row.name ∷ ns) (names_of_layers hs)
 
-module _ (pages : PageMap) (next : ℕ) (records : List Record) (found : FindsLayers pages records) (good : is_good_catalog next records ≡ true) where
+module _ (pages : PageMap) (next : ℕ) (records : List Record) (found : FindsLayers pages records)
+    (good : is_good_catalog next records ≡ true) where
   in_order : T (is_sorted (slice_cmp nat_cmp) (map entry_of found.layers))
   in_order =
-      let names : names_ascend (map row_of found.layers) ≡ true = ap names_ascend found.rows ∙ names_good next records good in
-      let same = same_order (slice_cmp nat_cmp) (by_name (map row_of found.layers)) (map entry_of found.layers) (names_of_layers found.layers) in
+      let names : names_ascend (map row_of found.layers) ≡ true = ap names_ascend found.rows
+      ∙ names_good next records good in
+      let same =
+      same_order (slice_cmp nat_cmp) (by_name (map row_of found.layers)) (map entry_of found.layers)
+      (names_of_layers found.layers) in
       subst T (sym names ∙ same) tt
 
   -- the table of the layers, which the pages hold
@@ -46,8 +52,11 @@ module _ (pages : PageMap) (next : ℕ) (records : List Record) (found : FindsLa
 
 module _ {D A : Type 0} {m : _} where
   -- layers that were found so are sound
-  pub sound_found : (kept : Layers D A m) → IsPageMap kept.cache → is_good_catalog (next_of kept.cache) (records_of kept.records) ≡ true → kept.object_count ≡ objects_named (records_of kept.records)
-      → (IsWritten kept → catalog_in (pages kept.cache) ≡ Some (records_of kept.records)) → FindsLayers (pages kept.cache) (records_of kept.records) → IsFoundSound kept
+  pub sound_found : (kept : Layers D A m) → IsPageMap kept.cache
+      → is_good_catalog (next_of kept.cache) (records_of kept.records) ≡ true
+      → kept.object_count ≡ objects_named (records_of kept.records)
+      → (IsWritten kept → catalog_in (pages kept.cache) ≡ Some (records_of kept.records))
+      → FindsLayers (pages kept.cache) (records_of kept.records) → IsFoundSound kept
   sound_found kept sound good count spelled found =
       let records = records_of kept.records in
       let t = table_found (pages kept.cache) (next_of kept.cache) records found good in
@@ -63,13 +72,19 @@ module _ {D A : Type 0} {m : _} where
       )
 
   -- what was found in equal pages
-  pub found_in : (old new : PageCache D A m) (records : List Record) → IsHonest old → KeepsMap old new → FindsLayers (pages new) records → FindsLayers (pages old) records
-  found_in old new records honest keeps found = subst (λ (p : PageMap). FindsLayers p records) (λ i n. keeps.pages_stay honest n i) found
+  pub found_in : (old new : PageCache D A m) (records : List Record) → IsHonest old → KeepsMap old new
+      → FindsLayers (pages new) records → FindsLayers (pages old) records
+  found_in old new records honest keeps found =
+      subst (λ (p : PageMap). FindsLayers p records) (λ i n. keeps.pages_stay honest n i) found
 
   -- what sound layers pass, with their records as a slice
-  pub records_pass : (kept : Layers D A m) (t : Table) (next : ℕ) (items : List LayerRecord) → IsSound kept t → next ≡ next_of kept.cache → items ≡ kept.records.items
-      → (is_good_catalog next (map record_of items) ≡ true) × (kept.object_count ≡ objects_named (map record_of items))
+  pub records_pass : (kept : Layers D A m) (t : Table) (next : ℕ) (items : List LayerRecord) → IsSound kept t
+      → next ≡ next_of kept.cache → items ≡ kept.records.items
+      → (is_good_catalog next (map record_of items) ≡ true)
+      × (kept.object_count ≡ objects_named (map record_of items))
   records_pass kept t next items sound number same = (
     (λ i. is_good_catalog (number i) (map record_of (same i))) ∙ sound.holds.good,
-    sound.counted ∙ sym (counted (pages kept.cache) (next_of kept.cache) (records_of kept.records) t sound.holds) ∙ sym (λ i. objects_named (map record_of (same i))),
+    sound.counted
+        ∙ sym (counted (pages kept.cache) (next_of kept.cache) (records_of kept.records) t sound.holds)
+        ∙ sym (λ i. objects_named (map record_of (same i))),
   )

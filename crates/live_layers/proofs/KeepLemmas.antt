@@ -15,48 +15,72 @@ use Rattle.live_layers.specs.declared.layers.Layers.{Layers}
 use Rattle.live_layers.proofs.HoldLemmas.{catalog_changed}
 
 -- a table stays where the pages do
-pub same_pages_hold : (old new : PageMap) (next next' : ℕ) (records : List Record) (t : Table) → ((n : ℕ) → new n ≡ old n) → next' ≡ next → Holds old next records t → Holds new next' records t
+pub same_pages_hold : (old new : PageMap) (next next' : ℕ) (records : List Record) (t : Table)
+    → ((n : ℕ) → new n ≡ old n) → next' ≡ next → Holds old next records t → Holds new next' records t
 same_pages_hold old new next next' records t same e h =
-    subst (λ (k : ℕ). Holds new k records t) (sym e) (subst (λ (p : PageMap). Holds p next records t) (λ i n. sym (same n) i) h)
+    subst (λ (k : ℕ). Holds new k records t) (sym e)
+    (subst (λ (p : PageMap). Holds p next records t) (λ i n. sym (same n) i) h)
 
 module _ {D A : Type 0} {m : _} where
   -- nothing was done, or one thing after the other
   pub nothing_moved : (kept : Layers D A m) → KeepsPagesAndRecords kept kept
   nothing_moved kept = record { map = no_call_keeps_the_map kept.cache; records = refl; written = λ was. was }
 
-  pub stays_in_turn : (old mid new : Layers D A m) → (IsHonest old.cache → IsHonest mid.cache) → KeepsPagesAndRecords old mid → KeepsPagesAndRecords mid new → KeepsPagesAndRecords old new
+  pub stays_in_turn : (old mid new : Layers D A m) → (IsHonest old.cache → IsHonest mid.cache)
+      → KeepsPagesAndRecords old mid → KeepsPagesAndRecords mid new → KeepsPagesAndRecords old new
   stays_in_turn old mid new honest a b = record {
     map = the_map_is_kept_in_turn old.cache mid.cache new.cache honest a.map b.map;
     records = b.records ∙ a.records;
     written = λ was. b.written (a.written was);
   }
 
-  pub kept_table : (old new : PageCache D A m) (records : List Record) (t : Table) → IsHonest old → KeepsMap old new → Holds (pages old) (next_of old) records t → Holds (pages new) (next_of new) records t
-  kept_table old new records t honest keeps h = same_pages_hold (pages old) (pages new) (next_of old) (next_of new) records t (keeps.pages_stay honest) keeps.next h
+  pub kept_table : (old new : PageCache D A m) (records : List Record) (t : Table) → IsHonest old
+      → KeepsMap old new → Holds (pages old) (next_of old) records t
+      → Holds (pages new) (next_of new) records t
+  kept_table old new records t honest keeps h =
+      same_pages_hold (pages old) (pages new) (next_of old) (next_of new) records t (keeps.pages_stay honest)
+      keeps.next h
 
-  pub kept_catalog : (old new : PageCache D A m) (records : List Record) → IsHonest old → KeepsMap old new → catalog_in (pages old) ≡ Some records → catalog_in (pages new) ≡ Some records
-  kept_catalog old new records honest keeps h = ap (option_and_then records_at) (keeps.pages_stay honest 2) ∙ h
+  pub kept_catalog : (old new : PageCache D A m) (records : List Record) → IsHonest old → KeepsMap old new
+      → catalog_in (pages old) ≡ Some records → catalog_in (pages new) ≡ Some records
+  kept_catalog old new records honest keeps h = ap (option_and_then records_at) (keeps.pages_stay honest 2)
+      ∙ h
 
   -- a store whose pages stay is sound with the same table
-  pub sound_kept : (old new : Layers D A m) (t : Table) → KeepsMap old.cache new.cache → new.records ≡ old.records → new.object_count ≡ old.object_count → (new.written ≡ true → old.written ≡ true) → IsSound old t → IsSound new t
+  pub sound_kept : (old new : Layers D A m) (t : Table) → KeepsMap old.cache new.cache
+      → new.records ≡ old.records → new.object_count ≡ old.object_count
+      → (new.written ≡ true → old.written ≡ true) → IsSound old t → IsSound new t
   sound_kept old new t keeps records count written sound = record {
     map = keeps.sound.0 sound.map;
-    holds = subst (λ (rs : _). Holds (pages new.cache) (next_of new.cache) (records_of rs) t) (sym records) (kept_table old.cache new.cache (records_of old.records) t sound.map.honest keeps sound.holds);
+    holds = subst (λ (rs : _). Holds (pages new.cache) (next_of new.cache) (records_of rs) t) (sym records)
+        (kept_table old.cache new.cache (records_of old.records) t sound.map.honest keeps sound.holds);
     counted = count ∙ sound.counted;
     within = subst (λ (n : ℕ). n ≤ most_objects) (sym count) sound.within;
-    catalog = λ w. subst (λ (rs : _). catalog_in (pages new.cache) ≡ Some (records_of rs)) (sym records) (kept_catalog old.cache new.cache (records_of old.records) sound.map.honest keeps (sound.catalog (written w)));
+    catalog =
+        λ w. subst (λ (rs : _). catalog_in (pages new.cache) ≡ Some (records_of rs)) (sym records)
+        (kept_catalog old.cache new.cache (records_of old.records) sound.map.honest keeps
+        (sound.catalog (written w)));
   }
 
   -- one whose page of the catalog was written, or may hold any bytes, too
-  pub sound_written : (old : Layers D A m) (begun : PageCache D A m) (new : Layers D A m) (t : Table) → IsSound old t → KeepsMap old.cache begun → SameBut 2 (pages begun) (pages new.cache) → IsLive new.cache 2 → IsPageMap new.cache
-      → next_of new.cache ≡ next_of begun → new.records ≡ old.records → new.object_count ≡ old.object_count → (new.written ≡ true → catalog_in (pages new.cache) ≡ Some (records_of old.records)) → IsSound new t
+  pub sound_written : (old : Layers D A m) (begun : PageCache D A m) (new : Layers D A m) (t : Table)
+      → IsSound old t → KeepsMap old.cache begun → SameBut 2 (pages begun) (pages new.cache)
+      → IsLive new.cache 2 → IsPageMap new.cache
+      → next_of new.cache ≡ next_of begun → new.records ≡ old.records → new.object_count ≡ old.object_count
+      → (new.written ≡ true → catalog_in (pages new.cache) ≡ Some (records_of old.records)) → IsSound new t
   sound_written old begun new t sound keeps same live map next records count spelled =
       let held = kept_table old.cache begun (records_of old.records) t sound.map.honest keeps sound.holds in
-      let written = catalog_changed (pages begun) (pages new.cache) (next_of begun) (records_of old.records) t same live held in
+      let written =
+      catalog_changed (pages begun) (pages new.cache) (next_of begun) (records_of old.records) t same
+      live held in
       record {
         map = map;
-        holds = subst (λ (rs : _). Holds (pages new.cache) (next_of new.cache) (records_of rs) t) (sym records) (subst (λ (n : ℕ). Holds (pages new.cache) n (records_of old.records) t) (sym next) written);
+        holds = subst (λ (rs : _). Holds (pages new.cache) (next_of new.cache) (records_of rs) t)
+            (sym records)
+            (subst (λ (n : ℕ). Holds (pages new.cache) n (records_of old.records) t) (sym next) written);
         counted = count ∙ sound.counted;
         within = subst (λ (n : ℕ). n ≤ most_objects) (sym count) sound.within;
-        catalog = λ w. subst (λ (rs : _). catalog_in (pages new.cache) ≡ Some (records_of rs)) (sym records) (spelled w);
+        catalog =
+            λ w. subst (λ (rs : _). catalog_in (pages new.cache) ≡ Some (records_of rs)) (sym records)
+            (spelled w);
       }

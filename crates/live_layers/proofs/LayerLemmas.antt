@@ -1,5 +1,6 @@
 -- Layers that stand: one of them replaced, and one more.
-use Rattle.std.proofs.Common.{◌≡◌, ◌∙◌, ℕ, zero, suc, ◌+◌, ◌<◌, ◌≤◌, List, [], ◌∷◌, length, get_or, refl, ap, arith}
+use Rattle.std.proofs.Common.{◌≡◌, ◌∙◌, ℕ, zero, suc, ◌+◌, ◌<◌, ◌≤◌, List, [], ◌∷◌, length, get_or, refl, ap}
+use Rattle.std.proofs.Common.{arith}
 use Rattle.std.specs.Prelude.{slice_set}
 use Rattle.std.specs.List.{insert}
 use Rattle.id_table.specs.Table.{IdTable, IdsStand, chain_at, link_at, occurs_in_ids}
@@ -14,7 +15,8 @@ use Rattle.live_layers.specs.Layers.{Reading, LayerStands, LayersStand, of_layer
 
 -- ---- equal pages
 
-pub ids_stay : (dims : ℕ) (old new : PageMap) (t : IdTable) → ((n : ℕ) → 0 < occurs_in_ids n t → new n ≡ old n) → IdsStand dims old t → IdsStand dims new t
+pub ids_stay : (dims : ℕ) (old new : PageMap) (t : IdTable)
+    → ((n : ℕ) → 0 < occurs_in_ids n t → new n ≡ old n) → IdsStand dims old t → IdsStand dims new t
 ids_stay dims old new t same h = record {
   directory = h.directory;
   there = same t.page (omega (arith, occurs_here t.page)) ∙ h.there;
@@ -22,12 +24,14 @@ ids_stay dims old new t same h = record {
   spelled = h.spelled;
   whole = h.whole;
   chains = λ class lt. chain_stays dims old new (link_at class h.directory) (chain_at t class)
-      (λ n p. same n (omega (arith, p, chain_in_table n class t (omega (arith, lt, h.whole))))) (h.chains class lt);
+      (λ n p. same n (omega (arith, p, chain_in_table n class t (omega (arith, lt, h.whole)))))
+      (h.chains class lt);
   filled = h.filled;
   once = h.once;
 }
 
-pub pages_stay : (dims most : ℕ) (old new : PageMap) (root : Root) (directory : ℕ) (l : LayerPages) (objects : Objects) → ((n : ℕ) → 0 < part_of_layer l n → new n ≡ old n)
+pub pages_stay : (dims most : ℕ) (old new : PageMap) (root : Root) (directory : ℕ) (l : LayerPages)
+    (objects : Objects) → ((n : ℕ) → 0 < part_of_layer l n → new n ≡ old n)
     → IsLayerAt dims most old root directory l objects → IsLayerAt dims most new root directory l objects
 pages_stay dims most old new root directory l objects same h = record {
   tree = record {
@@ -45,7 +49,8 @@ pages_stay dims most old new root directory l objects same h = record {
 }
 
 -- a layer stays where its pages do
-pub layer_stays : (old new : PageMap) (h : Reading) → ((n : ℕ) → 0 < of_layer h n → new n ≡ old n) → LayerStands old h → LayerStands new h
+pub layer_stays : (old new : PageMap) (h : Reading) → ((n : ℕ) → 0 < of_layer h n → new n ≡ old n)
+    → LayerStands old h → LayerStands new h
 layer_stays old new h same stands = record {
   at = pages_stay h.row.dims h.row.fanout old new _ h.row.directory h.pages h.layer.objects same stands.at;
   dims = stands.dims;
@@ -53,7 +58,8 @@ layer_stays old new h same stands = record {
   count = stands.count;
 }
 
-pub layers_stay : (old new : PageMap) (hs : List Reading) → ((n : ℕ) → 0 < of_layers hs n → new n ≡ old n) → LayersStand old hs → LayersStand new hs
+pub layers_stay : (old new : PageMap) (hs : List Reading) → ((n : ℕ) → 0 < of_layers hs n → new n ≡ old n)
+    → LayersStand old hs → LayersStand new hs
 layers_stay old new [] same stands = tt
 layers_stay old new (h ∷ hs) same stands = (
   layer_stays old new h (λ n p. same n (omega (arith, p))) stands.0,
@@ -68,23 +74,29 @@ of_others [] i n = 0
 of_others (h ∷ hs) zero n = of_layers hs n
 of_others (h ∷ hs) (suc i) n = of_layer h n + of_others hs i n
 
-pub one_and_others : (hs : List Reading) (i n : ℕ) (d : Reading) → i < length hs → of_layers hs n ≡ of_layer (get_or hs i d) n + of_others hs i n
+pub one_and_others : (hs : List Reading) (i n : ℕ) (d : Reading) → i < length hs
+    → of_layers hs n ≡ of_layer (get_or hs i d) n + of_others hs i n
 one_and_others [] i n d lt = absurd (omega (arith, lt))
 one_and_others (h ∷ hs) zero n d lt = refl
 one_and_others (h ∷ hs) (suc i) n d lt = omega (arith, one_and_others hs i n d (omega (arith, lt)))
 
-pub replaced_and_others : (hs : List Reading) (i n : ℕ) (h' : Reading) → i < length hs → of_layers (slice_set hs i h') n ≡ of_layer h' n + of_others hs i n
+pub replaced_and_others : (hs : List Reading) (i n : ℕ) (h' : Reading) → i < length hs
+    → of_layers (slice_set hs i h') n ≡ of_layer h' n + of_others hs i n
 replaced_and_others [] i n h' lt = absurd (omega (arith, lt))
 replaced_and_others (h ∷ hs) zero n h' lt = refl
-replaced_and_others (h ∷ hs) (suc i) n h' lt = omega (arith, replaced_and_others hs i n h' (omega (arith, lt)))
+replaced_and_others (h ∷ hs) (suc i) n h' lt =
+    omega (arith, replaced_and_others hs i n h' (omega (arith, lt)))
 
-pub layer_at_stands : (pages : PageMap) (hs : List Reading) (i : ℕ) (d : Reading) → i < length hs → LayersStand pages hs → LayerStands pages (get_or hs i d)
+pub layer_at_stands : (pages : PageMap) (hs : List Reading) (i : ℕ) (d : Reading) → i < length hs
+    → LayersStand pages hs → LayerStands pages (get_or hs i d)
 layer_at_stands pages [] i d lt stands = absurd (omega (arith, lt))
 layer_at_stands pages (h ∷ hs) zero d lt stands = stands.0
 layer_at_stands pages (h ∷ hs) (suc i) d lt stands = layer_at_stands pages hs i d (omega (arith, lt)) stands.1
 
 -- one layer is replaced, and the pages of the others stay
-pub layer_replaced : (old new : PageMap) (hs : List Reading) (i : ℕ) (h' : Reading) → i < length hs → ((n : ℕ) → 0 < of_others hs i n → new n ≡ old n) → LayerStands new h' → LayersStand old hs → LayersStand new (slice_set hs i h')
+pub layer_replaced : (old new : PageMap) (hs : List Reading) (i : ℕ) (h' : Reading) → i < length hs
+    → ((n : ℕ) → 0 < of_others hs i n → new n ≡ old n) → LayerStands new h' → LayersStand old hs
+    → LayersStand new (slice_set hs i h')
 layer_replaced old new [] i h' lt same stands all = absurd (omega (arith, lt))
 layer_replaced old new (h ∷ hs) zero h' lt same stands all = (stands, layers_stay old new hs same all.1)
 layer_replaced old new (h ∷ hs) (suc i) h' lt same stands all = (
@@ -93,22 +105,26 @@ layer_replaced old new (h ∷ hs) (suc i) h' lt same stands all = (
 )
 
 -- the pages of another layer are among those of the others
-pub other_part : (hs : List Reading) (i k n : ℕ) (d : Reading) → k < length hs → ¬ (k ≡ i) → of_layer (get_or hs k d) n ≤ of_others hs i n
+pub other_part : (hs : List Reading) (i k n : ℕ) (d : Reading) → k < length hs → ¬ (k ≡ i)
+    → of_layer (get_or hs k d) n ≤ of_others hs i n
 other_part [] i k n d lt ne = absurd (omega (arith, lt))
 other_part (h ∷ hs) zero zero n d lt ne = absurd (ne refl)
 other_part (h ∷ hs) zero (suc k) n d lt ne = omega (arith, one_and_others hs k n d (omega (arith, lt)))
 other_part (h ∷ hs) (suc i) zero n d lt ne = omega arith
-other_part (h ∷ hs) (suc i) (suc k) n d lt ne = omega (arith, other_part hs i k n d (omega (arith, lt)) (λ e. ne (ap suc e)))
+other_part (h ∷ hs) (suc i) (suc k) n d lt ne =
+    omega (arith, other_part hs i k n d (omega (arith, lt)) (λ e. ne (ap suc e)))
 
 -- ---- one more
 
-pub more_parts : (hs : List Reading) (i n : ℕ) (h' : Reading) → of_layers (insert hs i h') n ≡ of_layer h' n + of_layers hs n
+pub more_parts : (hs : List Reading) (i n : ℕ) (h' : Reading)
+    → of_layers (insert hs i h') n ≡ of_layer h' n + of_layers hs n
 more_parts [] zero n h' = refl
 more_parts [] (suc i) n h' = refl
 more_parts (h ∷ hs) zero n h' = refl
 more_parts (h ∷ hs) (suc i) n h' = omega (arith, more_parts hs i n h')
 
-pub layer_more : (pages : PageMap) (hs : List Reading) (i : ℕ) (h' : Reading) → LayerStands pages h' → LayersStand pages hs → LayersStand pages (insert hs i h')
+pub layer_more : (pages : PageMap) (hs : List Reading) (i : ℕ) (h' : Reading) → LayerStands pages h'
+    → LayersStand pages hs → LayersStand pages (insert hs i h')
 layer_more pages [] zero h' stands all = (stands, tt)
 layer_more pages [] (suc i) h' stands all = (stands, tt)
 layer_more pages (h ∷ hs) zero h' stands all = (stands, all)

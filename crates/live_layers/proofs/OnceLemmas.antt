@@ -1,5 +1,6 @@
 -- Lists that have each number of a range once.
-use Rattle.std.proofs.Common.{◌≡◌, ℕ, zero, suc, ◌+◌, ◌<◌, ◌≤◌, cond, eqb, List, [], ◌∷◌, length, get_or, arith, ⊎_elim}
+use Rattle.std.proofs.Common.{◌≡◌, ℕ, zero, suc, ◌+◌, ◌<◌, ◌≤◌, cond, eqb, List, [], ◌∷◌, length, get_or}
+use Rattle.std.proofs.Common.{arith, ⊎_elim}
 use Rattle.std.specs.Prelude.{IsPermutation}
 use Rattle.std.specs.List.Sorted.{IsNonDecreasing}
 use Rattle.std.proofs.lemmas.Bool.{cases_eq}
@@ -26,11 +27,18 @@ record HasEach (from next : ℕ) (list : List ℕ) : Type 0 where
 
 -- ---- numbers that rise by one are so
 
-counts_each : (from next : ℕ) (list : List ℕ) → Counts from list → length list + from ≡ next → HasEach from next list
-counts_each from next [] counts many = record { once = λ n low below. absurd (omega (arith, low, below, many)); given = λ n p. absurd (omega (arith, p)) }
+counts_each : (from next : ℕ) (list : List ℕ) → Counts from list → length list + from ≡ next
+    → HasEach from next list
+counts_each from next [] counts many =
+    record {
+      once = λ n low below. absurd (omega (arith, low, below, many));
+      given = λ n p. absurd (omega (arith, p));
+    }
 counts_each from next (x ∷ xs) counts many =
     let first : x ≡ from = omega (arith, counts 0 (omega arith)) in
-    let rest = counts_each (from + 1) next xs (λ k lt. omega (arith, counts (suc k) (omega (arith, lt)))) (omega (arith, many)) in
+    let rest =
+    counts_each (from + 1) next xs (λ k lt. omega (arith, counts (suc k) (omega (arith, lt))))
+    (omega (arith, many)) in
     record {
       once = λ n low below. ⊎_elim
           (λ (is : x ≡ n).
@@ -38,30 +46,39 @@ counts_each from next (x ∷ xs) counts many =
           (λ (none : named_pages xs n ≡ 0). omega (arith, here_once x n is, none))
           (λ (some : 0 < named_pages xs n). absurd (omega (arith, (rest.given n some).0, is, first)))
           (none_or_some (named_pages xs n)))
-          (λ (other : ¬ (x ≡ n)). omega (arith, not_here x n other, rest.once n (omega (arith, low, other, first)) below))
+          (λ (other : ¬ (x ≡ n)). omega
+          (arith, not_here x n other, rest.once n (omega (arith, low, other, first)) below))
           (cases_eq x n);
       given = λ n p. ⊎_elim
           (λ (is : x ≡ n). (omega (arith, is, first), omega (arith, is, first, many)))
           (λ (other : ¬ (x ≡ n)).
-          let later = rest.given n (omega (arith, p, not_here x n other)) in (omega (arith, later.0), later.1))
+          let later = rest.given n (omega (arith, p, not_here x n other)) in
+          (omega (arith, later.0), later.1))
           (cases_eq x n);
     }
 
 -- ---- and in order no others are
 
 -- what is below all of them is not in the list
-below_all : (n : ℕ) (list : List ℕ) → ((k : ℕ) → k < length list → n < get_or list k 0) → named_pages list n ≡ 0
+below_all : (n : ℕ) (list : List ℕ) → ((k : ℕ) → k < length list → n < get_or list k 0)
+    → named_pages list n ≡ 0
 below_all n [] below = omega arith
 below_all n (x ∷ xs) below =
     let here = below 0 (omega arith) in
-    omega (arith, not_here x n (λ (is : x ≡ n). omega (arith, is, here)), below_all n xs (λ k lt. below (suc k) (omega (arith, lt))))
+    omega (
+      arith,
+      not_here x n (λ (is : x ≡ n). omega (arith, is, here)),
+      below_all n xs (λ k lt. below (suc k) (omega (arith, lt))),
+    )
 
-each_counts : (from next : ℕ) (list : List ℕ) → IsNonDecreasing list → from ≤ next → HasEach from next list → Counts from list × (length list + from ≡ next)
+each_counts : (from next : ℕ) (list : List ℕ) → IsNonDecreasing list → from ≤ next → HasEach from next list
+    → Counts from list × (length list + from ≡ next)
 each_counts from next [] order le each = (
   λ k lt. absurd (omega (arith, lt)),
   ⊎_elim
       (λ (none : next ≡ from). omega (arith, none))
-      (λ (other : ¬ (next ≡ from)). let one : named_pages [] from ≡ 1 = each.once from (omega arith) (omega (arith, le, other)) in absurd (omega (arith, one)))
+      (λ (other : ¬ (next ≡ from)). let one : named_pages [] from ≡ 1 =
+      each.once from (omega arith) (omega (arith, le, other)) in absurd (omega (arith, one)))
       (cases_eq next from),
 )
 each_counts from next (x ∷ xs) order le each =
@@ -73,13 +90,21 @@ each_counts from next (x ∷ xs) order le each =
     absurd (omega (arith, none, each.once from (omega arith) (omega (arith, here)))))
     (cases_eq x from) in
     let later : HasEach (from + 1) next xs = record {
-      once = λ n low below. omega (arith, each.once n (omega (arith, low)) below, not_here x n (λ (is : x ≡ n). omega (arith, is, first, low)));
+      once = λ n low below. omega (
+        arith,
+        each.once n (omega (arith, low)) below,
+        not_here x n (λ (is : x ≡ n). omega (arith, is, first, low)),
+      );
       given = λ n p.
           let whole = each.given n (omega (arith, p)) in
-          let other : ¬ (x ≡ n) = λ (is : x ≡ n). omega (arith, each.once n whole.0 whole.1, here_once x n is, p) in
+          let other : ¬ (x ≡ n) =
+          λ (is : x ≡ n). omega (arith, each.once n whole.0 whole.1, here_once x n is, p) in
           (omega (arith, whole.0, other, first), whole.1);
     } in
-    let rest = each_counts (from + 1) next xs (λ i j d le' lt. order (suc i) (suc j) d (omega (arith, le')) (omega (arith, lt))) (omega (arith, here, first)) later in (
+    let rest =
+    each_counts (from + 1) next xs
+    (λ i j d le' lt. order (suc i) (suc j) d (omega (arith, le')) (omega (arith, lt)))
+    (omega (arith, here, first)) later in (
       counted first rest.0,
       omega (arith, rest.1),
     )
@@ -97,9 +122,16 @@ module _ (next : ℕ) (list sorted : List ℕ) (moved : IsPermutation list sorte
   pub counts_names_each : Counts 2 sorted → length sorted + 2 ≡ next → NamesEach next list
   counts_names_each counts many =
       let each = counts_each 2 next sorted counts many in
-      record { once = λ n low below. omega (arith, same_times n, each.once n low below); given = λ n p. each.given n (omega (arith, same_times n, p)) }
+      record {
+        once = λ n low below. omega (arith, same_times n, each.once n low below);
+        given = λ n p. each.given n (omega (arith, same_times n, p));
+      }
 
-  pub names_each_counts : IsNonDecreasing sorted → 2 ≤ next → NamesEach next list → Counts 2 sorted × (length sorted + 2 ≡ next)
+  pub names_each_counts : IsNonDecreasing sorted → 2 ≤ next → NamesEach next list
+      → Counts 2 sorted × (length sorted + 2 ≡ next)
   names_each_counts order le each =
       each_counts 2 next sorted order le
-      (record { once = λ n low below. omega (arith, same_times n, each.once n low below); given = λ n p. each.given n (omega (arith, same_times n, p)) })
+      (record {
+        once = λ n low below. omega (arith, same_times n, each.once n low below);
+        given = λ n p. each.given n (omega (arith, same_times n, p));
+      })

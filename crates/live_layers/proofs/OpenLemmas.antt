@@ -18,12 +18,15 @@ use Rattle.live_layers.specs.declared.layers.Layers.{Layers}
 use Rattle.live_layers.proofs.HoldLemmas.{counted, few_objects}
 use Rattle.live_layers.proofs.KeepLemmas.{kept_catalog, kept_table, same_pages_hold}
 
-module _ {D A : Type 0} {m : _} (cache : PageCache D A m) (blocks : Blocks) (t : Table) (lies : LiesIn cache blocks) (image : IsImage blocks t) where
+module _ {D A : Type 0} {m : _} (cache : PageCache D A m) (blocks : Blocks) (t : Table)
+    (lies : LiesIn cache blocks) (image : IsImage blocks t) where
   image_records : catalog_in (pages cache) ≡ Some image.records
   image_records = ap (option_and_then records_at) (sym (lies.pages_there 2)) ∙ image.spelled
 
   image_holds : Holds (pages cache) (next_of cache) image.records t
-  image_holds = same_pages_hold (pages_in blocks) (pages cache) (next_in blocks) (next_of cache) image.records t (λ n. sym (lies.pages_there n)) (sym lies.next) image.holds
+  image_holds =
+      same_pages_hold (pages_in blocks) (pages cache) (next_in blocks) (next_of cache) image.records t
+      (λ n. sym (lies.pages_there n)) (sym lies.next) image.holds
 
   -- the catalog of an image is good
   not_damaged : HasNoCatalog (pages cache) (next_of cache) → ⊥
@@ -32,11 +35,17 @@ module _ {D A : Type 0} {m : _} (cache : PageCache D A m) (blocks : Blocks) (t :
       let good : is_good_catalog (next_of cache) image.records ≡ true = image_holds.good in
       let no : true ≡ false = sym good ∙ bad in cc
 
-  pub no_damage : (f : Fault) → IsOfDevice f ⊎ ((f ≡ fault.Damaged 2) × HasNoCatalog (pages cache) (next_of cache)) → IsOfDevice f
-  no_damage f why = ⊎_elim (λ (h : IsOfDevice f). h) (λ (h : (f ≡ fault.Damaged 2) × HasNoCatalog (pages cache) (next_of cache)). absurd (not_damaged h.1)) why
+  pub no_damage : (f : Fault)
+      → IsOfDevice f ⊎ ((f ≡ fault.Damaged 2) × HasNoCatalog (pages cache) (next_of cache)) → IsOfDevice f
+  no_damage f why =
+      ⊎_elim (λ (h : IsOfDevice f). h)
+      (λ (h : (f ≡ fault.Damaged 2) × HasNoCatalog (pages cache) (next_of cache)). absurd (not_damaged h.1))
+      why
 
   -- what was read of it is sound
-  pub opened_sound : (kept : Layers D A m) → IsHonest cache → KeepsMap cache kept.cache → catalog_in (pages cache) ≡ Some (records_of kept.records) → kept.object_count ≡ objects_named (records_of kept.records) → IsSound kept t
+  pub opened_sound : (kept : Layers D A m) → IsHonest cache → KeepsMap cache kept.cache
+      → catalog_in (pages cache) ≡ Some (records_of kept.records)
+      → kept.object_count ≡ objects_named (records_of kept.records) → IsSound kept t
   opened_sound kept honest keeps spelled count =
       let both : Some image.records ≡ Some (records_of kept.records) = sym image_records ∙ spelled in
       let same : image.records ≡ records_of kept.records = cc in
@@ -46,6 +55,7 @@ module _ {D A : Type 0} {m : _} (cache : PageCache D A m) (blocks : Blocks) (t :
         map = keeps.sound.0 (lies.sound.1 image.free);
         holds = kept_table cache kept.cache (records_of kept.records) t honest keeps held;
         counted = number;
-        within = omega (arith, number, few_objects (pages cache) (next_of cache) (records_of kept.records) t held);
+        within =
+            omega (arith, number, few_objects (pages cache) (next_of cache) (records_of kept.records) t held);
         catalog = λ w. kept_catalog cache kept.cache (records_of kept.records) honest keeps spelled;
       }

@@ -20,11 +20,22 @@ use Rattle.live_layers.proofs.KeepLemmas.{sound_kept}
 
 -- ---- the count of the device's faults
 
-quiet_cause : {T : Type 0} (before now : ℕ) (r : Refusal) → blames_device r ≡ false → now ≡ before → HasRefusalCause {T = T} before now (Err r)
-quiet_cause before now r quiet same = record { ok = tt; refused = same ∙ sym (ap (λ (blames : Bool). cond blames (one_more before) before) quiet) }
+quiet_cause : {T : Type 0} (before now : ℕ) (r : Refusal) → blames_device r ≡ false → now ≡ before
+    → HasRefusalCause {T = T} before now (Err r)
+quiet_cause before now r quiet same =
+    record {
+      ok = tt;
+      refused = same ∙ sym (ap (λ (blames : Bool). cond blames (one_more before) before) quiet);
+    }
 
-failed_cause : {T : Type 0} (before now : ℕ) (f : Fault) (r : Refusal) → r ≡ as_refusal f → now ≡ faults_after f before → HasRefusalCause {T = T} before now (Err r)
-failed_cause before now f r is counted = record { ok = tt; refused = counted ∙ sym (same_count f before) ∙ ap (λ (why : Refusal). faults_after_refusal why before) (sym is) }
+failed_cause : {T : Type 0} (before now : ℕ) (f : Fault) (r : Refusal) → r ≡ as_refusal f
+    → now ≡ faults_after f before → HasRefusalCause {T = T} before now (Err r)
+failed_cause before now f r is counted =
+    record {
+      ok = tt;
+      refused = counted ∙ sym (same_count f before)
+          ∙ ap (λ (why : Refusal). faults_after_refusal why before) (sym is);
+    }
 
 -- ---- plain refusals
 
@@ -53,12 +64,16 @@ fault_goes_on fault.NoPages = refl
 
 -- the same layers, but for their cache
 abbrev pub IsSameBut : {D A : Type 0} {m : _} → Layers D A m → Layers D A m → Type 0
-IsSameBut old new = (new.records ≡ old.records) × (new.object_count ≡ old.object_count) × (new.written ≡ old.written)
+IsSameBut old new = (new.records ≡ old.records) × (new.object_count ≡ old.object_count)
+    × (new.written ≡ old.written)
 
 module _ {D A : Type 0} {m : _} {T : Type 0} where
   -- a question that ended so, of the cache alone
-  asks_so : (old new : Layers D A m) (end : Option Fault) (result : Result T Refusal) → IsSameBut old new → AsksUntil old.cache new.cache end
-      → IfErr result (λ r. is_end r ≡ false) → HasRefusalCause (m.faults (device_of old.cache)) (m.faults (device_of new.cache)) result → KeepsInQuestion old new result
+  asks_so : (old new : Layers D A m) (end : Option Fault) (result : Result T Refusal) → IsSameBut old new
+      → AsksUntil old.cache new.cache end
+      → IfErr result (λ r. is_end r ≡ false)
+      → HasRefusalCause (m.faults (device_of old.cache)) (m.faults (device_of new.cache)) result
+      → KeepsInQuestion old new result
   asks_so old new end result same asks goes_on cause = record {
     trees = record { map = asks.map; records = ap records_of same.0; written = λ was. same.2 ∙ was };
     sound = λ t sound. sound_kept old new t asks.map same.0 same.1 (λ is. sym same.2 ∙ is) sound;
@@ -68,14 +83,22 @@ module _ {D A : Type 0} {m : _} {T : Type 0} where
   }
 
   -- it was answered, refused, or failed
-  pub asks_and_answers : (old new : Layers D A m) {x : T} → IsSameBut old new → AsksUntil old.cache new.cache None → KeepsInQuestion old new (Ok x)
-  asks_and_answers old new same asks = asks_so old new None _ same asks tt (record { ok = asks.faults; refused = tt })
+  pub asks_and_answers : (old new : Layers D A m) {x : T} → IsSameBut old new
+      → AsksUntil old.cache new.cache None → KeepsInQuestion old new (Ok x)
+  asks_and_answers old new same asks =
+      asks_so old new None _ same asks tt (record { ok = asks.faults; refused = tt })
 
-  pub asks_and_refuses : (old new : Layers D A m) {r : Refusal} → is_plain r ≡ true → IsSameBut old new → AsksUntil old.cache new.cache None → KeepsInQuestion {T = T} old new (Err r)
-  asks_and_refuses old new {r} plain same asks = asks_so old new None (Err r) same asks (plain_goes_on r plain) (quiet_cause _ _ r (plain_is_quiet r plain) asks.faults)
+  pub asks_and_refuses : (old new : Layers D A m) {r : Refusal} → is_plain r ≡ true → IsSameBut old new
+      → AsksUntil old.cache new.cache None → KeepsInQuestion {T = T} old new (Err r)
+  asks_and_refuses old new {r} plain same asks =
+      asks_so old new None (Err r) same asks (plain_goes_on r plain)
+      (quiet_cause _ _ r (plain_is_quiet r plain) asks.faults)
 
-  pub asks_and_fails : (old new : Layers D A m) (f : Fault) {r : Refusal} → r ≡ as_refusal f → IsSameBut old new → AsksUntil old.cache new.cache (Some f) → KeepsInQuestion {T = T} old new (Err r)
-  asks_and_fails old new f {r} is same asks = asks_so old new (Some f) (Err r) same asks (ap is_end is ∙ fault_goes_on f) (failed_cause _ _ f r is asks.faults)
+  pub asks_and_fails : (old new : Layers D A m) (f : Fault) {r : Refusal} → r ≡ as_refusal f
+      → IsSameBut old new → AsksUntil old.cache new.cache (Some f) → KeepsInQuestion {T = T} old new (Err r)
+  asks_and_fails old new f {r} is same asks =
+      asks_so old new (Some f) (Err r) same asks (ap is_end is ∙ fault_goes_on f)
+      (failed_cause _ _ f r is asks.faults)
 
 -- nothing was asked
 module _ {D A : Type 0} {m : _} (kept : Layers D A m) where

@@ -1,4 +1,5 @@
--- What a change of pages behind the gate leaves of a cache and its device (our rule, docs/FORMAT.md, "The gate").
+-- What a change of pages behind the gate leaves of a cache and its device (our rule, docs/FORMAT.md, "The
+-- gate").
 use Rattle.std.specs.Prelude.{◌≡◌, ◌≤◌, ◌↔◌, true, false, List, Result, OnErr, OnOk, IfErr}
 use Rattle.block_device.specs.Device.{LeavesOnly}
 use Rattle.node_page.specs.Broken.{cause_in}
@@ -13,10 +14,11 @@ use Rattle.live_layers.specs.Keeping.{IsSound, IsWritten, RestLeavesOneOf}
 use Rattle.live_layers.specs.Staying.{KeepsPagesAndRecords}
 use Rattle.live_layers.specs.declared.layers.Layers.{Layers}
 
--- A change was begun, and then made or broken off. A stop leaves what one at rest leaves. Where pages may be changed the
--- gate is open, and one that was open stays so. Honesty stays, no page number is taken back, and the count of the device's faults rises by one where it was
--- the cause.
-pub record Begins {D A : Type 0} {m : _} {T : Type 0} (old new : PageCache D A m) (result : Result T Broken) : Type 0 where
+-- A change was begun, and then made or broken off. A stop leaves what one at rest leaves. Where pages may be
+-- changed the gate is open, and one that was open stays so. Honesty stays, no page number is taken back, and
+-- the count of the device's faults rises by one where it was the cause.
+pub record Begins {D A : Type 0} {m : _} {T : Type 0} (old new : PageCache D A m)
+    (result : Result T Broken) : Type 0 where
   pub stops : (ts : List Table) → IsHonest old → RestLeavesOneOf old ts
       → LeavesOnly m.moment m.left_since m.recovery (device_of old) (device_of new) (IsRefusedOrImageOf ts)
   pub rests : (ts : List Table) → IsHonest old → RestLeavesOneOf old ts → RestLeavesOneOf new ts
@@ -27,9 +29,10 @@ pub record Begins {D A : Type 0} {m : _} {T : Type 0} (old new : PageCache D A m
   pub next : next_of old ≤ next_of new
   pub faults : m.faults (device_of new) ≡ faults_behind (cause_in result) (m.faults (device_of old))
 
--- The same of layers, of which it keeps what was written where it broke off; and pages, records and each table where that
--- was before pages were touched.
-pub record BeginsChange {D A : Type 0} {m : _} {T : Type 0} (old new : Layers D A m) (result : Result T Broken) : Type 0 where
+-- The same of layers, of which it keeps what was written where it broke off; and pages, records and each
+-- table where that was before pages were touched.
+pub record BeginsChange {D A : Type 0} {m : _} {T : Type 0} (old new : Layers D A m)
+    (result : Result T Broken) : Type 0 where
   pub begins : Begins old.cache new.cache result
   pub untouched : (t : Table) → IsSound old t → IfErr result (λ b. b.touched ≡ false → IsSound new t)
   pub kept : IfErr result (λ b. b.touched ≡ false → KeepsPagesAndRecords old new)

@@ -38,7 +38,8 @@ objects_named records = sum_by (λ r. r.count) records
 
 -- a good catalog of a file of which `next` is one more than the greatest page number given out
 abbrev pub is_good_catalog : ℕ → List Record → Bool
-is_good_catalog next records = list_all (is_layer_record next) records && (names_ascend records && nat_le (objects_named records) most_objects)
+is_good_catalog next records = list_all (is_layer_record next) records
+    && (names_ascend records && nat_le (objects_named records) most_objects)
 
 -- the record of a layer whose tree begins there and that has so many objects
 abbrev pub with_tree : Record → Root → ℕ → Record

@@ -1,5 +1,5 @@
--- What calls do to live layers. A change is made, refused with the table as it was, or broken off half way; a question is
--- answered or refused.
+-- What calls do to live layers. A change is made, refused with the table as it was, or broken off half way; a
+-- question is answered or refused.
 use Rattle.std.specs.Prelude.{◌≡◌, ◌⊎◌, false, List, Result, Ok, Err, OnErr, IfErr}
 use Rattle.block_device.specs.Device.{HasRisen, LeavesOnly}
 use Rattle.page_cache.specs.Cache.{IsHonest, KeepsGate, device_of, gate_of}
@@ -31,29 +31,37 @@ IsFaultOfChange rose fault.Memory = Unit {0}
 IsFaultOfChange rose fault.Device = rose
 IsFaultOfChange rose f = ⊥
 
--- The change is made, and the layers are sound with the table after it; or it is refused, as the table refuses it or by a
--- fault, and they are sound with the table as it was; or it broke off half way, and nothing is promised of them.
-abbrev pub IsChanged : {D A : Type 0} {m : _} → Layers D A m → Layers D A m → Table → Command → Result (Unit {0}) Unmade → Type 0
+-- The change is made, and the layers are sound with the table after it; or it is refused, as the table
+-- refuses it or by a fault, and they are sound with the table as it was; or it broke off half way, and
+-- nothing is promised of them.
+abbrev pub IsChanged : {D A : Type 0} {m : _} → Layers D A m → Layers D A m → Table → Command
+    → Result (Unit {0}) Unmade → Type 0
 IsChanged old new t c (Ok u) = (Done ≡ reply_of t c) × IsSound new (after t c)
 IsChanged old new t c (Err (unmade.Refused r)) =
     IsSound new t × (((Refused r ≡ reply_of t c) × (after t c ≡ t)) ⊎ IsFault (Rose old new) r)
-IsChanged old new t c (Err (unmade.Broken f)) = IsHonest new.cache × MayWrite t c × IsFaultOfChange (Rose old new) f
+IsChanged old new t c (Err (unmade.Broken f)) = IsHonest new.cache × MayWrite t c
+    × IsFaultOfChange (Rose old new) f
 
 -- it broke off half way, or was made
 abbrev pub IsBegun : Result (Unit {0}) Unmade → Type 0
 IsBegun (Err (unmade.Refused r)) = ⊥
 IsBegun result = Unit {0}
 
--- What stops leave of a change: nothing but what one at rest left, so once its gate is open blocks that opening refuses.
--- The gate is open where a change of the table was begun, and stays as it is where the table would not change.
-pub record ChangeLeaves {D A : Type 0} {m : _} (old new : Layers D A m) (t : Table) (c : Command) (result : Result (Unit {0}) Unmade) : Type 0 where
-  pub stops : (ts : List Table) → RestLeavesOneOf old.cache ts → LeavesOnly m.moment m.left_since m.recovery (device_of old.cache) (device_of new.cache) (IsRefusedOrImageOf ts)
+-- What stops leave of a change: nothing but what one at rest left, so once its gate is open blocks that
+-- opening refuses. The gate is open where a change of the table was begun, and stays as it is where the table
+-- would not change.
+pub record ChangeLeaves {D A : Type 0} {m : _} (old new : Layers D A m) (t : Table) (c : Command)
+    (result : Result (Unit {0}) Unmade) : Type 0 where
+  pub stops : (ts : List Table) → RestLeavesOneOf old.cache ts
+      → LeavesOnly m.moment m.left_since m.recovery (device_of old.cache) (device_of new.cache)
+      (IsRefusedOrImageOf ts)
   pub rests : (ts : List Table) → RestLeavesOneOf old.cache ts → RestLeavesOneOf new.cache ts
   pub opened : ¬ (after t c ≡ t) → IsBegun result → gate_of new.cache ≡ Open
   pub quiet : after t c ≡ t → KeepsGate old.cache new.cache
 
 -- what a command does to layers that are sound with the table
-pub record IsChange {D A : Type 0} {m : _} (old new : Layers D A m) (t : Table) (c : Command) (result : Result (Unit {0}) Unmade) : Type 0 where
+pub record IsChange {D A : Type 0} {m : _} (old new : Layers D A m) (t : Table) (c : Command)
+    (result : Result (Unit {0}) Unmade) : Type 0 where
   pub changed : IsChanged old new t c result
   pub leaves : ChangeLeaves old new t c result
 
@@ -67,10 +75,11 @@ abbrev pub GoesOn : Result (Unit {0}) Unmade → Type 0
 GoesOn (Err (unmade.Refused r)) = is_end r ≡ false
 GoesOn result = Unit {0}
 
--- What a change keeps of any layers: pages and records, so each tree, where it was refused, which is not as by a store that
--- failed; what was written, where it was not made; an open gate; honesty; and the count of the device's faults, which rises by one where
--- its failure ended the change.
-pub record KeepsInChange {D A : Type 0} {m : _} (old new : Layers D A m) (result : Result (Unit {0}) Unmade) : Type 0 where
+-- What a change keeps of any layers: pages and records, so each tree, where it was refused, which is not as
+-- by a store that failed; what was written, where it was not made; an open gate; honesty; and the count of
+-- the device's faults, which rises by one where its failure ended the change.
+pub record KeepsInChange {D A : Type 0} {m : _} (old new : Layers D A m)
+    (result : Result (Unit {0}) Unmade) : Type 0 where
   pub refused : OnRefused result (KeepsPagesAndRecords old new)
   pub goes_on : GoesOn result
   pub written : OnErr result (IsWritten old → IsWritten new)
@@ -79,21 +88,25 @@ pub record KeepsInChange {D A : Type 0} {m : _} (old new : Layers D A m) (result
   pub cause : HasUnmadeCause (m.faults (device_of old.cache)) (m.faults (device_of new.cache)) result
 
 -- a change by a command, whichever table the layers are sound with
-pub record IsChangeBy {D A : Type 0} {m : _} (old new : Layers D A m) (c : Command) (result : Result (Unit {0}) Unmade) : Type 0 where
+pub record IsChangeBy {D A : Type 0} {m : _} (old new : Layers D A m) (c : Command)
+    (result : Result (Unit {0}) Unmade) : Type 0 where
   pub keeps : KeepsInChange old new result
   pub lawful : (t : Table) → IsSound old t → IsChange old new t c result
 
 -- ---- questions
 
--- A question is answered as the table answers it, or refused by a fault, and the layers are sound with the table as it was.
-abbrev pub IsAnswered : {D A : Type 0} {m : _} → Layers D A m → Layers D A m → Table → Command → Answer → Type 0
+-- A question is answered as the table answers it, or refused by a fault, and the layers are sound with the
+-- table as it was.
+abbrev pub IsAnswered : {D A : Type 0} {m : _} → Layers D A m → Layers D A m → Table → Command → Answer
+    → Type 0
 IsAnswered old new t c a =
     IsSound new t × ((a ≡ reply_of t c) ⊎ RefusedBy (IsFault (Rose old new)) a)
 
--- What a question keeps of any layers: their trees, each table that they are sound with, and the gate; no refusal is
--- that of a store that failed; and the count of the device's faults rises by one with a refusal that says so, and with nothing
--- else.
-pub record KeepsInQuestion {D A : Type 0} {m : _} {T : Type 0} (old new : Layers D A m) (result : Result T Refusal) : Type 0 where
+-- What a question keeps of any layers: their trees, each table that they are sound with, and the gate; no
+-- refusal is that of a store that failed; and the count of the device's faults rises by one with a refusal
+-- that says so, and with nothing else.
+pub record KeepsInQuestion {D A : Type 0} {m : _} {T : Type 0} (old new : Layers D A m)
+    (result : Result T Refusal) : Type 0 where
   pub trees : KeepsPagesAndRecords old new
   pub sound : (t : Table) → IsSound old t → IsSound new t
   pub gate : KeepsGate old.cache new.cache

@@ -21,7 +21,8 @@ IsFoundSound kept = (t : Table) × IsSound kept t
 abbrev pub IsCheckRefusal : Refusal → Type 0
 IsCheckRefusal r = (f : Fault) × (r ≡ as_refusal f) × (IsOfDevice f ⊎ IsDamage f)
 
--- the layers of the records stand in the pages, and the live pages are those in use and no others, each in one place
+-- the layers of the records stand in the pages, and the live pages are those in use and no others, each in
+-- one place
 pub record FindsLayers (pages : PageMap) (records : List Record) : Type 0 where
   pub layers : List Reading
   pub rows : map row_of layers ≡ records

@@ -17,8 +17,10 @@ pub record MayBeLayer (name : List ℕ) (dims fanout : ℕ) : Type 0 where
 abbrev pub new_layer : ℕ → ℕ → Layer
 new_layer dims fanout = record { dims = dims; fanout = fanout; objects = map.empty }
 
--- a layer of this name came in with a tree of which this holds, and the trees of the layers that were there stay
-pub record BringsTree {D A : Type 0} {m : _} (old new : Layers D A m) (name : List ℕ) (IsSo : Tree → Type 0) : Type 0 where
+-- a layer of this name came in with a tree of which this holds, and the trees of the layers that were there
+-- stay
+pub record BringsTree {D A : Type 0} {m : _} (old new : Layers D A m) (name : List ℕ)
+    (IsSo : Tree → Type 0) : Type 0 where
   pub now : Tree
   pub after : HasTree new name now
   pub is_so : IsSo now

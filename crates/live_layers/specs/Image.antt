@@ -15,8 +15,9 @@ use Rattle.live_layers.specs.Catalog.{is_good_catalog}
 use Rattle.tree_node.specs.Trees.{Tree}
 use Rattle.live_layers.specs.Layers.{Holds, IsTreeOf, catalog_in}
 
--- Blocks are an image of the table: their gate is shut, gate and header pass the checks of opening, the free pages are a
--- chain, and the live ones are the catalog and the pages of the layers that it names, which hold the table.
+-- Blocks are an image of the table: their gate is shut, gate and header pass the checks of opening, the free
+-- pages are a chain, and the live ones are the catalog and the pages of the layers that it names, which hold
+-- the table.
 pub record IsImage (blocks : Blocks) (t : Table) : Type 0 where
   pub passes : failed_check blocks ≡ None
   pub free : IsSoundMap blocks
@@ -53,10 +54,11 @@ CommitsWhatOpens recovery = (k : Blocks) → recovery.takes k ↔ (failed_check 
 
 -- no good catalog stands in page 2
 abbrev pub HasNoCatalog : PageMap → ℕ → Type 0
-HasNoCatalog pages next = (records : List Record) → catalog_in pages ≡ Some records → is_good_catalog next records ≡ false
+HasNoCatalog pages next = (records : List Record) → catalog_in pages ≡ Some records
+    → is_good_catalog next records ≡ false
 
--- Opening answers this fault: that of the first check of gate and header that fails, or else that the catalog is damaged.
--- It reads no other page.
+-- Opening answers this fault: that of the first check of gate and header that fails, or else that the catalog
+-- is damaged. It reads no other page.
 abbrev pub OpeningRefuses : Blocks → Fault → Type 0
 OpeningRefuses blocks f = (failed_check blocks ≡ Some f)
     ⊎ ((failed_check blocks ≡ None) × (f ≡ Damaged 2) × HasNoCatalog (pages_in blocks) (next_in blocks))

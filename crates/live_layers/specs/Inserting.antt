@@ -9,7 +9,8 @@ use Rattle.store_law.specs.Lawful.{IsFault}
 use Rattle.live_layers.specs.Keeping.{Finds}
 
 -- the layer of a good name stands at the place, and the box has these axes, lows and highs
-pub record ReachesBox (t : Table) (name : List ℕ) (place : ℕ) (box : RawBox) (dims : ℕ) (bounds : Bounds) : Type 0 where
+pub record ReachesBox (t : Table) (name : List ℕ) (place : ℕ) (box : RawBox) (dims : ℕ)
+    (bounds : Bounds) : Type 0 where
   pub good : is_layer_name name ≡ true
   pub finds : Finds t name place
   pub axes : dims_of box ≡ dims

@@ -39,7 +39,8 @@ IsWritten kept = kept.written ≡ true
 abbrev pub SpellsRecords : {D A : Type 0} {m : _} → Layers D A m → Type 0
 SpellsRecords kept = catalog_in (pages (cache_of kept)) ≡ Some (records_in kept)
 
--- It does so where nothing was changed since the last closing, or the last that was tried: behind a gate that is not open.
+-- It does so where nothing was changed since the last closing, or the last that was tried: behind a gate that
+-- is not open.
 abbrev pub SpellsUnchanged : {D A : Type 0} {m : _} → Layers D A m → Type 0
 SpellsUnchanged kept = ¬ (gate_of (cache_of kept) ≡ Open) → SpellsRecords kept
 
@@ -47,8 +48,8 @@ SpellsUnchanged kept = ¬ (gate_of (cache_of kept) ≡ Open) → SpellsRecords k
 abbrev pub IsSettled : {D A : Type 0} {m : _} → Layers D A m → Type 0
 IsSettled kept = (gate_of kept.cache ≡ Shut) × IsWritten kept
 
--- The layers are sound with this table: with their records the pages of an honest device hold it, and page 2 spells them
--- where they were written.
+-- The layers are sound with this table: with their records the pages of an honest device hold it, and page 2
+-- spells them where they were written.
 pub record IsSound {D A : Type 0} {m : _} (kept : Layers D A m) (t : Table) : Type 0 where
   pub map : IsPageMap kept.cache
   pub holds : Holds (pages (cache_of kept)) (next_of (cache_of kept)) (records_in kept) t
@@ -65,25 +66,28 @@ pub record Finds (t : Table) (name : List ℕ) (place : ℕ) : Type 0 where
 abbrev pub Belongs : Table → List ℕ → ℕ → Type 0
 Belongs t name place = BelongsAt (slice_cmp nat_cmp) (entries t) name place
 
--- At rest a stop leaves of the cache blocks that opening refuses, or an image of one of these tables: its gate is open, or
--- its blocks are so whatever their gate.
+-- At rest a stop leaves of the cache blocks that opening refuses, or an image of one of these tables: its
+-- gate is open, or its blocks are so whatever their gate.
 abbrev pub RestLeavesOneOf : {D A : Type 0} {m : _} → PageCache D A m → List Table → Type 0
-RestLeavesOneOf cache ts = ¬ (gate_of cache ≡ Open) → (c : Blocks) → SameButGate c (blocks_of cache) → IsRefusedOrImageOf ts c
+RestLeavesOneOf cache ts = ¬ (gate_of cache ≡ Open) → (c : Blocks) → SameButGate c (blocks_of cache)
+    → IsRefusedOrImageOf ts c
 
--- What a stop leaves of the cache at rest: behind a shut gate the blocks as they are, an image of the table; or blocks that
--- opening refuses, or an image of one of these tables.
+-- What a stop leaves of the cache at rest: behind a shut gate the blocks as they are, an image of the table;
+-- or blocks that opening refuses, or an image of one of these tables.
 abbrev pub LeavesAtRest : {D A : Type 0} {m : _} → PageCache D A m → AfterStop → Type 0
 LeavesAtRest cache (Surely t) = (gate_of cache ≡ Shut) × IsImage (blocks_of cache) t
 LeavesAtRest cache (Perhaps ts) = RestLeavesOneOf cache ts
 
--- What stops are found to have left of the cache over a device that commits what opening takes: now, and since the
--- beginning, an image of one of these tables.
-pub record IsFound {D A : Type 0} {m : _} (cache : PageCache D A m) (since : ℕ) (kept kept_so_far : List Table) : Type 0 where
+-- What stops are found to have left of the cache over a device that commits what opening takes: now, and
+-- since the beginning, an image of one of these tables.
+pub record IsFound {D A : Type 0} {m : _} (cache : PageCache D A m) (since : ℕ)
+    (kept kept_so_far : List Table) : Type 0 where
   pub now : (k : Blocks) → m.recovery.commits (device_of cache) k → IsImageOfOne kept k
   pub so_far : (c : Blocks) → m.recovery.found_since (device_of cache) since c → IsImageOfOne kept_so_far c
 
--- What stops leave of the cache: one now; and of one since the beginning blocks that opening refuses, or an image of one of
--- the tables so far, among which are those that one now may leave; and what stops are found to have left.
+-- What stops leave of the cache: one now; and of one since the beginning blocks that opening refuses, or an
+-- image of one of the tables so far, among which are those that one now may leave; and what stops are found
+-- to have left.
 pub record Leaves {D A : Type 0} {m : _} (cache : PageCache D A m) (stops : Stops) : Type 0 where
   pub now : LeavesAtRest cache stops.now
   pub begun : stops.since ≤ m.moment (device_of cache)
@@ -98,13 +102,15 @@ abbrev pub HasTree : {D A : Type 0} {m : _} → Layers D A m → List ℕ → Tr
 HasTree kept name t = IsTreeOf (pages (cache_of kept)) (records_in kept) name t
 
 -- the looks rose by what is counted of the tree of the layer of this name
-pub record LooksAtTree {D A : Type 0} {m : _} (old new : Layers D A m) (name : List ℕ) (count : Tree → ℕ) : Type 0 where
+pub record LooksAtTree {D A : Type 0} {m : _} (old new : Layers D A m) (name : List ℕ)
+    (count : Tree → ℕ) : Type 0 where
   pub tree : Tree
   pub is_tree : HasTree old name tree
   pub looks : looks_of new.cache ≡ counted (looks_of old.cache) (count tree)
 
 -- the tree of the layer of this name became another one by this rule, and those of all other layers stay
-pub record ChangesTree {D A : Type 0} {m : _} (old new : Layers D A m) (name : List ℕ) (Rule : Tree → Tree → Type 0) : Type 0 where
+pub record ChangesTree {D A : Type 0} {m : _} (old new : Layers D A m) (name : List ℕ)
+    (Rule : Tree → Tree → Type 0) : Type 0 where
   pub was : Tree
   pub now : Tree
   pub before : HasTree old name was

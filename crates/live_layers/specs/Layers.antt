@@ -1,5 +1,5 @@
--- What the pages hold of a table: for each layer a tree and an identifier table with the same objects (our rule,
--- docs/FORMAT.md, "Trees of pages" and "Identifier tables").
+-- What the pages hold of a table: for each layer a tree and an identifier table with the same objects (our
+-- rule, docs/FORMAT.md, "Trees of pages" and "Identifier tables").
 use Rattle.std.specs.Prelude.{◌≡◌, ℕ, ◌+◌, IsTrue, List, [], ◌∷◌, length, map, Option, option_and_then, ⊤}
 use Rattle.std.specs.FinMap.{entries}
 use Rattle.std.specs.List.{Contains}
@@ -30,7 +30,8 @@ row_of h = h.row
 abbrev pub root_of : Record → Root
 root_of r = record { page = r.root; level = r.level }
 
--- the pages stand for the layer where its record says, and the record has its dimension, fanout and count of objects
+-- the pages stand for the layer where its record says, and the record has its dimension, fanout and count of
+-- objects
 pub record LayerStands (pages : PageMap) (h : Reading) : Type 0 where
   pub at : IsLayerAt h.row.dims h.row.fanout pages (root_of h.row) h.row.directory h.pages h.layer.objects
   pub dims : h.layer.dims ≡ h.row.dims
@@ -63,8 +64,8 @@ in_use hs n = both of_catalog (of_layers hs) n
 
 -- ---- the table
 
--- With these records the pages hold the table: each layer is read from its record, the live pages are those in use and no
--- others, each in one place, and the records may stand in a catalog.
+-- With these records the pages hold the table: each layer is read from its record, the live pages are those
+-- in use and no others, each in one place, and the records may stand in a catalog.
 pub record Holds (pages : PageMap) (next : ℕ) (records : List Record) (t : Table) : Type 0 where
   pub layers : List Reading
   pub rows : map row_of layers ≡ records

@@ -1,4 +1,5 @@
--- What a listing shows of a record, and what a dump shows of layers that were read (our rule, docs/COMMANDS.md).
+-- What a listing shows of a record, and what a dump shows of layers that were read (our rule,
+-- docs/COMMANDS.md).
 use Rattle.std.specs.Prelude.{List, map, flat_map}
 use Rattle.catalog_page.specs.Layout.{Record}
 use Rattle.plain_table.specs.Answers.{line_of_row}

@@ -1,5 +1,6 @@
 -- Loads whose layer was found.
-use Rattle.std.specs.Prelude.{ℕ, ◌≡◌, ◌<◌, ◌≤◌, ◌==◌, Bool, true, not, List, [], ◌∷◌, map, Option, None, Some, count_by}
+use Rattle.std.specs.Prelude.{ℕ, ◌≡◌, ◌<◌, ◌≤◌, ◌==◌, Bool, true, not, List, [], ◌∷◌, map, Option, None, Some}
+use Rattle.std.specs.Prelude.{count_by}
 use Rattle.box_math.specs.Objects.{Object}
 use Rattle.plain_table.specs.Loads.{GivenObjects, are_ordered, given_object, have_dims}
 use Rattle.plain_table.specs.Table.{Table, is_layer_name, layer_at}
@@ -18,11 +19,13 @@ IsLeastTwice ids (Some least) = (1 < times_in least ids) × ((id : ℕ) → 1 < 
 
 -- objects of which some box has another number of axes, or a low above its high
 abbrev pub boxes_refusals : ℕ → GivenObjects → List (Bool × Refusal)
-boxes_refusals dims objects = (not (have_dims dims objects), refusal.WrongDims) ∷ (not (are_ordered objects), refusal.BadBox) ∷ []
+boxes_refusals dims objects =
+    (not (have_dims dims objects), refusal.WrongDims) ∷ (not (are_ordered objects), refusal.BadBox) ∷ []
 
--- the layer of a good name stands at the place, and the objects have its axes, no low above its high, and these boxes and
--- tags
-pub record ReachesObjects (t : Table) (name : List ℕ) (place : ℕ) (given : GivenObjects) (dims : ℕ) (objects : List (ℕ × Object)) : Type 0 where
+-- the layer of a good name stands at the place, and the objects have its axes, no low above its high, and
+-- these boxes and tags
+pub record ReachesObjects (t : Table) (name : List ℕ) (place : ℕ) (given : GivenObjects) (dims : ℕ)
+    (objects : List (ℕ × Object)) : Type 0 where
   pub good : is_layer_name name ≡ true
   pub finds : Finds t name place
   pub axes : (layer_at t name).dims ≡ dims

@@ -10,11 +10,13 @@ use Rattle.live_layers.specs.declared.layers.Layers.{Layers}
 use Rattle.live_layers.specs.declared.located.Located.{Located}
 
 -- it has the dimension and fanout of the layer of that name, which stands at the root and directory
-pub record IsLocated {D A : Type 0} {m : _} (kept : Layers D A m) (t : Table) (name : List ℕ) (located : Located) : Type 0 where
+pub record IsLocated {D A : Type 0} {m : _} (kept : Layers D A m) (t : Table) (name : List ℕ)
+    (located : Located) : Type 0 where
   pub layer : LayerPages
   pub dims : (layer_at t name).dims ≡ located.dims
   pub fanout : (layer_at t name).fanout ≡ located.fanout
-  pub stands : IsLayerAt located.dims located.fanout (pages (cache_of kept)) located.root located.directory layer (layer_at t name).objects
+  pub stands : IsLayerAt located.dims located.fanout (pages (cache_of kept)) located.root located.directory
+      layer (layer_at t name).objects
   pub its_tree : HasTree kept name layer.tree
 
 -- where the layer of a record stands, as the record says

@@ -1,5 +1,6 @@
--- What questions ask of a layer, and what they are answered (our rule, docs/COMMANDS.md; the nodes that are looked at: Guttman
--- 1984; Beckmann, Kriegel, Schneider and Seeger 1990; of a join: Brinkhoff, Kriegel and Seeger 1993).
+-- What questions ask of a layer, and what they are answered (our rule, docs/COMMANDS.md; the nodes that are
+-- looked at: Guttman 1984; Beckmann, Kriegel, Schneider and Seeger 1990; of a join: Brinkhoff, Kriegel and
+-- Seeger 1993).
 use Rattle.std.specs.Prelude.{ℕ, ◌≡◌, ◌+◌, ◌≤◌, ◌⊎◌, Bool, List, [], ◌∷◌, Option, Some, Result, Ok, Err, Vec}
 use Rattle.box_math.specs.Bounds.{Bounds, holds_test, meets_test, within_test}
 use Rattle.box_math.specs.Objects.{Object}
@@ -21,7 +22,8 @@ use Rattle.live_layers.specs.declared.layers.Layers.{Layers}
 
 -- a layer has this name, so what is asked of it is refused only for what the layer is
 abbrev pub IsNamed : Table → List ℕ → Type 0
-IsNamed t name = (more : List (Bool × Refusal)) → first_refusal (layer_refusals t name more) ≡ first_refusal more
+IsNamed t name = (more : List (Bool × Refusal))
+    → first_refusal (layer_refusals t name more) ≡ first_refusal more
 
 -- whatever is asked of this name is refused so: it is none, or no layer has it
 abbrev pub IsUnnamed : Table → List ℕ → Refusal → Type 0
@@ -58,7 +60,8 @@ IsReply rose why answer a = (a ≡ refused_or why answer) ⊎ RefusedBy (IsFault
 -- ---- joins
 
 -- the looks rose by at most what is counted of the trees of the layers of these names
-pub record LooksAtTrees {D A : Type 0} {m : _} (old new : Layers D A m) (first second : List ℕ) (count : Tree → Tree → ℕ) : Type 0 where
+pub record LooksAtTrees {D A : Type 0} {m : _} (old new : Layers D A m) (first second : List ℕ)
+    (count : Tree → Tree → ℕ) : Type 0 where
   pub tree : Tree
   pub other : Tree
   pub is_tree : HasTree old first tree

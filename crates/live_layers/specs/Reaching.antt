@@ -8,7 +8,8 @@ use Rattle.live_layers.specs.declared.layers.Layers.{Layers}
 use Rattle.live_layers.specs.declared.located.Located.{Located}
 
 -- the layer of the name stands at the place, as it was located
-pub record Reaches {D A : Type 0} {m : _} (kept : Layers D A m) (t : Table) (name : List ℕ) (place : ℕ) (there : Located) : Type 0 where
+pub record Reaches {D A : Type 0} {m : _} (kept : Layers D A m) (t : Table) (name : List ℕ) (place : ℕ)
+    (there : Located) : Type 0 where
   pub named : IsNamed t name
   pub finds : Finds t name place
   pub located : IsLocated kept t name there

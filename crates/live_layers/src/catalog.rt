@@ -24,7 +24,8 @@ pub fn is_good_catalog(records: &[LayerRecord], next: u32) -> bool
 
 // Whether each record is that of a layer that may be.
 fn are_layer_records(records: &[LayerRecord], next: u32) -> bool
-    ensures { result ≡ list_all (λ (layer : Layer). catalog.is_layer_record next (record_of layer)) records.now }
+    ensures { result ≡ list_all (λ (layer : Layer). catalog.is_layer_record next (record_of layer))
+        records.now }
 {
     records.iter().all(|record| is_layer_record(record, next))
 }

@@ -10,6 +10,7 @@ use std::alloc::Allocator;
 
 /// Where a call keeps the gate, as each question does, stops leave after it what they left before.
 pub fn stops_leave_the_same_after_a_question<B: BlockDevice, A: Allocator>()
-    ensures { (old new : PageCache B A ⟦<B as BlockDevice>⟧) (stops : Stops) → IsHonest old → KeepsGate old new →
+    ensures { (old new : PageCache B A ⟦<B as BlockDevice>⟧) (stops : Stops) → IsHonest old →
+        KeepsGate old new →
         Leaves old stops → Leaves new stops }
 {}

@@ -33,8 +33,8 @@ use std::alloc::Allocator;
 // The page of the catalog.
 const CATALOG: u32 = 2;
 
-/// The layers of a live store: their records in memory, ascending by name, and their trees and identifier tables in the
-/// pages of a cache.
+/// The layers of a live store: their records in memory, ascending by name, and their trees and identifier
+/// tables in the pages of a cache.
 #[derive(Drop)]
 pub struct Layers<D: BlockDevice, A: Allocator> {
     // Where answers take their memory from.

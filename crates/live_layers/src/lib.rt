@@ -1,5 +1,5 @@
-//! The layers of a live store: their records in memory, and their trees and identifier tables in the pages of a cache
-//! (docs/FORMAT.md).
+//! The layers of a live store: their records in memory, and their trees and identifier tables in the pages of
+//! a cache (docs/FORMAT.md).
 #![tactic(auto)]
 
 mod catalog;

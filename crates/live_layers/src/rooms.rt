@@ -11,8 +11,8 @@ use std::alloc::Allocator;
 // Memory for one of these, where it was taken and is not in use.
 pub(crate) type Room<T, A> = Option<Box<T, A>>;
 
-/// The memory that changes of trees work in, by the axes of their boxes. The first change that wants it takes it, and
-/// the next ones work in it; nothing of a change is left in it.
+/// The memory that changes of trees work in, by the axes of their boxes. The first change that wants it takes
+/// it, and the next ones work in it; nothing of a change is left in it.
 #[derive(Drop)]
 pub struct Rooms<A: Allocator> {
     pub(crate) waiting_two: Room<Waiting<2>, A>,

@@ -8,8 +8,8 @@ ghost use Rattle.std.specs.declared.cmp.Ordering.TheVariants.{Less, Equal, Great
 use catalog_page::LayerRecord;
 use std::cmp::Ordering;
 
-/// The place of the record with that name, or else where one goes: after the names below it. There are few records, so
-/// each is compared in turn.
+/// The place of the record with that name, or else where one goes: after the names below it. There are few
+/// records, so each is compared in turn.
 pub fn search(records: &[LayerRecord], name: &[u8]) -> Result<usize, usize>
     ensures within { IfOk result (λ place. place < length records.now) }
     ensures found { (d : _) → IfOk result (λ place.

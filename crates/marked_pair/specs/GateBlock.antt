@@ -1,5 +1,6 @@
 -- A gate's block is a block of bytes.
-use Rattle.std.proofs.Common.{◌≡◌, ◌∙◌, ℕ, zero, suc, ◌<◌, ◌≤◌, ◌+◌, ◌^◌, List, [], ◌∷◌, ◌++◌, length, take, drop, get_or, refl, sym, ap, subst, arith, lit<}
+use Rattle.std.proofs.Common.{◌≡◌, ◌∙◌, ℕ, zero, suc, ◌<◌, ◌≤◌, ◌+◌, ◌^◌, List, [], ◌∷◌, ◌++◌, length, take}
+use Rattle.std.proofs.Common.{drop, get_or, refl, sym, ap, subst, arith, lit<}
 use Rattle.std.specs.Int.{byte_at, bytes_high_first}
 use Rattle.std.specs.Prelude.{◌/◌}
 use Rattle.std.proofs.lemmas.Nat.{mod_below}
@@ -36,7 +37,8 @@ pub bytes_put : (n at x : ℕ) (block : List ℕ) → AreBytes block → AreByte
 unfolding put_number
 bytes_put n at x block bytes =
     bytes_append (take at block) (bytes_high_first n x ++ drop (at + n) block) (bytes_take at block bytes)
-    (bytes_append (bytes_high_first n x) (drop (at + n) block) (bytes_high n x) (bytes_drop (at + n) block bytes))
+    (bytes_append (bytes_high_first n x) (drop (at + n) block) (bytes_high n x)
+    (bytes_drop (at + n) block bytes))
 
 bytes_zeros : AreBytes zeros
 bytes_zeros k = subst (λ (b : ℕ). b < 256) (sym (place_at k zeros ∙ number_at-zeros 1 k)) (lit< tt)
@@ -45,7 +47,8 @@ pub gate_is_block : (n : ℕ) → IsBlock (gate_block n)
 unfolding gate_block
 gate_is_block n =
     let t = put_number 8 0 gate_text zeros in
-    let size : length t ≡ 4096 = length-put 8 0 gate_text zeros (omega (arith, length-zeros)) ∙ length-zeros in
+    let size : length t ≡ 4096 = length-put 8 0 gate_text zeros (omega (arith, length-zeros))
+    ∙ length-zeros in
     record {
       size = length-put 1 8 n t (omega (arith, size)) ∙ size;
       bytes_fit = bytes_put 1 8 n t (bytes_put 8 0 gate_text zeros bytes_zeros);

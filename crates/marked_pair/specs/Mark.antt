@@ -1,4 +1,5 @@
--- The mark: the gate's byte from a session's first commit to its clean end (our format, docs/FORMAT.md, "The gate").
+-- The mark: the gate's byte from a session's first commit to its clean end (our format, docs/FORMAT.md, "The
+-- gate").
 use Rattle.std.specs.Prelude.{◌≡◌, ◌<◌, ℕ, Bool, true, ◌&&◌, ◌==◌, if◌then◌else◌, List, [], ◌∷◌, length}
 use Rattle.block_device.specs.Device.{Blocks, block_at}
 use Rattle.block_bytes.specs.Numbers.{number_at}

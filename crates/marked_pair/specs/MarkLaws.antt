@@ -1,5 +1,6 @@
 -- Laws of the mark: what is shown of blocks, and of blocks that are written or torn.
-use Rattle.std.proofs.Common.{◌≡◌, ◌∙◌, ℕ, zero, suc, ◌<◌, ◌≤◌, Bool, true, false, ◌&&◌, ◌==◌, cond, List, [], ◌∷◌, length, refl, sym, ap, subst, arith, inl, inr, ⊎_elim, lit<}
+use Rattle.std.proofs.Common.{◌≡◌, ◌∙◌, ℕ, zero, suc, ◌<◌, ◌≤◌, Bool, true, false, ◌&&◌, ◌==◌, cond, List, []}
+use Rattle.std.proofs.Common.{◌∷◌, length, refl, sym, ap, subst, arith, inl, inr, ⊎_elim, lit<}
 use Rattle.std.specs.List.{All}
 use Rattle.std.proofs.lemmas.Bool.{cases_eq, cases_lt}
 use Rattle.std.proofs.lemmas.Bool.Decides.{nat_tests}
@@ -17,7 +18,8 @@ both true t e = (refl, e)
 both false t e = cc
 
 -- what a gate's number says of its bytes
-pub gate_bytes : (n : ℕ) (b : List ℕ) → reads_as n b ≡ true → (number_at 8 0 b ≡ gate_text) × (number_at 1 8 b ≡ n)
+pub gate_bytes : (n : ℕ) (b : List ℕ) → reads_as n b ≡ true
+    → (number_at 8 0 b ≡ gate_text) × (number_at 1 8 b ≡ n)
 unfolding reads_as
 gate_bytes n b e =
     let t = both (number_at 8 0 b == gate_text) (number_at 1 8 b == n) e in
@@ -37,9 +39,11 @@ pub gate_reads : (n : ℕ) → n < 256 → reads_as n (gate_block n) ≡ true
 unfolding gate_block
 gate_reads n small =
     let t = put_number 8 0 gate_text zeros in
-    let size : length t ≡ 4096 = length-put 8 0 gate_text zeros (omega (arith, length-zeros)) ∙ length-zeros in
+    let size : length t ≡ 4096 = length-put 8 0 gate_text zeros (omega (arith, length-zeros))
+    ∙ length-zeros in
     reads_so n (put_number 1 8 n t)
-    (number_at-put_other 8 0 1 8 n t (omega (arith, size)) (inl (omega arith)) ∙ number_at-put 8 0 gate_text zeros (omega (arith, length-zeros)) (lit< tt))
+    (number_at-put_other 8 0 1 8 n t (omega (arith, size)) (inl (omega arith))
+    ∙ number_at-put 8 0 gate_text zeros (omega (arith, length-zeros)) (lit< tt))
     (number_at-put 1 8 n t (omega (arith, size)) small)
 
 -- one with the mark is shown as a shut gate
@@ -77,10 +81,12 @@ unmarked_whole (b ∷ bs) all (suc k) d lt = all (suc k) d lt
 -- blocks without the mark are shown as they are
 pub unmarked_same : (c : Blocks) → ¬ IsMarked c → unmarked c ≡ c
 unmarked_same [] none = refl
-unmarked_same (b ∷ bs) none = ap (λ (x : List ℕ). x ∷ bs) (unmarked_plain b (λ e. none (record { there = omega arith; mark = e })))
+unmarked_same (b ∷ bs) none =
+    ap (λ (x : List ℕ). x ∷ bs) (unmarked_plain b (λ e. none (record { there = omega arith; mark = e })))
 
 -- of a block that is written
-pub unmarked_put : (b : List ℕ) (c : Blocks) → unmarked (written 0 b c) ≡ written 0 (unmarked_gate b) (unmarked c)
+pub unmarked_put : (b : List ℕ) (c : Blocks)
+    → unmarked (written 0 b c) ≡ written 0 (unmarked_gate b) (unmarked c)
 unmarked_put b [] = refl
 unmarked_put b (x ∷ bs) = refl
 
@@ -93,7 +99,8 @@ torn_by (suc i) b (x ∷ bs) is = inr (b, is, refl)
 pub unmarked_torn : (i : ℕ) (old new : Blocks) → Torn i old new → Torn i (unmarked old) (unmarked new)
 unmarked_torn i old new torn = ⊎_elim
     (λ (e : new ≡ old). inl (ap unmarked e))
-    (λ (w : (b : List ℕ) × IsBlock b × (new ≡ written i b old)). subst (λ (c : Blocks). Torn i (unmarked old) (unmarked c)) (sym w.2) (torn_by i w.0 old w.1))
+    (λ (w : (b : List ℕ) × IsBlock b × (new ≡ written i b old)). subst
+    (λ (c : Blocks). Torn i (unmarked old) (unmarked c)) (sym w.2) (torn_by i w.0 old w.1))
     torn
 
 -- the mark stays where another block is torn, and is there where a gate with it was written
@@ -105,7 +112,8 @@ length_written (suc i) b (x ∷ bs) some = omega arith
 torn_le : (i : ℕ) (old new : Blocks) → Torn i old new → 0 < length old → 0 < length new
 torn_le i old new torn some = ⊎_elim
     (λ (e : new ≡ old). omega (arith, ap length e))
-    (λ (w : (b : List ℕ) × IsBlock b × (new ≡ written i b old)). omega (arith, ap length w.2, length_written i w.0 old some))
+    (λ (w : (b : List ℕ) × IsBlock b × (new ≡ written i b old)). omega
+    (arith, ap length w.2, length_written i w.0 old some))
     torn
 
 pub marked_torn : (i : ℕ) (old new : Blocks) → 0 < i → Torn i old new → IsMarked old → IsMarked new
@@ -114,13 +122,18 @@ marked_torn i old new some torn m = record {
   mark = ap (reads_as 2) (first_torn i old new torn some m.there) ∙ m.mark;
 }
 
-other_first : (i : ℕ) (b : List ℕ) (c : Blocks) → 0 < i → 0 < length c → block_at 0 (written i b c) ≡ block_at 0 c
+other_first : (i : ℕ) (b : List ℕ) (c : Blocks) → 0 < i → 0 < length c
+    → block_at 0 (written i b c) ≡ block_at 0 c
 other_first i b [] some there = absurd (omega arith)
 other_first zero b (x ∷ bs) some there = absurd (omega arith)
 other_first (suc i) b (x ∷ bs) some there = refl
 
 pub marked_stays : (i : ℕ) (b : List ℕ) (c : Blocks) → 0 < i → IsMarked c → IsMarked (written i b c)
-marked_stays i b c some m = record { there = length_written i b c m.there; mark = ap (reads_as 2) (other_first i b c some m.there) ∙ m.mark }
+marked_stays i b c some m =
+    record {
+      there = length_written i b c m.there;
+      mark = ap (reads_as 2) (other_first i b c some m.there) ∙ m.mark;
+    }
 
 -- blocks with the mark, as they are shown, and as it is written
 pub shown_marked : (c : Blocks) → IsMarked c → unmarked c ≡ written 0 (gate_block 1) (unmarked c)

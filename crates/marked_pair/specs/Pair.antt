@@ -55,13 +55,15 @@ pub record IsQuiet {P : Type 0} {m : _} (old new : MarkedPair P m) : Type 0 wher
   pub base : m.base new.pair ≡ m.base old.pair
   pub journal : m.journal new.pair ≡ m.journal old.pair
   pub now : PairsNoMore (m.may_leave old.pair) (m.may_leave new.pair)
-  pub time : PairElapses (m.moment old.pair) (m.moment new.pair) (m.left_since old.pair) (m.left_since new.pair) (m.may_leave new.pair)
+  pub time : PairElapses (m.moment old.pair) (m.moment new.pair) (m.left_since old.pair)
+      (m.left_since new.pair) (m.may_leave new.pair)
 
 -- Block i of the base was written, or torn, and the journal is as it was.
 pub record IsTorn {P : Type 0} {m : _} (i : ℕ) (old new : MarkedPair P m) : Type 0 where
   pub journal : m.journal new.pair ≡ m.journal old.pair
   pub stops : BaseFollows (Torn i) (m.may_leave old.pair) (m.may_leave new.pair)
-  pub time : PairElapses (m.moment old.pair) (m.moment new.pair) (m.left_since old.pair) (m.left_since new.pair) (m.may_leave new.pair)
+  pub time : PairElapses (m.moment old.pair) (m.moment new.pair) (m.left_since old.pair)
+      (m.left_since new.pair) (m.may_leave new.pair)
 
 -- It is of the same pair that was taken over, and no call was refused here.
 pub record IsSameHere {P : Type 0} {m : _} (old new : MarkedPair P m) : Type 0 where

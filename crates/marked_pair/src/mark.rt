@@ -12,8 +12,8 @@ const GATE_TEXT: u64 = 0x5253_5441_5247_4154;
 /// The gate's byte where it is shut.
 pub const SHUT: u8 = 1;
 
-/// The gate's byte from a session's first commit to its clean end. To whoever opens the base alone such a gate is
-/// neither open nor shut.
+/// The gate's byte from a session's first commit to its clean end. To whoever opens the base alone such a
+/// gate is neither open nor shut.
 pub const MARKED: u8 = 2;
 
 /// What is known of the mark of a base.

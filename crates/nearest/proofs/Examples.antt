@@ -7,7 +7,8 @@ use Rattle.box_math.specs.Nearest.{comes_first, nearest_first}
 use Rattle.nearest.specs.Nearest.{is_searched, nearest_rows}
 
 -- the nearer comes first, and of equal distances the lesser identifier
-of_two : (comes_first (9, 24) (4, 25) ≡ true) × (comes_first (4, 25) (9, 25) ≡ true) × (comes_first (9, 25) (4, 25) ≡ false)
+of_two : (comes_first (9, 24) (4, 25) ≡ true) × (comes_first (4, 25) (9, 25) ≡ true)
+    × (comes_first (9, 25) (4, 25) ≡ false)
 of_two = (refl, refl, refl)
 
 of_three : nearest_first ((9, 25) ∷ (4, 25) ∷ (1, 24) ∷ []) ≡ (1, 24) ∷ (4, 25) ∷ (9, 25) ∷ []
@@ -22,8 +23,12 @@ tree : Tree
 tree = record {
   page = 5;
   level = 1;
-  row = more (child (at (negsuc 5) (negsuc 4)) 3 (more (object (at (negsuc 4) (negsuc 4), 8) 8) (more (object (at (negsuc 5) (negsuc 5), 9) 9) end)))
-      (more (child (at (pos 5) (pos 7)) 4 (more (object (at (pos 5) (pos 5), 1) 1) (more (object (at (pos 6) (pos 6), 2) 2) (more (object (at (pos 7) (pos 7), 3) 3) end)))) end);
+  row = more
+      (child (at (negsuc 5) (negsuc 4)) 3
+      (more (object (at (negsuc 4) (negsuc 4), 8) 8) (more (object (at (negsuc 5) (negsuc 5), 9) 9) end)))
+      (more (child (at (pos 5) (pos 7)) 4
+      (more (object (at (pos 5) (pos 5), 1) 1)
+      (more (object (at (pos 6) (pos 6), 2) 2) (more (object (at (pos 7) (pos 7), 3) 3) end)))) end);
 }
 
 origin : List ℤ
@@ -39,7 +44,8 @@ unfolding tree at origin
 both_leaves_are_searched = refl
 
 -- from -7 the other leaf is too far for one answer
-one_leaf_is_searched : admitted (is_searched 2 1 (negsuc 6 ∷ pos 0 ∷ []) (nearest_rows 2 1 (negsuc 6 ∷ pos 0 ∷ []) tree)) tree ≡ 2
+one_leaf_is_searched : admitted
+    (is_searched 2 1 (negsuc 6 ∷ pos 0 ∷ []) (nearest_rows 2 1 (negsuc 6 ∷ pos 0 ∷ []) tree)) tree ≡ 2
 unfolding tree at
 one_leaf_is_searched = refl
 
@@ -48,7 +54,8 @@ all_five : nearest_rows 2 9 origin tree ≡ (1, 25) ∷ (8, 25) ∷ (2, 36) ∷ 
 unfolding tree at origin
 all_five = refl
 
-all_are_searched : admitted (is_searched 2 9 (negsuc 6 ∷ pos 0 ∷ []) (nearest_rows 2 9 (negsuc 6 ∷ pos 0 ∷ []) tree)) tree ≡ 3
+all_are_searched : admitted
+    (is_searched 2 9 (negsuc 6 ∷ pos 0 ∷ []) (nearest_rows 2 9 (negsuc 6 ∷ pos 0 ∷ []) tree)) tree ≡ 3
 unfolding tree at
 all_are_searched = refl
 

@@ -1,5 +1,5 @@
--- What waits in a search for the nearest objects, and what is kept of those that were seen (best first is our rule,
--- docs/FORMAT.md, "Trees of pages").
+-- What waits in a search for the nearest objects, and what is kept of those that were seen (best first is our
+-- rule, docs/FORMAT.md, "Trees of pages").
 use Rattle.std.specs.Prelude.{⊤, ℕ, zero, suc, ◌-◌, ◌^◌, ◌<◌, ◌≤◌, List, [], ◌∷◌, sum_by, take}
 use Rattle.box_math.specs.Bounds.{Bounds}
 use Rattle.box_math.specs.Nearest.{put_nearest_first}

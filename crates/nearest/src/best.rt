@@ -49,7 +49,8 @@ impl<H: Allocator> Best<H> {
     pub(crate) fn offer(&mut self, object: Object, k: usize) -> Result<(), Fault>
         requires few { length self.old ≤ k }
         requires some { 1 ≤ k }
-        ensures ok { OnOk result (self.new ≡ take k (put_nearest_first (object.identifier, object.distance) self.old)) }
+        ensures ok { OnOk result
+            (self.new ≡ take k (put_nearest_first (object.identifier, object.distance) self.old)) }
         ensures memory { IfErr result (λ f. f ≡ fault.Memory) }
     {
         if self.heap.len() < k {

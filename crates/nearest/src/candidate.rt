@@ -16,7 +16,8 @@ pub(crate) struct Candidate {
     pub(crate) level: u8,
 }
 
-/// An object at the squared distance of its box from the point, by which they are ordered, and then by identifier.
+/// An object at the squared distance of its box from the point, by which they are ordered, and then by
+/// identifier.
 #[derive(Clone, Copy, PartialEq, Eq, PartialOrd, Ord, Debug)]
 pub(crate) struct Object {
     pub(crate) distance: u128,
@@ -39,7 +40,10 @@ pub(crate) fn child_of<const D: usize>(entry: &Entry<D>, level: u8, point: &[i32
 /// The object that an entry of a leaf names.
 pub(crate) fn object_of<const D: usize>(entry: &Entry<D>, point: &[i32; D]) -> Object
     requires { IsDims D }
-    ensures { (result.identifier, result.distance) ≡ row_at (λ b. point_dist2_of D b point.now) (item_of entry.now) }
+    ensures { (
+      result.identifier,
+      result.distance,
+    ) ≡ row_at (λ b. point_dist2_of D b point.now) (item_of entry.now) }
 {
     Object {
         distance: entry.bounds.point_dist2(point),

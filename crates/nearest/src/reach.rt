@@ -16,7 +16,8 @@ pub(crate) fn side_of(distance: u128) -> u32
     (distance as u64).isqrt() as u32
 }
 
-/// The box that reaches so far from the point on each axis. What misses it is farther, and nothing misses the greatest.
+/// The box that reaches so far from the point on each axis. What misses it is farther, and nothing misses the
+/// greatest.
 pub(crate) fn box_around<const D: usize>(point: &[i32; D], side: u32) -> BBox<D>
     ensures { (b : Bounds) → IsBox D b
         → (point_dist2_of D b point.now < (side + 1) * (side + 1)) ⊎ (side ≡ 2 ^ 32 - 1)

@@ -33,12 +33,12 @@ use std::alloc::Allocator;
 // So many new candidates are moved into the queue before more are read.
 const MANY: usize = 128;
 
-/// The k objects of a tree that are nearest to the point, or all of fewer: each by its identifier and the square of the
-/// distance from the point to its box, by that distance and then by identifier.
+/// The k objects of a tree that are nearest to the point, or all of fewer: each by its identifier and the
+/// square of the distance from the point to its box, by that distance and then by identifier.
 ///
-/// On an honest device, where the tree stands in the pages with the shape of an R-tree, a refusal is `Memory` or
-/// `Device`, and each node is looked at whose box is no farther than the last of k answers, and no other but the root.
-/// On other pages a refusal may be `Damaged` too. Map and gate stay, also after a refusal.
+/// On an honest device, where the tree stands in the pages with the shape of an R-tree, a refusal is `Memory`
+/// or `Device`, and each node is looked at whose box is no farther than the last of k answers, and no other
+/// but the root. On other pages a refusal may be `Damaged` too. Map and gate stay, also after a refusal.
 pub fn nearest<const D: usize, B: BlockDevice, A: Allocator + Copy, H: Allocator + Copy>(
     alloc: H,
     cache: &mut PageCache<B, A>,
@@ -127,7 +127,8 @@ fn look_at_objects<const D: usize, B: BlockDevice, A: Allocator + Copy, H: Alloc
     Ok(())
 }
 
-// Which entries of a leaf may be among the k best: bit k of the mask is set for each but those that are farther.
+// Which entries of a leaf may be among the k best: bit k of the mask is set for each but those that are
+// farther.
 fn near_mask<const D: usize, H: Allocator>(
     view: &NodeView<'_, D>,
     point: &[i32; D],
@@ -173,8 +174,8 @@ fn look_at_children<const D: usize, B: BlockDevice, A: Allocator + Copy, H: Allo
     Ok(())
 }
 
-// Moves the nearest of the new candidates into the queue. What is no farther than those there is no farther than
-// the others then, so they can wait until the next node was read: most are too far by then.
+// Moves the nearest of the new candidates into the queue. What is no farther than those there is no farther
+// than the others then, so they can wait until the next node was read: most are too far by then.
 fn push_nearest<H: Allocator>(
     fresh: &mut Vec<Candidate, H>,
     queue: &mut Queue<H>,
@@ -195,7 +196,8 @@ fn push_nearest<H: Allocator>(
 fn nearest_place(candidates: &[Candidate]) -> usize
     requires { 0 < length candidates.now }
     ensures within { result < length candidates.now }
-    ensures nearest { (d : Candidate) → All (IsAsFar (slice_index_or candidates.now result d).distance) candidates.now }
+    ensures nearest { (d : Candidate) →
+        All (IsAsFar (slice_index_or candidates.now result d).distance) candidates.now }
 {
     let mut place = 0;
     for other in 1..candidates.len() {
@@ -206,8 +208,8 @@ fn nearest_place(candidates: &[Candidate]) -> usize
     place
 }
 
-// Does as `settle`, where there are so many new candidates that it would take long to find the nearest. Fewer wait
-// until a leaf was read: most are too far by then.
+// Does as `settle`, where there are so many new candidates that it would take long to find the nearest. Fewer
+// wait until a leaf was read: most are too far by then.
 fn settle_many<H: Allocator>(
     fresh: &mut Vec<Candidate, H>,
     best: &Best<H>,

@@ -1,5 +1,6 @@
 -- The page that is damaged is one that a walk comes to.
-use Rattle.std.proofs.Common.{◌≡◌, ◌∙◌, ◌⊎◌, ℕ, zero, suc, ◌<◌, Some, List, [], ◌∷◌, length, map, get_or, sym, ap, subst, ⊎_elim, arith}
+use Rattle.std.proofs.Common.{◌≡◌, ◌∙◌, ◌⊎◌, ℕ, zero, suc, ◌<◌, Some, List, [], ◌∷◌, length, map, get_or, sym}
+use Rattle.std.proofs.Common.{ap, subst, ⊎_elim, arith}
 use Rattle.std.proofs.lemmas.List.{length-map}
 use Rattle.page_file.specs.Fault.{IsOfDevice}
 use Rattle.page_file.specs.declared.fault.Fault.{Fault}
@@ -9,41 +10,63 @@ use Rattle.node_page.specs.Checked.{ComesBelow, ComesTo, Leads, Names}
 use Rattle.node_page.specs.Standing.{PageMap, node_in}
 
 -- the only page that a fault can name
-pub damaged_visit : (f : Fault) (page n : ℕ) → (f ≡ fault.Memory) ⊎ (f ≡ fault.Damaged page) → f ≡ fault.Damaged n → n ≡ page
-damaged_visit f page n either damaged = ⊎_elim (λ (is : f ≡ fault.Memory). absurd (cc)) (λ (is : f ≡ fault.Damaged page). cc) either
+pub damaged_visit : (f : Fault) (page n : ℕ) → (f ≡ fault.Memory) ⊎ (f ≡ fault.Damaged page)
+    → f ≡ fault.Damaged n → n ≡ page
+damaged_visit f page n either damaged =
+    ⊎_elim (λ (is : f ≡ fault.Memory). absurd (cc)) (λ (is : f ≡ fault.Damaged page). cc) either
 
-pub damaged_read : (f : Fault) (page n : ℕ) → IsOfDevice f ⊎ (f ≡ fault.Damaged page) → f ≡ fault.Damaged n → n ≡ page
+pub damaged_read : (f : Fault) (page n : ℕ) → IsOfDevice f ⊎ (f ≡ fault.Damaged page) → f ≡ fault.Damaged n
+    → n ≡ page
 damaged_read f page n either damaged = ⊎_elim
-    (λ (device : IsOfDevice f). ⊎_elim (λ (is : f ≡ fault.Memory). absurd (cc)) (λ (is : f ≡ fault.Device). absurd (cc)) device)
+    (λ (device : IsOfDevice f). ⊎_elim (λ (is : f ≡ fault.Memory). absurd (cc))
+    (λ (is : f ≡ fault.Device). absurd (cc)) device)
     (λ (is : f ≡ fault.Damaged page). cc)
     either
 
-reference_at : (items : List Item) (i : ℕ) (x : Item) → i < length items → x ≡ get_or items i x → get_or (map (λ (item : Item). item.reference) items) i x.reference ≡ x.reference
+reference_at : (items : List Item) (i : ℕ) (x : Item) → i < length items → x ≡ get_or items i x
+    → get_or (map (λ (item : Item). item.reference) items) i x.reference ≡ x.reference
 reference_at [] i x lt is = absurd (omega (arith, lt))
 reference_at (y ∷ ys) zero x lt is = ap (λ (e : Item). e.reference) (sym is)
 reference_at (y ∷ ys) (suc i) x lt is = reference_at ys i x (omega arith) is
 
 -- an entry above the leaves names its page
-pub entry_names : (c : NodeContent) (items : List Item) (i : ℕ) (x : Item) → c.entries ≡ items → 0 < c.level → i < length items → x ≡ get_or items i x → Names c x.reference
+pub entry_names : (c : NodeContent) (items : List Item) (i : ℕ) (x : Item) → c.entries ≡ items → 0 < c.level
+    → i < length items → x ≡ get_or items i x → Names c x.reference
 entry_names c items i x same above within is =
-    let there : get_or (references_of c) i x.reference ≡ x.reference = subst (λ (xs : List Item). get_or (map (λ (item : Item). item.reference) xs) i x.reference ≡ x.reference) (sym same) (reference_at items i x within is) in
-    (above, (i, omega (arith, within, ap length same, length-map c.entries (λ (item : Item). item.reference)), there))
+    let there : get_or (references_of c) i x.reference ≡ x.reference =
+    subst (λ (xs : List Item). get_or (map (λ (item : Item). item.reference) xs) i
+    x.reference ≡ x.reference) (sym same) (reference_at items i x within is) in (
+      above,
+      (
+        i,
+        omega (arith, within, ap length same, length-map c.entries (λ (item : Item). item.reference)),
+        there,
+      ),
+    )
 
 module _ (dims : ℕ) (m : PageMap) where
   -- the page of a child, and a page below it
   pub comes_to_child : (c : NodeContent) (page n : ℕ) → Names c page → n ≡ page → ComesBelow dims m c n
   comes_to_child c page n names is = (page, names, ([], is))
 
-  pub comes_on : (page : ℕ) (c : NodeContent) (n : ℕ) → node_in dims (m page) ≡ Some c → ComesBelow dims m c n → ComesTo dims m page n
+  pub comes_on : (page : ℕ) (c : NodeContent) (n : ℕ) → node_in dims (m page) ≡ Some c
+      → ComesBelow dims m c n → ComesTo dims m page n
   comes_on page c n there below = (below.0 ∷ below.2.0, ((c, there, below.1), below.2.1))
 
-  pub comes_below_child : (c below : NodeContent) (page n : ℕ) → Names c page → node_in dims (m page) ≡ Some below → ComesBelow dims m below n → ComesBelow dims m c n
+  pub comes_below_child : (c below : NodeContent) (page n : ℕ) → Names c page
+      → node_in dims (m page) ≡ Some below → ComesBelow dims m below n → ComesBelow dims m c n
   comes_below_child c below page n names there walk = (page, names, comes_on page below n there walk)
 
 -- walks are the same where the pages are
-leads_so : (dims : ℕ) (old new : PageMap) (page : ℕ) (walk : List ℕ) (n : ℕ) → ((k : ℕ) → new k ≡ old k) → Leads dims new page walk n → Leads dims old page walk n
+leads_so : (dims : ℕ) (old new : PageMap) (page : ℕ) (walk : List ℕ) (n : ℕ) → ((k : ℕ) → new k ≡ old k)
+    → Leads dims new page walk n → Leads dims old page walk n
 leads_so dims old new page [] n same leads = leads
-leads_so dims old new page (next ∷ walk) n same leads = ((leads.0.0, ap (node_in dims) (sym (same page)) ∙ leads.0.1, leads.0.2), leads_so dims old new next walk n same leads.1)
+leads_so dims old new page (next ∷ walk) n same leads = (
+  (leads.0.0, ap (node_in dims) (sym (same page)) ∙ leads.0.1, leads.0.2),
+  leads_so dims old new next walk n same leads.1,
+)
 
-pub comes_below_so : (dims : ℕ) (old new : PageMap) (c : NodeContent) (n : ℕ) → ((k : ℕ) → new k ≡ old k) → ComesBelow dims new c n → ComesBelow dims old c n
-comes_below_so dims old new c n same below = (below.0, below.1, (below.2.0, leads_so dims old new below.0 below.2.0 n same below.2.1))
+pub comes_below_so : (dims : ℕ) (old new : PageMap) (c : NodeContent) (n : ℕ) → ((k : ℕ) → new k ≡ old k)
+    → ComesBelow dims new c n → ComesBelow dims old c n
+comes_below_so dims old new c n same below =
+    (below.0, below.1, (below.2.0, leads_so dims old new below.0 below.2.0 n same below.2.1))

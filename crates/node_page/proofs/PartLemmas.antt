@@ -1,8 +1,10 @@
 -- What a change of one part of the pages leaves of the others.
-use Rattle.std.proofs.Common.{Option, None, ◌≡◌, ◌⊎◌, ◌∙◌, ℕ, zero, suc, ◌<◌, ◌≤◌, IsSome, true, false, refl, sym, ap, subst, ⊎_elim, inl, inr, arith}
+use Rattle.std.proofs.Common.{Option, None, ◌≡◌, ◌⊎◌, ◌∙◌, ℕ, zero, suc, ◌<◌, ◌≤◌, IsSome, true, false, refl}
+use Rattle.std.proofs.Common.{sym, ap, subst, ⊎_elim, inl, inr, arith}
 use Rattle.std.proofs.lemmas.Bool.Decides.{nat_tests}
 use Rattle.std.specs.Prelude.{is_some}
-use Rattle.node_page.specs.Parts.{AllPagesMove, IsAllOf, Moves, MovesBeside, MovesInTurn, OnePageMoves, Part, StayingMoves, TheRestStays, both, one_page}
+use Rattle.node_page.specs.Parts.{AllPagesMove, IsAllOf, Moves, MovesBeside, MovesInTurn, OnePageMoves, Part}
+use Rattle.node_page.specs.Parts.{StayingMoves, TheRestStays, both, one_page}
 use Rattle.node_page.specs.Standing.{PageMap}
 
 pub none_or_some : (n : ℕ) → (n ≡ 0) ⊎ (0 < n)
@@ -14,7 +16,8 @@ pub there_not_missing : {X : Type 0} (o : Option X) → IsSome o → o ≡ None 
 there_not_missing o is none = let no : false ≡ true = sym (ap is_some none) ∙ is in absurd (cc)
 
 -- a page that is there and none of a change is none of those that came
-pub not_new : (old new : PageMap) (was now : Part) (n : ℕ) → Moves old new was now → was n ≡ 0 → IsSome (old n) → now n ≡ 0
+pub not_new : (old new : PageMap) (was now : Part) (n : ℕ) → Moves old new was now → was n ≡ 0
+    → IsSome (old n) → now n ≡ 0
 not_new old new was now n moves apart there = ⊎_elim
     (λ (none : now n ≡ 0). none)
     (λ (some : 0 < now n). absurd (there_not_missing (old n) there (moves.came n apart some)))
@@ -22,7 +25,8 @@ not_new old new was now n moves apart there = ⊎_elim
 
 -- ---- the same, counted in another way, and of equal pages
 
-pub moves_same : (old new : PageMap) (was was' now now' : Part) → ((n : ℕ) → was n ≡ was' n) → ((n : ℕ) → now n ≡ now' n) → Moves old new was now → Moves old new was' now'
+pub moves_same : (old new : PageMap) (was was' now now' : Part) → ((n : ℕ) → was n ≡ was' n)
+    → ((n : ℕ) → now n ≡ now' n) → Moves old new was now → Moves old new was' now'
 moves_same old new was was' now now' before after h = record {
   outside = λ n p q. h.outside n (before n ∙ p) (after n ∙ q);
   came = λ n p q. h.came n (before n ∙ p) (omega (arith, after n, q));
@@ -31,7 +35,8 @@ moves_same old new was was' now now' before after h = record {
   once = λ n. omega (arith, after n, h.once n);
 }
 
-pub moves_from : (old mid new : PageMap) (was now : Part) → ((n : ℕ) → mid n ≡ old n) → Moves mid new was now → Moves old new was now
+pub moves_from : (old mid new : PageMap) (was now : Part) → ((n : ℕ) → mid n ≡ old n) → Moves mid new was now
+    → Moves old new was now
 moves_from old mid new was now same h = record {
   outside = λ n p q. h.outside n p q ∙ same n;
   came = λ n p q. sym (same n) ∙ h.came n p q;
@@ -67,9 +72,13 @@ staying_moves old new part same once live = record {
 
 pub moves_in_turn : MovesInTurn
 moves_in_turn old mid new a b c h k = record {
-  outside = λ n p q. ⊎_elim (λ (none : b n ≡ 0). k.outside n none q ∙ h.outside n p none) (λ (some : 0 < b n). k.went n some q ∙ sym (h.came n p some)) (none_or_some (b n));
-  came = λ n p q. ⊎_elim (λ (none : b n ≡ 0). sym (h.outside n p none) ∙ k.came n none q) (λ (some : 0 < b n). h.came n p some) (none_or_some (b n));
-  went = λ n p q. ⊎_elim (λ (none : b n ≡ 0). k.outside n none q ∙ h.went n p none) (λ (some : 0 < b n). k.went n some q) (none_or_some (b n));
+  outside =
+      λ n p q. ⊎_elim (λ (none : b n ≡ 0). k.outside n none q ∙ h.outside n p none)
+      (λ (some : 0 < b n). k.went n some q ∙ sym (h.came n p some)) (none_or_some (b n));
+  came = λ n p q. ⊎_elim (λ (none : b n ≡ 0). sym (h.outside n p none) ∙ k.came n none q)
+      (λ (some : 0 < b n). h.came n p some) (none_or_some (b n));
+  went = λ n p q. ⊎_elim (λ (none : b n ≡ 0). k.outside n none q ∙ h.went n p none)
+      (λ (some : 0 < b n). k.went n some q) (none_or_some (b n));
   live = k.live;
   once = k.once;
 }
@@ -81,17 +90,20 @@ the_rest_stays old new was now rest moves live apart n there =
     let gone : now n ≡ 0 = not_new old new was now n moves (omega (arith, apart n, there)) (live n there) in
     (moves.outside n (omega (arith, apart n, there)) gone, gone)
 
-module _ (old new : PageMap) (was now rest : Part) (moves : Moves old new was now) (live : (n : ℕ) → 0 < rest n → IsSome (old n)) (apart : (n : ℕ) → both was rest n ≤ 1) where
+module _ (old new : PageMap) (was now rest : Part) (moves : Moves old new was now)
+    (live : (n : ℕ) → 0 < rest n → IsSome (old n)) (apart : (n : ℕ) → both was rest n ≤ 1) where
   once_beside : (n : ℕ) → both now rest n ≤ 1
   once_beside n = ⊎_elim
       (λ (none : rest n ≡ 0). omega (arith, none, moves.once n))
-      (λ (some : 0 < rest n). omega (arith, (the_rest_stays old new was now rest moves live apart n some).1, apart n))
+      (λ (some : 0 < rest n). omega
+      (arith, (the_rest_stays old new was now rest moves live apart n some).1, apart n))
       (none_or_some (rest n))
 
   live_beside : (n : ℕ) → 0 < both now rest n → IsSome (new n)
   live_beside n there = ⊎_elim
       (λ (none : rest n ≡ 0). moves.live n (omega (arith, there, none)))
-      (λ (some : 0 < rest n). subst IsSome (sym (the_rest_stays old new was now rest moves live apart n some).0) (live n some))
+      (λ (some : 0 < rest n). subst IsSome
+      (sym (the_rest_stays old new was now rest moves live apart n some).0) (live n some))
       (none_or_some (rest n))
 
   framed : Moves old new (both was rest) (both now rest)
@@ -103,10 +115,12 @@ module _ (old new : PageMap) (was now rest : Part) (moves : Moves old new was no
     once = once_beside;
   }
 
-  used_beside : ((n : ℕ) → IsSome (old n) → 0 < both was rest n) → (n : ℕ) → IsSome (new n) → 0 < both now rest n
+  used_beside : ((n : ℕ) → IsSome (old n) → 0 < both was rest n) → (n : ℕ) → IsSome (new n)
+      → 0 < both now rest n
   used_beside used n is = ⊎_elim
       (λ (none : now n ≡ 0). ⊎_elim
-      (λ (never : was n ≡ 0). let before = used n (subst IsSome (moves.outside n never none) is) in omega (arith, before, never))
+      (λ (never : was n ≡ 0). let before = used n (subst IsSome (moves.outside n never none) is) in
+      omega (arith, before, never))
       (λ (gone : 0 < was n). absurd (there_not_missing (new n) is (moves.went n gone none)))
       (none_or_some (was n)))
       (λ (some : 0 < now n). omega (arith, some))
@@ -117,7 +131,8 @@ moves_beside old new was now rest moves live apart = framed old new was now rest
 
 pub all_pages_move : AllPagesMove
 all_pages_move old new was now rest all moves =
-    let live : (n : ℕ) → 0 < rest n → IsSome (old n) = λ n there. all.live n (omega (arith, there)) in record {
+    let live : (n : ℕ) → 0 < rest n → IsSome (old n) = λ n there. all.live n (omega (arith, there)) in
+    record {
       once = once_beside old new was now rest moves live all.once;
       live = live_beside old new was now rest moves live all.once;
       used = used_beside old new was now rest moves live all.once all.used;
@@ -159,4 +174,5 @@ one_page_moves old new page same = (
   },
 )
 
-pub ruleset part_laws = (one_page_moves, staying_moves, moves_in_turn, moves_beside, the_rest_stays, all_pages_move)
+pub ruleset part_laws =
+    (one_page_moves, staying_moves, moves_in_turn, moves_beside, the_rest_stays, all_pages_move)

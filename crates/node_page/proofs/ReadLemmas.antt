@@ -9,13 +9,15 @@ use Rattle.node_page.specs.Loan.{IsReadAt}
 
 module _ {D A : Type 0} {m : _} {S T : Type 0} (old new : PageCache D A m) (n : ℕ) where
   -- the page was not lent, and its fault is handed on
-  pub not_lent : (f : Fault) (result : Result T Fault) → IsErrAnd result (λ e. e ≡ f) → IsLookedAt {T = S} old new n (Err f) → IsReadAt old new n result
+  pub not_lent : (f : Fault) (result : Result T Fault) → IsErrAnd result (λ e. e ≡ f)
+      → IsLookedAt {T = S} old new n (Err f) → IsReadAt old new n result
   not_lent f (Ok x) is look = elim is [ ]
   not_lent f (Err e) is look = subst (λ (e : Fault). IsReadAt {T = T} old new n (Err e)) (sym is)
       (record { asks = look.asks; looks = tt; refused_looks = inl look.looks; quiet = look.outside })
 
   -- it was lent, and spells no such node
-  pub no_node : (x : S) → IsLookedAt {T = S} old new n (Ok x) → IsReadAt {T = T} old new n (Err (fault.Damaged n))
+  pub no_node : (x : S) → IsLookedAt {T = S} old new n (Ok x)
+      → IsReadAt {T = T} old new n (Err (fault.Damaged n))
   no_node x look = let a = look.asks in record {
     asks = record { gate = a.gate; map = a.map; capacity = a.capacity; looks = a.looks; faults = a.faults };
     looks = tt;

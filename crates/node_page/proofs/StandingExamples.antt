@@ -1,5 +1,5 @@
--- Worked examples of trees in pages: which stand where their nodes are spelled, and which stand nowhere. No other proof rests on
--- them.
+-- Worked examples of trees in pages: which stand where their nodes are spelled, and which stand nowhere. No
+-- other proof rests on them.
 use Rattle.std.proofs.lemmas.Bool.{cases_eq}
 use Rattle.std.proofs.lemmas.Bool.Decides.{nat_tests}
 use Rattle.std.proofs.Common.{Bool, true, false, cond, eqb, ◌+◌, ◌≤◌, ⊎_elim, subst, ◌≡◌, ℕ, refl, arith}
@@ -10,7 +10,8 @@ use Rattle.node_page.specs.Standing.{HasNode, PageMap, RowStands, Stands}
 -- ---- what stands
 
 -- where its three nodes are spelled, the tree stands
-it_stands : (dims : ℕ) (pages : PageMap) → HasNode dims pages 5 1 tree.row → HasNode dims pages 3 0 left → HasNode dims pages 4 0 right → Stands dims pages tree
+it_stands : (dims : ℕ) (pages : PageMap) → HasNode dims pages 5 1 tree.row → HasNode dims pages 3 0 left
+    → HasNode dims pages 4 0 right → Stands dims pages tree
 it_stands dims pages root first second = record {
   root = root;
   below = (omega arith, first, (refl, (refl, tt)), (omega arith, second, (refl, (refl, tt)), tt));
@@ -18,7 +19,8 @@ it_stands dims pages root first second = record {
       (λ (is : 3 ≡ n). subst (λ k. occurs_in k tree ≤ 1) is (omega arith))
       (λ (not_3 : ¬ (3 ≡ n)). ⊎_elim
       (λ (is : 4 ≡ n). subst (λ k. occurs_in k tree ≤ 1) is (omega arith))
-      (λ (not_4 : ¬ (4 ≡ n)). let a : eqb 3 n ≡ false = grind (arith, nat_tests) in let b : eqb 4 n ≡ false = grind (arith, nat_tests) in rw (a, b) (at_most_one (eqb 5 n)))
+      (λ (not_4 : ¬ (4 ≡ n)). let a : eqb 3 n ≡ false = grind (arith, nat_tests) in
+      let b : eqb 4 n ≡ false = grind (arith, nat_tests) in rw (a, b) (at_most_one (eqb 5 n)))
       (cases_eq 4 n))
       (cases_eq 3 n);
 }
@@ -30,7 +32,13 @@ it_stands dims pages root first second = record {
 -- ---- what stands nowhere
 
 -- a tree with a page twice
-a_page_twice_stands_nowhere : (dims : ℕ) (pages : PageMap) → Stands dims pages (record { page = 5; level = 1; row = more (child (box 0 0 0 1) 3 left) (more (child (box 2 2 3 2) 3 right) end) }) → ⊥
+a_page_twice_stands_nowhere : (dims : ℕ) (pages : PageMap)
+    → Stands dims pages
+    (record {
+      page = 5;
+      level = 1;
+      row = more (child (box 0 0 0 1) 3 left) (more (child (box 2 2 3 2) 3 right) end);
+    }) → ⊥
 a_page_twice_stands_nowhere dims pages h = absurd (omega (arith, h.distinct 3))
 
 -- objects above the leaves

@@ -27,8 +27,10 @@ pub record IsCheckedTree (dims most : ℕ) (pages : PageMap) (page level : ℕ) 
 abbrev pub pairs_of : List Item → List (ℕ × Object)
 pairs_of items = map (λ item. (item.reference, (item.bounds, item.tag))) items
 
--- the trees below a node stand, and their nodes have the shape: their objects and pages were appended to those before
-pub record AddsTree (dims most : ℕ) (pages : PageMap) (c : NodeContent) (pairs_before pairs : List (ℕ × Object))
+-- the trees below a node stand, and their nodes have the shape: their objects and pages were appended to
+-- those before
+pub record AddsTree (dims most : ℕ) (pages : PageMap) (c : NodeContent)
+    (pairs_before pairs : List (ℕ × Object))
     (list_before list : List ℕ) : Type 0 where
   pub row : Row
   pub items_are : row_items row ≡ c.entries
@@ -47,7 +49,8 @@ Names c page = (0 < c.level) × Contains (references_of c) page
 abbrev pub Leads : ℕ → PageMap → ℕ → List ℕ → ℕ → Type 0
 Leads dims pages page [] last = last ≡ page
 Leads dims pages page (next ∷ walk) last =
-    ((c : NodeContent) × (node_in dims (pages page) ≡ Some c) × Names c next) × Leads dims pages next walk last
+    ((c : NodeContent) × (node_in dims (pages page) ≡ Some c) × Names c next)
+    × Leads dims pages next walk last
 
 -- some walk from a page comes to another
 abbrev pub ComesTo : ℕ → PageMap → ℕ → ℕ → Type 0

@@ -1,5 +1,5 @@
--- Columns of coordinates: a list for each axis, in which each point has its coordinate in a place (our format,
--- docs/FORMAT.md, "Node pages").
+-- Columns of coordinates: a list for each axis, in which each point has its coordinate in a place (our
+-- format, docs/FORMAT.md, "Node pages").
 use Rattle.std.specs.Prelude.{◌≡◌, ℕ, ◌<◌, ◌≤◌, ℤ, ◌≤ℤ◌, pos, List, [], length, slice_index_or}
 use Rattle.box_math.specs.Bounds.{on_axis}
 
@@ -7,9 +7,11 @@ use Rattle.box_math.specs.Bounds.{on_axis}
 abbrev pub cell : List (List ℤ) → ℕ → ℕ → ℤ
 cell columns axis place = on_axis (slice_index_or columns axis []) place
 
--- the columns of some points: for each axis their coordinates, each in the place of its point, and zeros after them
+-- the columns of some points: for each axis their coordinates, each in the place of its point, and zeros
+-- after them
 pub record AreColumns (dims : ℕ) (points columns : List (List ℤ)) : Type 0 where
-  pub each : (axis place : ℕ) → axis < dims → place < length points → cell columns axis place ≡ on_axis (slice_index_or points place []) axis
+  pub each : (axis place : ℕ) → axis < dims → place < length points
+      → cell columns axis place ≡ on_axis (slice_index_or points place []) axis
   pub behind : (axis place : ℕ) → axis < dims → length points ≤ place → cell columns axis place ≡ pos 0
 
 -- the number is one of the first n, and none of them is less

@@ -1,7 +1,9 @@
--- How a page spells a node of a tree (our format, docs/FORMAT.md): byte 0 is 6, byte 1 the dimension, at 2 the count,
--- byte 4 the level, and from 16 on columns of 100 places: lows and highs of each axis by turns, then references, and then
--- tags, of which those above level 0 are not looked at. A page of format 1 has 2 for its byte 0 and no tags: each is 0.
-use Rattle.std.specs.Prelude.{◌≡◌, ℕ, ◌+◌, ◌*◌, ◌^◌, ◌<◌, ◌≤◌, ◌&&◌, ◌||◌, ◌==◌, ◌⊎◌, Bool, true, nat_le, nat_lt, List, [], ◌∷◌, ◌++◌, length, All, Option, Some, None, if◌then◌else◌}
+-- How a page spells a node of a tree (our format, docs/FORMAT.md): byte 0 is 6, byte 1 the dimension, at 2
+-- the count, byte 4 the level, and from 16 on columns of 100 places: lows and highs of each axis by turns,
+-- then references, and then tags, of which those above level 0 are not looked at. A page of format 1 has 2
+-- for its byte 0 and no tags: each is 0.
+use Rattle.std.specs.Prelude.{◌≡◌, ℕ, ◌+◌, ◌*◌, ◌^◌, ◌<◌, ◌≤◌, ◌&&◌, ◌||◌, ◌==◌, ◌⊎◌, Bool, true, nat_le}
+use Rattle.std.specs.Prelude.{nat_lt, List, [], ◌∷◌, ◌++◌, length, All, Option, Some, None, if◌then◌else◌}
 use Rattle.block_bytes.specs.Kinds.{HasHead, node_kind, untagged_node_kind}
 use Rattle.block_bytes.specs.Numbers.{number_at, IsApart}
 use Rattle.block_bytes.specs.Places.{first_places}
@@ -9,24 +11,25 @@ use Rattle.box_math.specs.Bounds.{IsDims, IsBox, IsOrdered, ordered_test, all_ov
 use Rattle.box_bytes.specs.Corners.{box_at, IsClearOfBox, IsOfCorner}
 use Rattle.tree_node.specs.Nodes.{Item, NodeContent}
 
--- a reference of a node on this level: any on level 0, and above it the page of a child, from 3 on and below 2^31
+-- a reference of a node on this level: any on level 0, and above it the page of a child, from 3 on and below
+-- 2^31
 abbrev pub IsReference : ℕ → ℕ → Type 0
 IsReference level reference = 0 < level → (3 ≤ reference) × (reference < 2 ^ 31)
 
--- what an entry of a node on this level has beside its box: on level 0 any reference and any tag, and above it the page
--- of a child and no tag
+-- what an entry of a node on this level has beside its box: on level 0 any reference and any tag, and above
+-- it the page of a child and no tag
 abbrev pub IsOfLevel : ℕ → ℕ → ℕ → Type 0
 IsOfLevel level reference tag = 0 < level → (3 ≤ reference) × (reference < 2 ^ 31) × (tag ≡ 0)
 
--- a node that a page can spell: at most 100 entries, at least one above the leaves, each with a reference and a tag of the
--- level (their boxes need no word, since a box has its lows at most its highs)
+-- a node that a page can spell: at most 100 entries, at least one above the leaves, each with a reference and
+-- a tag of the level (their boxes need no word, since a box has its lows at most its highs)
 pub record IsSpellable (c : NodeContent) : Type 0 where
   pub few : length c.entries ≤ 100
   pub some : 0 < c.level → 1 ≤ length c.entries
   pub refers : All (λ item. IsOfLevel c.level item.reference item.tag) c.entries
 
--- a node of so many axes: one that a page can spell, whose level is a byte, and whose entries have boxes of 32-bit
--- coordinates, references of 64 bits and tags of 32
+-- a node of so many axes: one that a page can spell, whose level is a byte, and whose entries have boxes of
+-- 32-bit coordinates, references of 64 bits and tags of 32
 pub record IsNode (dims : ℕ) (c : NodeContent) : Type 0 where
   pub spellable : IsSpellable c
   pub byte : c.level < 256
@@ -40,7 +43,8 @@ pushed c item = record { level = c.level; entries = c.entries ++ item ∷ [] }
 
 -- ---- one entry
 
--- where the low on the first axis of the entry in a place stands; that on each further axis stands 800 bytes on
+-- where the low on the first axis of the entry in a place stands; that on each further axis stands 800 bytes
+-- on
 abbrev pub low_place : ℕ → ℕ
 low_place place = 16 + 4 * place
 
@@ -87,7 +91,8 @@ pub record IsClearOfEntry (dims : ℕ) (tagged : Bool) (place n at : ℕ) : Type
   pub reference : IsApart n at 8 (reference_place dims place)
   pub tag : tagged ≡ true → IsApart n at 4 (tag_place dims place)
 
--- a byte of an entry of a page with or without tags: of its lows, of its highs, of its reference or of its tag
+-- a byte of an entry of a page with or without tags: of its lows, of its highs, of its reference or of its
+-- tag
 abbrev pub IsOfEntry : ℕ → Bool → ℕ → ℕ → Type 0
 IsOfEntry dims tagged place k =
     IsOfCorner dims (low_place place) 800 k ⊎ IsOfCorner dims (high_place place) 800 k
@@ -127,17 +132,22 @@ pub record IsLaidOut (dims level count : ℕ) (page : List ℕ) : Type 0 where
 
 -- whether an entry is one of a node on this level
 abbrev pub entry_test : ℕ → ℕ → Item → Bool
-entry_test dims level item = ordered_test dims item.bounds.low item.bounds.high && (level == 0 || (nat_le 3 item.reference && nat_lt item.reference (2 ^ 31)))
+entry_test dims level item = ordered_test dims item.bounds.low item.bounds.high
+    && (level == 0 || (nat_le 3 item.reference && nat_lt item.reference (2 ^ 31)))
 
 -- whether the page spells a node
 unfoldable pub node_test : ℕ → List ℕ → Bool
 node_test dims page =
-    (number_at 1 0 page == node_kind || number_at 1 0 page == untagged_node_kind) && number_at 1 1 page == dims && nat_le (number_at 2 2 page) 100 && (number_at 1 4 page == 0 || nat_le 1 (number_at 2 2 page))
+    (number_at 1 0 page == node_kind || number_at 1 0 page == untagged_node_kind)
+    && number_at 1 1 page == dims && nat_le (number_at 2 2 page) 100
+    && (number_at 1 4 page == 0 || nat_le 1 (number_at 2 2 page))
     && all_over (number_at 2 2 page) (λ place. entry_test dims (number_at 1 4 page) (item_at dims page place))
 
 -- the node that the page spells, if it spells one
 unfoldable pub node_at : ℕ → List ℕ → Option NodeContent
-node_at dims page = if node_test dims page then Some (record { level = number_at 1 4 page; entries = items_at dims page (number_at 2 2 page) }) else None
+node_at dims page =
+    if node_test dims page then Some
+    (record { level = number_at 1 4 page; entries = items_at dims page (number_at 2 2 page) }) else None
 
 -- the node that a page of this kind spells
 abbrev pub node_of_kind : ℕ → ℕ → List ℕ → Option NodeContent

@@ -9,7 +9,8 @@ use Rattle.node_page.specs.Standing.{PageMap, StandsAt}
 abbrev pub lists_of : {H : Type 0} → Vec (Vec ℕ H) H → List (List ℕ)
 lists_of lists = map (λ list. list.items) lists.items
 
--- A tree stands at the page, whose leaves were appended to the lists, and each of whose nodes was looked at once.
+-- A tree stands at the page, whose leaves were appended to the lists, and each of whose nodes was looked at
+-- once.
 pub record AddsLeavesAt (dims : ℕ) (pages : PageMap) (page level : ℕ) (lists_before lists : List (List ℕ))
     (looks_before looks : ℕ) : Type 0 where
   pub row : Row

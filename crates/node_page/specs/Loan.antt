@@ -1,4 +1,5 @@
--- What a cache ends as, once a node that was read in a page that it lent is no longer used (our rule, docs/FORMAT.md, "Trees of pages").
+-- What a cache ends as, once a node that was read in a page that it lent is no longer used (our rule,
+-- docs/FORMAT.md, "Trees of pages").
 use Rattle.std.specs.Prelude.{◌≡◌, ◌⊎◌, ◌<◌, ◌≤◌, ℕ, Result, OnOk, OnErr}
 use Rattle.std.specs.Borrow.{Fml, MutBor, RattleType}
 use Rattle.std.specs.Io.BufRead.{Rests}
@@ -11,9 +12,10 @@ use Rattle.page_cache.specs.Calls.{Asks}
 use Rattle.page_cache.specs.contracts.cache.PageCache.{the_row}
 use Rattle.page_cache.specs.declared.cache.PageCache.{PageCache}
 
--- A node was read at page n, or refused, in one look, or at most one where it is refused; a number of no page given out
--- needs no call of the device.
-pub record IsReadAt {D A : Type 0} {m : _} {T : Type 0} (old new : PageCache D A m) (n : ℕ) (result : Result T Fault)
+-- A node was read at page n, or refused, in one look, or at most one where it is refused; a number of no page
+-- given out needs no call of the device.
+pub record IsReadAt {D A : Type 0} {m : _} {T : Type 0} (old new : PageCache D A m) (n : ℕ)
+    (result : Result T Fault)
     : Type 0 where
   pub asks : Asks old new result
   pub looks : OnOk result (looks_of new ≡ one_more (looks_of old))

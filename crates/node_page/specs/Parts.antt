@@ -1,4 +1,5 @@
--- Parts of the live pages, and what a change of one part leaves of the others (our rule, docs/FORMAT.md, "Trees of pages").
+-- Parts of the live pages, and what a change of one part leaves of the others (our rule, docs/FORMAT.md,
+-- "Trees of pages").
 use Rattle.std.specs.Prelude.{◌≡◌, ℕ, ◌+◌, ◌<◌, ◌≤◌, None, IsSome, if◌then◌else◌, ◌==◌}
 use Rattle.page_file.specs.Pages.{SameBut}
 use Rattle.node_page.specs.Standing.{PageMap}
@@ -24,8 +25,8 @@ pub record IsAllOf (pages : PageMap) (part : Part) : Type 0 where
   pub live : (n : ℕ) → 0 < part n → IsSome (pages n)
   pub used : (n : ℕ) → IsSome (pages n) → 0 < part n
 
--- One part became another: a page of neither stays; one that came was not live, and one that went is no longer live; those
--- of the new part are live, and none is in it twice.
+-- One part became another: a page of neither stays; one that came was not live, and one that went is no
+-- longer live; those of the new part are live, and none is in it twice.
 pub record Moves (old new : PageMap) (was now : Part) : Type 0 where
   pub outside : (n : ℕ) → was n ≡ 0 → now n ≡ 0 → new n ≡ old n
   pub came : (n : ℕ) → was n ≡ 0 → 0 < now n → old n ≡ None
@@ -44,22 +45,28 @@ OnePageMoves = (old new : PageMap) (page : ℕ) → SameBut page old new
 
 -- a part that stays as it is, of live pages, each once
 abbrev pub StayingMoves : Type 0
-StayingMoves = (old new : PageMap) (part : Part) → ((n : ℕ) → new n ≡ old n) → ((n : ℕ) → part n ≤ 1) → ((n : ℕ) → 0 < part n → IsSome (old n)) → Moves old new part part
+StayingMoves = (old new : PageMap) (part : Part) → ((n : ℕ) → new n ≡ old n) → ((n : ℕ) → part n ≤ 1)
+    → ((n : ℕ) → 0 < part n → IsSome (old n)) → Moves old new part part
 
 -- one change after another is a change
 abbrev pub MovesInTurn : Type 0
-MovesInTurn = (old mid new : PageMap) (a b c : Part) → Moves old mid a b → Moves mid new b c → Moves old new a c
+MovesInTurn = (old mid new : PageMap) (a b c : Part) → Moves old mid a b → Moves mid new b c
+    → Moves old new a c
 
 -- live pages beside those of a change may be counted with them
 abbrev pub MovesBeside : Type 0
-MovesBeside = (old new : PageMap) (was now rest : Part) → Moves old new was now → ((n : ℕ) → 0 < rest n → IsSome (old n)) → ((n : ℕ) → both was rest n ≤ 1)
+MovesBeside = (old new : PageMap) (was now rest : Part) → Moves old new was now
+    → ((n : ℕ) → 0 < rest n → IsSome (old n)) → ((n : ℕ) → both was rest n ≤ 1)
     → Moves old new (both was rest) (both now rest)
 
 -- and they stay, of which none came in
 abbrev pub TheRestStays : Type 0
-TheRestStays = (old new : PageMap) (was now rest : Part) → Moves old new was now → ((n : ℕ) → 0 < rest n → IsSome (old n)) → ((n : ℕ) → both was rest n ≤ 1)
+TheRestStays = (old new : PageMap) (was now rest : Part) → Moves old new was now
+    → ((n : ℕ) → 0 < rest n → IsSome (old n)) → ((n : ℕ) → both was rest n ≤ 1)
     → (n : ℕ) → 0 < rest n → (new n ≡ old n) × (now n ≡ 0)
 
--- where all live pages are those of the part and of a rest, they are afterwards those of the new part and of the rest
+-- where all live pages are those of the part and of a rest, they are afterwards those of the new part and of
+-- the rest
 abbrev pub AllPagesMove : Type 0
-AllPagesMove = (old new : PageMap) (was now rest : Part) → IsAllOf old (both was rest) → Moves old new was now → IsAllOf new (both now rest)
+AllPagesMove = (old new : PageMap) (was now rest : Part) → IsAllOf old (both was rest)
+    → Moves old new was now → IsAllOf new (both now rest)

@@ -15,14 +15,17 @@ node_in dims (Some page) = node_at dims page
 
 -- a page spells the node of this level with these entries
 abbrev pub HasNode : ℕ → PageMap → ℕ → ℕ → Row → Type 0
-HasNode dims pages page level row = node_in dims (pages page) ≡ Some (record { level = level; entries = row_items row })
+HasNode dims pages page level row =
+    node_in dims (pages page) ≡ Some (record { level = level; entries = row_items row })
 
--- the trees below a node of this level stand in the pages: its entries are objects on level 0, and children above it
+-- the trees below a node of this level stand in the pages: its entries are objects on level 0, and children
+-- above it
 abbrev pub RowStands : ℕ → PageMap → ℕ → Row → Type 0
 RowStands dims pages level end = ⊤
 RowStands dims pages level (more (object kept id) rest) = (level ≡ 0) × RowStands dims pages level rest
 RowStands dims pages level (more (child bounds page below) rest) =
-    (0 < level) × HasNode dims pages page (level - 1) below × RowStands dims pages (level - 1) below × RowStands dims pages level rest
+    (0 < level) × HasNode dims pages page (level - 1) below × RowStands dims pages (level - 1) below
+    × RowStands dims pages level rest
 
 -- a node with the entries stands at the page, and the trees below it
 pub record StandsAt (dims : ℕ) (pages : PageMap) (page level : ℕ) (row : Row) : Type 0 where

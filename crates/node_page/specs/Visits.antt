@@ -1,4 +1,5 @@
--- Pages that were visited, each once, and a mark for each of them (our rule, docs/FORMAT.md, "Trees of pages").
+-- Pages that were visited, each once, and a mark for each of them (our rule, docs/FORMAT.md, "Trees of
+-- pages").
 use Rattle.std.specs.Prelude.{◌≡◌, ◌↔◌, ℕ, ◌+◌, ◌<◌, ◌≤◌, List, Bool, true, false, length, slice_index_or}
 use Rattle.std.specs.Prelude.{if◌then◌else◌, ◌==◌}
 use Rattle.tree_node.specs.Positions.{total}

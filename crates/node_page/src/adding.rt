@@ -24,9 +24,10 @@ use page_file::Fault;
 use std::alloc::Allocator;
 use tree_node::Entry;
 
-/// Adds an entry to the node of that level at a live page, in the place after the last one, where the node has some
-/// entry and fewer than the most, and answers the least box round all of them then; else it answers `None`, and has
-/// only asked for the page. The entry is written where the page lies in memory. The gate has to be open.
+/// Adds an entry to the node of that level at a live page, in the place after the last one, where the node
+/// has some entry and fewer than the most, and answers the least box round all of them then; else it answers
+/// `None`, and has only asked for the page. The entry is written where the page lies in memory. The gate has
+/// to be open.
 ///
 /// It breaks off as `read_node` is refused, untouched.
 #[tactic(auto, using(crate::specs::Broken::breaks))]
@@ -42,13 +43,15 @@ pub fn add_entry<const D: usize, B: BlockDevice, A: Allocator + Copy>(
     requires most { most ≤ 100 }
     requires refers { IsOfLevel level entry.now.reference entry.now.tag }
     ensures alters { Alters cache.old cache.new result }
-    ensures room { IsHonest cache.old → (c : NodeContent) → node_in D (pages cache.old page) ≡ Some c → c.level ≡ level
+    ensures room { IsHonest cache.old → (c : NodeContent) → node_in D (pages cache.old page) ≡ Some c →
+        c.level ≡ level
         → IfOk result (λ bounds. IsSome bounds ↔ ((0 < length c.entries) × (length c.entries < most))) }
     ensures added { IsHonest cache.old → (c : NodeContent) → node_in D (pages cache.old page) ≡ Some c
         → IfOk result (λ some. IfSome some (λ bounds.
         (node_in D (pages cache.new page) ≡ Some (pushed c (item_of entry.now)))
         × (bounds ≡ least_box D (pushed c (item_of entry.now)).entries))) }
-    ensures others { IsHonest cache.old → IsLive cache.old page → SameBut page (pages cache.old) (pages cache.new) }
+    ensures others { IsHonest cache.old → IsLive cache.old page →
+        SameBut page (pages cache.old) (pages cache.new) }
     ensures sound { IsPageMap cache.old → IsLive cache.old page → IsPageMap cache.new }
     ensures full { IfOk result (λ some. IfNone some (AsksUntil cache.old cache.new None)) }
     ensures grows { Grows 0 cache.old cache.new }

@@ -2,8 +2,8 @@
 
 use page_file::Fault;
 
-/// Why a change of trees broke off, and whether it had begun to change pages: where it had not, the map is as it was,
-/// else it may be half changed.
+/// Why a change of trees broke off, and whether it had begun to change pages: where it had not, the map is as
+/// it was, else it may be half changed.
 #[derive(Clone, Copy, PartialEq, Eq, Debug, Drop)]
 pub struct Broken {
     /// The fault that it met.

@@ -1,6 +1,7 @@
 //! Trees of pages checked: whether one stands, of the shape of an R-tree.
 
-ghost use Rattle.std.specs.Prelude.{◌≡◌, ◌⊎◌, ◌++◌, ◌+◌, ◌<◌, ◌≤◌, ◌↔◌, ℕ, All, IfErr, IfOk, OnOk, IsTrue, length};
+ghost use Rattle.std.specs.Prelude.{◌≡◌, ◌⊎◌, ◌++◌, ◌+◌, ◌<◌, ◌≤◌, ◌↔◌, ℕ, All, IfErr, IfOk, OnOk, IsTrue};
+ghost use Rattle.std.specs.Prelude.{length};
 ghost use Rattle.box_math.specs.Bounds.{IsBox, IsDims};
 ghost use Rattle.page_file.specs.Fault.{IsDamage, IsOfDevice};
 ghost use Rattle.page_file.specs.declared.fault.Fault.TheVariants as fault;
@@ -35,10 +36,10 @@ pub struct TreeFacts<const D: usize, H: Allocator> {
 
 /// Checks the tree at a root, each of whose nodes has at most `m_max` entries, and answers what it holds.
 ///
-/// On an honest device it answers so only where a tree of that shape stands at the root, no page of it twice; else it
-/// is `Damaged` with the number of a page that a walk down the nodes comes to. Where such a tree stands, a refusal is
-/// `Memory` or `Device`. It makes no more looks than the file's next number, whatever the pages are. Map and gate
-/// stay, also after a refusal.
+/// On an honest device it answers so only where a tree of that shape stands at the root, no page of it twice;
+/// else it is `Damaged` with the number of a page that a walk down the nodes comes to. Where such a tree
+/// stands, a refusal is `Memory` or `Device`. It makes no more looks than the file's next number, whatever
+/// the pages are. Map and gate stay, also after a refusal.
 pub fn check_tree<const D: usize, B: BlockDevice, A: Allocator + Copy, H: Allocator + Copy>(
     alloc: H,
     cache: &mut PageCache<B, A>,
@@ -47,9 +48,11 @@ pub fn check_tree<const D: usize, B: BlockDevice, A: Allocator + Copy, H: Alloca
 ) -> Result<TreeFacts<D, H>, Fault>
     requires { IsDims D }
     ensures asks { Asks cache.old cache.new result }
-    ensures tree { IsPageMap cache.old → IfOk result (λ facts. IsCheckedTree D m_max (pages cache.old) root.page
+    ensures tree { IsPageMap cache.old →
+        IfOk result (λ facts. IsCheckedTree D m_max (pages cache.old) root.page
         root.level facts.pairs.items facts.pages.items) }
-    ensures given_tree { IsHonest cache.old → IfOk result (λ facts. IsCheckedTree D m_max (given cache.old) root.page
+    ensures given_tree { IsHonest cache.old →
+        IfOk result (λ facts. IsCheckedTree D m_max (given cache.old) root.page
         root.level facts.pairs.items facts.pages.items) }
     ensures stands { IsHonest cache.old → (t : Tree) → t.page ≡ root.page → t.level ≡ root.level
         → Stands D (pages cache.old) t → HasShape D m_max t → IfErr result IsOfDevice }
@@ -77,11 +80,12 @@ fn is_root_count(count: usize, level: u8, m_max: u8) -> bool
     count <= usize::from(m_max) && (level == 0 || count >= 2)
 }
 
-// Whether a node fits below an entry with the box: it has the least to the most entries, and the box is the least round
-// theirs.
+// Whether a node fits below an entry with the box: it has the least to the most entries, and the box is the
+// least round theirs.
 fn fits_below<const D: usize>(node: &Node<D>, bounds: &BBox<D>, m_max: u8) -> bool
     ensures { IsTrue result ↔ ((least_entries m_max ≤ length (content_of node.now).entries)
-        × (length (content_of node.now).entries ≤ m_max) × (bounds.now ≡ least_box D (content_of node.now).entries)) }
+        × (length (content_of node.now).entries ≤ m_max)
+        × (bounds.now ≡ least_box D (content_of node.now).entries)) }
 {
     let most = usize::from(m_max);
     let count = node.entries.len();
@@ -137,7 +141,8 @@ fn add_pairs<const D: usize, H: Allocator + Copy>(
     pairs: &mut Vec<(u64, (BBox<D>, u32)), H>,
 ) -> Result<(), Fault>
     requires dims { IsDims D }
-    ensures pairs { OnOk result (pairs.new.items ≡ pairs.old.items ++ pairs_of (content_of leaf.now).entries) }
+    ensures pairs { OnOk result
+        (pairs.new.items ≡ pairs.old.items ++ pairs_of (content_of leaf.now).entries) }
     ensures memory { IfErr result (λ f. f ≡ fault.Memory) }
 {
     for entry in leaf.entries.as_slice() {

@@ -10,8 +10,9 @@ ghost use Rattle.node_page.specs.Layout.{IsEntry, item_at, items_at};
 use block_bytes::{read_i32, read_u64};
 use box_math::BBox;
 
-/// Whether the first places hold entries of a node on the level: each low is at most its high, and each reference above
-/// the leaves is the page of a child. Columns are compared as wholes, which costs a fifth of reading entry by entry.
+/// Whether the first places hold entries of a node on the level: each low is at most its high, and each
+/// reference above the leaves is the page of a child. Columns are compared as wholes, which costs a fifth of
+/// reading entry by entry.
 pub(crate) fn has_entries<const D: usize>(page: &[u8; 4096], level: u8, count: usize) -> bool
     requires dims { IsDims D }
     requires count { count ≤ 100 }
@@ -33,7 +34,8 @@ fn are_references(page: &[u8; 4096], first: usize, count: usize) -> bool
     requires within { first ≤ 2416 }
     requires count { count ≤ 100 }
     ensures { IsTrue result ↔ ((place : ℕ) → place < count
-        → (3 ≤ number_at 8 (first + 8 * place) page.now) × (number_at 8 (first + 8 * place) page.now < 2 ^ 31)) }
+        → (3 ≤ number_at 8 (first + 8 * place) page.now)
+        × (number_at 8 (first + 8 * place) page.now < 2 ^ 31)) }
 {
     let mut good = true;
     for place in 0..count {
@@ -58,7 +60,8 @@ fn are_ordered(page: &[u8; 4096], first: usize, count: usize) -> bool
     good
 }
 
-/// The columns of the axes, the first of which begins at the byte `first`, with zeros after their first numbers.
+/// The columns of the axes, the first of which begins at the byte `first`, with zeros after their first
+/// numbers.
 pub(crate) fn read_columns<const D: usize>(
     page: &[u8; 4096],
     first: usize,
@@ -82,7 +85,8 @@ pub(crate) fn read_columns<const D: usize>(
 fn read_column(page: &[u8; 4096], first: usize, count: usize) -> [i32; 100]
     requires within { first ≤ 2016 }
     requires count { count ≤ 100 }
-    ensures read { (place : ℕ) → place < count → on_axis result place ≡ signed_at (first + 4 * place) page.now }
+    ensures read { (place : ℕ) → place < count →
+        on_axis result place ≡ signed_at (first + 4 * place) page.now }
     ensures zeros { (place : ℕ) → count ≤ place → on_axis result place ≡ pos 0 }
 {
     let mut column = [0i32; 100];
@@ -97,7 +101,8 @@ pub(crate) fn none_is_flat<const D: usize>(page: &[u8; 4096], count: usize) -> b
     requires dims { IsDims D }
     requires count { count ≤ 100 }
     ensures { IsTrue result ↔ ((axis place : ℕ) → axis < D → place < count
-        → signed_at (16 + 800 * axis + 4 * place) page.now <ℤ signed_at (16 + 800 * axis + 400 + 4 * place) page.now) }
+        → signed_at (16 + 800 * axis + 4 * place) page.now <ℤ signed_at (16 + 800 * axis + 400 + 4 * place)
+        page.now) }
 {
     for axis in 0..D {
         if !are_below(page, 16 + 800 * axis, count) {

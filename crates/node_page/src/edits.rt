@@ -12,12 +12,13 @@ use crate::tags::add_tags;
 use block_bytes::write_u16;
 use tree_node::Entry;
 
-/// Adds an entry to a node page whose count is below 100: it is written in the place after the last one, and counted.
-/// A page of format 1 becomes one with tags.
+/// Adds an entry to a node page whose count is below 100: it is written in the place after the last one, and
+/// counted. A page of format 1 becomes one with tags.
 pub(crate) fn push_entry<const D: usize>(page: &mut [u8; 4096], entry: &Entry<D>)
     requires dims { IsDims D }
     requires room { number_at 2 2 page.old < 100 }
-    ensures { (c : NodeContent) → node_at D page.old ≡ Some c → IsOfLevel c.level entry.now.reference entry.now.tag
+    ensures { (c : NodeContent) → node_at D page.old ≡ Some c →
+        IsOfLevel c.level entry.now.reference entry.now.tag
         → node_at D page.new ≡ Some (pushed c (item_of entry.now)) }
 {
     add_tags::<D>(page);

@@ -1,5 +1,5 @@
-//! One entry in its place of a node page: a low and a high in the columns of each axis, and after them a reference and,
-//! where the page has tags, a tag.
+//! One entry in its place of a node page: a low and a high in the columns of each axis, and after them a
+//! reference and, where the page has tags, a tag.
 
 ghost use Rattle.std.specs.Prelude.{◌≡◌, ◌<◌, ◌↔◌, IsSome, IfSome, IsTrue, false};
 ghost use Rattle.box_math.specs.Bounds.{IsDims, IsBox, IsOrdered};
@@ -20,7 +20,8 @@ fn is_reference(level: u8, reference: u64) -> bool
     level == 0 || (reference >= 3 && reference < 1 << 31)
 }
 
-/// The tag in the place, which is 0 where the page has none. Whether it has tags is asked once for all places.
+/// The tag in the place, which is 0 where the page has none. Whether it has tags is asked once for all
+/// places.
 #[inline]
 pub(crate) fn tag_in<const D: usize>(page: &[u8; 4096], place: usize, tagged: bool) -> u32
     requires dims { IsDims D }
@@ -35,8 +36,8 @@ pub(crate) fn tag_in<const D: usize>(page: &[u8; 4096], place: usize, tagged: bo
     }
 }
 
-/// The entry in the place, or `None` where it is none of that level: where it has a low above its high, or its
-/// reference is no page of a child above the leaves.
+/// The entry in the place, or `None` where it is none of that level: where it has a low above its high, or
+/// its reference is no page of a child above the leaves.
 #[inline]
 pub(crate) fn read_entry<const D: usize>(
     page: &[u8; 4096],
@@ -71,7 +72,8 @@ pub(crate) fn entry_at<const D: usize>(page: &[u8; 4096], place: usize, tagged: 
     requires dims { IsDims D }
     requires within { place < 100 }
     requires tagged { tagged ≡ has_tags page.now }
-    requires ordered { IsOrdered D (item_at D page.now place).bounds.low (item_at D page.now place).bounds.high }
+    requires ordered { IsOrdered D (item_at D page.now place).bounds.low
+        (item_at D page.now place).bounds.high }
     ensures { item_of result ≡ item_at D page.now place }
 {
     let low = read_corner(page, 16 + 4 * place, 800);

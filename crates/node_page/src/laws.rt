@@ -1,5 +1,6 @@
-//! What pages spell, and which trees stand in pages: each law is the contract of a function that does nothing, but
-//! for `a_node_comes_back`, which encodes and decodes, and `a_node_is_viewed_and_comes_back`, which looks at a page.
+//! What pages spell, and which trees stand in pages: each law is the contract of a function that does
+//! nothing, but for `a_node_comes_back`, which encodes and decodes, and `a_node_is_viewed_and_comes_back`,
+//! which looks at a page.
 
 ghost use Rattle.std.specs.Prelude.{◌≡◌, ◌⊎◌, ◌<◌, ◌≤◌, ◌^◌, ℕ, Some, IfErr, IfOk, IsErrOf};
 ghost use Rattle.std.specs.Prelude.{OnErr, OnOk, length, option_map};
@@ -7,14 +8,16 @@ ghost use Rattle.block_device.specs.Device.{one_more};
 ghost use Rattle.box_math.specs.Bounds.{IsDims};
 ghost use Rattle.tree_node.specs.Nodes.{NodeContent, content_of};
 ghost use Rattle.node_page.specs.Layout.{IsSpellable};
-ghost use Rattle.node_page.specs.PageLaws.{ReadsWhatIsSpelled, ReadsNamedBytes, SpellsNodes, NodesHaveOnePage};
+ghost use Rattle.node_page.specs.PageLaws.{ReadsWhatIsSpelled, ReadsNamedBytes, SpellsNodes};
+ghost use Rattle.node_page.specs.PageLaws.{NodesHaveOnePage};
 ghost use Rattle.node_page.specs.Changes.{TreesBelowStand, TreesBesideStand, WaitersBesideStand};
 ghost use Rattle.node_page.specs.Parts.{AllPagesMove, MovesBeside, MovesInTurn};
 ghost use Rattle.node_page.specs.Parts.{OnePageMoves, StayingMoves, TheRestStays};
 ghost use Rattle.node_page.specs.Standing.{Stands, node_in};
 ghost use Rattle.page_file.specs.Fault.{IsDamage, IsOfDevice};
 ghost use Rattle.page_file.specs.declared.fault.Fault.TheVariants as fault;
-ghost use Rattle.node_page.specs.StandingLaws.{BoxesAreBoxes, ChildPagesAreReferences, EqualPagesStand, LevelsAreKept};
+ghost use Rattle.node_page.specs.StandingLaws.{BoxesAreBoxes, ChildPagesAreReferences, EqualPagesStand};
+ghost use Rattle.node_page.specs.StandingLaws.{LevelsAreKept};
 ghost use Rattle.node_page.specs.StandingLaws.{OneTreeStands, PagesAreThere, ReplacedNodeStands};
 ghost use Rattle.page_cache.specs.Cache.{IsHonest, IsLive, device_of, looks_of, next_of, pages};
 ghost use Rattle.page_cache.specs.Calls.{Asks};
@@ -38,15 +41,15 @@ pub fn named_bytes_are_read()
     ensures { ReadsNamedBytes }
 {}
 
-/// What a page spells is a node: its level is a byte, it has at most 100 entries, at least one above the leaves, each
-/// with a box of 32-bit coordinates, its lows at most its highs, and with a reference below 2^64, above the leaves
-/// the page of a child.
+/// What a page spells is a node: its level is a byte, it has at most 100 entries, at least one above the
+/// leaves, each with a box of 32-bit coordinates, its lows at most its highs, and with a reference below
+/// 2^64, above the leaves the page of a child.
 pub fn what_is_spelled_is_a_node()
     ensures { SpellsNodes }
 {}
 
-/// A node has one page of each kind: two that spell it, with zeros in all bytes that they do not name, have the same
-/// bytes. So `encode` leaves nothing open.
+/// A node has one page of each kind: two that spell it, with zeros in all bytes that they do not name, have
+/// the same bytes. So `encode` leaves nothing open.
 pub fn a_node_has_one_page()
     ensures { NodesHaveOnePage }
 {}
@@ -85,8 +88,8 @@ pub fn equal_pages_stand_for_a_tree()
     ensures { EqualPagesStand }
 {}
 
-/// Where one page of a tree is written with a node of its level whose trees stand, the pages stand for the tree with
-/// that node replaced, unless a page would be in it twice.
+/// Where one page of a tree is written with a node of its level whose trees stand, the pages stand for the
+/// tree with that node replaced, unless a page would be in it twice.
 pub fn a_replaced_node_stands()
     ensures { ReplacedNodeStands }
 {}
@@ -111,8 +114,8 @@ pub fn pages_of_a_tree_were_given_out<B: BlockDevice, A: Allocator + Copy>(cache
     let _ = cache;
 }
 
-/// What a change of some pages makes of a part of the live pages: one page given out, written or freed is such a
-/// change, and so are two in turn. Other live pages stay, and may be counted with either part.
+/// What a change of some pages makes of a part of the live pages: one page given out, written or freed is
+/// such a change, and so are two in turn. Other live pages stay, and may be counted with either part.
 #[tactic(auto, using(crate::proofs::PartLemmas::part_laws))]
 pub fn parts_of_the_pages_move()
     ensures one { OnePageMoves }
@@ -131,8 +134,8 @@ pub fn changes_keep_what_stands_beside()
     ensures below { TreesBelowStand }
 {}
 
-/// How many entries the node of that level at a page has: a view of it leaves the map, the gate and its moment, and
-/// counts one look.
+/// How many entries the node of that level at a page has: a view of it leaves the map, the gate and its
+/// moment, and counts one look.
 pub fn a_node_is_viewed_and_comes_back<const D: usize, B: BlockDevice, A: Allocator + Copy>(
     cache: &mut PageCache<B, A>,
     page: u32,

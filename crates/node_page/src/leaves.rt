@@ -19,12 +19,13 @@ use page_file::Fault;
 use std::alloc::Allocator;
 use tree_node::{Node, Root};
 
-/// The identifiers of each leaf of a tree, by position, and the leaves from left to right. It has one list for a root
-/// that is a leaf, be it empty.
+/// The identifiers of each leaf of a tree, by position, and the leaves from left to right. It has one list
+/// for a root that is a leaf, be it empty.
 ///
-/// On an honest device it answers so only where the nodes of a tree, be it with a page twice, stand at that page and
-/// level, each of which it looks at once; else it is `Damaged` with the number of a page that a walk down the nodes
-/// comes to. Where they do, a refusal is `Memory` or `Device`. Map and gate stay, also after a refusal.
+/// On an honest device it answers so only where the nodes of a tree, be it with a page twice, stand at that
+/// page and level, each of which it looks at once; else it is `Damaged` with the number of a page that a walk
+/// down the nodes comes to. Where they do, a refusal is `Memory` or `Device`. Map and gate stay, also after a
+/// refusal.
 pub fn leaf_lists<const D: usize, B: BlockDevice, A: Allocator + Copy, H: Allocator + Copy>(
     alloc: H,
     cache: &mut PageCache<B, A>,
@@ -35,7 +36,8 @@ pub fn leaf_lists<const D: usize, B: BlockDevice, A: Allocator + Copy, H: Alloca
     ensures lists { IsHonest cache.old → (t : Tree) → t.page ≡ root.page → t.level ≡ root.level
         → Stands D (pages cache.old) t →
         IfOk result (λ lists. lists_of lists ≡ leaf_ids t.level t.row) }
-    ensures found { IsPageMap cache.old → IfOk result (λ lists. AreLeavesAt D (pages cache.old) root.page root.level
+    ensures found { IsPageMap cache.old →
+        IfOk result (λ lists. AreLeavesAt D (pages cache.old) root.page root.level
         (lists_of lists) (looks_of cache.old) (looks_of cache.new)) }
     ensures given_found { IsHonest cache.old → IfOk result (λ lists. AreLeavesAt D (given cache.old) root.page
         root.level (lists_of lists) (looks_of cache.old) (looks_of cache.new)) }
@@ -88,7 +90,8 @@ fn add_leaf<const D: usize, H: Allocator + Copy>(
     leaf: &Node<D>,
     lists: &mut Vec<Vec<u64, H>, H>,
 ) -> Result<(), Fault>
-    ensures lists { OnOk result (lists_of lists.new ≡ lists_of lists.old ++ references_of (content_of leaf.now) ∷ []) }
+    ensures lists { OnOk result
+        (lists_of lists.new ≡ lists_of lists.old ++ references_of (content_of leaf.now) ∷ []) }
     ensures memory { IfErr result (λ f. f ≡ fault.Memory) }
 {
     lists.push(ids_of(alloc, leaf)?)?;

@@ -1,5 +1,5 @@
-//! The boxes of a node page compared with a window, eight at once, in the columns where they stand; and the places
-//! whose bits are set.
+//! The boxes of a node page compared with a window, eight at once, in the columns where they stand; and the
+//! places whose bits are set.
 
 ghost use Rattle.std.specs.Prelude.{◌≡◌, ℕ, ◌+◌, ◌*◌, ◌<◌, ◌≤◌, ◌&&◌, nat_lt, int_le, map, false, FitsSigned};
 ghost use Rattle.std.specs.Int.{w32};
@@ -16,12 +16,14 @@ use std::simd::prelude::*;
 // How many boxes are compared at once.
 const LANES: usize = 8;
 
-/// Which of the boxes in the first `count` places meet the window: bit k of the mask is set exactly where k < count and
-/// the box in place k meets it. The last block reads past its column, and the bits of those places are cleared.
+/// Which of the boxes in the first `count` places meet the window: bit k of the mask is set exactly where k <
+/// count and the box in place k meets it. The last block reads past its column, and the bits of those places
+/// are cleared.
 pub(crate) fn mask_in<const D: usize>(page: &[u8; 4096], count: usize, window: &BBox<D>) -> u128
     requires dims { IsDims D }
     requires count { count ≤ 100 }
-    ensures { (k : ℕ) → has_bit result k ≡ (nat_lt k count && meets_test D (item_at D page.now k).bounds window.now) }
+    ensures { (k : ℕ) → has_bit result k
+        ≡ (nat_lt k count && meets_test D (item_at D page.now k).bounds window.now) }
 {
     let mut at = (count + LANES - 1) / LANES * LANES;
     let mut mask = 0u128;
@@ -47,8 +49,8 @@ fn block_mask<const D: usize>(page: &[u8; 4096], at: usize, window: &BBox<D>) ->
     mask
 }
 
-// The mask of the eight intervals from the place `at` on that meet the interval from `low` to `high`, where their
-// lows stand in the column from the byte `first`, and their highs in the next.
+// The mask of the eight intervals from the place `at` on that meet the interval from `low` to `high`, where
+// their lows stand in the column from the byte `first`, and their highs in the next.
 #[inline]
 fn axis_mask(page: &[u8; 4096], first: usize, at: usize, low: i32, high: i32) -> u64
     requires first { first ≤ 1616 }

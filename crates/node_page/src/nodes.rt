@@ -21,12 +21,12 @@ use page_file::Fault;
 use std::alloc::Allocator;
 use tree_node::Node;
 
-/// Reads the node of that level at a page that was given out, in one look, or at most one where it is refused. A page
-/// that spells none of that dimension and level is `Damaged` with its number, and so is a number outside 2 to the last
-/// one given out, without a call of the device.
+/// Reads the node of that level at a page that was given out, in one look, or at most one where it is
+/// refused. A page that spells none of that dimension and level is `Damaged` with its number, and so is a
+/// number outside 2 to the last one given out, without a call of the device.
 ///
-/// On an honest device a refusal where there is such a node is `Memory` or `Device`. Map and gate stay, also after a
-/// refusal.
+/// On an honest device a refusal where there is such a node is `Memory` or `Device`. Map and gate stay, also
+/// after a refusal.
 #[tactic(auto, using(page_cache::specs::Calls::ends_so))]
 pub fn read_node<const D: usize, B: BlockDevice, A: Allocator + Copy>(
     cache: &mut PageCache<B, A>,
@@ -91,12 +91,12 @@ pub fn read_into<const D: usize, B: BlockDevice, A: Allocator + Copy>(
     }
 }
 
-/// Writes a node into a live page. The gate has to be open. The node has at most 100 entries, and one that is no leaf
-/// has at least one, all of which refer to pages from 3 to 2^31 - 1 and have no tag.
+/// Writes a node into a live page. The gate has to be open. The node has at most 100 entries, and one that is
+/// no leaf has at least one, all of which refer to pages from 3 to 2^31 - 1 and have no tag.
 ///
-/// A number outside 2 to the last one given out is `Damaged` with that number, and changes nothing. After another
-/// refusal, which on an honest device is `Memory` or `Device`, the page is still live and may hold any bytes; all
-/// others are as before.
+/// A number outside 2 to the last one given out is `Damaged` with that number, and changes nothing. After
+/// another refusal, which on an honest device is `Memory` or `Device`, the page is still live and may hold
+/// any bytes; all others are as before.
 pub fn write_node<const D: usize, B: BlockDevice, A: Allocator + Copy>(
     cache: &mut PageCache<B, A>,
     page: u32,
@@ -109,7 +109,8 @@ pub fn write_node<const D: usize, B: BlockDevice, A: Allocator + Copy>(
     ensures written { IsHonest cache.old → IsLive cache.old page
         → OnOk result (node_in D (pages cache.new page) ≡ Some (content_of node.now)) }
     ensures live { IsHonest cache.old → IsLive cache.old page → IsLive cache.new page }
-    ensures others { IsHonest cache.old → IsLive cache.old page → SameBut page (pages cache.old) (pages cache.new) }
+    ensures others { IsHonest cache.old → IsLive cache.old page →
+        SameBut page (pages cache.old) (pages cache.new) }
     ensures sound { IsPageMap cache.old → IsLive cache.old page → IsPageMap cache.new }
     ensures next { next_of cache.new ≡ next_of cache.old }
     ensures grows { Grows 0 cache.old cache.new }

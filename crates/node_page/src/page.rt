@@ -12,9 +12,9 @@ use crate::view::NodeView;
 use arrayvec::ArrayVec;
 use tree_node::Node;
 
-/// The node that the page spells, or `None` where it spells none of that dimension and level: where its kind is neither
-/// 6 nor 2, its dimension or its level is another, its count is above 100, or 0 above the leaves, some entry has a low
-/// above its high, or some reference above the leaves is below 3, or 2^31 or more.
+/// The node that the page spells, or `None` where it spells none of that dimension and level: where its kind
+/// is neither 6 nor 2, its dimension or its level is another, its count is above 100, or 0 above the leaves,
+/// some entry has a low above its high, or some reference above the leaves is below 3, or 2^31 or more.
 pub fn decode<const D: usize>(page: &[u8; 4096], level: u8) -> Option<Node<D>>
     requires { IsDims D }
     ensures spelled { IfSome result (λ node. node_at D page.now ≡ Some (content_of node)) }
@@ -38,8 +38,8 @@ pub fn decode<const D: usize>(page: &[u8; 4096], level: u8) -> Option<Node<D>>
     Some(Node { level, entries })
 }
 
-/// Makes the node the one of that level that the page spells, or answers `false` where it spells none, as `decode`
-/// tells; the node may then be any. Nothing is copied but the entries.
+/// Makes the node the one of that level that the page spells, or answers `false` where it spells none, as
+/// `decode` tells; the node may then be any. Nothing is copied but the entries.
 pub fn decode_into<const D: usize>(page: &[u8; 4096], level: u8, node: &mut Node<D>) -> bool
     requires { IsDims D }
     ensures spelled { IsTrue result → node_at D page.now ≡ Some (content_of node.new) }
@@ -55,9 +55,9 @@ pub fn decode_into<const D: usize>(page: &[u8; 4096], level: u8, node: &mut Node
     true
 }
 
-/// Makes the page the one that spells the node, with zeros in all bytes that it does not name. The node has at most
-/// 100 entries, and one that is no leaf has at least one, all of which refer to pages from 3 to 2^31 - 1 and have no
-/// tag.
+/// Makes the page the one that spells the node, with zeros in all bytes that it does not name. The node has
+/// at most 100 entries, and one that is no leaf has at least one, all of which refer to pages from 3 to 2^31
+/// - 1 and have no tag.
 pub fn encode<const D: usize>(node: &Node<D>, page: &mut [u8; 4096])
     requires dims { IsDims D }
     requires spellable { IsSpellable (content_of node.now) }

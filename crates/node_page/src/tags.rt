@@ -9,7 +9,8 @@ ghost use Rattle.node_page.specs.Layout.{node_at, tag_place};
 
 use block_bytes::{NODE_KIND, UNTAGGED_NODE_KIND, read_u8, write_u8, write_u32};
 
-/// Makes a node page of format 1 one with tags, all of them 0, which spells the same node; another stays as it is.
+/// Makes a node page of format 1 one with tags, all of them 0, which spells the same node; another stays as
+/// it is.
 #[inline]
 pub(crate) fn add_tags<const D: usize>(page: &mut [u8; 4096])
     requires { IsDims D }

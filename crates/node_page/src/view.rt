@@ -1,6 +1,7 @@
 //! A node read in the page that spells it, without decoding the page.
 
-ghost use Rattle.std.specs.Prelude.{◌≡◌, ◌≢◌, ℕ, ◌<◌, ◌≤◌, ◌<ℤ◌, ◌↔◌, Some, IfSome, IfNone, IsTrue, true, false};
+ghost use Rattle.std.specs.Prelude.{◌≡◌, ◌≢◌, ℕ, ◌<◌, ◌≤◌, ◌<ℤ◌, ◌↔◌, Some, IfSome, IfNone, IsTrue, true};
+ghost use Rattle.std.specs.Prelude.{false};
 ghost use Rattle.std.specs.Prelude.{All, length, map, slice_get, slice_index_or};
 ghost use Rattle.box_math.specs.Bounds.{IsDims, IsBox, meets_test, on_axis};
 ghost use Rattle.box_math.specs.Masks.{has_bit};
@@ -30,7 +31,8 @@ pub struct NodeView<'a, const D: usize> {
 impl<'a, const D: usize> NodeView<'a, D> {
     ghost use Rattle.node_page.specs.Views.{content_in};
 
-    /// The node that the page spells, or `None` where it spells none of that dimension and level, as `decode` tells.
+    /// The node that the page spells, or `None` where it spells none of that dimension and level, as `decode`
+    /// tells.
     pub fn of(page: &'a [u8; 4096], level: u8) -> Option<NodeView<'a, D>>
         requires { IsDims D }
         ensures spelled { IfSome result (λ view. node_at D page.now ≡ Some (content_in view)) }
@@ -78,12 +80,13 @@ impl<'a, const D: usize> NodeView<'a, D> {
         entry_at(self.page, place, self.tagged)
     }
 
-    /// Which of the entries meet the window, also where they only touch: bit k of the mask is set exactly where the box
-    /// of the entry in place k meets it.
+    /// Which of the entries meet the window, also where they only touch: bit k of the mask is set exactly
+    /// where the box of the entry in place k meets it.
     pub fn mask(&self, window: &BBox<D>) -> u128
         ensures met { (place : ℕ) (item : Item) → slice_get (content_in self.now).entries place ≡ Some item
             → has_bit result place ≡ meets_test D item.bounds window.now }
-        ensures none { (place : ℕ) → length (content_in self.now).entries ≤ place → has_bit result place ≡ false }
+        ensures none { (place : ℕ) → length (content_in self.now).entries ≤ place →
+            has_bit result place ≡ false }
     {
         mask_in(self.page, self.count, window)
     }

@@ -15,11 +15,13 @@ module _ {T E : Type 0} where
   on_err_map (Ok x) p f = tt
   on_err_map (Err e) p f = f p
 
-  pub on_err_given : {H P Q R : Type 0} (r : Result T E) → OnErr r P → (H → OnErr r Q) → (P → (H → Q) → R) → OnErr r R
+  pub on_err_given : {H P Q R : Type 0} (r : Result T E) → OnErr r P → (H → OnErr r Q) → (P → (H → Q) → R)
+      → OnErr r R
   on_err_given (Ok x) p q f = tt
   on_err_given (Err e) p q f = f p q
 
-  pub if_ok_both : {P Q : T → Type 0} {S : Type 0} (r : Result T E) → IfOk r P → OnOk r S → ((x : T) → P x → S → Q x) → IfOk r Q
+  pub if_ok_both : {P Q : T → Type 0} {S : Type 0} (r : Result T E) → IfOk r P → OnOk r S
+      → ((x : T) → P x → S → Q x) → IfOk r Q
   if_ok_both (Ok x) p s f = f x p s
   if_ok_both (Err e) p s f = tt
 
@@ -31,7 +33,8 @@ module _ {T E : Type 0} where
   on_ok_all (Ok x) p = p
   on_ok_all (Err e) p = tt
 
-  pub either_if : {P : T → Type 0} {Q R : Type 0} (r : Result T E) → IfOk r P → OnErr r Q → ((x : T) → P x → R) → (Q → R) → R
+  pub either_if : {P : T → Type 0} {Q R : Type 0} (r : Result T E) → IfOk r P → OnErr r Q
+      → ((x : T) → P x → R) → (Q → R) → R
   either_if (Ok x) p q f g = f x p
   either_if (Err e) p q f g = g q
 
@@ -39,7 +42,8 @@ module _ {T E : Type 0} where
   on_ok_both (Ok x) p q f = f p q
   on_ok_both (Err e) p q f = tt
 
-  pub either_both : {P Q R S : Type 0} (r : Result T E) → OnOk r P → OnOk r Q → OnErr r S → (P → Q → R) → (S → R) → R
+  pub either_both : {P Q R S : Type 0} (r : Result T E) → OnOk r P → OnOk r Q → OnErr r S → (P → Q → R)
+      → (S → R) → R
   either_both (Ok x) p q s f g = f p q
   either_both (Err e) p q s f g = g s
 

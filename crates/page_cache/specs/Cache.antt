@@ -3,7 +3,8 @@ use Rattle.std.specs.Prelude.{◌≡◌, ◌<◌, ◌↔◌, ℕ, List, Option, 
 use Rattle.block_device.specs.Device.{Blocks, block_at}
 use Rattle.page_file.specs.File as below
 use Rattle.page_file.specs.Opening.{failed_check}
-use Rattle.page_file.specs.Pages.{HasFreeChain, IsSoundMap, free_page_link, free_pages_of, given_pages, next_in, page_of, pages_in}
+use Rattle.page_file.specs.Pages.{HasFreeChain, IsSoundMap, free_page_link, free_pages_of, given_pages}
+use Rattle.page_file.specs.Pages.{next_in, page_of, pages_in}
 use Rattle.page_file.specs.declared.fault.Fault.{Fault}
 use Rattle.page_file.specs.declared.fault.Fault.TheVariants.{Damaged}
 use Rattle.page_file.specs.declared.gate.Gate.{Gate}
@@ -88,7 +89,8 @@ pub record IsPageMap {D A : Type 0} {m : _} (cache : PageCache D A m) : Type 0 w
 abbrev pub KeepsGate : {D A : Type 0} {m : _} → PageCache D A m → PageCache D A m → Type 0
 KeepsGate old new = below.KeepsGate old.file new.file
 
--- The map stays, and is as sound as it was; so do the pages given out that are not live, and the count of the free ones.
+-- The map stays, and is as sound as it was; so do the pages given out that are not live, and the count of the
+-- free ones.
 pub record KeepsMap {D A : Type 0} {m : _} (old new : PageCache D A m) : Type 0 where
   pub next : next_of new ≡ next_of old
   pub free_count : free_count_of new ≡ free_count_of old
@@ -96,8 +98,8 @@ pub record KeepsMap {D A : Type 0} {m : _} (old new : PageCache D A m) : Type 0 
   pub given_stay : IsHonest old → (k : ℕ) → given new k ≡ given old k
   pub sound : IsPageMap old ↔ IsPageMap new
 
--- Blocks in which the map lies, settled: opening refuses them by no check, and finds the same map, which is as
--- sound.
+-- Blocks in which the map lies, settled: opening refuses them by no check, and finds the same map, which is
+-- as sound.
 pub record LiesIn {D A : Type 0} {m : _} (cache : PageCache D A m) (blocks : Blocks) : Type 0 where
   pub passes : failed_check blocks ≡ None
   pub next : next_in blocks ≡ next_of cache
@@ -117,10 +119,11 @@ pub record IsUnchanged {D A : Type 0} {m : _} (old new : PageCache D A m) : Type
   pub looks : looks_of new ≡ looks_of old
   pub capacity : capacity_of new ≡ capacity_of old
 
--- The fault says that the first free page is damaged: there is one, and its bytes are not those of a free page as the
--- format has it. The map stays.
+-- The fault says that the first free page is damaged: there is one, and its bytes are not those of a free
+-- page as the format has it. The map stays.
 pub record IsBroken {D A : Type 0} {m : _} (old new : PageCache D A m) (f : Fault) : Type 0 where
   pub is : f ≡ Damaged (below.header_of old.file).first
   pub some : 0 < (below.header_of old.file).count
-  pub no_link : free_page_link (below.header_of old.file).count (next_of old) (block_at (below.header_of old.file).first (blocks_behind old)) ≡ None
+  pub no_link : free_page_link (below.header_of old.file).count (next_of old)
+      (block_at (below.header_of old.file).first (blocks_behind old)) ≡ None
   pub map : KeepsMap old new

@@ -1,11 +1,13 @@
--- What each call keeps of the cache that it works on: one word for calls that ask, and one for calls that change.
+-- What each call keeps of the cache that it works on: one word for calls that ask, and one for calls that
+-- change.
 use Rattle.std.proofs.Common.{◌≡◌, ◌∙◌, ℕ, ◌≤◌, Option, None, Some, ap, refl, subst, sym, arith}
 use Rattle.std.specs.Prelude.{◌⊎◌, ◌<◌, Result, Ok, Err, IsErrAnd, OnOk}
 use Rattle.block_device.specs.Device.{one_more}
 use Rattle.page_file.specs.Fault.{HasCause, faults_after}
 use Rattle.page_file.specs.declared.fault.Fault.{Fault}
 use Rattle.page_cache.specs.Cache.{IsHeld, KeepsGate, KeepsMap, capacity_of, device_of, looks_of, next_of}
-use Rattle.page_cache.specs.Laws.{no_call_keeps_the_gate, no_call_keeps_the_map, the_gate_is_kept_in_turn, the_map_is_kept_in_turn}
+use Rattle.page_cache.specs.Laws.{no_call_keeps_the_gate, no_call_keeps_the_map, the_gate_is_kept_in_turn}
+use Rattle.page_cache.specs.Laws.{the_map_is_kept_in_turn}
 use Rattle.page_cache.specs.declared.cache.PageCache.{PageCache}
 
 -- the fault that ended a call, None where it succeeded
@@ -18,8 +20,9 @@ abbrev pub faults_behind : Option Fault → ℕ → ℕ
 faults_behind None before = before
 faults_behind (Some f) before = faults_after f before
 
--- Pages were asked for, and it ended so: gate and moment, map and capacity stay, and so does honesty; no look is
--- taken back; and the count of the device's faults rises by one where it ended with `Device`, and else not.
+-- Pages were asked for, and it ended so: gate and moment, map and capacity stay, and so does honesty; no look
+-- is taken back; and the count of the device's faults rises by one where it ended with `Device`, and else
+-- not.
 pub record AsksUntil {D A : Type 0} {m : _} (old new : PageCache D A m) (end : Option Fault) : Type 0 where
   pub gate : KeepsGate old new
   pub map : KeepsMap old new
@@ -27,8 +30,8 @@ pub record AsksUntil {D A : Type 0} {m : _} (old new : PageCache D A m) (end : O
   pub looks : looks_of old ≤ looks_of new
   pub faults : m.faults (device_of new) ≡ faults_behind end (m.faults (device_of old))
 
--- Pages were changed, given out or freed, and it ended so: gate and moment stay, capacity and honesty, no look and
--- no page number is taken back, and the faults are counted as above.
+-- Pages were changed, given out or freed, and it ended so: gate and moment stay, capacity and honesty, no
+-- look and no page number is taken back, and the faults are counted as above.
 pub record ChangesUntil {D A : Type 0} {m : _} (old new : PageCache D A m) (end : Option Fault) : Type 0 where
   pub gate : KeepsGate old new
   pub next : next_of old ≤ next_of new
@@ -37,10 +40,12 @@ pub record ChangesUntil {D A : Type 0} {m : _} (old new : PageCache D A m) (end 
   pub faults : m.faults (device_of new) ≡ faults_behind end (m.faults (device_of old))
 
 -- a call with this answer
-abbrev pub Asks : {D A : Type 0} {m : _} {T : Type 0} → PageCache D A m → PageCache D A m → Result T Fault → Type 0
+abbrev pub Asks : {D A : Type 0} {m : _} {T : Type 0} → PageCache D A m → PageCache D A m → Result T Fault
+    → Type 0
 Asks old new result = AsksUntil old new (fault_in result)
 
-abbrev pub Changes : {D A : Type 0} {m : _} {T : Type 0} → PageCache D A m → PageCache D A m → Result T Fault → Type 0
+abbrev pub Changes : {D A : Type 0} {m : _} {T : Type 0} → PageCache D A m → PageCache D A m → Result T Fault
+    → Type 0
 Changes old new result = ChangesUntil old new (fault_in result)
 
 -- the count of looks is one more where a page was lent, up to the greatest u64, and the same after a refusal
@@ -48,9 +53,10 @@ abbrev pub looks_after : {T : Type 0} → Result T Fault → ℕ → ℕ
 looks_after (Ok _) before = one_more before
 looks_after (Err _) before = before
 
--- Page n was asked for, and lent or refused: the look is counted where it is lent, which is then held. A page that
--- was held, and a number of no page given out, need no call of the device.
-pub record IsLookedAt {D A : Type 0} {m : _} {T : Type 0} (old new : PageCache D A m) (n : ℕ) (result : Result T Fault) : Type 0 where
+-- Page n was asked for, and lent or refused: the look is counted where it is lent, which is then held. A page
+-- that was held, and a number of no page given out, need no call of the device.
+pub record IsLookedAt {D A : Type 0} {m : _} {T : Type 0} (old new : PageCache D A m) (n : ℕ)
+    (result : Result T Fault) : Type 0 where
   pub asks : Asks old new result
   pub looks : looks_of new ≡ looks_after result (looks_of old)
   pub holds : OnOk result (IsHeld new n)
@@ -58,16 +64,19 @@ pub record IsLookedAt {D A : Type 0} {m : _} {T : Type 0} (old new : PageCache D
   pub outside : (n < 2) ⊎ (next_of old ≤ n) → device_of new ≡ device_of old
 
 -- a call that hands on a fault ends as the one that answered it
-pub ends_so : {T : Type 0} (result : Result T Fault) (f : Fault) → IsErrAnd result (λ e. e ≡ f) → fault_in result ≡ Some f
+pub ends_so : {T : Type 0} (result : Result T Fault) (f : Fault) → IsErrAnd result (λ e. e ≡ f)
+    → fault_in result ≡ Some f
 ends_so (Ok x) f is = elim is [ ]
 ends_so (Err e) f is = ap Some is
 
 -- the count of faults by the answer, and by how it ended
-pub counted_by_end : {T : Type 0} (before now : ℕ) (result : Result T Fault) → HasCause before now result → now ≡ faults_behind (fault_in result) before
+pub counted_by_end : {T : Type 0} (before now : ℕ) (result : Result T Fault) → HasCause before now result
+    → now ≡ faults_behind (fault_in result) before
 counted_by_end before now (Ok x) cause = cause.ok
 counted_by_end before now (Err f) cause = cause.refused
 
-pub has_cause : {T : Type 0} (before now : ℕ) (result : Result T Fault) → now ≡ faults_behind (fault_in result) before → HasCause before now result
+pub has_cause : {T : Type 0} (before now : ℕ) (result : Result T Fault)
+    → now ≡ faults_behind (fault_in result) before → HasCause before now result
 has_cause before now (Ok x) is = record { ok = is; refused = tt }
 has_cause before now (Err f) is = record { ok = tt; refused = is }
 
@@ -82,7 +91,8 @@ module _ {D A : Type 0} {m : _} where
     faults = refl;
   }
 
-  pub asks_in_turn : (old mid new : PageCache D A m) (end : Option Fault) → AsksUntil old mid None → AsksUntil mid new end → AsksUntil old new end
+  pub asks_in_turn : (old mid new : PageCache D A m) (end : Option Fault) → AsksUntil old mid None
+      → AsksUntil mid new end → AsksUntil old new end
   asks_in_turn old mid new end a b = record {
     gate = the_gate_is_kept_in_turn old mid new a.gate b.gate;
     map = the_map_is_kept_in_turn old mid new a.gate.honest.0 a.map b.map;
@@ -92,13 +102,22 @@ module _ {D A : Type 0} {m : _} where
   }
 
   -- what asks is a change of nothing
-  pub asks_changes : (old new : PageCache D A m) (end : Option Fault) → AsksUntil old new end → ChangesUntil old new end
-  asks_changes old new end a = record { gate = a.gate; next = omega (arith, a.map.next); capacity = a.capacity; looks = a.looks; faults = a.faults }
+  pub asks_changes : (old new : PageCache D A m) (end : Option Fault) → AsksUntil old new end
+      → ChangesUntil old new end
+  asks_changes old new end a =
+      record {
+        gate = a.gate;
+        next = omega (arith, a.map.next);
+        capacity = a.capacity;
+        looks = a.looks;
+        faults = a.faults;
+      }
 
   pub no_call_changes : (cache : PageCache D A m) → ChangesUntil cache cache None
   no_call_changes cache = asks_changes cache cache None (no_call_asks cache)
 
-  pub changes_in_turn : (old mid new : PageCache D A m) (end : Option Fault) → ChangesUntil old mid None → ChangesUntil mid new end → ChangesUntil old new end
+  pub changes_in_turn : (old mid new : PageCache D A m) (end : Option Fault) → ChangesUntil old mid None
+      → ChangesUntil mid new end → ChangesUntil old new end
   changes_in_turn old mid new end a b = record {
     gate = the_gate_is_kept_in_turn old mid new a.gate b.gate;
     next = omega (arith, a.next, b.next);
@@ -108,11 +127,18 @@ module _ {D A : Type 0} {m : _} where
   }
 
   -- a call that succeeds, and then one whose fault is handed on
-  pub asks_and_refuses : {T : Type 0} (old mid new : PageCache D A m) (f : Fault) (result : Result T Fault) → IsErrAnd result (λ e. e ≡ f) → AsksUntil old mid None → AsksUntil mid new (Some f) → Asks old new result
-  asks_and_refuses old mid new f result is a b = subst (λ end. AsksUntil old new end) (sym (ends_so result f is)) (asks_in_turn old mid new (Some f) a b)
+  pub asks_and_refuses : {T : Type 0} (old mid new : PageCache D A m) (f : Fault) (result : Result T Fault)
+      → IsErrAnd result (λ e. e ≡ f) → AsksUntil old mid None → AsksUntil mid new (Some f)
+      → Asks old new result
+  asks_and_refuses old mid new f result is a b =
+      subst (λ end. AsksUntil old new end) (sym (ends_so result f is)) (asks_in_turn old mid new (Some f) a b)
 
-  pub changes_and_refuses : {T : Type 0} (old mid new : PageCache D A m) (f : Fault) (result : Result T Fault) → IsErrAnd result (λ e. e ≡ f) → ChangesUntil old mid None → ChangesUntil mid new (Some f) → Changes old new result
-  changes_and_refuses old mid new f result is a b = subst (λ end. ChangesUntil old new end) (sym (ends_so result f is)) (changes_in_turn old mid new (Some f) a b)
+  pub changes_and_refuses : {T : Type 0} (old mid new : PageCache D A m) (f : Fault)
+      (result : Result T Fault) → IsErrAnd result (λ e. e ≡ f) → ChangesUntil old mid None
+      → ChangesUntil mid new (Some f) → Changes old new result
+  changes_and_refuses old mid new f result is a b =
+      subst (λ end. ChangesUntil old new end) (sym (ends_so result f is))
+      (changes_in_turn old mid new (Some f) a b)
 
 -- what calls in turn are proved by
 pub ruleset turns = (no_call_asks, asks_in_turn, asks_changes, changes_in_turn)

@@ -21,11 +21,11 @@ use std::alloc::Allocator;
 /// A cache over a file of pages: the same map from live page number to 4096 bytes and the same gate as the
 /// file's, with pages held in memory and a count of looks.
 ///
-/// A page that is put is changed in memory alone. It is written when it leaves the cache, in `flush` and in `settle`;
-/// where that is refused it stays held.
+/// A page that is put is changed in memory alone. It is written when it leaves the cache, in `flush` and in
+/// `settle`; where that is refused it stays held.
 ///
-/// Each call answers as the file's call of that name does, and may besides answer `Memory`. On a device that is
-/// not honest, and on blocks that stand for no map of pages, each call is safe and returns.
+/// Each call answers as the file's call of that name does, and may besides answer `Memory`. On a device that
+/// is not honest, and on blocks that stand for no map of pages, each call is safe and returns.
 #[derive(Drop)]
 pub struct PageCache<D: BlockDevice, A: Allocator> {
     file: PageFile<D>,
@@ -34,7 +34,8 @@ pub struct PageCache<D: BlockDevice, A: Allocator> {
     spare: Option<Box<[u8; 4096], A>>,
     looks: u64,
     ghost within: { (n : ℕ) → IsSome (frame_at frames.entries n) → (2 ≤ n) × (n < next_of file) },
-    ghost true_to: { IsHonest file → (n : ℕ) (f : _) → frame_at frames.entries n ≡ Some f → f.changed ≡ false →
+    ghost true_to: { IsHonest file → (n : ℕ) (f : _) → frame_at frames.entries n ≡ Some f →
+        f.changed ≡ false →
         given file n ≡ Some f.bytes.value },
     ghost behind_the_gate: { (n : ℕ) (f : _) → frame_at frames.entries n ≡ Some f → f.changed ≡ true →
         gate_of file ≡ Open },

@@ -1,13 +1,18 @@
--- Worked examples of the blocks of a file as docs/FORMAT.md has them, which of them opening refuses and why, and of
--- its faults. No other proof rests on them. A definition that says another thing than that document is refused here.
-use Rattle.std.proofs.Common.{◌≡◌, ◌∙◌, ℕ, List, [], ◌∷◌, ◌++◌, Some, None, Ok, Err, true, false, refl, sym, ap, arith, inl, inr, codes, map, replicate}
+-- Worked examples of the blocks of a file as docs/FORMAT.md has them, which of them opening refuses and why,
+-- and of its faults. No other proof rests on them. A definition that says another thing than that document is
+-- refused here.
+use Rattle.std.proofs.Common.{◌≡◌, ◌∙◌, ℕ, List, [], ◌∷◌, ◌++◌, Some, None, Ok, Err, true, false, refl, sym}
+use Rattle.std.proofs.Common.{ap, arith, inl, inr, codes, map, replicate}
 use Rattle.block_bytes.specs.Numbers.{zeros, number_at, put_number}
 use Rattle.block_device.specs.Device.{Blocks}
 use Rattle.block_device.specs.declared.device.DeviceError.TheVariants as error
 use Rattle.page_file.specs.Fault.{number_of, fault_of, faults_after, HasCause, IsOfDevice, IsDamage}
-use Rattle.page_file.specs.Layout.{gate_block, header_block, catalog_block, new_header, free_block, IsShutGate, IsHeader, kind_of, link_of}
-use Rattle.page_file.specs.Opening.{is_sound, gate_checks, header_checks, first_fault, failed_check, IsRefused}
-use Rattle.page_file.specs.declared.fault.Fault.TheVariants.{Memory, Device, Damaged, NotClosed, NotAStore, WrongVersion, NoPages}
+use Rattle.page_file.specs.Layout.{gate_block, header_block, catalog_block, new_header, free_block}
+use Rattle.page_file.specs.Layout.{IsShutGate, IsHeader, kind_of, link_of}
+use Rattle.page_file.specs.Opening.{is_sound, gate_checks, header_checks, first_fault, failed_check}
+use Rattle.page_file.specs.Opening.{IsRefused}
+use Rattle.page_file.specs.declared.fault.Fault.TheVariants.{Memory, Device, Damaged, NotClosed, NotAStore}
+use Rattle.page_file.specs.declared.fault.Fault.TheVariants.{WrongVersion, NoPages}
 use Rattle.page_file.specs.declared.header.Header.{Header}
 
 abbrev pub numbers : ℕ → ℕ → ℕ → Header
@@ -77,11 +82,13 @@ a_header_is_read = record { text = refl; known = refl; next_is = refl; first_is 
 
 so_is_one_of_version_1 : IsHeader (numbers 5 4 1) (header 1 5 4 1)
 unfolding number_at
-so_is_one_of_version_1 = record { text = refl; known = refl; next_is = refl; first_is = refl; count_is = refl }
+so_is_one_of_version_1 =
+    record { text = refl; known = refl; next_is = refl; first_is = refl; count_is = refl }
 
 no_other_numbers_are_read : (h : Header) → IsHeader h (header 1 5 4 1) → h ≡ numbers 5 4 1
 unfolding number_at
-no_other_numbers_are_read h is = ap (λ n. numbers n h.first h.count) (sym is.next_is) ∙ ap (λ n. numbers 5 n h.count) (sym is.first_is) ∙ ap (λ n. numbers 5 4 n) (sym is.count_is)
+no_other_numbers_are_read h is = ap (λ n. numbers n h.first h.count) (sym is.next_is)
+    ∙ ap (λ n. numbers 5 n h.count) (sym is.first_is) ∙ ap (λ n. numbers 5 4 n) (sym is.count_is)
 
 a_gate_is_no_header : (h : Header) → IsHeader h gate → ⊥
 unfolding number_at
@@ -91,40 +98,49 @@ version_0_is_not_known : (h : Header) → IsHeader h (header 0 5 4 1) → ⊥
 unfolding number_at
 version_0_is_not_known h is = let no : false ≡ true = is.known in absurd (cc)
 
-kinds_and_links_are_read : map (λ page. kind_of page ∷ link_of page ∷ []) ((5 ∷ 1 ∷ 1 ∷ 1 ∷ 0 ∷ 0 ∷ 1 ∷ 0 ∷ []) ∷ (4 ∷ []) ∷ []) ≡ (5 ∷ 256 ∷ []) ∷ (4 ∷ 0 ∷ []) ∷ []
+kinds_and_links_are_read : map (λ page. kind_of page ∷ link_of page ∷ [])
+    ((5 ∷ 1 ∷ 1 ∷ 1 ∷ 0 ∷ 0 ∷ 1 ∷ 0 ∷ []) ∷ (4 ∷ []) ∷ []) ≡ (5 ∷ 256 ∷ []) ∷ (4 ∷ 0 ∷ []) ∷ []
 unfolding number_at
 kinds_and_links_are_read = refl
 
 -- ---- the numbers of a header
 
-sound_numbers : map is_sound (numbers 3 0 0 ∷ numbers 4 3 1 ∷ numbers 4 0 0 ∷ numbers 5 4 1 ∷ numbers 5 3 2 ∷ []) ≡ replicate 5 true
+sound_numbers : map is_sound
+    (numbers 3 0 0 ∷ numbers 4 3 1 ∷ numbers 4 0 0 ∷ numbers 5 4 1 ∷ numbers 5 3 2 ∷ []) ≡ replicate 5 true
 sound_numbers = refl
 
 the_catalog_is_given_out : map is_sound (numbers 0 0 0 ∷ numbers 2 0 0 ∷ []) ≡ replicate 2 false
 the_catalog_is_given_out = refl
 
-the_first_free_page_is_from_3_to_next : map (λ first. is_sound (numbers 5 first 1)) (1 ∷ 2 ∷ 3 ∷ 4 ∷ 5 ∷ 6 ∷ []) ≡ false ∷ false ∷ true ∷ true ∷ false ∷ false ∷ []
+the_first_free_page_is_from_3_to_next : map (λ first. is_sound (numbers 5 first 1))
+    (1 ∷ 2 ∷ 3 ∷ 4 ∷ 5 ∷ 6 ∷ []) ≡ false ∷ false ∷ true ∷ true ∷ false ∷ false ∷ []
 the_first_free_page_is_from_3_to_next = refl
 
 a_first_one_is_counted : map is_sound (numbers 5 3 0 ∷ numbers 5 0 1 ∷ []) ≡ replicate 2 false
 a_first_one_is_counted = refl
 
-no_more_are_free_than_there_are : map (λ count. is_sound (numbers 6 3 count)) (1 ∷ 2 ∷ 3 ∷ 4 ∷ []) ≡ true ∷ true ∷ true ∷ false ∷ []
+no_more_are_free_than_there_are : map (λ count. is_sound (numbers 6 3 count))
+    (1 ∷ 2 ∷ 3 ∷ 4 ∷ []) ≡ true ∷ true ∷ true ∷ false ∷ []
 no_more_are_free_than_there_are = refl
 
 -- ---- opening
 
-the_first_check_that_fails_is_answered : first_fault ((false, NotAStore) ∷ (true, NotClosed) ∷ (true, WrongVersion) ∷ []) ≡ Some NotClosed
+the_first_check_that_fails_is_answered : first_fault
+    ((false, NotAStore) ∷ (true, NotClosed) ∷ (true, WrongVersion) ∷ []) ≡ Some NotClosed
 the_first_check_that_fails_is_answered = refl
 
 where_none_fails_none_is_answered : map first_fault ([] ∷ ((false, NotAStore) ∷ []) ∷ []) ≡ None ∷ None ∷ []
 where_none_fails_none_is_answered = refl
 
-opened : map failed_check ((gate ∷ header 2 3 0 0 ∷ [] ∷ []) ∷ (gate ∷ header 1 4 3 1 ∷ [] ∷ [] ∷ []) ∷ (gate ∷ header 1 3 0 0 ∷ [] ∷ [] ∷ []) ∷ []) ≡ None ∷ None ∷ None ∷ []
+opened : map failed_check
+    ((gate ∷ header 2 3 0 0 ∷ [] ∷ []) ∷ (gate ∷ header 1 4 3 1 ∷ [] ∷ [] ∷ [])
+    ∷ (gate ∷ header 1 3 0 0 ∷ [] ∷ [] ∷ []) ∷ []) ≡ None ∷ None ∷ None ∷ []
 unfolding failed_check gate_checks header_checks number_at
 opened = refl
 
-fewer_than_3_blocks_are_no_store : map failed_check ([] ∷ (gate ∷ header 1 3 0 0 ∷ []) ∷ (open_gate ∷ header 0 3 0 0 ∷ []) ∷ []) ≡ replicate 3 (Some NotAStore)
+fewer_than_3_blocks_are_no_store : map failed_check
+    ([] ∷ (gate ∷ header 1 3 0 0 ∷ []) ∷ (open_gate ∷ header 0 3 0 0 ∷ []) ∷ []) ≡ replicate 3
+    (Some NotAStore)
 unfolding failed_check gate_checks header_checks number_at
 fewer_than_3_blocks_are_no_store = refl
 
@@ -140,11 +156,13 @@ a_wrong_header_before_an_unknown_version : failed_check (gate ∷ (codes "RSTARH
 unfolding failed_check gate_checks header_checks number_at
 a_wrong_header_before_an_unknown_version = refl
 
-an_unknown_version_before_bad_numbers : map (λ version. failed_check (gate ∷ header version 9 9 9 ∷ [] ∷ [])) (0 ∷ 3 ∷ 255 ∷ []) ≡ replicate 3 (Some WrongVersion)
+an_unknown_version_before_bad_numbers : map (λ version. failed_check (gate ∷ header version 9 9 9 ∷ [] ∷ []))
+    (0 ∷ 3 ∷ 255 ∷ []) ≡ replicate 3 (Some WrongVersion)
 unfolding failed_check gate_checks header_checks number_at
 an_unknown_version_before_bad_numbers = refl
 
-next_beyond_the_blocks_is_damage : map (λ next. failed_check (gate ∷ header 1 next 0 0 ∷ [] ∷ [] ∷ [])) (2 ∷ 3 ∷ 4 ∷ 5 ∷ []) ≡ Some (Damaged 1) ∷ None ∷ None ∷ Some (Damaged 1) ∷ []
+next_beyond_the_blocks_is_damage : map (λ next. failed_check (gate ∷ header 1 next 0 0 ∷ [] ∷ [] ∷ []))
+    (2 ∷ 3 ∷ 4 ∷ 5 ∷ []) ≡ Some (Damaged 1) ∷ None ∷ None ∷ Some (Damaged 1) ∷ []
 unfolding failed_check gate_checks header_checks number_at
 next_beyond_the_blocks_is_damage = refl
 
@@ -165,7 +183,9 @@ a_closed_file_is_not_refused h = absurd (cc)
 
 -- ---- faults
 
-faults_are_numbered : map number_of (Memory ∷ Device ∷ Damaged 7 ∷ NotClosed ∷ NotAStore ∷ WrongVersion ∷ NoPages ∷ []) ≡ 16 ∷ 17 ∷ 18 ∷ 20 ∷ 21 ∷ 22 ∷ 25 ∷ []
+faults_are_numbered : map number_of
+    (Memory ∷ Device ∷ Damaged 7 ∷ NotClosed ∷ NotAStore ∷ WrongVersion ∷ NoPages ∷ []) ≡ 16 ∷ 17 ∷ 18 ∷ 20
+    ∷ 21 ∷ 22 ∷ 25 ∷ []
 faults_are_numbered = refl
 
 errors_of_the_device_are_its_faults : map fault_of (error.Failed ∷ error.Memory ∷ []) ≡ Device ∷ Memory ∷ []
@@ -184,7 +204,9 @@ any_page_may_be_damaged page = (page, refl)
 no_other_fault_is_damage : IsDamage NotAStore → ⊥
 no_other_fault_is_damage h = let no = h.1 in absurd (cc)
 
-a_fault_of_the_device_counts : map (λ f. faults_after f 4) (Memory ∷ Device ∷ Damaged 7 ∷ NotClosed ∷ NotAStore ∷ WrongVersion ∷ NoPages ∷ []) ≡ 4 ∷ 5 ∷ 4 ∷ 4 ∷ 4 ∷ 4 ∷ 4 ∷ []
+a_fault_of_the_device_counts : map (λ f. faults_after f 4)
+    (Memory ∷ Device ∷ Damaged 7 ∷ NotClosed ∷ NotAStore ∷ WrongVersion ∷ NoPages ∷ []) ≡ 4 ∷ 5 ∷ 4 ∷ 4 ∷ 4
+    ∷ 4 ∷ 4 ∷ []
 a_fault_of_the_device_counts = refl
 
 the_greatest_count_stays : faults_after Device 18446744073709551615 ≡ 18446744073709551615

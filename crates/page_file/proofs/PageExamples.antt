@@ -1,20 +1,24 @@
--- Worked examples of the pages of a file: which are live, which chains of free pages are sound, what a stop may leave,
--- and what calls keep. No other proof rests on them. A definition that says another thing than docs/FORMAT.md is
--- refused here.
+-- Worked examples of the pages of a file: which are live, which chains of free pages are sound, what a stop
+-- may leave, and what calls keep. No other proof rests on them. A definition that says another thing than
+-- docs/FORMAT.md is refused here.
 use Rattle.block_device.specs.Moments.{brings_nothing}
-use Rattle.std.proofs.Common.{◌≡◌, ◌∙◌, ℕ, zero, suc, List, [], ◌∷◌, Option, Some, None, true, false, eqb, if◌then◌else◌, refl, sym, ap, subst, arith, inl, inr, lit<, ⊎_elim, drop, map}
+use Rattle.std.proofs.Common.{◌≡◌, ◌∙◌, ℕ, zero, suc, List, [], ◌∷◌, Option, Some, None, true, false, eqb}
+use Rattle.std.proofs.Common.{if◌then◌else◌, refl, sym, ap, subst, arith, inl, inr, lit<, ⊎_elim, drop, map}
 use Rattle.std.specs.List.{IsDistinct}
 use Rattle.std.proofs.lemmas.Bool.Decides.{nat_tests}
 use Rattle.block_bytes.specs.Numbers.{zeros, number_at}
 use Rattle.block_device.specs.Device.{Blocks, block_at, written, no_recovery}
 use Rattle.block_device.specs.Outcomes.{repeated_block}
 use Rattle.page_file.specs.Chains.{a_chain_is_distinct}
-use Rattle.page_file.specs.File.{IsHonest, IsPageMap, KeepsGate, KeepsMap, LiesIn, blocks_of, gate_of, next_of, pages}
+use Rattle.page_file.specs.File.{IsHonest, IsPageMap, KeepsGate, KeepsMap, LiesIn, blocks_of, gate_of}
+use Rattle.page_file.specs.File.{next_of, pages}
 use Rattle.page_file.specs.Layout.{gate_block}
 use Rattle.page_file.specs.Opening.{gate_checks, header_checks, failed_check, IsRefused}
-use Rattle.page_file.specs.Pages.{chain, free_pages_of, is_live, page_of, given_pages, pages_in, next_in, IsChain, HasFreeChain, IsSoundMap, SameBut}
+use Rattle.page_file.specs.Pages.{chain, free_pages_of, is_live, page_of, given_pages, pages_in, next_in}
+use Rattle.page_file.specs.Pages.{IsChain, HasFreeChain, IsSoundMap, SameBut}
 use Rattle.page_file.specs.Reading.{shut-gate}
-use Rattle.page_file.specs.Stops.{SameButGate, StopSince, StopNow, GateAside, TornFrom, IsOpen, AllLeave, AddsOnly}
+use Rattle.page_file.specs.Stops.{SameButGate, StopSince, StopNow, GateAside, TornFrom, IsOpen, AllLeave}
+use Rattle.page_file.specs.Stops.{AddsOnly}
 use Rattle.page_file.specs.declared.file.PageFile.{PageFile}
 use Rattle.page_file.specs.declared.gate.Gate.TheVariants.{Shut, Open, Unsure}
 use Rattle.page_file.specs.declared.header.Header.{Header}
@@ -29,22 +33,26 @@ free next = 5 ∷ 0 ∷ 0 ∷ 0 ∷ 0 ∷ 0 ∷ 0 ∷ next ∷ []
 abbrev blocks : Blocks
 blocks = gate ∷ header 1 6 4 2 ∷ (1 ∷ []) ∷ free 0 ∷ free 3 ∷ (7 ∷ []) ∷ (8 ∷ []) ∷ []
 
-free_pages_name_the_next : map (λ count. chain blocks count 4) (0 ∷ 1 ∷ 2 ∷ 3 ∷ []) ≡ [] ∷ (4 ∷ []) ∷ (4 ∷ 3 ∷ []) ∷ (4 ∷ 3 ∷ []) ∷ []
+free_pages_name_the_next : map (λ count. chain blocks count 4)
+    (0 ∷ 1 ∷ 2 ∷ 3 ∷ []) ≡ [] ∷ (4 ∷ []) ∷ (4 ∷ 3 ∷ []) ∷ (4 ∷ 3 ∷ []) ∷ []
 unfolding number_at
 free_pages_name_the_next = refl
 
 a_number_below_3_ends_the_list : map (chain blocks 1) (0 ∷ 1 ∷ 2 ∷ 3 ∷ []) ≡ [] ∷ [] ∷ [] ∷ (3 ∷ []) ∷ []
 a_number_below_3_ends_the_list = refl
 
-live_pages_are_given_out_and_not_free : map (is_live blocks (numbers 6 4 2)) (0 ∷ 1 ∷ 2 ∷ 3 ∷ 4 ∷ 5 ∷ 6 ∷ []) ≡ false ∷ false ∷ true ∷ false ∷ false ∷ true ∷ false ∷ []
+live_pages_are_given_out_and_not_free : map (is_live blocks (numbers 6 4 2))
+    (0 ∷ 1 ∷ 2 ∷ 3 ∷ 4 ∷ 5 ∷ 6 ∷ []) ≡ false ∷ false ∷ true ∷ false ∷ false ∷ true ∷ false ∷ []
 unfolding number_at
 live_pages_are_given_out_and_not_free = refl
 
-live_pages_have_their_bytes : map (page_of blocks (numbers 6 4 2)) (1 ∷ 2 ∷ 3 ∷ 4 ∷ 5 ∷ 6 ∷ []) ≡ None ∷ Some (1 ∷ []) ∷ None ∷ None ∷ Some (7 ∷ []) ∷ None ∷ []
+live_pages_have_their_bytes : map (page_of blocks (numbers 6 4 2)) (1 ∷ 2 ∷ 3 ∷ 4 ∷ 5 ∷ 6 ∷ []) ≡ None ∷ Some
+    (1 ∷ []) ∷ None ∷ None ∷ Some (7 ∷ []) ∷ None ∷ []
 unfolding number_at
 live_pages_have_their_bytes = refl
 
-free_pages_are_given_out_too : map (given_pages blocks 6) (0 ∷ 1 ∷ 2 ∷ 3 ∷ 5 ∷ 6 ∷ []) ≡ None ∷ None ∷ Some (1 ∷ []) ∷ Some (free 0) ∷ Some (7 ∷ []) ∷ None ∷ []
+free_pages_are_given_out_too : map (given_pages blocks 6) (0 ∷ 1 ∷ 2 ∷ 3 ∷ 5 ∷ 6 ∷ []) ≡ None ∷ None ∷ Some
+    (1 ∷ []) ∷ Some (free 0) ∷ Some (7 ∷ []) ∷ None ∷ []
 free_pages_are_given_out_too = refl
 
 a_closed_file_has_the_header_of_block_1 : next_in blocks ≡ 6
@@ -72,7 +80,8 @@ free_pages_are_below_next h = absurd (omega (arith, h.1))
 
 the_greatest_may_be_one_less_than_next : IsChain blocks 5 2 4
 unfolding number_at
-the_greatest_may_be_one_less_than_next = (omega arith, omega arith, refl, (omega arith, omega arith, refl, refl))
+the_greatest_may_be_one_less_than_next =
+    (omega arith, omega arith, refl, (omega arith, omega arith, refl, refl))
 
 the_catalog_is_no_free_page : IsChain (gate ∷ [] ∷ free 0 ∷ []) 6 1 2 → ⊥
 the_catalog_is_no_free_page h = absurd (omega (arith, h.0))
@@ -104,7 +113,8 @@ abbrev page_3_alone : List ℕ → ℕ → Option (List ℕ)
 page_3_alone page n = if eqb n 3 then Some page else None
 
 another_page_3_is_the_same_but_for_page_3 : SameBut 3 (page_3_alone (1 ∷ [])) (page_3_alone (2 ∷ []))
-another_page_3_is_the_same_but_for_page_3 k other = let e : eqb k 3 ≡ false = grind (arith, nat_tests) in rw e refl
+another_page_3_is_the_same_but_for_page_3 k other = let e : eqb k 3 ≡ false = grind (arith, nat_tests) in
+    rw e refl
 
 another_page_3_is_not_the_same_but_for_page_4 : SameBut 4 (page_3_alone (1 ∷ [])) (page_3_alone (2 ∷ [])) → ⊥
 another_page_3_is_not_the_same_but_for_page_4 h = let no = h 3 (λ e. omega (arith, e)) in absurd (cc)
@@ -139,13 +149,16 @@ since_a_shut_gate_a_stop_leaves_no_torn_gate h = absurd (cc)
 since_a_shut_gate_a_stop_leaves_no_torn_page : StopSince Shut closed page_torn → ⊥
 since_a_shut_gate_a_stop_leaves_no_torn_page h = absurd (cc)
 
-behind_an_open_gate_a_stop_leaves_the_gate : (shown pages : Blocks) → StopNow Open shown (gate_block 0 ∷ pages)
+behind_an_open_gate_a_stop_leaves_the_gate : (shown pages : Blocks)
+    → StopNow Open shown (gate_block 0 ∷ pages)
 behind_an_open_gate_a_stop_leaves_the_gate shown pages = refl
 
 a_shut_gate_is_not_open : (pages : Blocks) → IsOpen (gate_block 1 ∷ pages) → ⊥
-a_shut_gate_is_not_open pages h = absurd (omega (arith, shut-gate 0 (lit< tt), shut-gate 1 (lit< tt), ap (number_at 1 8) h))
+a_shut_gate_is_not_open pages h =
+    absurd (omega (arith, shut-gate 0 (lit< tt), shut-gate 1 (lit< tt), ap (number_at 1 8) h))
 
-behind_an_open_gate_a_stop_leaves_no_shut_gate : (shown pages : Blocks) → StopNow Open shown (gate_block 1 ∷ pages) → ⊥
+behind_an_open_gate_a_stop_leaves_no_shut_gate : (shown pages : Blocks)
+    → StopNow Open shown (gate_block 1 ∷ pages) → ⊥
 behind_an_open_gate_a_stop_leaves_no_shut_gate shown pages h = a_shut_gate_is_not_open pages h
 
 since_an_open_gate_a_stop_leaves_what_is_refused : StopSince Open closed gate_torn
@@ -161,7 +174,8 @@ by_an_unsure_gate_a_stop_leaves_any_gate = (refl, refl)
 by_an_unsure_gate_a_stop_leaves_no_torn_page : StopNow Unsure closed page_torn → ⊥
 by_an_unsure_gate_a_stop_leaves_no_torn_page h = absurd (cc)
 
-since_an_unsure_gate_a_stop_leaves_either : (StopSince Unsure closed (open_gate ∷ [])) × (StopSince Unsure closed closed)
+since_an_unsure_gate_a_stop_leaves_either : (StopSince Unsure closed (open_gate ∷ []))
+    × (StopSince Unsure closed closed)
 unfolding failed_check
 since_an_unsure_gate_a_stop_leaves_either = (inl refl, inr refl)
 
@@ -174,7 +188,8 @@ an_outcome_with_another_gate : GateAside (λ c. c ≡ closed) gate_torn
 an_outcome_with_another_gate = (closed, refl, refl)
 
 no_outcome_with_another_page : GateAside (λ c. c ≡ closed) page_torn → ⊥
-no_outcome_with_another_page h = let same : SameButGate page_torn closed = h.2 ∙ ap (drop 1) h.1 in absurd (cc)
+no_outcome_with_another_page h = let same : SameButGate page_torn closed = h.2 ∙ ap (drop 1) h.1 in
+    absurd (cc)
 
 an_outcome_that_was_not_torn : TornFrom 2 (λ c. c ≡ closed) closed
 an_outcome_that_was_not_torn = (closed, refl, inl refl)
@@ -201,13 +216,24 @@ abbrev left : ℕ → ℕ → Blocks → Type 0
 left d t c = c ≡ (d ∷ []) ∷ []
 
 what_is_added_is_named : AddsOnly moment left no_recovery 1 2 (λ c. c ≡ (2 ∷ []) ∷ [])
-what_is_added_is_named = record { later = omega arith; before = λ t c le left. inr left; brings = brings_nothing moment 1 2 (λ c. c ≡ (2 ∷ []) ∷ []) }
+what_is_added_is_named =
+    record {
+      later = omega arith;
+      before = λ t c le left. inr left;
+      brings = brings_nothing moment 1 2 (λ c. c ≡ (2 ∷ []) ∷ []);
+    }
 
 nothing_else_is_added : AddsOnly moment left no_recovery 1 2 (λ c. c ≡ (3 ∷ []) ∷ []) → ⊥
-nothing_else_is_added h = ⊎_elim (λ was. absurd (cc)) (λ p. absurd (cc)) (h.before 1 ((2 ∷ []) ∷ []) (omega arith) refl)
+nothing_else_is_added h =
+    ⊎_elim (λ was. absurd (cc)) (λ p. absurd (cc)) (h.before 1 ((2 ∷ []) ∷ []) (omega arith) refl)
 
 a_later_moment_is_not_asked : AddsOnly moment (λ d t c. (d ≡ 2) × (t ≡ 2)) no_recovery 1 2 (λ c. ⊥)
-a_later_moment_is_not_asked = record { later = omega arith; before = λ t c le left. absurd (omega (arith, le, left.1)); brings = brings_nothing moment 1 2 (λ c. ⊥) }
+a_later_moment_is_not_asked =
+    record {
+      later = omega arith;
+      before = λ t c le left. absurd (omega (arith, le, left.1));
+      brings = brings_nothing moment 1 2 (λ c. ⊥);
+    }
 
 time_does_not_go_back : (P : Blocks → Type 0) → AddsOnly moment left no_recovery 2 1 P → ⊥
 time_does_not_go_back P h = absurd (omega (arith, h.later))
@@ -218,13 +244,16 @@ module _ {D : Type 0} {m : _} (old new : PageFile D m) where
   a_gate_that_is_opened_is_not_kept : gate_of old ≡ Shut → gate_of new ≡ Open → KeepsGate old new → ⊥
   a_gate_that_is_opened_is_not_kept shut opened h = let no = h.gate in absurd (cc)
 
-  behind_a_shut_gate_blocks_are_kept : IsHonest old → gate_of old ≡ Shut → blocks_of old ≡ closed → blocks_of new ≡ page_torn → KeepsGate old new → ⊥
-  behind_a_shut_gate_blocks_are_kept honest shut was is h = let same = h.blocks honest (λ e. let no = sym shut ∙ e in cc) in let no = sym was ∙ sym same ∙ is in absurd (cc)
+  behind_a_shut_gate_blocks_are_kept : IsHonest old → gate_of old ≡ Shut → blocks_of old ≡ closed
+      → blocks_of new ≡ page_torn → KeepsGate old new → ⊥
+  behind_a_shut_gate_blocks_are_kept honest shut was is h = let same =
+      h.blocks honest (λ e. let no = sym shut ∙ e in cc) in let no = sym was ∙ sym same ∙ is in absurd (cc)
 
   a_page_more_is_another_map : next_of old ≡ 3 → next_of new ≡ 4 → KeepsMap old new → ⊥
   a_page_more_is_another_map was is h = absurd (omega (arith, was, is, h.next))
 
-  a_page_freed_is_another_map : IsHonest old → pages old 3 ≡ Some [] → pages new 3 ≡ None → KeepsMap old new → ⊥
+  a_page_freed_is_another_map : IsHonest old → pages old 3 ≡ Some [] → pages new 3 ≡ None → KeepsMap old new
+      → ⊥
   a_page_freed_is_another_map honest was is h = let no = sym is ∙ h.pages_stay honest 3 ∙ was in absurd (cc)
 
   a_map_stays_sound : (IsPageMap new → ⊥) → KeepsMap old new → IsPageMap old → ⊥

@@ -12,7 +12,8 @@ module _ {T E : Type 0} where
   on_err_map (Ok x) p f = tt
   on_err_map (Err e) p f = f p
 
-  pub if_ok_both : {P Q : T → Type 0} {S : Type 0} (r : Result T E) → IfOk r P → OnOk r S → ((x : T) → P x → S → Q x) → IfOk r Q
+  pub if_ok_both : {P Q : T → Type 0} {S : Type 0} (r : Result T E) → IfOk r P → OnOk r S
+      → ((x : T) → P x → S → Q x) → IfOk r Q
   if_ok_both (Ok x) p s f = f x p s
   if_ok_both (Err e) p s f = tt
 

@@ -1,12 +1,15 @@
 -- A walk along the free pages: what is known after some of them.
-use Rattle.std.proofs.Common.{◌≡◌, ◌∙◌, ℕ, suc, ◌<◌, ◌≤◌, ◌-◌, true, List, [], ◌∷◌, ◌++◌, None, Some, refl, sym, ap, arith, subst}
+use Rattle.std.proofs.Common.{◌≡◌, ◌∙◌, ℕ, suc, ◌<◌, ◌≤◌, ◌-◌, true, List, [], ◌∷◌, ◌++◌, None, Some, refl}
+use Rattle.std.proofs.Common.{sym, ap, arith, subst}
 use Rattle.block_bytes.specs.Kinds.{free_kind}
 use Rattle.std.proofs.lemmas.Bool.Decides.{nat_tests}
 use Rattle.std.proofs.lemmas.List.{append_assoc, append-nil}
 use Rattle.block_device.specs.Device.{Blocks, block_at}
 use Rattle.page_file.specs.Chains.{chain_opened}
-use Rattle.page_file.specs.Laws.{no_call_keeps_the_gate, no_call_keeps_the_map, the_gate_is_kept_in_turn, the_map_is_kept_in_turn}
-use Rattle.page_file.specs.File.{IsHonest, KeepsGate, KeepsMap, blocks_of, device_of, free_of, header_of, next_of}
+use Rattle.page_file.specs.Laws.{no_call_keeps_the_gate, no_call_keeps_the_map, the_gate_is_kept_in_turn}
+use Rattle.page_file.specs.Laws.{the_map_is_kept_in_turn}
+use Rattle.page_file.specs.File.{IsHonest, KeepsGate, KeepsMap, blocks_of, device_of, free_of, header_of}
+use Rattle.page_file.specs.File.{next_of}
 use Rattle.page_file.specs.Layout.{kind_of, link_of}
 use Rattle.page_file.specs.Opening.{is_sound}
 use Rattle.page_file.specs.Pages.{HasFreeChain, IsChain, chain, free_page_link, may_link}
@@ -23,7 +26,8 @@ some_free h e some = (grind (arith, nat_tests), grind (arith, nat_tests))
 linked_end : (left next link : ℕ) → may_link left next link ≡ true → 0 < left → left - 1 ≡ 0 → link ≡ 0
 linked_end left next link e some none = grind (arith, nat_tests)
 
-linked_within : (left next link : ℕ) → may_link left next link ≡ true → 0 < left - 1 → (3 ≤ link) × (link < next)
+linked_within : (left next link : ℕ) → may_link left next link ≡ true → 0 < left - 1
+    → (3 ≤ link) × (link < next)
 linked_within left next link e some = (grind (arith, nat_tests), grind (arith, nat_tests))
 
 one_less : (left : ℕ) → 0 < left → suc (left - 1) ≡ left
@@ -40,10 +44,13 @@ module _ {D : Type 0} {m : _} where
     pub ends : left ≡ 0 → next ≡ 0
     pub within : 0 < left → (3 ≤ next) × (next < next_of old)
     pub pages : IsHonest old → free_of old ≡ found ++ chain (blocks_of old) left next
-    pub sound : IsHonest old → IsChain (blocks_of old) (next_of old) left next → HasFreeChain (blocks_of old) (header_of old)
-    pub rest : IsHonest old → HasFreeChain (blocks_of old) (header_of old) → IsChain (blocks_of old) (next_of old) left next
+    pub sound : IsHonest old → IsChain (blocks_of old) (next_of old) left next
+        → HasFreeChain (blocks_of old) (header_of old)
+    pub rest : IsHonest old → HasFreeChain (blocks_of old) (header_of old)
+        → IsChain (blocks_of old) (next_of old) left next
 
-  pub not_walked : (file : PageFile D m) (found : List ℕ) → found ≡ [] → Walked file file found file.header.first file.header.count
+  pub not_walked : (file : PageFile D m) (found : List ℕ) → found ≡ []
+      → Walked file file found file.header.first file.header.count
   not_walked file found none = record {
     gate = no_call_keeps_the_gate file;
     map = no_call_keeps_the_map file;
@@ -57,11 +64,14 @@ module _ {D : Type 0} {m : _} where
     rest = λ h c. c;
   }
 
-  module _ {old now : PageFile D m} {found : List ℕ} {next left : ℕ} (walked : Walked old now found next left) where
+  module _ {old now : PageFile D m} {found : List ℕ} {next left : ℕ}
+      (walked : Walked old now found next left) where
     -- one page more
-    pub walked_on : (new : PageFile D m) (link : ℕ) (found_new : List ℕ) → 0 < left → KeepsGate now new → KeepsMap now new → header_of new ≡ header_of now → (IsHonest now → blocks_of new ≡ blocks_of now)
+    pub walked_on : (new : PageFile D m) (link : ℕ) (found_new : List ℕ) → 0 < left → KeepsGate now new
+        → KeepsMap now new → header_of new ≡ header_of now → (IsHonest now → blocks_of new ≡ blocks_of now)
         → m.faults (device_of new) ≡ m.faults (device_of now) → may_link left (next_of now) link ≡ true
-        → (IsHonest now → free_page_link left (next_of now) (block_at next (blocks_of now)) ≡ Some link) → found_new ≡ found ++ next ∷ [] → Walked old new found_new link (left - 1)
+        → (IsHonest now → free_page_link left (next_of now) (block_at next (blocks_of now)) ≡ Some link)
+        → found_new ≡ found ++ next ∷ [] → Walked old new found_new link (left - 1)
     walked_on new link found_new some gate map header blocks faults there linked pushed = record {
       gate = the_gate_is_kept_in_turn old now new walked.gate gate;
       map = the_map_is_kept_in_turn old now new walked.gate.honest.0 walked.map map;
@@ -69,7 +79,9 @@ module _ {D : Type 0} {m : _} where
       blocks = λ h. blocks (walked.gate.honest.0 h) ∙ walked.blocks h;
       faults = faults ∙ walked.faults;
       ends = linked_end left (next_of now) link there some;
-      within = λ more. subst (λ (x : ℕ). (3 ≤ link) × (link < x)) (ap (λ (x : Header). x.next) walked.header) (linked_within left (next_of now) link there more);
+      within =
+          λ more. subst (λ (x : ℕ). (3 ≤ link) × (link < x)) (ap (λ (x : Header). x.next) walked.header)
+          (linked_within left (next_of now) link there more);
       pages = λ h.
           walked.pages h
           ∙ ap (λ (n : ℕ). found ++ chain (blocks_of old) n next) (sym (one_less left some))
@@ -77,30 +89,51 @@ module _ {D : Type 0} {m : _} where
           ∙ ap (λ (n : ℕ). found ++ next ∷ chain (blocks_of old) (left - 1) n) (link_here h).1
           ∙ sym (append_assoc found (next ∷ []) (chain (blocks_of old) (left - 1) link))
           ∙ ap (λ l. l ++ chain (blocks_of old) (left - 1) link) (sym pushed);
-      sound = λ h c. walked.sound h (subst (λ (n : ℕ). IsChain (blocks_of old) (next_of old) n next) (one_less left some)
-          ((walked.within some).0, (walked.within some).1, (link_here h).0, subst (λ (n : ℕ). IsChain (blocks_of old) (next_of old) (left - 1) n) (sym (link_here h).1) c));
+      sound = λ h c. walked.sound h
+          (subst (λ (n : ℕ). IsChain (blocks_of old) (next_of old) n next) (one_less left some) (
+            (walked.within some).0,
+            (walked.within some).1,
+            (link_here h).0,
+            subst (λ (n : ℕ). IsChain (blocks_of old) (next_of old) (left - 1) n) (sym (link_here h).1) c,
+          ));
       rest = λ h c. subst (λ (n : ℕ). IsChain (blocks_of old) (next_of old) (left - 1) n) (link_here h).1
-          (subst (λ (n : ℕ). IsChain (blocks_of old) (next_of old) n next) (sym (one_less left some)) (walked.rest h c)).3;
+          (subst (λ (n : ℕ). IsChain (blocks_of old) (next_of old) n next) (sym (one_less left some))
+          (walked.rest h c)).3;
     }
       where
-        link_here : IsHonest old → (kind_of (block_at next (blocks_of old)) ≡ free_kind) × (link_of (block_at next (blocks_of old)) ≡ link)
+        link_here : IsHonest old
+            → (kind_of (block_at next (blocks_of old)) ≡ free_kind)
+            × (link_of (block_at next (blocks_of old)) ≡ link)
         link_here h =
-            let is = subst (λ (b : Blocks). free_page_link left (next_of now) (block_at next b) ≡ Some link) (walked.blocks h) (linked (walked.gate.honest.0 h)) in
+            let is =
+            subst (λ (b : Blocks). free_page_link left (next_of now) (block_at next b) ≡ Some link)
+            (walked.blocks h) (linked (walked.gate.honest.0 h)) in
             let all = link_is left (next_of now) link (block_at next (blocks_of old)) is in (all.0, all.1)
 
     -- in a chain no page has another kind or link
-    pub not_broken : IsHonest old → HasFreeChain (blocks_of old) (header_of old) → 0 < left → free_page_link left (next_of now) (block_at next (blocks_of now)) ≡ None → ⊥
+    pub not_broken : IsHonest old → HasFreeChain (blocks_of old) (header_of old) → 0 < left
+        → free_page_link left (next_of now) (block_at next (blocks_of now)) ≡ None → ⊥
     not_broken h free some none =
-        let here : IsChain (blocks_of old) (next_of old) (suc (left - 1)) next = subst (λ (n : ℕ). IsChain (blocks_of old) (next_of old) n next) (sym (one_less left some)) (walked.rest h free) in
+        let here : IsChain (blocks_of old) (next_of old) (suc (left - 1)) next =
+        subst (λ (n : ℕ). IsChain (blocks_of old) (next_of old) n next) (sym (one_less left some))
+        (walked.rest h free) in
         let link = chain_link (blocks_of old) (next_of old) (left - 1) next here in
-        let same = ap (λ (n : ℕ). free_page_link n (next_of old) (block_at next (blocks_of old))) (one_less left some) in
-        let there = ap (λ (x : Header). free_page_link left x.next (block_at next (blocks_of now))) (sym walked.header) ∙ none in
-        let is_none = ap (λ (b : Blocks). free_page_link left (next_of old) (block_at next b)) (sym (walked.blocks h)) ∙ there in
+        let same =
+        ap (λ (n : ℕ). free_page_link n (next_of old) (block_at next (blocks_of old)))
+        (one_less left some) in
+        let there =
+        ap (λ (x : Header). free_page_link left x.next (block_at next (blocks_of now)))
+        (sym walked.header) ∙ none in
+        let is_none =
+        ap (λ (b : Blocks). free_page_link left (next_of old) (block_at next b)) (sym (walked.blocks h))
+        ∙ there in
         absurd (let bad = sym (same ∙ is_none) ∙ link in cc)
 
     -- at the end of the walk
-    pub walked_all : left ≡ 0 → IsHonest old → (found ≡ free_of old) × HasFreeChain (blocks_of old) (header_of old)
+    pub walked_all : left ≡ 0 → IsHonest old
+        → (found ≡ free_of old) × HasFreeChain (blocks_of old) (header_of old)
     walked_all none h = (
       sym (walked.pages h ∙ ap (λ (n : ℕ). found ++ chain (blocks_of old) n next) none ∙ append-nil found),
-      walked.sound h (subst (λ (n : ℕ). IsChain (blocks_of old) (next_of old) n next) (sym none) (walked.ends none)),
+      walked.sound h
+          (subst (λ (n : ℕ). IsChain (blocks_of old) (next_of old) n next) (sym none) (walked.ends none)),
     )

@@ -1,5 +1,6 @@
 -- Chains of free pages: what is in one, when it stays, and that no page is in it twice.
-use Rattle.std.proofs.Common.{◌≡◌, ◌∙◌, ℕ, zero, suc, ◌<◌, ◌≤◌, Bool, true, false, ◌||◌, nat_lt, eqb, List, [], ◌∷◌, length, refl, sym, ap, arith, ⊎_elim, subst, cond}
+use Rattle.std.proofs.Common.{◌≡◌, ◌∙◌, ℕ, zero, suc, ◌<◌, ◌≤◌, Bool, true, false, ◌||◌, nat_lt, eqb, List}
+use Rattle.std.proofs.Common.{[], ◌∷◌, length, refl, sym, ap, arith, ⊎_elim, subst, cond}
 use Rattle.std.specs.List.{IsDistinct, AllByRecursion}
 use Rattle.std.specs.Set.{is_member}
 use Rattle.std.proofs.lemmas.Bool.Decides.{nat_tests}
@@ -36,7 +37,8 @@ not_low n e = grind (arith, nat_tests)
 pub chain_opened : (blocks : Blocks) (count first : ℕ) → 3 ≤ first
     → chain blocks (suc count) first ≡ first ∷ chain blocks count (link_of (block_at first blocks))
 chain_opened blocks count first low =
-    ap (λ (t : Bool). cond t [] (first ∷ chain blocks count (link_of (block_at first blocks)))) (low_not first low)
+    ap (λ (t : Bool). cond t [] (first ∷ chain blocks count (link_of (block_at first blocks))))
+    (low_not first low)
 
 -- the free pages are the same, where those blocks are
 pub chain_same : (old new : Blocks) (count first : ℕ)
@@ -58,13 +60,15 @@ chain_same old new (suc count) first same =
         let rest_old = chain old count (link_of (block_at first old)) in
         let opened : chain old (suc count) first ≡ first ∷ rest_old
         = chain_opened old count first (not_low first e) in
-        let within : (k : ℕ) → 3 ≤ k → is_member eqb (first ∷ rest_old) k ≡ true → block_at k new ≡ block_at k old
+        let within : (k : ℕ) → 3 ≤ k → is_member eqb (first ∷ rest_old) k ≡ true
+        → block_at k new ≡ block_at k old
         = λ k low member. same k low (ap (λ (l : List ℕ). is_member eqb l k) opened ∙ member) in
         let head : block_at first new ≡ block_at first old
         = within first (not_low first e) (or_left (eqb first first) _ (eq_self first)) in
         ap (λ (t : Bool). cond t [] (first ∷ chain new count (link_of (block_at first new)))) e
         ∙ ap (λ (b : List ℕ). first ∷ chain new count (link_of b)) head
-        ∙ ap (λ (l : List ℕ). first ∷ l) (again (λ k low member. within k low (or_right (eqb k first) _ member)))
+        ∙ ap (λ (l : List ℕ). first ∷ l)
+        (again (λ k low member. within k low (or_right (eqb k first) _ member)))
         ∙ sym opened
 
 pub whole_same : (old new : Blocks) (next count first : ℕ) → IsChain old next count first
@@ -80,18 +84,21 @@ whole_same old new next (suc count) first whole same =
     = within first whole.0 (or_left (eqb first first) _ (eq_self first)) in
     let second = link_of (block_at first old) in
     let rest : IsChain new next count second
-    = whole_same old new next count second whole.3 (λ k low member. within k low (or_right (eqb k first) _ member)) in
+    = whole_same old new next count second whole.3
+    (λ k low member. within k low (or_right (eqb k first) _ member)) in
     let linked = subst (λ (b : List ℕ). IsChain new next count (link_of b)) (sym head) rest in
     (whole.0, whole.1, ap kind_of head ∙ whole.2, linked)
 
 -- each page of a chain begins one, of at most as many pages
 pub chain_from : (blocks : Blocks) (next count first : ℕ) → IsChain blocks next count first → (k : ℕ)
-    → is_member eqb (chain blocks count first) k ≡ true → (rest : ℕ) × (rest < count) × IsChain blocks next (suc rest) k
+    → is_member eqb (chain blocks count first) k ≡ true
+    → (rest : ℕ) × (rest < count) × IsChain blocks next (suc rest) k
 chain_from blocks next zero first whole k member = absurd (cc)
 chain_from blocks next (suc count) first whole k member =
     let rest = chain blocks count (link_of (block_at first blocks)) in
     ⊎_elim
-    (λ (e : k ≡ first). (count, omega arith, subst (λ (n : ℕ). IsChain blocks next (suc count) n) (sym e) whole))
+    (λ (e : k ≡ first).
+    (count, omega arith, subst (λ (n : ℕ). IsChain blocks next (suc count) n) (sym e) whole))
     (λ (ne : ¬ (k ≡ first)).
     let later : is_member eqb rest k ≡ true
     = sym (ap (λ (t : Bool). t || is_member eqb rest k) (eq_other k first ne))
@@ -114,7 +121,8 @@ chain_count blocks next (suc count) first whole =
     ∙ ap suc (chain_count blocks next count (link_of (block_at first blocks)) whole.3)
 
 -- chains that begin at one page have as many pages, since each page names one next page
-one_count : (blocks : Blocks) (next a b first : ℕ) → IsChain blocks next a first → IsChain blocks next b first → a ≡ b
+one_count : (blocks : Blocks) (next a b first : ℕ) → IsChain blocks next a first
+    → IsChain blocks next b first → a ≡ b
 one_count blocks next zero zero first p q = refl
 one_count blocks next zero (suc b) first p q = absurd (omega (arith, p, q.0))
 one_count blocks next (suc a) zero first p q = absurd (omega (arith, q, p.0))
@@ -122,7 +130,8 @@ one_count blocks next (suc a) (suc b) first p q =
     ap suc (one_count blocks next a b (link_of (block_at first blocks)) p.3 q.3)
 
 -- numbers in a list without n are not n
-pub apart_all : (n : ℕ) (ns : List ℕ) → is_member eqb ns n ≡ false → AllByRecursion (λ (y : ℕ). eqb n y ≡ false) ns
+pub apart_all : (n : ℕ) (ns : List ℕ) → is_member eqb ns n ≡ false
+    → AllByRecursion (λ (y : ℕ). eqb n y ≡ false) ns
 apart_all n [] e = tt
 apart_all n (m ∷ ns) e = let p = or_false (eqb n m) (is_member eqb ns n) e in (p.0, apart_all n ns p.1)
 
@@ -144,6 +153,7 @@ a_chain_is_distinct blocks next zero n whole = none_distinct
 a_chain_is_distinct blocks next (suc count) n whole =
     let second = link_of (block_at n blocks) in
     let rest = chain blocks count second in
-    let apart = apart_all n rest (false_from_ne_true (is_member eqb rest n) (comes_once blocks next count n whole)) in
+    let apart =
+    apart_all n rest (false_from_ne_true (is_member eqb rest n) (comes_once blocks next count n whole)) in
     subst (λ (l : List ℕ). IsDistinct eqb l) (sym (chain_opened blocks count n whole.0))
     (IsDistinct-cons eqb n rest apart (a_chain_is_distinct blocks next count second whole.3))

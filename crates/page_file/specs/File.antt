@@ -3,7 +3,8 @@ use Rattle.std.specs.Prelude.{◌≡◌, ◌+◌, ◌^◌, ◌<◌, ◌≤◌, �
 use Rattle.block_device.specs.Device.{Blocks, block_at}
 use Rattle.page_file.specs.Layout.{catalog_block}
 use Rattle.page_file.specs.Opening.{failed_check}
-use Rattle.page_file.specs.Pages.{free_page_link, free_pages_of, page_of, given_pages, pages_in, next_in, HasFreeChain, IsSoundMap}
+use Rattle.page_file.specs.Pages.{free_page_link, free_pages_of, page_of, given_pages, pages_in, next_in}
+use Rattle.page_file.specs.Pages.{HasFreeChain, IsSoundMap}
 use Rattle.page_file.specs.Stops.{AddsOnly, StopSince}
 use Rattle.page_file.specs.declared.fault.Fault.{Fault}
 use Rattle.page_file.specs.declared.fault.Fault.TheVariants.{Damaged}
@@ -73,9 +74,12 @@ pub record KeepsGate {D : Type 0} {m : _} (old new : PageFile D m) : Type 0 wher
   pub gate : gate_of new ≡ gate_of old
   pub honest : IsHonest old ↔ IsHonest new
   pub blocks : IsHonest old → ¬ (gate_of old ≡ Open) → blocks_of new ≡ blocks_of old
-  pub stops : IsHonest old → AddsOnly m.moment m.left_since m.recovery old.device new.device (StopSince (gate_of old) (blocks_of old))
+  pub stops : IsHonest old
+      → AddsOnly m.moment m.left_since m.recovery old.device new.device
+      (StopSince (gate_of old) (blocks_of old))
 
--- The map stays, and is as sound as it was; so do the pages given out that are not live, and the count of the free ones.
+-- The map stays, and is as sound as it was; so do the pages given out that are not live, and the count of the
+-- free ones.
 pub record KeepsMap {D : Type 0} {m : _} (old new : PageFile D m) : Type 0 where
   pub next : next_of new ≡ next_of old
   pub free_count : free_count_of new ≡ free_count_of old
@@ -99,11 +103,12 @@ pub record IsNewFile (blocks : Blocks) : Type 0 where
   pub others : (k : ℕ) → ¬ (k ≡ 2) → pages_in blocks k ≡ None
   pub sound : IsSoundMap blocks
 
--- The fault says that the first free page is damaged: there is one, and its block is not that of a free page as the
--- format has it. Nothing has changed.
+-- The fault says that the first free page is damaged: there is one, and its block is not that of a free page
+-- as the format has it. Nothing has changed.
 pub record IsBroken {D : Type 0} {m : _} (old new : PageFile D m) (f : Fault) : Type 0 where
   pub is : f ≡ Damaged (header_of old).first
   pub some : 0 < (header_of old).count
-  pub no_link : free_page_link (header_of old).count (next_of old) (block_at (header_of old).first (blocks_of old)) ≡ None
+  pub no_link : free_page_link (header_of old).count (next_of old)
+      (block_at (header_of old).first (blocks_of old)) ≡ None
   pub header : header_of new ≡ header_of old
   pub blocks : blocks_of new ≡ blocks_of old

@@ -28,51 +28,73 @@ aside_at c d zero e gt = absurd (omega (arith, gt))
 aside_at c d (suc k) e gt = aside_next c d k e
 
 -- a block written while the gate is open leaves it open, now and since
-pub stop_behind : (gate : Gate) (was now : Blocks) (old new : Blocks → Type 0) (n : ℕ) → gate ≡ Open → 0 < n → ((c : Blocks) → old c → StopNow gate was c) → Follows (Torn n) old new
+pub stop_behind : (gate : Gate) (was now : Blocks) (old new : Blocks → Type 0) (n : ℕ) → gate ≡ Open → 0 < n
+    → ((c : Blocks) → old c → StopNow gate was c) → Follows (Torn n) old new
     → (c : Blocks) → new c → StopNow gate now c
 stop_behind gate was now old new n opened gt before torn c left =
-    let from = torn c left in open_stop gate now c opened (still_open n from.0 c gt (stop_open gate was from.0 opened (before from.0 from.1)) from.2)
+    let from = torn c left in
+    open_stop gate now c opened
+    (still_open n from.0 c gt (stop_open gate was from.0 opened (before from.0 from.1)) from.2)
 
-pub adds_behind : {D : Type 0} (moment : D → ℕ) (left_since : D → ℕ → Blocks → Type 0) (recovery : Recovery D) (old new : D) (gate : Gate) (was : Blocks) (outcomes : Blocks → Type 0) (n : ℕ)
-    → gate ≡ Open → 0 < n → ((c : Blocks) → outcomes c → StopNow gate was c) → LeavesOnly moment left_since recovery old new (TornFrom n outcomes)
+pub adds_behind : {D : Type 0} (moment : D → ℕ) (left_since : D → ℕ → Blocks → Type 0)
+    (recovery : Recovery D) (old new : D) (gate : Gate) (was : Blocks) (outcomes : Blocks → Type 0) (n : ℕ)
+    → gate ≡ Open → 0 < n → ((c : Blocks) → outcomes c → StopNow gate was c)
+    → LeavesOnly moment left_since recovery old new (TornFrom n outcomes)
     → AddsOnly moment left_since recovery old new (StopSince gate was)
 adds_behind moment left_since recovery old new gate was outcomes n opened gt before leaves =
     let l = leaves_weaker moment left_since recovery old new (TornFrom n outcomes) (StopSince gate was)
-    (λ c from. subst (λ (x : Gate). StopSince x was c) (sym opened) (fails c (still_open n from.0 c gt (stop_open gate was from.0 opened (before from.0 from.1)) from.2))) leaves in
+    (λ c from. subst (λ (x : Gate). StopSince x was c) (sym opened)
+    (fails c
+    (still_open n from.0 c gt (stop_open gate was from.0 opened (before from.0 from.1)) from.2)))
+    leaves in
     record { later = l.later; before = l.before; brings = l.brings }
 
 -- the map stays, where the header and the blocks of pages do
-pub map_kept : {D : Type 0} {m : _} (old new : PageFile D m) → new.header ≡ old.header → (IsHonest old ↔ IsHonest new)
-    → (IsHonest old → (k : ℕ) → 2 ≤ k → block_at k (m.shown new.device) ≡ block_at k (m.shown old.device)) → KeepsMap old new
+pub map_kept : {D : Type 0} {m : _} (old new : PageFile D m) → new.header ≡ old.header
+    → (IsHonest old ↔ IsHonest new)
+    → (IsHonest old → (k : ℕ) → 2 ≤ k → block_at k (m.shown new.device) ≡ block_at k (m.shown old.device))
+    → KeepsMap old new
 map_kept {m = m} old new header honest same = record {
   next = ap (λ (h : Header). h.next) header;
   free_count = ap (λ (h : Header). h.count) header;
-  pages_stay = λ h k. ap (λ (x : Header). page_of (m.shown new.device) x k) header ∙ pages_same (m.shown old.device) (m.shown new.device) old.header (same h) k;
-  given_stay = λ h k. ap (λ (x : Header). given_pages (m.shown new.device) x.next k) header ∙ given_same (m.shown old.device) (m.shown new.device) old.header.next (same h) k;
+  pages_stay = λ h k. ap (λ (x : Header). page_of (m.shown new.device) x k) header
+      ∙ pages_same (m.shown old.device) (m.shown new.device) old.header (same h) k;
+  given_stay = λ h k. ap (λ (x : Header). given_pages (m.shown new.device) x.next k) header
+      ∙ given_same (m.shown old.device) (m.shown new.device) old.header.next (same h) k;
   sound = (
     λ p. record {
       honest = honest.0 p.honest;
-      free = subst (λ (x : Header). HasFreeChain (m.shown new.device) x) (sym header) (free_same (m.shown old.device) (m.shown new.device) old.header (same p.honest) p.free);
+      free = subst (λ (x : Header). HasFreeChain (m.shown new.device) x) (sym header)
+          (free_same (m.shown old.device) (m.shown new.device) old.header (same p.honest) p.free);
     },
     λ p. record {
       honest = honest.1 p.honest;
-      free = free_same (m.shown new.device) (m.shown old.device) old.header (λ k low. sym (same (honest.1 p.honest) k low)) (subst (λ (x : Header). HasFreeChain (m.shown new.device) x) header p.free);
+      free = free_same (m.shown new.device) (m.shown old.device) old.header
+          (λ k low. sym (same (honest.1 p.honest) k low))
+          (subst (λ (x : Header). HasFreeChain (m.shown new.device) x) header p.free);
     },
   );
 }
 
-pub map_kept_aside : {D : Type 0} {m : _} (old new : PageFile D m) → new.header ≡ old.header → (IsHonest old ↔ IsHonest new)
+pub map_kept_aside : {D : Type 0} {m : _} (old new : PageFile D m) → new.header ≡ old.header
+    → (IsHonest old ↔ IsHonest new)
     → (IsHonest old → SameButGate (m.shown new.device) (m.shown old.device)) → KeepsMap old new
-map_kept_aside {m = m} old new header honest aside = map_kept old new header honest (λ h k low. aside_at (m.shown new.device) (m.shown old.device) k (aside h) (omega (arith, low)))
+map_kept_aside {m = m} old new header honest aside =
+    map_kept old new header honest
+    (λ h k low. aside_at (m.shown new.device) (m.shown old.device) k (aside h) (omega (arith, low)))
 
 -- a file whose gate is shut lies in its blocks
-pub shut_lies : {D : Type 0} {m : _} (file : PageFile D m) → IsHonest file → gate_of file ≡ Shut → LiesIn file (m.shown file.device)
+pub shut_lies : {D : Type 0} {m : _} (file : PageFile D m) → IsHonest file → gate_of file ≡ Shut
+    → LiesIn file (m.shown file.device)
 shut_lies {m = m} file h shut =
     let blocks = m.shown file.device in
     let header = file.settled h (λ e. open_is_not_shut file.gate e shut) in
     let same : header_in blocks ≡ file.header = header_is file.header (block_at 1 blocks) header in
     record {
-      passes = passes_to blocks (settled_passes blocks file.header (file.shut_reads h shut) header (file.room h) file.sound (sound_says file.header file.sound).start);
+      passes =
+          passes_to blocks
+          (settled_passes blocks file.header (file.shut_reads h shut) header (file.room h) file.sound
+          (sound_says file.header file.sound).start);
       next = ap (λ (x : Header). x.next) same;
       pages_there = λ k. ap (λ (x : Header). page_of blocks x k) same;
       sound = (

@@ -1,5 +1,6 @@
 -- What an open gate, and one that is shut, say of a stop.
-use Rattle.std.proofs.Common.{◌≡◌, ◌∙◌, ℕ, ◌<◌, ◌≤◌, List, [], ◌∷◌, ◌++◌, Bool, true, false, not, nat_lt, ◌==◌, length, Some, refl, sym, ap, arith, subst, lit<, inr, cond, length-drop}
+use Rattle.std.proofs.Common.{◌≡◌, ◌∙◌, ℕ, ◌<◌, ◌≤◌, List, [], ◌∷◌, ◌++◌, Bool, true, false, not, nat_lt}
+use Rattle.std.proofs.Common.{◌==◌, length, Some, refl, sym, ap, arith, subst, lit<, inr, cond, length-drop}
 use Rattle.std.proofs.lemmas.Bool.Decides.{nat_tests}
 use Rattle.std.specs.Prelude.{IsSome}
 use Rattle.block_device.specs.Device.{Blocks, Torn, block_at}
@@ -38,16 +39,20 @@ fails c e =
     let text : Check = (not (number_at 8 0 (block_at 0 c) == gate_text), NotAStore) in
     let shut : Check = (not (number_at 1 8 (block_at 0 c) == 1), NotClosed) in
     let rest : List Check = header_checks (length c) (block_at 1 c) in
-    behind (nat_lt (length c) 3, NotAStore) (text ∷ (shut ∷ rest)) (behind text (shut ∷ rest) (some_failed shut rest not_one))
+    behind (nat_lt (length c) 3, NotAStore) (text ∷ (shut ∷ rest))
+    (behind text (shut ∷ rest) (some_failed shut rest not_one))
 
 -- a block torn while the gate is open leaves it open
-pub still_open : (i : ℕ) (d c : Blocks) → 0 < i → block_at 0 d ≡ gate_block 0 → Torn i d c → block_at 0 c ≡ gate_block 0
+pub still_open : (i : ℕ) (d c : Blocks) → 0 < i → block_at 0 d ≡ gate_block 0 → Torn i d c
+    → block_at 0 c ≡ gate_block 0
 still_open i d c gt e torn = first_torn i d c torn gt (some_blocks d e) ∙ e
 
-pub stop_open : (gate : Gate) (shown d : Blocks) → gate ≡ Open → StopNow gate shown d → block_at 0 d ≡ gate_block 0
+pub stop_open : (gate : Gate) (shown d : Blocks) → gate ≡ Open → StopNow gate shown d
+    → block_at 0 d ≡ gate_block 0
 stop_open gate shown d e now = subst (λ (x : Gate). StopNow x shown d) e now
 
-pub open_stop : (gate : Gate) (shown c : Blocks) → gate ≡ Open → block_at 0 c ≡ gate_block 0 → StopNow gate shown c
+pub open_stop : (gate : Gate) (shown c : Blocks) → gate ≡ Open → block_at 0 c ≡ gate_block 0
+    → StopNow gate shown c
 open_stop gate shown c e now = subst (λ (x : Gate). StopNow x shown c) (sym e) now
 
 pub now_since : (gate : Gate) (shown c : Blocks) → StopNow gate shown c → StopSince gate shown c
@@ -64,4 +69,5 @@ unfolding failed_check
 few_refused d c few same =
     let rest = gate_checks (block_at 0 c) ++ header_checks (length c) (block_at 1 c) in
     let short : length c < 3 = omega (arith, few, ap length same, length-drop 1 c, length-drop 1 d) in
-    some_failed (nat_lt (length c) 3, NotAStore) rest (let e : nat_lt (length c) 3 ≡ true = grind (arith, nat_tests) in e)
+    some_failed (nat_lt (length c) 3, NotAStore) rest
+    (let e : nat_lt (length c) 3 ≡ true = grind (arith, nat_tests) in e)

@@ -35,7 +35,9 @@ gate_block shut = put_number 1 8 shut (put_number 8 0 gate_text zeros)
 -- block 1, the header
 unfoldable pub header_block : Header → List ℕ
 header_block h =
-    put_number 4 20 h.count (put_number 4 16 h.first (put_number 4 12 h.next (put_number 2 8 version (put_number 8 0 header_text zeros))))
+    put_number 4 20 h.count
+    (put_number 4 16 h.first
+    (put_number 4 12 h.next (put_number 2 8 version (put_number 8 0 header_text zeros))))
 
 -- block 2 of a new file, a catalog of no layers
 unfoldable pub catalog_block : List ℕ

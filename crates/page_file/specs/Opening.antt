@@ -1,5 +1,6 @@
 -- The checks of opening, in their order (our rule, docs/FORMAT.md, "Opening").
-use Rattle.std.specs.Prelude.{ℕ, ◌-◌, Bool, ◌&&◌, ◌||◌, ◌==◌, not, nat_le, nat_lt, List, [], ◌∷◌, ◌++◌, length, Option, Some, None, IsSome, if◌then◌else◌}
+use Rattle.std.specs.Prelude.{ℕ, ◌-◌, Bool, ◌&&◌, ◌||◌, ◌==◌, not, nat_le, nat_lt, List, [], ◌∷◌, ◌++◌}
+use Rattle.std.specs.Prelude.{length, Option, Some, None, IsSome, if◌then◌else◌}
 use Rattle.block_device.specs.Device.{Blocks, block_at}
 use Rattle.block_bytes.specs.Numbers.{number_at}
 use Rattle.page_file.specs.Layout.{gate_text, header_text, is_known, version_of}
@@ -16,7 +17,8 @@ is_sound h =
 
 -- the numbers that a header's block holds
 abbrev pub header_of_block : List ℕ → Header
-header_of_block block = record { next = number_at 4 12 block; first = number_at 4 16 block; count = number_at 4 20 block }
+header_of_block block =
+    record { next = number_at 4 12 block; first = number_at 4 16 block; count = number_at 4 20 block }
 
 -- a check: the test that a file fails by, and the fault that is answered then
 abbrev pub Check : Type 0

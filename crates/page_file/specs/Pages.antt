@@ -1,5 +1,6 @@
 -- The map of live pages that blocks and a header stand for (our rule, docs/FORMAT.md, "Pages").
-use Rattle.std.specs.Prelude.{◌≡◌, ◌⊎◌, ◌≤◌, ◌<◌, ◌+◌, ◌-◌, ◌==◌, ℕ, zero, suc, List, [], ◌∷◌, Option, Some, None, Bool, ◌&&◌, not, nat_le, nat_lt, eqb, if◌then◌else◌}
+use Rattle.std.specs.Prelude.{◌≡◌, ◌⊎◌, ◌≤◌, ◌<◌, ◌+◌, ◌-◌, ◌==◌, ℕ, zero, suc, List, [], ◌∷◌, Option, Some}
+use Rattle.std.specs.Prelude.{None, Bool, ◌&&◌, not, nat_le, nat_lt, eqb, if◌then◌else◌}
 use Rattle.std.specs.Set.{is_member}
 use Rattle.block_device.specs.Device.{Blocks, Torn, block_at, written}
 use Rattle.block_bytes.specs.Numbers.{zeros}
@@ -29,11 +30,13 @@ given_pages blocks next n = if nat_le 2 n && nat_lt n next then Some (block_at n
 abbrev pub page_of : Blocks → Header → ℕ → Option (List ℕ)
 page_of blocks h n = if is_live blocks h n then Some (block_at n blocks) else None
 
--- so many free pages in a row: each is one given out after the catalog and a page of that kind, and the last one names 0
+-- so many free pages in a row: each is one given out after the catalog and a page of that kind, and the last
+-- one names 0
 abbrev pub IsChain : Blocks → ℕ → ℕ → ℕ → Type 0
 IsChain blocks next zero n = n ≡ 0
 IsChain blocks next (suc count) n =
-    (3 ≤ n) × (n < next) × (kind_of (block_at n blocks) ≡ free_kind) × IsChain blocks next count (link_of (block_at n blocks))
+    (3 ≤ n) × (n < next) × (kind_of (block_at n blocks) ≡ free_kind)
+    × IsChain blocks next count (link_of (block_at n blocks))
 
 -- the free pages are such a chain; no page is in it twice, since each names one next page
 abbrev pub HasFreeChain : Blocks → Header → Type 0
@@ -65,9 +68,11 @@ with_one_free n h = record { next = h.next; first = n; count = h.count + 1 }
 
 -- and once the first free page is taken from the chain
 abbrev pub with_one_taken : Blocks → Header → Header
-with_one_taken blocks h = record { next = h.next; first = link_of (block_at h.first blocks); count = h.count - 1 }
+with_one_taken blocks h =
+    record { next = h.next; first = link_of (block_at h.first blocks); count = h.count - 1 }
 
--- the number that is given out next, of so many free pages: that of the first one, or a new number where there is none
+-- the number that is given out next, of so many free pages: that of the first one, or a new number where
+-- there is none
 abbrev pub next_of_free : ℕ → Header → ℕ
 next_of_free zero h = h.next
 next_of_free (suc count) h = h.first
@@ -94,14 +99,14 @@ pub record MayHaveGiven (old new : Blocks) (h h' : Header) : Type 0 where
   pub torn : Torn (next_given h) old new
   pub header : ((h' ≡ h) × ((h.count ≡ 0) ⊎ (new ≡ old))) ⊎ ((h' ≡ with_given old h) × (0 < h.count))
 
--- Page n was given out, where those pages were free and that number was next: the first free page, or else a new
--- number.
+-- Page n was given out, where those pages were free and that number was next: the first free page, or else a
+-- new number.
 abbrev pub TakesFirst : ℕ → List ℕ → ℕ → List ℕ → ℕ → Type 0
 TakesFirst n [] next free' next' = (n ≡ next) × (free' ≡ []) × (next' ≡ next + 1)
 TakesFirst n (first ∷ rest) next free' next' = (n ≡ first) × (free' ≡ rest) × (next' ≡ next)
 
--- what a free page may name as the next, where so many are free from it on: 0 by the last, and by each other one a
--- page given out after the catalog
+-- what a free page may name as the next, where so many are free from it on: 0 by the last, and by each other
+-- one a page given out after the catalog
 abbrev pub may_link : ℕ → ℕ → ℕ → Bool
 may_link count next link = if count == 1 then link == 0 else (nat_le 3 link && nat_lt link next)
 

@@ -1,27 +1,35 @@
 -- What is read from a gate, a header and a free page as they are written.
-use Rattle.std.proofs.Common.{◌≡◌, ◌∙◌, ℕ, ◌+◌, ◌^◌, ◌<◌, ◌≤◌, List, true, length, refl, sym, subst, arith, inl, lit<}
+use Rattle.std.proofs.Common.{◌≡◌, ◌∙◌, ℕ, ◌+◌, ◌^◌, ◌<◌, ◌≤◌, List, true, length, refl, sym, subst, arith}
+use Rattle.std.proofs.Common.{inl, lit<}
 use Rattle.block_bytes.specs.Numbers.{zeros, number_at, put_number, IsApart}
 use Rattle.block_bytes.specs.Laws.{length-zeros, length-put, number_at-put, number_at-put_other}
 use Rattle.block_bytes.specs.Kinds.{free_kind}
 use Rattle.page_file.specs.declared.header.Header.{Header}
-use Rattle.page_file.specs.Layout.{gate_text, header_text, version, is_known, gate_block, header_block, free_block, version_of, IsShutGate, IsHeader, kind_of, link_of}
+use Rattle.page_file.specs.Layout.{gate_text, header_text, version, is_known, gate_block, header_block}
+use Rattle.page_file.specs.Layout.{free_block, version_of, IsShutGate, IsHeader, kind_of, link_of}
 
 -- a number put into a block of 4096 bytes leaves one of 4096, keeps what is read elsewhere, and is read
-size : (n at x : ℕ) (block : List ℕ) → at + n ≤ 4096 → length block ≡ 4096 → length (put_number n at x block) ≡ 4096
+size : (n at x : ℕ) (block : List ℕ) → at + n ≤ 4096 → length block ≡ 4096
+    → length (put_number n at x block) ≡ 4096
 size n at x block fits is = length-put n at x block (omega (arith, fits, is)) ∙ is
 
-there : (n at x : ℕ) (block : List ℕ) → at + n ≤ 4096 → length block ≡ 4096 → x < 256 ^ n → number_at n at (put_number n at x block) ≡ x
+there : (n at x : ℕ) (block : List ℕ) → at + n ≤ 4096 → length block ≡ 4096 → x < 256 ^ n
+    → number_at n at (put_number n at x block) ≡ x
 there n at x block fits is small = number_at-put n at x block (omega (arith, fits, is)) small
 
-past : (n at m to x v : ℕ) (block : List ℕ) → to + m ≤ 4096 → length block ≡ 4096 → IsApart n at m to → number_at n at block ≡ v → number_at n at (put_number m to x block) ≡ v
-past n at m to x v block fits is apart was = number_at-put_other n at m to x block (omega (arith, fits, is)) apart ∙ was
+past : (n at m to x v : ℕ) (block : List ℕ) → to + m ≤ 4096 → length block ≡ 4096 → IsApart n at m to
+    → number_at n at block ≡ v → number_at n at (put_number m to x block) ≡ v
+past n at m to x v block fits is apart was =
+    number_at-put_other n at m to x block (omega (arith, fits, is)) apart ∙ was
 
 text_size : (text : ℕ) → length (put_number 8 0 text zeros) ≡ 4096
 text_size text = size 8 0 text zeros (omega arith) length-zeros
 
 pub text-gate : (shut : ℕ) → number_at 8 0 (gate_block shut) ≡ gate_text
 unfolding gate_block
-text-gate shut = past 8 0 1 8 shut gate_text _ (omega arith) (text_size gate_text) (inl (omega arith)) (there 8 0 gate_text zeros (omega arith) length-zeros (lit< tt))
+text-gate shut =
+    past 8 0 1 8 shut gate_text _ (omega arith) (text_size gate_text) (inl (omega arith))
+    (there 8 0 gate_text zeros (omega arith) length-zeros (lit< tt))
 
 pub shut-gate : (shut : ℕ) → shut < 256 → number_at 1 8 (gate_block shut) ≡ shut
 unfolding gate_block
@@ -46,10 +54,13 @@ version_written h =
     let l2 : length p2 ≡ 4096 = size 2 8 version p1 (omega arith) l1 in
     let l3 : length p3 ≡ 4096 = size 4 12 h.next p2 (omega arith) l2 in
     let l4 : length p4 ≡ 4096 = size 4 16 h.first p3 (omega arith) l3 in
-    past 2 8 4 20 h.count _ p4 (omega arith) l4 (inl (omega arith)) (past 2 8 4 16 h.first _ p3 (omega arith) l3 (inl (omega arith))
-    (past 2 8 4 12 h.next _ p2 (omega arith) l2 (inl (omega arith)) (there 2 8 version p1 (omega arith) l1 (lit< tt))))
+    past 2 8 4 20 h.count _ p4 (omega arith) l4 (inl (omega arith))
+    (past 2 8 4 16 h.first _ p3 (omega arith) l3 (inl (omega arith))
+    (past 2 8 4 12 h.next _ p2 (omega arith) l2 (inl (omega arith))
+    (there 2 8 version p1 (omega arith) l1 (lit< tt))))
 
-pub header_reads : (h : Header) → h.next < 2 ^ 32 → h.first < 2 ^ 32 → h.count < 2 ^ 32 → IsHeader h (header_block h)
+pub header_reads : (h : Header) → h.next < 2 ^ 32 → h.first < 2 ^ 32 → h.count < 2 ^ 32
+    → IsHeader h (header_block h)
 unfolding header_block
 header_reads h n f c =
     let p1 = put_number 8 0 header_text zeros in
@@ -61,13 +72,19 @@ header_reads h n f c =
     let l3 : length p3 ≡ 4096 = size 4 12 h.next p2 (omega arith) l2 in
     let l4 : length p4 ≡ 4096 = size 4 16 h.first p3 (omega arith) l3 in
     record {
-      text = past 8 0 4 20 h.count _ p4 (omega arith) l4 (inl (omega arith)) (past 8 0 4 16 h.first _ p3 (omega arith) l3 (inl (omega arith))
-          (past 8 0 4 12 h.next _ p2 (omega arith) l2 (inl (omega arith)) (past 8 0 2 8 version _ p1 (omega arith) l1 (inl (omega arith))
+      text = past 8 0 4 20 h.count _ p4 (omega arith) l4 (inl (omega arith))
+          (past 8 0 4 16 h.first _ p3 (omega arith) l3 (inl (omega arith))
+          (past 8 0 4 12 h.next _ p2 (omega arith) l2 (inl (omega arith))
+          (past 8 0 2 8 version _ p1 (omega arith) l1 (inl (omega arith))
           (there 8 0 header_text zeros (omega arith) length-zeros (lit< tt)))));
       known = subst (λ (v : ℕ). is_known v ≡ true) (sym (version_written h)) refl;
-      next_is = past 4 12 4 20 h.count _ p4 (omega arith) l4 (inl (omega arith)) (past 4 12 4 16 h.first _ p3 (omega arith) l3 (inl (omega arith))
+      next_is =
+          past 4 12 4 20 h.count _ p4 (omega arith) l4 (inl (omega arith))
+          (past 4 12 4 16 h.first _ p3 (omega arith) l3 (inl (omega arith))
           (there 4 12 h.next p2 (omega arith) l2 n));
-      first_is = past 4 16 4 20 h.count _ p4 (omega arith) l4 (inl (omega arith)) (there 4 16 h.first p3 (omega arith) l3 f);
+      first_is =
+          past 4 16 4 20 h.count _ p4 (omega arith) l4 (inl (omega arith))
+          (there 4 16 h.first p3 (omega arith) l3 f);
       count_is = there 4 20 h.count p4 (omega arith) l4 c;
     }
 
@@ -80,4 +97,6 @@ free_link next n = there 4 4 next _ (omega arith) kind_size n
 
 pub kind_of_free : (next : ℕ) → kind_of (free_block next) ≡ free_kind
 unfolding free_block
-kind_of_free next = past 1 0 4 4 next 5 _ (omega arith) kind_size (inl (omega arith)) (there 1 0 5 zeros (omega arith) length-zeros (lit< tt))
+kind_of_free next =
+    past 1 0 4 4 next 5 _ (omega arith) kind_size (inl (omega arith))
+    (there 1 0 5 zeros (omega arith) length-zeros (lit< tt))

@@ -1,12 +1,14 @@
 -- Blocks that pass the checks of opening, and what lies in them.
-use Rattle.std.proofs.Common.{◌≡◌, ◌∙◌, ℕ, ◌<◌, ◌≤◌, ◌+◌, ◌-◌, List, [], ◌∷◌, Bool, true, false, ◌&&◌, not, nat_le, nat_lt, ◌==◌, Some, None, length, refl, sym, ap, arith, subst, cond}
+use Rattle.std.proofs.Common.{◌≡◌, ◌∙◌, ℕ, ◌<◌, ◌≤◌, ◌+◌, ◌-◌, List, [], ◌∷◌, Bool, true, false, ◌&&◌, not}
+use Rattle.std.proofs.Common.{nat_le, nat_lt, ◌==◌, Some, None, length, refl, sym, ap, arith, subst, cond}
 use Rattle.std.proofs.lemmas.Bool.Decides.{nat_tests}
 use Rattle.block_device.specs.Device.{Blocks, block_at}
 use Rattle.block_bytes.specs.Numbers.{number_at}
 use Rattle.page_file.specs.declared.fault.Fault.TheVariants.{NotAStore, NotClosed, WrongVersion, Damaged}
 use Rattle.page_file.specs.declared.header.Header.{Header}
 use Rattle.page_file.specs.Layout.{gate_text, header_text, is_known, version_of, IsShutGate, IsHeader}
-use Rattle.page_file.specs.Opening.{Check, failed_check, first_fault, gate_checks, header_checks, header_of_block, is_sound}
+use Rattle.page_file.specs.Opening.{Check, failed_check, first_fault, gate_checks, header_checks}
+use Rattle.page_file.specs.Opening.{header_of_block, is_sound}
 use Rattle.page_file.specs.Pages.{header_in, may_link}
 
 -- a check that was passed, and those after it
@@ -59,7 +61,14 @@ passes_from blocks e =
     record {
       three = let t = a.0 in grind (arith, nat_tests);
       gate = record { text = equal _ _ b.0; shut = equal _ _ c.0 };
-      header = record { text = equal _ _ d.0; known = not_false _ f.0; next_is = refl; first_is = refl; count_is = refl };
+      header =
+          record {
+            text = equal _ _ d.0;
+            known = not_false _ f.0;
+            next_is = refl;
+            first_is = refl;
+            count_is = refl;
+          };
       within = let t = fits.0 in grind (arith, nat_tests);
       sound = fits.1;
     }
@@ -74,7 +83,8 @@ passes_to blocks p =
     let page = block_at 1 blocks in
     let fit : Bool = nat_le (number_at 4 12 page) (length blocks) && is_sound (header_of_block page) in
     let few : nat_lt (length blocks) 3 ≡ false = let t = p.three in grind (arith, nat_tests) in
-    let le : nat_le (number_at 4 12 page) (length blocks) ≡ true = let t = p.within in grind (arith, nat_tests) in
+    let le : nat_le (number_at 4 12 page) (length blocks) ≡ true = let t = p.within in
+    grind (arith, nat_tests) in
     let fits : fit ≡ true = ap (λ (t : Bool). t && is_sound (header_of_block page)) le ∙ p.sound in
     let last : Check = (not fit, Damaged 1) in
     let known : Check = (not (is_known (version_of page)), WrongVersion) in
@@ -99,7 +109,8 @@ header_is h block is =
     ∙ ap (λ (c : ℕ). made h.next h.first c) is.count_is
 
 -- a file that is settled on these blocks passes the checks
-pub settled_passes : (blocks : Blocks) (h : Header) → IsShutGate (block_at 0 blocks) → IsHeader h (block_at 1 blocks) → h.next ≤ length blocks → is_sound h ≡ true → 3 ≤ h.next → Passes blocks
+pub settled_passes : (blocks : Blocks) (h : Header) → IsShutGate (block_at 0 blocks)
+    → IsHeader h (block_at 1 blocks) → h.next ≤ length blocks → is_sound h ≡ true → 3 ≤ h.next → Passes blocks
 settled_passes blocks h gate header within sound low =
     let same : h ≡ header_in blocks = sym (header_is h (block_at 1 blocks) header) in
     record {
@@ -127,9 +138,11 @@ sound_says h e = record {
 pub more_given : (h : Header) → is_sound h ≡ true → is_sound (made (h.next + 1) h.first h.count) ≡ true
 more_given h e = grind (arith, nat_tests)
 
-pub more_free : (h : Header) (n : ℕ) → is_sound h ≡ true → 3 ≤ n → n < h.next → h.count < h.next - 3 → is_sound (made h.next n (h.count + 1)) ≡ true
+pub more_free : (h : Header) (n : ℕ) → is_sound h ≡ true → 3 ≤ n → n < h.next → h.count < h.next - 3
+    → is_sound (made h.next n (h.count + 1)) ≡ true
 more_free h n e low below room = grind (arith, nat_tests)
 
 -- and where the first free one is taken, whose link is as the format has it
-pub one_less_free : (h : Header) (link : ℕ) → is_sound h ≡ true → 0 < h.count → may_link h.count h.next link ≡ true → is_sound (made h.next link (h.count - 1)) ≡ true
+pub one_less_free : (h : Header) (link : ℕ) → is_sound h ≡ true → 0 < h.count
+    → may_link h.count h.next link ≡ true → is_sound (made h.next link (h.count - 1)) ≡ true
 one_less_free h link e some linked = grind (arith, nat_tests)

@@ -25,7 +25,8 @@ StopNow Open shown c = block_at 0 c ≡ gate_block 0
 StopNow Unsure shown c = SameButGate c shown
 
 -- whatever a stop since some earlier moment leaves, it left before, or it has P
-pub record AddsOnly {D : Type 0} (moment : D → ℕ) (left_since : D → ℕ → Blocks → Type 0) (recovery : Recovery D) (old new : D) (P : Blocks → Type 0) : Type 0 where
+pub record AddsOnly {D : Type 0} (moment : D → ℕ) (left_since : D → ℕ → Blocks → Type 0)
+    (recovery : Recovery D) (old new : D) (P : Blocks → Type 0) : Type 0 where
   pub later : moment old ≤ moment new
   pub before : (t : ℕ) (c : Blocks) → t ≤ moment old → left_since new t c → left_since old t c ⊎ P c
   pub brings : Brings moment recovery old new P
@@ -57,5 +58,6 @@ StopNow-prop Shut shown c = set_blocks c shown
 StopNow-prop Open shown c = set_bytes (block_at 0 c) (gate_block 0)
 StopNow-prop Unsure shown c = set_blocks (drop 1 c) (drop 1 shown)
 
-pub StopsNow-prop : (may_leave : Blocks → Type 0) (gate : Gate) (shown : Blocks) (p q : (c : Blocks) → may_leave c → StopNow gate shown c) → p ≡ q
+pub StopsNow-prop : (may_leave : Blocks → Type 0) (gate : Gate) (shown : Blocks)
+    (p q : (c : Blocks) → may_leave c → StopNow gate shown c) → p ≡ q
 StopsNow-prop may_leave gate shown p q = λ i c left. StopNow-prop gate shown c (p c left) (q c left) i

@@ -1,7 +1,8 @@
 //! Single blocks of a device: the gate and the header, each with its sync, and any block where there is
 //! a place for it.
 ghost use Rattle.std.specs.Prelude.{◌≡◌, ◌≤◌, ◌<◌, ◌^◌, ◌↔◌, ◌⊎◌, length, ℕ, OnOk, IfErr};
-ghost use Rattle.block_device.specs.Device.{Blocks, Only, LeavesNoMore, LeavesOnly, Follows, Torn, block_at, written};
+ghost use Rattle.block_device.specs.Device.{Blocks, Only, LeavesNoMore, LeavesOnly, Follows, Torn, block_at};
+ghost use Rattle.block_device.specs.Device.{written};
 ghost use Rattle.page_file.specs.Fault.{HasCause, IsOfDevice};
 ghost use Rattle.page_file.specs.Layout.{gate_block, version_in, IsHeader};
 ghost use Rattle.page_file.specs.Stops.{GateAside, TornFrom, SameButGate};
@@ -21,9 +22,11 @@ pub fn write_gate<D: BlockDevice>(device: &mut D, shut: u8) -> Result<(), Fault>
         OnOk result (D.shown device.new ≡ written 0 (gate_block shut) (D.shown device.old)) }
     ensures gate { D.honest device.old → OnOk result (block_at 0 (D.shown device.new) ≡ gate_block shut) }
     ensures durable { D.honest device.old → OnOk result (Only (D.shown device.new) (D.may_leave device.new)) }
-    ensures now { D.honest device.old → (c : Blocks) → D.may_leave device.new c → GateAside (D.may_leave device.old) c }
+    ensures now { D.honest device.old → (c : Blocks) → D.may_leave device.new c →
+        GateAside (D.may_leave device.old) c }
     ensures stops { D.honest device.old →
-        LeavesOnly D.moment D.left_since D.recovery device.old device.new (GateAside (D.may_leave device.old)) }
+        LeavesOnly D.moment D.left_since D.recovery device.old device.new
+        (GateAside (D.may_leave device.old)) }
     ensures only { IfErr result IsOfDevice }
     ensures honest { D.honest device.old ↔ D.honest device.new }
     ensures cause { HasCause (D.faults device.old) (D.faults device.new) result }
@@ -41,12 +44,14 @@ pub fn write_header<D: BlockDevice>(device: &mut D, header: &Header) -> Result<(
         length (D.shown device.new) ≡ length (D.shown device.old) }
     ensures others { D.honest device.old → (k : ℕ) → ¬ (k ≡ 1) →
         block_at k (D.shown device.new) ≡ block_at k (D.shown device.old) }
-    ensures header { D.honest device.old → OnOk result (IsHeader header.now (block_at 1 (D.shown device.new))) }
+    ensures header { D.honest device.old →
+        OnOk result (IsHeader header.now (block_at 1 (D.shown device.new))) }
     ensures version { D.honest device.old → OnOk result (version_in (D.shown device.new) ≡ 2) }
     ensures durable { D.honest device.old → OnOk result (Only (D.shown device.new) (D.may_leave device.new)) }
     ensures now { D.honest device.old → Follows (Torn 1) (D.may_leave device.old) (D.may_leave device.new) }
     ensures stops { D.honest device.old →
-        LeavesOnly D.moment D.left_since D.recovery device.old device.new (TornFrom 1 (D.may_leave device.old)) }
+        LeavesOnly D.moment D.left_since D.recovery device.old device.new
+        (TornFrom 1 (D.may_leave device.old)) }
     ensures only { IfErr result IsOfDevice }
     ensures honest { D.honest device.old ↔ D.honest device.new }
     ensures cause { HasCause (D.faults device.old) (D.faults device.new) result }
@@ -65,7 +70,8 @@ pub fn write_block<D: BlockDevice>(device: &mut D, n: u32, bytes: &[u8; 4096]) -
     ensures torn { D.honest device.old → Torn n (D.shown device.old) (D.shown device.new) }
     ensures now { D.honest device.old → Follows (Torn n) (D.may_leave device.old) (D.may_leave device.new) }
     ensures stops { D.honest device.old →
-        LeavesOnly D.moment D.left_since D.recovery device.old device.new (TornFrom n (D.may_leave device.old)) }
+        LeavesOnly D.moment D.left_since D.recovery device.old device.new
+        (TornFrom n (D.may_leave device.old)) }
     ensures only { IfErr result (λ f. IsOfDevice f ⊎ (f ≡ fault.Damaged n)) }
     ensures below { n ≤ length (D.shown device.old) → IfErr result IsOfDevice }
     ensures honest { D.honest device.old ↔ D.honest device.new }

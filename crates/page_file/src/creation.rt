@@ -44,7 +44,8 @@ fn write_first<D: BlockDevice>(device: &mut D) -> Result<(), Fault>
     ensures shown { D.honest device.old →
         OnOk result (D.shown device.new ≡ written 0 (gate_block 0) (D.shown device.old)) }
     ensures open { D.honest device.old → OnOk result (AllLeave (D.may_leave device.new) IsOpen) }
-    ensures stops { D.honest device.old → LeavesOnly D.moment D.left_since D.recovery device.old device.new IsRefused }
+    ensures stops { D.honest device.old →
+        LeavesOnly D.moment D.left_since D.recovery device.old device.new IsRefused }
     ensures only { IfErr result IsOfDevice }
     ensures honest { D.honest device.old ↔ D.honest device.new }
     ensures cause { HasCause (D.faults device.old) (D.faults device.new) result }
@@ -56,11 +57,13 @@ fn write_first<D: BlockDevice>(device: &mut D) -> Result<(), Fault>
 fn lay_out<D: BlockDevice>(device: &mut D) -> Result<(), Fault>
     requires { length (D.shown device.old) ≡ 0 }
     ensures size { D.honest device.old → OnOk result (length (D.shown device.new) ≡ 3) }
-    ensures header { D.honest device.old → OnOk result (IsHeader new_header (block_at 1 (D.shown device.new))) }
+    ensures header { D.honest device.old →
+        OnOk result (IsHeader new_header (block_at 1 (D.shown device.new))) }
     ensures version { D.honest device.old → OnOk result (version_in (D.shown device.new) ≡ 2) }
     ensures catalog { D.honest device.old → OnOk result (block_at 2 (D.shown device.new) ≡ catalog_block) }
     ensures durable { D.honest device.old → OnOk result (Only (D.shown device.new) (D.may_leave device.new)) }
-    ensures stops { D.honest device.old → LeavesOnly D.moment D.left_since D.recovery device.old device.new IsRefused }
+    ensures stops { D.honest device.old →
+        LeavesOnly D.moment D.left_since D.recovery device.old device.new IsRefused }
     ensures below { D.honest device.old → IfErr result IsOfDevice }
     ensures only { IfErr result (λ f. IsOfDevice f ⊎ IsDamage f) }
     ensures honest { D.honest device.old ↔ D.honest device.new }
@@ -80,7 +83,8 @@ pub fn create<D: BlockDevice>(device: &mut D) -> Result<(), Fault>
     requires { length (D.shown device.old) ≡ 0 }
     ensures size { D.honest device.old → OnOk result (length (D.shown device.new) ≡ 3) }
     ensures gate { D.honest device.old → OnOk result (block_at 0 (D.shown device.new) ≡ gate_block 1) }
-    ensures header { D.honest device.old → OnOk result (IsHeader new_header (block_at 1 (D.shown device.new))) }
+    ensures header { D.honest device.old →
+        OnOk result (IsHeader new_header (block_at 1 (D.shown device.new))) }
     ensures version { D.honest device.old → OnOk result (version_in (D.shown device.new) ≡ 2) }
     ensures catalog { D.honest device.old → OnOk result (block_at 2 (D.shown device.new) ≡ catalog_block) }
     ensures durable { D.honest device.old → OnOk result (Only (D.shown device.new) (D.may_leave device.new)) }

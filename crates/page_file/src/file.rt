@@ -32,7 +32,8 @@ pub struct PageFile<D: BlockDevice> {
     ghost few: { header.next ≤ 2 ^ 31 },
     ghost room: { D.honest device → header.next ≤ length (D.shown device) },
     ghost stop_now: { D.honest device → (c : Blocks) → D.may_leave device c →
-        StopNow gate (D.shown device) c } by { λ p q i h. StopsNow-prop (D.may_leave device) gate (D.shown device)
+        StopNow gate (D.shown device) c } by { λ p q i h.
+            StopsNow-prop (D.may_leave device) gate (D.shown device)
             (p h) (q h) i },
     ghost settled: { D.honest device → (gate ≡ Open → ⊥) → IsHeader header (block_at 1 (D.shown device)) },
     ghost shut_reads: { D.honest device → gate ≡ Shut → IsShutGate (block_at 0 (D.shown device)) },

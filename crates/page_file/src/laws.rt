@@ -13,9 +13,9 @@ ghost use Rattle.page_file.specs.Stops.{SameButGate, StopSince};
 
 use block_device::BlockDevice;
 
-/// A stop now leaves what the gate allows: the blocks as read where it is shut, blocks that opening refuses where it is
-/// open, and the blocks as read but for the gate where it is unsure. Where it is not open, all of the blocks but the
-/// gate are left.
+/// A stop now leaves what the gate allows: the blocks as read where it is shut, blocks that opening refuses
+/// where it is open, and the blocks as read but for the gate where it is unsure. Where it is not open, all of
+/// the blocks but the gate are left.
 #[tactic(auto, using(crate::specs::Laws::laws))]
 pub fn a_stop_follows_the_gate<D: BlockDevice>()
     ensures gate { (file : PageFile D ⟦<D as BlockDevice>⟧) (c : Blocks) → IsHonest file →
@@ -31,11 +31,12 @@ pub fn a_shut_file_lies_in_its_blocks<D: BlockDevice>()
         LiesIn file (blocks_of file) }
 {}
 
-/// Of blocks that differ in the gate alone from blocks in which a file lies, or from those of a file whose gate is not
-/// open, opening refuses them or finds the same file.
+/// Of blocks that differ in the gate alone from blocks in which a file lies, or from those of a file whose
+/// gate is not open, opening refuses them or finds the same file.
 #[tactic(auto, using(crate::specs::Laws::laws))]
 pub fn a_gate_aside_is_refused_or_the_same<D: BlockDevice>()
-    ensures file { (file : PageFile D ⟦<D as BlockDevice>⟧) (c : Blocks) → IsHonest file → ¬ (gate_of file ≡ Open) →
+    ensures file { (file : PageFile D ⟦<D as BlockDevice>⟧) (c : Blocks) → IsHonest file →
+        ¬ (gate_of file ≡ Open) →
         SameButGate c (blocks_of file) → IsRefused c ⊎ LiesIn file c }
     ensures blocks { (file : PageFile D ⟦<D as BlockDevice>⟧) (blocks c : Blocks) → LiesIn file blocks →
         SameButGate c blocks → IsRefused c ⊎ LiesIn file c }
@@ -44,8 +45,10 @@ pub fn a_gate_aside_is_refused_or_the_same<D: BlockDevice>()
 /// Two files that lie in the same blocks have the same map: a closed file opened again is the same.
 #[tactic(auto, using(crate::specs::Laws::a_file_opened_again_is_the_same))]
 pub fn a_file_opened_again_is_the_same<D: BlockDevice>()
-    ensures { (old new : PageFile D ⟦<D as BlockDevice>⟧) (blocks : Blocks) → LiesIn old blocks → LiesIn new blocks →
-        (next_of new ≡ next_of old) × ((k : ℕ) → pages new k ≡ pages old k) × (IsPageMap old ↔ IsPageMap new) }
+    ensures { (old new : PageFile D ⟦<D as BlockDevice>⟧) (blocks : Blocks) → LiesIn old blocks →
+        LiesIn new blocks →
+        (next_of new ≡ next_of old) × ((k : ℕ) → pages new k ≡ pages old k)
+        × (IsPageMap old ↔ IsPageMap new) }
 {}
 
 /// A live page is one given out, from the catalog on, and the catalog is always live.
@@ -60,7 +63,8 @@ pub fn a_live_page_was_given_out<D: BlockDevice>()
 /// kind.
 #[tactic(auto, using(crate::specs::Laws::laws))]
 pub fn a_live_page_is_given<D: BlockDevice>()
-    ensures given { (file : PageFile D ⟦<D as BlockDevice>⟧) (n : ℕ) (page : List ℕ) → pages file n ≡ Some page →
+    ensures given { (file : PageFile D ⟦<D as BlockDevice>⟧) (n : ℕ) (page : List ℕ) →
+        pages file n ≡ Some page →
         given file n ≡ Some page }
     ensures live { (file : PageFile D ⟦<D as BlockDevice>⟧) (n : ℕ) (page : List ℕ) → IsPageMap file →
         given file n ≡ Some page → ¬ (kind_of page ≡ free_kind) → pages file n ≡ Some page }
@@ -88,12 +92,14 @@ pub fn gate_and_map_are_kept_in_turn<D: BlockDevice>()
 /// Each page number that was given out has its block on the device.
 #[tactic(auto, using(crate::specs::Laws::a_number_given_out_has_its_block))]
 pub fn a_number_given_out_has_its_block<D: BlockDevice>()
-    ensures { (file : PageFile D ⟦<D as BlockDevice>⟧) → IsHonest file → next_of file ≤ length (blocks_of file) }
+    ensures { (file : PageFile D ⟦<D as BlockDevice>⟧) → IsHonest file →
+        next_of file ≤ length (blocks_of file) }
 {}
 
 /// What begins with blocks that opening takes, it takes too, and finds the same: a sound file, and a new one.
 pub fn what_begins_with_a_file_is_the_file<D: BlockDevice>()
-    ensures passes { (blocks c : Blocks) → failed_check blocks ≡ None → Begins blocks c → failed_check c ≡ None }
+    ensures passes { (blocks c : Blocks) → failed_check blocks ≡ None → Begins blocks c →
+        failed_check c ≡ None }
     ensures file { (file : PageFile D ⟦<D as BlockDevice>⟧) (blocks c : Blocks) → IsPageMap file →
         LiesIn file blocks → Begins blocks c → LiesIn file c }
     ensures new { (blocks c : Blocks) → IsNewFile blocks → Begins blocks c → IsNewFile c }

@@ -85,8 +85,8 @@ pub fn free_page(next: u32) -> [u8; 4096]
     page
 }
 
-/// The page that a free page names as the next, where so many are free from it on. None where the block is no such page
-/// as the format has it.
+/// The page that a free page names as the next, where so many are free from it on. None where the block is no
+/// such page as the format has it.
 pub fn free_link(page: &[u8; 4096], count: u32, next: u32) -> Option<u32>
     ensures link { result ≡ free_page_link count next page.now }
     ensures there { IfSome result (λ link. may_link count next link ≡ true) }

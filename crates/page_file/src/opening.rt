@@ -1,5 +1,6 @@
 //! The checks of opening, in their order.
-ghost use Rattle.std.specs.Prelude.{◌≡◌, ◌≤◌, ◌<◌, ◌^◌, ◌↔◌, ◌⊎◌, ◌++◌, Some, None, true, length, List, ℕ, IfOk};
+ghost use Rattle.std.specs.Prelude.{◌≡◌, ◌≤◌, ◌<◌, ◌^◌, ◌↔◌, ◌⊎◌, ◌++◌, Some, None, true, length, List, ℕ};
+ghost use Rattle.std.specs.Prelude.{IfOk};
 ghost use Rattle.std.specs.Prelude.{IfErr, OnOk};
 ghost use Rattle.block_device.specs.Device.{Blocks, Only, LeavesOnly, block_at};
 ghost use Rattle.page_file.specs.Fault.{HasCause, IsOfDevice, IsDamage};
@@ -19,8 +20,10 @@ use block_device::BlockDevice;
 // The checks of the gate's block.
 #[tactic(auto, unfolding(crate::specs::Opening::gate_checks))]
 fn check_gate(page: &[u8; 4096]) -> Result<(), Fault>
-    ensures ok { OnOk result ((rest : List Check) → first_fault (gate_checks page.now ++ rest) ≡ first_fault rest) }
-    ensures err { IfErr result (λ e. (rest : List Check) → first_fault (gate_checks page.now ++ rest) ≡ Some e) }
+    ensures ok { OnOk result ((rest : List Check) →
+        first_fault (gate_checks page.now ++ rest) ≡ first_fault rest) }
+    ensures err { IfErr result (λ e. (rest : List Check) →
+        first_fault (gate_checks page.now ++ rest) ≡ Some e) }
     ensures only { IfErr result (λ e. (e ≡ fault.NotAStore) ⊎ (e ≡ fault.NotClosed)) }
 {
     if read_u64(page, 0) != GATE_TEXT {
@@ -39,7 +42,8 @@ fn check_header(page: &[u8; 4096], blocks: u32) -> Result<Header, Fault>
     ensures header { IfOk result (λ h. h ≡ header_of_block page.now) }
     ensures sound { IfOk result (λ h. (opening.is_sound h ≡ true) × (h.next ≤ blocks)) }
     ensures err { IfErr result (λ e. first_fault (header_checks blocks page.now) ≡ Some e) }
-    ensures only { IfErr result (λ e. (e ≡ fault.NotAStore) ⊎ ((e ≡ fault.WrongVersion) ⊎ (e ≡ fault.Damaged 1))) }
+    ensures only { IfErr result (λ e. (e ≡ fault.NotAStore)
+        ⊎ ((e ≡ fault.WrongVersion) ⊎ (e ≡ fault.Damaged 1))) }
 {
     if read_u64(page, 0) != HEADER_TEXT {
         return Err(Fault::NotAStore);
@@ -55,8 +59,8 @@ fn check_header(page: &[u8; 4096], blocks: u32) -> Result<Header, Fault>
     }
 }
 
-/// The fault of the first check of opening that fails, None where none does, of blocks of which these are the first two:
-/// so many of them there are.
+/// The fault of the first check of opening that fails, None where none does, of blocks of which these are the
+/// first two: so many of them there are.
 #[tactic(auto, unfolding(crate::specs::Opening::failed_check))]
 pub fn opening_fault(gate: &[u8; 4096], header: &[u8; 4096], blocks: u32) -> Option<Fault>
     ensures { (shown : Blocks) → block_at 0 shown ≡ gate.now → block_at 1 shown ≡ header.now →

@@ -194,7 +194,8 @@ fn a_page_whose_write_is_refused_stays_held(rt: HostRuntime) -> Result<(), Fail>
 
 #[test]
 fn a_cache_is_checked_again_by_three_calls(rt: HostRuntime) -> Result<(), Fail> {
-    // A sync and a read of gate and header each open the file, then a page is read, and so they check it again.
+    // A sync and a read of gate and header each open the file, then a page is read, and so they check it
+    // again.
     for k in 0..5 {
         let fuse = FuseDevice::new(scene(rt.alloc())?, 4 + k, FuseMode::Onward);
         let mut cache = cache_on(rt.alloc(), fuse)?;

@@ -49,7 +49,8 @@ pairs_answer (Err r) = Refused r
 
 -- the line of a layer in a listing
 abbrev pub line_of_layer : LayerInfo → LayerLine
-line_of_layer layer = record { name = layer.name.items; dims = layer.dims; fanout = layer.fanout; count = layer.count }
+line_of_layer layer =
+    record { name = layer.name.items; dims = layer.dims; fanout = layer.fanout; count = layer.count }
 
 -- the answer that a listing of the layers is
 abbrev pub layers_answer : Result (ArrayVec LayerInfo) Refusal → Answer

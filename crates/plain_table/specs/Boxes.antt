@@ -1,4 +1,5 @@
--- The boxes and points that commands give, and the boxes that answers show, as lists of coordinates. Our rule, docs/COMMANDS.md.
+-- The boxes and points that commands give, and the boxes that answers show, as lists of coordinates. Our
+-- rule, docs/COMMANDS.md.
 use Rattle.std.specs.Prelude.{ℕ, ℤ, Bool, ◌&&◌, List}
 use Rattle.std.specs.Ordering.{int_eq}
 use lib.Pointwise.{pointwise}

@@ -4,8 +4,8 @@ use Rattle.plain_table.specs.declared.boxes.RawBox.{RawBox}
 use Rattle.plain_table.specs.declared.boxes.RawPoint.{RawPoint}
 use Rattle.plain_table.specs.declared.queries.RawQuery.{RawQuery}
 
--- a command with its words read: names as bytes, numbers, and boxes and points as they were given; an object's tag comes
--- last, and so does the tag that a query asks for, if it asks for one
+-- a command with its words read: names as bytes, numbers, and boxes and points as they were given; an
+-- object's tag comes last, and so does the tag that a query asks for, if it asks for one
 pub data Command : Type 0 where
   Create : List ℕ → ℕ → ℕ → Command
   Insert : List ℕ → ℕ → RawBox → ℕ → Command
@@ -23,7 +23,8 @@ pub data Command : Type 0 where
   Check : Command
   Reopen : Command
 
--- A command that may give up: answered by a fault of memory or of the device in the place of what the table answers. A count and a listing of the layers take nothing that could be refused.
+-- A command that may give up: answered by a fault of memory or of the device in the place of what the table
+-- answers. A count and a listing of the layers take nothing that could be refused.
 abbrev pub MayGiveUp : Command → Type 0
 MayGiveUp (Count name) = ⊥
 MayGiveUp Layers = ⊥

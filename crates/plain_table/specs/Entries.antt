@@ -1,5 +1,6 @@
 -- Where a key stands in a list of entries in the order of their keys.
-use Rattle.std.specs.Prelude.{ℕ, ◌≡◌, ◌<◌, ◌≤◌, List, length, slice_index_or, Some, None, Result, MatchResult, slice_set}
+use Rattle.std.specs.Prelude.{ℕ, ◌≡◌, ◌<◌, ◌≤◌, List, length, slice_index_or, Some, None, Result, MatchResult}
+use Rattle.std.specs.Prelude.{slice_set}
 use Rattle.std.specs.List.{insert}
 use Rattle.std.specs.FinMap.{find, put}
 use Rattle.std.specs.declared.cmp.Ordering.{Ordering}

@@ -18,11 +18,14 @@ pub data DumpLine : Type 0 where
 
 -- the line of a layer in a listing
 abbrev pub layer_line : List ℕ × Layer → LayerLine
-layer_line entry = record { name = entry.0; dims = entry.1.dims; fanout = entry.1.fanout; count = len entry.1.objects }
+layer_line entry =
+    record { name = entry.0; dims = entry.1.dims; fanout = entry.1.fanout; count = len entry.1.objects }
 
 -- the lines of a layer and its objects in a dump, ascending by identifier
 abbrev pub dump_lines : List ℕ × Layer → List DumpLine
-dump_lines entry = CreateLine entry.0 entry.1.dims entry.1.fanout ∷ map (λ object. InsertLine entry.0 object.0 object.1) (entries entry.1.objects)
+dump_lines entry =
+    CreateLine entry.0 entry.1.dims entry.1.fanout ∷ map (λ object. InsertLine entry.0 object.0 object.1)
+    (entries entry.1.objects)
 
 -- the layers, ascending by name
 abbrev pub all_layers : Table → List LayerLine

@@ -1,6 +1,6 @@
--- Which boxes range queries seek: as commands give them, and in a layer of so many axes. `Window`, `Point` and `Around` are the
--- intersection, point and enclosure queries of Beckmann, Kriegel, Schneider and Seeger 1990; `Inside` is our rule,
--- docs/COMMANDS.md.
+-- Which boxes range queries seek: as commands give them, and in a layer of so many axes. `Window`, `Point`
+-- and `Around` are the intersection, point and enclosure queries of Beckmann, Kriegel, Schneider and Seeger
+-- 1990; `Inside` is our rule, docs/COMMANDS.md.
 use Rattle.std.specs.Prelude.{ℕ, Bool, true, ◌&&◌, ◌==◌, Option, Some, None}
 use Rattle.box_math.specs.Objects.{Object, bounds_of, tag_of}
 use Rattle.box_math.specs.Bounds.{Bounds, holds_test, meets_test, within_test}

@@ -1,5 +1,6 @@
 -- The plain table: layers by name, and in each its objects by identifier. Our rule, docs/COMMANDS.md.
-use Rattle.std.specs.Prelude.{ℕ, ◌^◌, Bool, ◌&&◌, ◌||◌, ◌==◌, nat_le, List, [], length, slice_index, unwrap_or, sum_by}
+use Rattle.std.specs.Prelude.{ℕ, ◌^◌, Bool, ◌&&◌, ◌||◌, ◌==◌, nat_le, List, [], length, slice_index}
+use Rattle.std.specs.Prelude.{unwrap_or, sum_by}
 use Rattle.std.specs.List.{list_all}
 use Rattle.std.specs.Ordering.{nat_cmp}
 use Rattle.std.specs.Cmp.Lexicographic.{slice_cmp}
@@ -32,7 +33,8 @@ is_name_byte byte = is_letter byte || ((nat_le 48 byte && nat_le byte 57) || byt
 
 -- 1 to 24 letters, digits and underscores, the first a letter
 abbrev pub is_layer_name : List ℕ → Bool
-is_layer_name name = nat_le 1 (length name) && (nat_le (length name) 24 && (is_letter (slice_index name 0) && list_all is_name_byte name))
+is_layer_name name = nat_le 1 (length name)
+    && (nat_le (length name) 24 && (is_letter (slice_index name 0) && list_all is_name_byte name))
 
 -- boxes have two or three axes
 abbrev pub is_dims : ℕ → Bool

@@ -1,4 +1,5 @@
-//! The plain table: what it is, what commands ask of it, and what each answers and changes (docs/COMMANDS.md).
+//! The plain table: what it is, what commands ask of it, and what each answers and changes
+//! (docs/COMMANDS.md).
 #![tactic(auto)]
 
 mod boxes;

@@ -63,8 +63,8 @@ pub enum Refusal {
     /// This page is not what it must be.
     #[error("page {0} is damaged")]
     Damaged(u32),
-    /// The store failed half way through a change or a reopening, by the fault of this number, or had failed before
-    /// (19).
+    /// The store failed half way through a change or a reopening, by the fault of this number, or had failed
+    /// before (19).
     #[error("the store failed: {0}")]
     StoreFailed(u8),
     /// The file was not closed.

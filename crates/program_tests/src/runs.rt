@@ -132,7 +132,8 @@ fn files_that_are_refused(rt: HostRuntime) -> Result<(), Fail> {
         assert_eq!(rt; status, Some(1));
         assert!(rt; fs::read(&rt, file)?.as_slice() == bytes);
     }
-    // Cut after its last object: the missing bytes of the last block read as zero. Cut by a block: a page is missing.
+    // Cut after its last object: the missing bytes of the last block read as zero. Cut by a block: a page is
+    // missing.
     let rows = "ok 2\n1 0 0 10 10\n2 20 20 30 30\n";
     fs::write(&rt, file, cut.as_slice())?;
     assert_eq!(rt;

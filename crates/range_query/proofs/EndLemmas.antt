@@ -7,9 +7,17 @@ use Rattle.page_cache.specs.Calls.{Asks, AsksUntil, ends_so}
 use Rattle.page_cache.specs.declared.cache.PageCache.{PageCache}
 
 module _ {B A : Type 0} {m : _} where
-  pub asks_and_refuses_memory : {T : Type 0} (old new : PageCache B A m) (f : Fault) (result : Result T Fault) → IsErrAnd result (λ e. e ≡ f) → f ≡ fault.Memory → AsksUntil old new None → Asks old new result
+  pub asks_and_refuses_memory : {T : Type 0} (old new : PageCache B A m) (f : Fault)
+      (result : Result T Fault) → IsErrAnd result (λ e. e ≡ f) → f ≡ fault.Memory → AsksUntil old new None
+      → Asks old new result
   asks_and_refuses_memory old new f result is memory asks =
       let ended = ends_so result f is in
       subst (λ end. AsksUntil old new end) (sym ended)
       (subst (λ g. AsksUntil old new (Some g)) (sym memory)
-      (record { gate = asks.gate; map = asks.map; capacity = asks.capacity; looks = asks.looks; faults = asks.faults }))
+      (record {
+        gate = asks.gate;
+        map = asks.map;
+        capacity = asks.capacity;
+        looks = asks.looks;
+        faults = asks.faults;
+      }))

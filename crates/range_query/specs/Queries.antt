@@ -1,6 +1,7 @@
--- Range queries over trees: what is sought, which nodes are looked into, and what is answered (the search of Guttman 1984; the
--- intersection, point and enclosure queries of Beckmann, Kriegel, Schneider and Seeger 1990 are `Window`, `Point` and
--- `Around`; `Inside`, and the order of answers, are our rule, docs/FORMAT.md, "Trees of pages").
+-- Range queries over trees: what is sought, which nodes are looked into, and what is answered (the search of
+-- Guttman 1984; the intersection, point and enclosure queries of Beckmann, Kriegel, Schneider and Seeger 1990
+-- are `Window`, `Point` and `Around`; `Inside`, and the order of answers, are our rule, docs/FORMAT.md,
+-- "Trees of pages").
 use Rattle.std.specs.Prelude.{ℕ, ◌==◌, Bool, true, List, Option, None, Some, IsPermutation}
 use Rattle.std.specs.List.{filter}
 use Rattle.std.specs.List.Sorted.{IsNonDecreasingBy}
@@ -34,8 +35,9 @@ has_tag (Some asked) tag = tag == asked
 abbrev pub having : Option ℕ → List (ℕ × Object) → List (ℕ × Object)
 having asked objects = filter (λ object. has_tag asked (tag_of object.1)) objects
 
--- the objects of the tree whose boxes pass the test and that have the tag that is asked for, if one is, each as often as
--- the tree has it, by identifier
-pub record IsRangeAnswer (test : Bounds → Bool) (asked : Option ℕ) (t : Tree) (rows : List (ℕ × Object)) : Type 0 where
+-- the objects of the tree whose boxes pass the test and that have the tag that is asked for, if one is, each
+-- as often as the tree has it, by identifier
+pub record IsRangeAnswer (test : Bounds → Bool) (asked : Option ℕ) (t : Tree)
+    (rows : List (ℕ × Object)) : Type 0 where
   pub all : IsPermutation (having asked (passing_objects test t.row)) rows
   pub order : IsNonDecreasingBy (λ row. row.0) rows

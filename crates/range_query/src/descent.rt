@@ -22,8 +22,8 @@ use page_cache::PageCache;
 use page_file::Fault;
 use std::alloc::Allocator;
 
-/// Appends the objects below a node that are sought and have the tag, if one is asked for, and that are reached through
-/// admitted boxes, from left to right.
+/// Appends the objects below a node that are sought and have the tag, if one is asked for, and that are
+/// reached through admitted boxes, from left to right.
 pub(crate) fn descend<const D: usize, B: BlockDevice, A: Allocator + Copy, H: Allocator>(
     cache: &mut PageCache<B, A>,
     root: Root,
@@ -37,7 +37,8 @@ pub(crate) fn descend<const D: usize, B: BlockDevice, A: Allocator + Copy, H: Al
         → OnOk result (rows.new.items
         ≡ rows.old.items ++ having tag (objects_reached (is_admitted query.now) (is_sought query.now) row)) }
     ensures looks { IsHonest cache.old → (row : Row) → StandsAt D (pages cache.old) root.page root.level row
-        → OnOk result (looks_of cache.new ≡ counted (looks_of cache.old) (1 + reached (is_admitted query.now) row)) }
+        → OnOk result (looks_of cache.new
+        ≡ counted (looks_of cache.old) (1 + reached (is_admitted query.now) row)) }
     ensures stands { IsHonest cache.old → (row : Row) → StandsAt D (pages cache.old) root.page root.level row
         → IfErr result IsOfDevice }
     ensures other_faults { IfErr result (λ f. IsOfDevice f ⊎ IsDamage f) }
@@ -66,11 +67,13 @@ fn add_sought<const D: usize, B: BlockDevice, A: Allocator + Copy, H: Allocator>
 ) -> Result<(), Fault>
     requires { IsDims D }
     ensures asks { Asks cache.old cache.new result }
-    ensures rows { IsHonest cache.old → (c : NodeContent) → node_in D (pages cache.old page) ≡ Some c → c.level ≡ 0
+    ensures rows { IsHonest cache.old → (c : NodeContent) → node_in D (pages cache.old page) ≡ Some c →
+        c.level ≡ 0
         → OnOk result (rows.new.items
         ≡ rows.old.items ++ map object_of (wanted_entries (is_sought query.now) tag c.entries)) }
     ensures looks { OnOk result (looks_of cache.new ≡ one_more (looks_of cache.old)) }
-    ensures there { IsHonest cache.old → (c : NodeContent) → node_in D (pages cache.old page) ≡ Some c → c.level ≡ 0
+    ensures there { IsHonest cache.old → (c : NodeContent) → node_in D (pages cache.old page) ≡ Some c →
+        c.level ≡ 0
         → IfErr result IsOfDevice }
     ensures other_faults { IfErr result (λ f. IsOfDevice f ⊎ IsDamage f) }
 {

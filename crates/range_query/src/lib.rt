@@ -1,5 +1,5 @@
-//! Range queries over trees of pages: windows, boxes inside and around a box, and points (docs/FORMAT.md, "Trees of
-//! pages").
+//! Range queries over trees of pages: windows, boxes inside and around a box, and points (docs/FORMAT.md,
+//! "Trees of pages").
 #![tactic(auto)]
 
 mod arranging;

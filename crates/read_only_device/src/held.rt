@@ -17,7 +17,8 @@ pub struct HeldBlocks<A: Allocator = Global> {
 impl<A: Allocator> HeldBlocks<A> {
     /// The reader of these blocks, of which there may be 2^31.
     pub fn over(blocks: Vec<[u8; 4096], A>) -> Option<HeldBlocks<A>>
-        ensures honest { IfSome result (λ r. All IsBlock blocks.items → ⟦<HeldBlocks<A> as BlockReader>⟧.honest r) }
+        ensures honest { IfSome result (λ r. All IsBlock blocks.items →
+            ⟦<HeldBlocks<A> as BlockReader>⟧.honest r) }
         ensures shown { IfSome result (λ r. ⟦<HeldBlocks<A> as BlockReader>⟧.shown r ≡ blocks.items) }
         ensures many { IsNone result → 2 ^ 31 < length blocks.items }
     {

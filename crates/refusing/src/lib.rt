@@ -1,6 +1,8 @@
-//! An allocator for tests: it hands each call on to another allocator, and refuses the growths that the test picks.
+//! An allocator for tests: it hands each call on to another allocator, and refuses the growths that the test
+//! picks.
 //!
-//! A growth is a call of `allocate`: `grow` and `shrink` make one each, so each growth of a collection counts once.
+//! A growth is a call of `allocate`: `grow` and `shrink` make one each, so each growth of a collection counts
+//! once.
 #![tactic(auto)]
 
 use std::alloc::{AllocError, Allocator};

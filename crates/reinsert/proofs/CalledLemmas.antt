@@ -8,13 +8,15 @@ one_each true = omega arith
 one_each false = omega arith
 
 -- a call takes one off, or none
-pub free_levels_le : (called : List Bool) (level : ℕ) → free_levels (set called level true) ≤ free_levels called
+pub free_levels_le : (called : List Bool) (level : ℕ)
+    → free_levels (set called level true) ≤ free_levels called
 free_levels_le [] level = omega arith
 free_levels_le (b ∷ bs) zero = omega arith
 free_levels_le (b ∷ bs) (suc level) = omega (arith, free_levels_le bs level)
 
 -- and one where the level was not called
-pub free_levels_fall : (called : List Bool) (level : ℕ) → is_called called level ≡ false → free_levels (set called level true) + 1 ≤ free_levels called
+pub free_levels_fall : (called : List Bool) (level : ℕ) → is_called called level ≡ false
+    → free_levels (set called level true) + 1 ≤ free_levels called
 free_levels_fall [] level free = absurd (true≢false free)
 free_levels_fall (b ∷ bs) zero free = rw free (omega arith)
 free_levels_fall (b ∷ bs) (suc level) free = omega (arith, free_levels_fall bs level free)

@@ -4,7 +4,12 @@ use Rattle.tree_node.specs.Nodes.{Item}
 use Rattle.reinsert.specs.Far.{far_order, far_places, farther, near_places}
 
 abbrev at : ℕ → ℕ → ℕ → Item
-at id x y = record { bounds = record { low = pos x ∷ pos y ∷ []; high = pos x ∷ pos y ∷ [] }; reference = id; tag = 3 * id }
+at id x y =
+    record {
+      bounds = record { low = pos x ∷ pos y ∷ []; high = pos x ∷ pos y ∷ [] };
+      reference = id;
+      tag = 3 * id;
+    }
 
 abbrev crowd : List Item
 crowd = at 3 100 100 ∷ at 4 102 102 ∷ at 5 104 100 ∷ at 6 60 60 ∷ at 8 103 101 ∷ []

@@ -1,5 +1,6 @@
 -- The first least of the entries of a node that hold a new box, found one after the other.
-use Rattle.std.proofs.Common.{◌≡◌, ◌∙◌, ℕ, ◌+◌, ◌<◌, ◌≤◌, ◌⊎◌, ◌<ℤ◌, List, [], ◌∷◌, All, IfNone, IfSome, Option, None, Some, false, length, get_or, sym, subst, inl, inr, arith}
+use Rattle.std.proofs.Common.{◌≡◌, ◌∙◌, ℕ, ◌+◌, ◌<◌, ◌≤◌, ◌⊎◌, ◌<ℤ◌, List, [], ◌∷◌, All, IfNone, IfSome}
+use Rattle.std.proofs.Common.{Option, None, Some, false, length, get_or, sym, subst, inl, inr, arith}
 use Rattle.std.proofs.lemmas.Bool.{cases_eq, cases_lt, false≢true}
 use Rattle.std.proofs.lemmas.Int.{ints}
 use Rattle.std.proofs.lemmas.Option.{slice_get-get_or}
@@ -21,15 +22,19 @@ pub record IsLeast (dims : ℕ) (items : List Item) (new : Bounds) (n : ℕ) (h 
   pub before : h.place < n
   pub holds : Within dims new (box_at items h.place)
   pub area : h.area ≡ volume_of dims (box_at items h.place)
-  pub least : (j : ℕ) → j < n → j < length items → Within dims new (box_at items j) → AtMost (volume_of dims (box_at items h.place) ∷ h.place ∷ []) (volume_of dims (box_at items j) ∷ j ∷ [])
+  pub least : (j : ℕ) → j < n → j < length items → Within dims new (box_at items j)
+      → AtMost (volume_of dims (box_at items h.place) ∷ h.place ∷ [])
+      (volume_of dims (box_at items j) ∷ j ∷ [])
 
 -- or none of them holds it
 abbrev pub IsLeastHolder : ℕ → List Item → Bounds → ℕ → Option Holder → Type 0
-IsLeastHolder dims items new n None = (j : ℕ) → j < n → j < length items → Within dims new (box_at items j) → ⊥
+IsLeastHolder dims items new n None = (j : ℕ) → j < n → j < length items → Within dims new (box_at items j)
+    → ⊥
 IsLeastHolder dims items new n (Some h) = IsLeast dims items new n h
 
 -- entries that do not hold it are passed over
-pub holder_passes : (dims : ℕ) (items : List Item) (new : Bounds) (n next : ℕ) (least : Option Holder) → n ≤ next → ((j : ℕ) → n ≤ j → j < next → j < length items → Within dims new (box_at items j) → ⊥)
+pub holder_passes : (dims : ℕ) (items : List Item) (new : Bounds) (n next : ℕ) (least : Option Holder)
+    → n ≤ next → ((j : ℕ) → n ≤ j → j < next → j < length items → Within dims new (box_at items j) → ⊥)
     → IsLeastHolder dims items new n least → IsLeastHolder dims items new next least
 holder_passes dims items new n next None up none h = λ j below lt inside. elim (cases_lt j n) [
   | inl early ↦ h j early lt inside
@@ -47,16 +52,20 @@ holder_passes dims items new n next (Some holder) up none h = record {
 }
 
 -- one that holds it is taken, if it is less
-pub holder_takes : (dims : ℕ) (items : List Item) (new : Bounds) (n : ℕ) (least : Option Holder) (area : ℕ) (lesser : Holder) → n < length items → Within dims new (box_at items n) → area ≡ volume_of dims (box_at items n)
+pub holder_takes : (dims : ℕ) (items : List Item) (new : Bounds) (n : ℕ) (least : Option Holder) (area : ℕ)
+    (lesser : Holder) → n < length items → Within dims new (box_at items n)
+    → area ≡ volume_of dims (box_at items n)
     → IfNone least (lesser ≡ record { area = area; place = n })
-    → IfSome least (λ h. ((lesser ≡ h) × (h.area ≤ area)) ⊎ ((lesser ≡ record { area = area; place = n }) × (area < h.area)))
+    → IfSome least
+    (λ h. ((lesser ≡ h) × (h.area ≤ area)) ⊎ ((lesser ≡ record { area = area; place = n }) × (area < h.area)))
     → IsLeastHolder dims items new n least → IsLeastHolder dims items new (n + 1) (Some lesser)
 holder_takes dims items new n least area lesser within holds is alone both so_far = go least alone both so_far
   where
     here : Holder
     here = record { area = area; place = n }
 
-    go : (least : Option Holder) → IfNone least (lesser ≡ here) → IfSome least (λ h. ((lesser ≡ h) × (h.area ≤ area)) ⊎ ((lesser ≡ here) × (area < h.area)))
+    go : (least : Option Holder) → IfNone least (lesser ≡ here)
+        → IfSome least (λ h. ((lesser ≡ h) × (h.area ≤ area)) ⊎ ((lesser ≡ here) × (area < h.area)))
         → IsLeastHolder dims items new n least → IsLeast dims items new (n + 1) lesser
     go None alone both h = subst (IsLeast dims items new (n + 1)) (sym alone) (record {
       within = within;
@@ -64,7 +73,9 @@ holder_takes dims items new n least area lesser within holds is alone both so_fa
       holds = holds;
       area = is;
       least = λ j below lt inside. elim (cases_eq j n) [
-        | inl e ↦ subst (λ k. AtMost (volume_of dims (box_at items n) ∷ n ∷ []) (volume_of dims (box_at items k) ∷ k ∷ [])) (sym e) (omega arith, λ _. (omega arith, λ _. tt))
+        | inl e ↦ subst
+            (λ k. AtMost (volume_of dims (box_at items n) ∷ n ∷ [])
+            (volume_of dims (box_at items k) ∷ k ∷ [])) (sym e) (omega arith, λ _. (omega arith, λ _. tt))
         | inr o ↦ absurd (h j (omega arith) lt inside)
       ];
     })
@@ -75,7 +86,10 @@ holder_takes dims items new n least area lesser within holds is alone both so_fa
         holds = h.holds;
         area = h.area;
         least = λ j below lt inside. elim (cases_eq j n) [
-          | inl e ↦ subst (λ k. AtMost (volume_of dims (box_at items holder.place) ∷ holder.place ∷ []) (volume_of dims (box_at items k) ∷ k ∷ [])) (sym e) (omega (arith, kept.1, h.area, is), λ _. (omega (arith, h.before), λ _. tt))
+          | inl e ↦ subst
+              (λ k. AtMost (volume_of dims (box_at items holder.place) ∷ holder.place ∷ [])
+              (volume_of dims (box_at items k) ∷ k ∷ [])) (sym e)
+              (omega (arith, kept.1, h.area, is), λ _. (omega (arith, h.before), λ _. tt))
           | inr o ↦ h.least j (omega arith) lt inside
         ];
       })
@@ -85,25 +99,41 @@ holder_takes dims items new n least area lesser within holds is alone both so_fa
         holds = holds;
         area = is;
         least = λ j below lt inside. elim (cases_eq j n) [
-          | inl e ↦ subst (λ k. AtMost (volume_of dims (box_at items n) ∷ n ∷ []) (volume_of dims (box_at items k) ∷ k ∷ [])) (sym e) (omega arith, λ _. (omega arith, λ _. tt))
-          | inr o ↦ let other = (h.least j (omega arith) lt inside).0 in (omega (arith, less.1, h.area, is, other), λ same. absurd (omega (arith, less.1, h.area, is, other, same)))
+          | inl e ↦ subst
+              (λ k. AtMost (volume_of dims (box_at items n) ∷ n ∷ [])
+              (volume_of dims (box_at items k) ∷ k ∷ [])) (sym e) (omega arith, λ _. (omega arith, λ _. tt))
+          | inr o ↦ let other = (h.least j (omega arith) lt inside).0 in (
+            omega (arith, less.1, h.area, is, other),
+            λ same. absurd (omega (arith, less.1, h.area, is, other, same)),
+          )
         ];
       })
     ]
 
 -- an entry that does not meet the box does not hold it
 pub unset_holds_not : (dims : ℕ) (items : List Item) (new : Bounds) (mask j : ℕ) → IsBox dims new
-    → ((place : ℕ) (item : Item) → slice_get items place ≡ Some item → has_bit mask place ≡ meets_test dims item.bounds new) → has_bit mask j ≡ false → j < length items → Within dims new (box_at items j) → ⊥
+    → ((place : ℕ) (item : Item) → slice_get items place ≡ Some item
+    → has_bit mask place ≡ meets_test dims item.bounds new) → has_bit mask j ≡ false → j < length items
+    → Within dims new (box_at items j) → ⊥
 unset_holds_not dims items new mask j box met unset lt inside =
     let b = box_at items j in
-    let meets : Meets dims b new = λ axis h. let w = inside axis h in let s = (box.spans axis h).ordered in (omega (arith, ints, w.0, s), omega (arith, ints, w.1, s)) in
-    false≢true (sym unset ∙ met j (get_or items j no_item) (slice_get-get_or items j no_item lt) ∙ (meets_test_true dims b new).1 meets)
+    let meets : Meets dims b new = λ axis h. let w = inside axis h in let s = (box.spans axis h).ordered in
+    (omega (arith, ints, w.0, s), omega (arith, ints, w.1, s)) in
+    false≢true
+    (sym unset ∙ met j (get_or items j no_item) (slice_get-get_or items j no_item lt)
+    ∙ (meets_test_true dims b new).1 meets)
 
 -- the least of all is chosen, where none is flat
-pub least_is_chosen : (dims level : ℕ) (items : List Item) (new : Bounds) (n : ℕ) (h : Holder) → length items ≤ n → All (λ (item : Item). IsBox dims item.bounds) items
-    → ((axis place : ℕ) (item : Item) → axis < dims → slice_get items place ≡ Some item → on_axis item.bounds.low axis <ℤ on_axis item.bounds.high axis)
+pub least_is_chosen : (dims level : ℕ) (items : List Item) (new : Bounds) (n : ℕ) (h : Holder)
+    → length items ≤ n → All (λ (item : Item). IsBox dims item.bounds) items
+    → ((axis place : ℕ) (item : Item) → axis < dims → slice_get items place ≡ Some item
+    → on_axis item.bounds.low axis <ℤ on_axis item.bounds.high axis)
     → IsLeast dims items new n h → IsChosenChild dims level items new h.place
 least_is_chosen dims level items new n h past boxes wide least =
     holder_is_chosen dims level items new h.place least.within
-    (λ j lt. (boxes j no_item lt, wide_has_volume dims (box_at items j) (λ axis below. wide axis j (get_or items j no_item) below (slice_get-get_or items j no_item lt))))
+    (λ j lt. (
+      boxes j no_item lt,
+      wide_has_volume dims (box_at items j)
+          (λ axis below. wide axis j (get_or items j no_item) below (slice_get-get_or items j no_item lt)),
+    ))
     least.holds (λ j lt inside. least.least j (omega (arith, past, lt)) lt inside)

@@ -1,5 +1,6 @@
 -- A tree with loose shape has so many nodes that its level is small.
-use Rattle.std.proofs.Common.{◌≡◌, ℕ, zero, suc, ◌+◌, ◌-◌, ◌*◌, ◌^◌, ◌<◌, ◌≤◌, cond, eqb, refl, subst, ⊎_elim, ◌⊎◌, arith}
+use Rattle.std.proofs.Common.{◌≡◌, ℕ, zero, suc, ◌+◌, ◌-◌, ◌*◌, ◌^◌, ◌<◌, ◌≤◌, cond, eqb, refl, subst, ⊎_elim}
+use Rattle.std.proofs.Common.{◌⊎◌, arith}
 use Rattle.std.proofs.Math.Pow.{pow_mono}
 use Rattle.std.proofs.lemmas.Bool.{cases_eq}
 use Rattle.std.proofs.lemmas.Bool.Decides.{nat_tests}
@@ -18,7 +19,8 @@ times : (a b k : ℕ) → a ≤ b → a * k ≤ b * k
 times a b k h = grind (arith, h)
 
 -- each entry above the leaves has twice as many nodes as one a level lower
-nodes_on : (dims most level : ℕ) (row : Row) → RowHasShape dims most row → RowOnLevel (suc level) row → row_length row * 2 ^ level ≤ nodes row
+nodes_on : (dims most level : ℕ) (row : Row) → RowHasShape dims most row → RowOnLevel (suc level) row
+    → row_length row * 2 ^ level ≤ nodes row
 unfolding nodes
 nodes_on dims most level end h on = omega arith
 nodes_on dims most level (more (object kept id) rest) h on = absurd (omega (arith, on.0))
@@ -34,21 +36,26 @@ nodes_on dims most (suc level) (more (child bounds page below) rest) h on =
 
 none_there : (page n : ℕ) → n ≤ page → sum_over n (λ k. cond (eqb page k) 1 0) ≡ 0
 none_there page zero h = refl
-none_there page (suc n) h = let differs : ◌≡◌ {A = ℕ} (cond (eqb page n) 1 0) 0 = grind (arith, nat_tests, h) in omega (arith, differs, none_there page n (omega (arith, h)))
+none_there page (suc n) h = let differs : ◌≡◌ {A = ℕ} (cond (eqb page n) 1 0) 0 =
+    grind (arith, nat_tests, h) in omega (arith, differs, none_there page n (omega (arith, h)))
 
 one_there : (page n : ℕ) → page < n → sum_over n (λ k. cond (eqb page k) 1 0) ≡ 1
 one_there page zero h = absurd (omega (arith, h))
 one_there page (suc n) h = ⊎_elim
-    (λ is. let here : ◌≡◌ {A = ℕ} (cond (eqb page n) 1 0) 1 = grind (arith, nat_tests, is) in omega (arith, here, none_there page n (omega (arith, is))))
-    (λ differs. let there : ◌≡◌ {A = ℕ} (cond (eqb page n) 1 0) 0 = grind (arith, nat_tests, differs) in omega (arith, there, one_there page n (omega (arith, h, differs))))
+    (λ is. let here : ◌≡◌ {A = ℕ} (cond (eqb page n) 1 0) 1 = grind (arith, nat_tests, is) in
+    omega (arith, here, none_there page n (omega (arith, is))))
+    (λ differs. let there : ◌≡◌ {A = ℕ} (cond (eqb page n) 1 0) 0 = grind (arith, nat_tests, differs) in
+    omega (arith, there, one_there page n (omega (arith, h, differs))))
     (cases_eq page n)
 
-sum_more : (n : ℕ) (f g h : ℕ → ℕ) → sum_over n (λ k. f k + g k + h k) ≡ sum_over n f + sum_over n g + sum_over n h
+sum_more : (n : ℕ) (f g h : ℕ → ℕ)
+    → sum_over n (λ k. f k + g k + h k) ≡ sum_over n f + sum_over n g + sum_over n h
 sum_more zero f g h = refl
 sum_more (suc n) f g h = omega (arith, sum_more n f g h)
 
 -- the pages are as many as the nodes
-pages_of : (limit : ℕ) (row : Row) → ((n : ℕ) → 0 < occurs n row → n < limit) → sum_over limit (λ n. occurs n row) ≡ nodes row
+pages_of : (limit : ℕ) (row : Row) → ((n : ℕ) → 0 < occurs n row → n < limit)
+    → sum_over limit (λ n. occurs n row) ≡ nodes row
 unfolding nodes
 pages_of limit end within = zeros limit
   where
@@ -70,18 +77,33 @@ few_pages : (limit : ℕ) (f : ℕ → ℕ) → ((n : ℕ) → f n ≤ 1) → su
 few_pages zero f once = omega arith
 few_pages (suc limit) f once = omega (arith, once limit, few_pages limit f once)
 
-bounded : (dims most limit level : ℕ) (row : Row) → RowHasShape dims most row → RowOnLevel (suc level) row → 1 ≤ row_length row
+bounded : (dims most limit level : ℕ) (row : Row) → RowHasShape dims most row → RowOnLevel (suc level) row
+    → 1 ≤ row_length row
     → ((n : ℕ) → occurs n row ≤ 1) → ((n : ℕ) → 0 < occurs n row → n < limit) → 2 ^ level ≤ limit
 bounded dims most limit level row h on some once within =
     let many : 1 * 2 ^ level ≤ row_length row * 2 ^ level = times 1 (row_length row) (2 ^ level) some in
-    omega (arith, many, nodes_on dims most level row h on, pages_of limit row within, few_pages limit (λ n. occurs n row) once)
+    omega (
+      arith,
+      many,
+      nodes_on dims most level row h on,
+      pages_of limit row within,
+      few_pages limit (λ n. occurs n row) once,
+    )
 
-low_level : (dims most level : ℕ) (row : Row) → RowHasShape dims most row → RowOnLevel level row → (0 < level → 1 ≤ row_length row)
-    → ((n : ℕ) → occurs n row ≤ 1) → (limit : ℕ) → limit ≡ 2 ^ 31 → ((n : ℕ) → 0 < occurs n row → n < limit) → level ≤ 32
+low_level : (dims most level : ℕ) (row : Row) → RowHasShape dims most row → RowOnLevel level row
+    → (0 < level → 1 ≤ row_length row)
+    → ((n : ℕ) → occurs n row ≤ 1) → (limit : ℕ) → limit ≡ 2 ^ 31 → ((n : ℕ) → 0 < occurs n row → n < limit)
+    → level ≤ 32
 low_level dims most zero row h on some once limit is within = omega arith
 low_level dims most (suc level) row h on some once limit is within = ⊎_elim
     (λ low. low)
-    (λ high. absurd (omega (arith, pow_mono {i = 32} {j = level} (omega (arith, high)), bounded dims most limit level row h on (some (omega arith)) once within, is)))
+    (λ high. absurd
+    (omega (
+      arith,
+      pow_mono {i = 32} {j = level} (omega (arith, high)),
+      bounded dims most limit level row h on (some (omega arith)) once within,
+      is,
+    )))
     (either level)
   where
     either : (n : ℕ) → (suc n ≤ 32) ⊎ (32 ≤ n)
@@ -89,4 +111,5 @@ low_level dims most (suc level) row h on some once limit is within = ⊎_elim
 
 pub shape_bounds_level : ShapeBoundsLevel
 shape_bounds_level dims most t h once within =
-    low_level dims most t.level t.row h.below h.levels h.some (λ n. omega (arith, once n)) (2 ^ 31) refl (λ n p. within n (omega (arith, p)))
+    low_level dims most t.level t.row h.below h.levels h.some (λ n. omega (arith, once n)) (2 ^ 31) refl
+    (λ n p. within n (omega (arith, p)))

@@ -8,4 +8,5 @@ use Rattle.reinsert.proofs.KeptLemmas.{weight-insertion}
 
 pub insertion_keeps_objects : InsertionKeepsObjects
 insertion_keeps_objects dims most elsewhere branch level old new h =
-    equal_sums_permute (objects_on branch ++ objects_in old.row) (objects_in new.row) (λ w. weight-insertion w dims most elsewhere branch level old new h)
+    equal_sums_permute (objects_on branch ++ objects_in old.row) (objects_in new.row)
+    (λ w. weight-insertion w dims most elsewhere branch level old new h)

@@ -1,5 +1,5 @@
--- Which levels are called: for each level whether a node on it has overflowed in this insertion (OverflowTreatment of
--- Beckmann, Kriegel, Schneider and Seeger 1990).
+-- Which levels are called: for each level whether a node on it has overflowed in this insertion
+-- (OverflowTreatment of Beckmann, Kriegel, Schneider and Seeger 1990).
 use Rattle.std.specs.Prelude.{ℕ, Bool, true, false, List, slice_index_or, replicate, if◌then◌else◌}
 use Rattle.tree_node.specs.Positions.{total}
 

@@ -23,9 +23,10 @@ pub record IsRootFrom (old new : Root) : Type 0 where
   pub low : new.level ≤ 40
   pub page : (3 ≤ new.page) × (new.page < 2 ^ 31)
 
--- The tree stands at the root, and so does that of the entry, which is for a level of the tree. No page is twice in
--- them and elsewhere, and each that occurs elsewhere is live.
-pub record CanInsert (dims : ℕ) (m : PageMap) (root : Root) (item : Item) (level : ℕ) (t : Tree) (branch : Branch)
+-- The tree stands at the root, and so does that of the entry, which is for a level of the tree. No page is
+-- twice in them and elsewhere, and each that occurs elsewhere is live.
+pub record CanInsert (dims : ℕ) (m : PageMap) (root : Root) (item : Item) (level : ℕ) (t : Tree)
+    (branch : Branch)
     (elsewhere : ℕ → ℕ) : Type 0 where
   pub at : IsRootOf root t
   pub stands : Stands dims m t
@@ -35,8 +36,8 @@ pub record CanInsert (dims : ℕ) (m : PageMap) (root : Root) (item : Item) (lev
   pub apart : (n : ℕ) → occurs_in n t + occurs_on n branch + elsewhere n ≤ 1
   pub live : (n : ℕ) → 0 < elsewhere n → IsSome (m n)
 
--- A tree stands at the root, which a lawful insertion leads to. Pages that are in neither tree stay; those that came in
--- were not live.
+-- A tree stands at the root, which a lawful insertion leads to. Pages that are in neither tree stay; those
+-- that came in were not live.
 pub record InsertsTo (dims most : ℕ) (m m' : PageMap) (level : ℕ) (t : Tree) (branch : Branch)
     (elsewhere : ℕ → ℕ) (root : Root) : Type 0 where
   pub new : Tree

@@ -1,5 +1,5 @@
--- A lawful insertion: placings, one after the other, until nothing waits (Beckmann, Kriegel, Schneider and Seeger 1990;
--- the order in which entries wait is our rule, docs/RULES.md).
+-- A lawful insertion: placings, one after the other, until nothing waits (Beckmann, Kriegel, Schneider and
+-- Seeger 1990; the order in which entries wait is our rule, docs/RULES.md).
 use Rattle.std.specs.Prelude.{◌≡◌, ℕ, zero, suc, Bool, List, [], ◌∷◌}
 use Rattle.tree_node.specs.Trees.{Branch, Tree}
 use Rattle.reinsert.specs.Called.{none_called}
@@ -19,8 +19,10 @@ at_first old branch level = record {
   called = none_called;
 }
 
--- An entry is inserted at a level: from it alone waiting to nothing waiting. Pages that occur elsewhere do not come in.
-pub record IsInsertion (dims most : ℕ) (elsewhere : ℕ → ℕ) (branch : Branch) (level : ℕ) (old new : Tree) : Type 0 where
+-- An entry is inserted at a level: from it alone waiting to nothing waiting. Pages that occur elsewhere do
+-- not come in.
+pub record IsInsertion (dims most : ℕ) (elsewhere : ℕ → ℕ) (branch : Branch) (level : ℕ)
+    (old new : Tree) : Type 0 where
   pub count : ℕ
   pub called : List Bool
   pub placed : Placings dims most elsewhere count (at_first old branch level)

@@ -20,11 +20,12 @@ InsertionKeepsObjects =
 
 -- ---- shape
 
--- an entry for a node of this level whose tree has shape: each node in it has from the least to the most entries and a
--- least box
+-- an entry for a node of this level whose tree has shape: each node in it has from the least to the most
+-- entries and a least box
 abbrev pub EntryHasShape : ℕ → ℕ → ℕ → Branch → Type 0
 EntryHasShape dims most level branch =
-    RowHasShape dims most (more branch end) × RowHasBoxes dims (more branch end) × RowOnLevel level (more branch end)
+    RowHasShape dims most (more branch end) × RowHasBoxes dims (more branch end)
+    × RowOnLevel level (more branch end)
 
 abbrev pub InsertionKeepsLooseShape : Type 0
 InsertionKeepsLooseShape =

@@ -1,6 +1,7 @@
--- What the code has done where a placing is done below a node: the words of its inner contracts (docs/RULES.md,
--- "Insertion").
-use Rattle.std.specs.Prelude.{◌≡◌, ℕ, zero, suc, ◌+◌, ◌-◌, ◌≤◌, Bool, List, [], ◌∷◌, ◌++◌, length, map, reverse, ⊤, ◌*◌, Option, Some, None, IsSome}
+-- What the code has done where a placing is done below a node: the words of its inner contracts
+-- (docs/RULES.md, "Insertion").
+use Rattle.std.specs.Prelude.{◌≡◌, ℕ, zero, suc, ◌+◌, ◌-◌, ◌≤◌, Bool, List, [], ◌∷◌, ◌++◌, length, map}
+use Rattle.std.specs.Prelude.{reverse, ⊤, ◌*◌, Option, Some, None, IsSome}
 use Rattle.std.specs.Option.{option_map}
 use Rattle.tree_node.specs.declared.node.Entry.{Entry}
 use Rattle.tree_node.specs.Nodes.{NodeContent, Item, item_of}
@@ -87,7 +88,8 @@ pub record CanSettle (dims : ℕ) (m : PageMap) (page level : ℕ) (branches : L
   pub distinct : (n : ℕ) → occurs_at page n (row_of branches) ≤ 1
 
 -- the node of these entries has settled
-pub record SettlesTo {D : ℕ} (dims most top level : ℕ) (called : List Bool) (branches : List Branch) (m m' : PageMap)
+pub record SettlesTo {D : ℕ} (dims most top level : ℕ) (called : List Bool) (branches : List Branch)
+    (m m' : PageMap)
     (page : ℕ) (settled : Settled D) (waits waits' : List (Wait D)) (called' : List Bool) : Type 0 where
   pub outcome : Outcome
   pub settles : Settles dims most top level called branches outcome
@@ -96,15 +98,18 @@ pub record SettlesTo {D : ℕ} (dims most top level : ℕ) (called : List Bool) 
   pub shows : Shows dims settled waits waits' called' outcome
 
 -- a node stands at the page, and an entry for a level below it; no page is in both twice
-pub record CanPlace (dims : ℕ) (m : PageMap) (page level target : ℕ) (row : Row) (branch : Branch) : Type 0 where
+pub record CanPlace (dims : ℕ) (m : PageMap) (page level target : ℕ) (row : Row) (branch : Branch) : Type
+    0 where
   pub there : HasNode dims m page level row
   pub below : RowStands dims m level row
   pub entry : RowStands dims m target (more branch end)
   pub distinct : (n : ℕ) → occurs_at page n row + occurs_on n branch ≤ 1
 
 -- the entry was placed below the node
-pub record PlacesTo {D : ℕ} (dims most top level target : ℕ) (called : List Bool) (branch : Branch) (row : Row)
-    (m m' : PageMap) (page : ℕ) (settled : Settled D) (waits waits' : List (Wait D)) (called' : List Bool) : Type 0
+pub record PlacesTo {D : ℕ} (dims most top level target : ℕ) (called : List Bool) (branch : Branch)
+    (row : Row)
+    (m m' : PageMap) (page : ℕ) (settled : Settled D) (waits waits' : List (Wait D))
+    (called' : List Bool) : Type 0
   where
     pub outcome : Outcome
     pub places : Places dims most top level (level - target) called branch row outcome
@@ -144,12 +149,13 @@ abbrev pub items_beside : {D : ℕ} → Option (Entry D) → List Item
 items_beside None = []
 items_beside (Some e) = item_of e ∷ []
 
--- the entries of a node whose child at a place has settled: its box is the new one, and what was split off comes last
+-- the entries of a node whose child at a place has settled: its box is the new one, and what was split off
+-- comes last
 abbrev pub items_after : {D : ℕ} → List Item → ℕ → Settled D → List Item
 items_after items at lower = set_box items at lower.bounds ++ items_beside lower.beside
 
--- the way down from a node of these entries, which are at most the most: the chosen child, with its page and box, and
--- the least box round the entries
+-- the way down from a node of these entries, which are at most the most: the chosen child, with its page and
+-- box, and the least box round the entries
 pub record IsWay {D : ℕ} (dims most level : ℕ) (items : List Item) (new : Bounds) (way : Way D) : Type 0 where
   pub few : length items ≤ most
   pub chosen : IsChosenChild dims level items new way.place

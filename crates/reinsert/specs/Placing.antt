@@ -1,6 +1,8 @@
--- What placing one entry makes of a tree (InsertData and OverflowTreatment of Beckmann, Kriegel, Schneider and Seeger
--- 1990; where new entries stand, and that an overflow of the root calls its level, are our rule, docs/RULES.md).
-use Rattle.std.specs.Prelude.{◌≡◌, ℕ, zero, suc, ◌+◌, ◌-◌, ◌≤◌, Bool, true, not, ◌&&◌, nat_lt, nat_le, MatchBool, List, [], ◌∷◌, ◌++◌, length, map, set, Option, Some, None}
+-- What placing one entry makes of a tree (InsertData and OverflowTreatment of Beckmann, Kriegel, Schneider
+-- and Seeger 1990; where new entries stand, and that an overflow of the root calls its level, are our rule,
+-- docs/RULES.md).
+use Rattle.std.specs.Prelude.{◌≡◌, ℕ, zero, suc, ◌+◌, ◌-◌, ◌≤◌, Bool, true, not, ◌&&◌, nat_lt, nat_le}
+use Rattle.std.specs.Prelude.{MatchBool, List, [], ◌∷◌, ◌++◌, length, map, set, Option, Some, None}
 use Rattle.box_math.specs.Bounds.{Bounds}
 use Rattle.tree_node.specs.Trees.{Row, Branch, Tree, row_items, occurs_in}
 use Rattle.tree_node.specs.Rows.{Waiter, branches_of, row_of, item_in, occurs_waiting}
@@ -33,7 +35,8 @@ reinserted dims most level called branches = let items = map item_in branches in
 }
 
 -- the node is split: the first group stays, and the second has another page
-pub record IsSplit (dims most level : ℕ) (called : List Bool) (branches : List Branch) (outcome : Outcome) : Type 0
+pub record IsSplit (dims most level : ℕ) (called : List Bool) (branches : List Branch)
+    (outcome : Outcome) : Type 0
   where
     pub page : ℕ
     pub first : List ℕ
@@ -46,8 +49,8 @@ pub record IsSplit (dims most level : ℕ) (called : List Bool) (branches : List
       called = set called level true;
     }
 
--- A node of at most the most entries stays. Of another one, below the root's level and where its level was not called,
--- the far set waits again; else it is split.
+-- A node of at most the most entries stays. Of another one, below the root's level and where its level was
+-- not called, the far set waits again; else it is split.
 abbrev pub Settles : ℕ → ℕ → ℕ → ℕ → List Bool → List Branch → Outcome → Type 0
 Settles dims most top level called branches outcome =
     MatchBool (nat_le (length branches) most)
@@ -61,14 +64,17 @@ abbrev pub beside_branches : ℕ → Option Child → List Branch
 beside_branches dims None = []
 beside_branches dims (Some c) = boxed dims c ∷ []
 
--- the entries of a node whose child has settled: the child's box is the least, and what was split off comes last
+-- the entries of a node whose child has settled: the child's box is the least, and what was split off comes
+-- last
 abbrev pub after_child : ℕ → Row → ℕ → Outcome → List Branch
 after_child dims row at below =
-    branches_of (with_child row at (least_box dims (row_items below.row)) below.row) ++ beside_branches dims below.beside
+    branches_of (with_child row at (least_box dims (row_items below.row)) below.row)
+    ++ beside_branches dims below.beside
 
 -- the chosen child settles first, and then the node above it
 pub record GoesBelow (dims level : ℕ) (Below : Row → Outcome → Type 0)
-    (Above : List Bool → List Branch → Outcome → Type 0) (bounds : Bounds) (row : Row) (outcome : Outcome) : Type 0 where
+    (Above : List Bool → List Branch → Outcome → Type 0) (bounds : Bounds) (row : Row)
+    (outcome : Outcome) : Type 0 where
   pub at : ℕ
   pub chosen : IsChosenChild dims level (row_items row) bounds at
   pub from : Child
@@ -103,15 +109,16 @@ pub record State : Type 0 where
   pub waiting : List Waiter
   pub called : List Bool
 
--- The first that waits is placed, and what its placing takes out waits before the others. No page is then twice in the
--- tree, in what waits and elsewhere: so a page that comes in is in none of them.
+-- The first that waits is placed, and what its placing takes out waits before the others. No page is then
+-- twice in the tree, in what waits and elsewhere: so a page that comes in is in none of them.
 pub record Placing (dims most : ℕ) (elsewhere : ℕ → ℕ) (old new : State) : Type 0 where
   pub first : Waiter
   pub rest : List Waiter
   pub waits : old.waiting ≡ first ∷ rest
   pub fits : first.level ≤ old.tree.level
   pub outcome : Outcome
-  pub places : Places dims most old.tree.level old.tree.level (old.tree.level - first.level) old.called first.branch
+  pub places : Places dims most old.tree.level old.tree.level (old.tree.level - first.level) old.called
+      first.branch
       old.tree.row outcome
   pub root : IsRootAfter dims old.tree outcome.row outcome.beside new.tree
   pub waiting : new.waiting ≡ outcome.far ++ rest

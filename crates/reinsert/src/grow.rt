@@ -19,8 +19,8 @@ use page_file::Fault;
 use std::alloc::Allocator;
 use tree_node::{Entry, Node, Root};
 
-// Makes a root over the old one, which has these bounds now, and what was split off. A tree that would grow above level
-// 40 is damaged at its root.
+// Makes a root over the old one, which has these bounds now, and what was split off. A tree that would grow
+// above level 40 is damaged at its root.
 pub(crate) fn grow<const D: usize, B: BlockDevice, A: Allocator + Copy>(
     cache: &mut PageCache<B, A>,
     root: Root,

@@ -29,17 +29,19 @@ use page_file::Fault;
 use std::alloc::Allocator;
 use tree_node::{Entry, Root};
 
-/// Inserts an entry at a level of the tree at that root (docs/RULES.md): on level 0 an object, above it a child, which
-/// refers to a page from 3 to 2^31 - 1. The gate has to be open.
+/// Inserts an entry at a level of the tree at that root (docs/RULES.md): on level 0 an object, above it a
+/// child, which refers to a page from 3 to 2^31 - 1. The gate has to be open.
 ///
-/// Where the map is sound and the pages stand for a tree at the root, and above level 0 for another at the entry's
-/// reference that shares no page with it, they stand after `Ok` for a tree that a lawful insertion leads to. Pages
-/// outside these trees stay, and those that come in were not live. The root's level does not fall.
+/// Where the map is sound and the pages stand for a tree at the root, and above level 0 for another at the
+/// entry's reference that shares no page with it, they stand after `Ok` for a tree that a lawful insertion
+/// leads to. Pages outside these trees stay, and those that come in were not live. The root's level does not
+/// fall.
 ///
-/// A refusal that is not `touched` leaves the map as it was; the room of what waits is taken before the first write.
-/// Where the trees have their shape, but that a root may have one entry, a refusal is of memory or of the device, or
-/// each page number is live (`NoPages`). A tree of level 40 takes no entry, since it could grow: its root is `Damaged`,
-/// untouched. Also after a refusal, at most `most_new_pages` more pages are live.
+/// A refusal that is not `touched` leaves the map as it was; the room of what waits is taken before the first
+/// write. Where the trees have their shape, but that a root may have one entry, a refusal is of memory or of
+/// the device, or each page number is live (`NoPages`). A tree of level 40 takes no entry, since it could
+/// grow: its root is `Damaged`, untouched. Also after a refusal, at most `most_new_pages` more pages are
+/// live.
 pub fn insert_at<const D: usize, B: BlockDevice, A: Allocator + Copy, H: Allocator>(
     alloc: H,
     cache: &mut PageCache<B, A>,
@@ -71,8 +73,8 @@ pub fn insert_at<const D: usize, B: BlockDevice, A: Allocator + Copy, H: Allocat
     insert_with(cache, root, entry, level, m_max, &mut waiting)
 }
 
-/// Inserts an entry as `insert_at` does, and takes no memory but what the cache takes. The `Waiting` serves again
-/// afterwards, also after a refusal.
+/// Inserts an entry as `insert_at` does, and takes no memory but what the cache takes. The `Waiting` serves
+/// again afterwards, also after a refusal.
 pub fn insert_with<const D: usize, B: BlockDevice, A: Allocator + Copy>(
     cache: &mut PageCache<B, A>,
     root: Root,
@@ -145,12 +147,14 @@ fn place_one<const D: usize, B: BlockDevice, A: Allocator + Copy>(
     ensures measure { measure_of waiting.new ≤ measure_of waiting.old }
     ensures root { IfOk result (IsRootFrom root) }
     ensures placed { IsPageMap cache.old → (s : State) (elsewhere : ℕ → ℕ)
-        → IsAt D (pages cache.old) root (waiting.old.waits.items ++ first.now ∷ []) waiting.old.called elsewhere s →
+        → IsAt D (pages cache.old) root (waiting.old.waits.items ++ first.now ∷ []) waiting.old.called
+        elsewhere s →
         IfOk result (λ after. IsPageMap cache.new
         × StepsTo D m_max (pages cache.old) (pages cache.new) elsewhere s after waiting.new.waits.items
         waiting.new.called) }
     ensures faults { IsPageMap cache.old → (s : State) (elsewhere : ℕ → ℕ)
-        → IsAt D (pages cache.old) root (waiting.old.waits.items ++ first.now ∷ []) waiting.old.called elsewhere s
+        → IsAt D (pages cache.old) root (waiting.old.waits.items ++ first.now ∷ []) waiting.old.called
+        elsewhere s
         → StateHasShape D m_max s →
         IfErr result (λ b. IsNoDamage cache.new b.cause) }
     ensures other_faults { IfErr result (λ b. IsChangeFault b.cause) }

@@ -1,5 +1,5 @@
-//! What the order of the farthest means, and what lawful insertions keep: each law is the contract of a function that
-//! does nothing.
+//! What the order of the farthest means, and what lawful insertions keep: each law is the contract of a
+//! function that does nothing.
 
 ghost use Rattle.std.specs.Prelude.{◌≡◌, ℕ, ◌<◌, ◌↔◌, List, length};
 ghost use Rattle.tree_node.specs.Nodes.{Item};
@@ -20,8 +20,8 @@ pub fn an_insertion_keeps_the_objects()
     ensures { InsertionKeepsObjects }
 {}
 
-/// A tree of loose shape keeps it: nodes below the root have from the least to the most entries and least boxes, a root
-/// that is no leaf at least one entry.
+/// A tree of loose shape keeps it: nodes below the root have from the least to the most entries and least
+/// boxes, a root that is no leaf at least one entry.
 pub fn an_insertion_keeps_loose_shape()
     ensures { InsertionKeepsLooseShape }
 {}
@@ -31,8 +31,8 @@ pub fn an_insertion_keeps_shape()
     ensures { InsertionKeepsShape }
 {}
 
-/// An insertion has at most one placing, and as many more as a far set has entries for each level of the old tree below
-/// its root's.
+/// An insertion has at most one placing, and as many more as a far set has entries for each level of the old
+/// tree below its root's.
 pub fn an_insertion_ends()
     ensures { InsertionEnds }
 {}

@@ -1,6 +1,7 @@
 //! An entry placed below a node, and the nodes above settled.
 
-ghost use Rattle.std.specs.Prelude.{◌≡◌, ◌^◌, ◌+◌, ◌<◌, ◌≤◌, ◌++◌, ◌∷◌, [], Some, None, true, ℕ, List, All, length};
+ghost use Rattle.std.specs.Prelude.{◌≡◌, ◌^◌, ◌+◌, ◌<◌, ◌≤◌, ◌++◌, ◌∷◌, [], Some, None, true, ℕ, List, All};
+ghost use Rattle.std.specs.Prelude.{length};
 ghost use Rattle.std.specs.Prelude.{map};
 ghost use Rattle.std.specs.Prelude.{◌⊎◌, IfOk, IfErr, IfSome, IsTrue, OnOk};
 ghost use Rattle.arrayvec.specs.ArrayVec.{array_vec_len};
@@ -53,7 +54,8 @@ pub(crate) fn place<const D: usize, B: BlockDevice, A: Allocator + Copy>(
     ensures placed { IsPageMap cache.old → (row : Row) (branch : Branch) → item_in branch ≡ item_of entry.now
         → CanPlace D (pages cache.old) at.page at.level target row branch →
         IfOk result (λ s. IsPageMap cache.new
-        × PlacesTo D m_max top at.level target waiting.old.called branch row (pages cache.old) (pages cache.new)
+        × PlacesTo D m_max top at.level target waiting.old.called branch row (pages cache.old)
+        (pages cache.new)
         at.page s waiting.old.waits.items waiting.new.waits.items waiting.new.called) }
     ensures faults { IsPageMap cache.old → (row : Row) (branch : Branch) → item_in branch ≡ item_of entry.now
         → CanPlace D (pages cache.old) at.page at.level target row branch → HasFewEntries D m_max row →
@@ -153,7 +155,8 @@ fn read_fitting<const D: usize, B: BlockDevice, A: Allocator + Copy>(
     Ok(())
 }
 
-// Whether a node keeps its entries where the chosen child has settled so: it kept its box, and nothing was split off.
+// Whether a node keeps its entries where the chosen child has settled so: it kept its box, and nothing was
+// split off.
 fn keeps_entries<const D: usize>(way: &Way<D>, lower: &Settled<D>) -> bool
     ensures { IsTrue result → (lower.now.beside ≡ None) × (lower.now.bounds ≡ way.now.bounds) }
 {
@@ -262,7 +265,8 @@ fn settle_above<const D: usize, B: BlockDevice, A: Allocator + Copy>(
     ensures changes { Changes cache.old cache.new result }
     ensures grows { Grows 1 cache.old cache.new }
     ensures measure { measure_of waiting.new ≤ measure_of waiting.old }
-    ensures beside { IfOk result (λ s. IfSome s.beside (λ e. IsOfLevel (node.old.level + 1) e.reference e.tag)) }
+    ensures beside { IfOk result
+        (λ s. IfSome s.beside (λ e. IsOfLevel (node.old.level + 1) e.reference e.tag)) }
     ensures settled { IsPageMap cache.old → (branches : List Branch)
         → map item_in branches ≡ items_after (map item_of node.old.entries.items) at lower.entry
         → CanSettle D (pages cache.old) page node.old.level branches →

@@ -1,6 +1,7 @@
 //! A node that may have one entry too many is written, its far set waits again, or it is split.
 
-ghost use Rattle.std.specs.Prelude.{◌≡◌, ◌^◌, ◌+◌, ◌<◌, ◌≤◌, true, false, ℕ, Bool, List, None, Some, All, map, IfOk};
+ghost use Rattle.std.specs.Prelude.{◌≡◌, ◌^◌, ◌+◌, ◌<◌, ◌≤◌, true, false, ℕ, Bool, List, None, Some, All};
+ghost use Rattle.std.specs.Prelude.{map, IfOk};
 ghost use Rattle.std.specs.Prelude.{IfErr, IfSome};
 ghost use Rattle.arrayvec.specs.ArrayVec.{array_vec_len};
 ghost use Rattle.box_math.specs.Bounds.{IsDims};
@@ -57,7 +58,8 @@ pub(crate) fn settle<const D: usize, B: BlockDevice, A: Allocator + Copy>(
     ensures changes { Changes cache.old cache.new result }
     ensures grows { Grows 1 cache.old cache.new }
     ensures measure { measure_of waiting.new ≤ measure_of waiting.old }
-    ensures beside { IfOk result (λ s. IfSome s.beside (λ e. IsOfLevel (node.now.level + 1) e.reference e.tag)) }
+    ensures beside { IfOk result
+        (λ s. IfSome s.beside (λ e. IsOfLevel (node.now.level + 1) e.reference e.tag)) }
     ensures settled { IsPageMap cache.old → (branches : List Branch)
         → map item_in branches ≡ map item_of node.now.entries.items
         → CanSettle D (pages cache.old) page node.now.level branches →
@@ -169,7 +171,8 @@ fn split_off<const D: usize, B: BlockDevice, A: Allocator + Copy>(
     ensures changes { Changes cache.old cache.new result }
     ensures grows { Grows 1 cache.old cache.new }
     ensures measure { measure_of waiting.new ≤ measure_of waiting.old }
-    ensures beside { IfOk result (λ s. IfSome s.beside (λ e. IsOfLevel (node.now.level + 1) e.reference e.tag)) }
+    ensures beside { IfOk result
+        (λ s. IfSome s.beside (λ e. IsOfLevel (node.now.level + 1) e.reference e.tag)) }
     ensures settled { IsPageMap cache.old → (top : ℕ) (branches : List Branch)
         → (node.now.level < top → is_called waiting.old.called node.now.level ≡ true)
         → map item_in branches ≡ map item_of node.now.entries.items
@@ -221,7 +224,8 @@ fn write_both<const D: usize, B: BlockDevice, A: Allocator + Copy>(
     ensures number { IfOk result (λ n. (3 ≤ n) × (n < 2 ^ 31)) }
     ensures written { IsPageMap cache.old → IsLive cache.old page →
         IfOk result (λ n. IsPageMap cache.new
-        × SplitsOff D (pages cache.old) (pages cache.new) page n (content_of first.now) (content_of second.now)) }
+        × SplitsOff D (pages cache.old) (pages cache.new) page n (content_of first.now)
+        (content_of second.now)) }
     ensures faults { IsPageMap cache.old → IsLive cache.old page → IfErr result (IsNoDamage cache.new) }
     ensures other_faults { IfErr result IsChangeFault }
 {

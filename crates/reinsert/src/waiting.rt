@@ -17,8 +17,8 @@ pub(crate) struct Wait<const D: usize> {
     pub(crate) level: u8,
 }
 
-/// Room for all that waits in an insertion, at most 30 entries for each of the 41 levels. It serves one insertion after
-/// the other.
+/// Room for all that waits in an insertion, at most 30 entries for each of the 41 levels. It serves one
+/// insertion after the other.
 #[derive(Drop)]
 pub struct Waiting<const D: usize> {
     // the first to be placed is the last

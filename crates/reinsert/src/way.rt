@@ -1,6 +1,7 @@
 //! The way of a box down from a node: the child that it goes to, as the node's page tells it.
 
-ghost use Rattle.std.specs.Prelude.{◌≡◌, ◌⊎◌, ◌+◌, ◌<◌, ◌≤◌, Some, All, IfErr, IfNone, IfOk, IfSome, IsTrue, length};
+ghost use Rattle.std.specs.Prelude.{◌≡◌, ◌⊎◌, ◌+◌, ◌<◌, ◌≤◌, Some, All, IfErr, IfNone, IfOk, IfSome, IsTrue};
+ghost use Rattle.std.specs.Prelude.{length};
 ghost use Rattle.box_math.specs.Bounds.{IsBox, IsDims};
 ghost use Rattle.page_file.specs.Fault.{IsDamage, IsOfDevice};
 ghost use Rattle.page_cache.specs.Cache.{IsHonest, pages};
@@ -54,8 +55,8 @@ fn lesser(first: Option<Holder>, second: Holder) -> Holder
     }
 }
 
-// The first least of the entries that hold the box already, which is the chosen one: it does not grow, and each other
-// one does, since it has an area. `None` where none holds it, or some entry is flat.
+// The first least of the entries that hold the box already, which is the chosen one: it does not grow, and
+// each other one does, since it has an area. `None` where none holds it, or some entry is flat.
 fn least_holder<const D: usize>(node: &NodeView<D>, bounds: &BBox<D>) -> Option<usize>
     requires dims { IsDims D }
     requires boxes { All (λ item. IsBox D item.bounds) (content_in node.now).entries }
@@ -83,7 +84,8 @@ fn least_holder<const D: usize>(node: &NodeView<D>, bounds: &BBox<D>) -> Option<
     }
 }
 
-// The place of the child that the box goes to. The node is decoded where none holds the box, or some entry is flat.
+// The place of the child that the box goes to. The node is decoded where none holds the box, or some entry is
+// flat.
 fn chosen_child<const D: usize>(node: &NodeView<D>, bounds: &BBox<D>) -> usize
     requires dims { IsDims D }
     requires above { 0 < (content_in node.now).level }

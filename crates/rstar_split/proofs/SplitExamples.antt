@@ -5,10 +5,16 @@ use Rattle.tree_node.specs.Keys.{AtMost}
 use Rattle.tree_node.proofs.KeyLemmas.{AtMost-itself}
 use Rattle.rstar_split.specs.declared.sorting.Bound.{Bound}
 use Rattle.rstar_split.specs.declared.sorting.Bound.TheVariants.{Lower, Upper}
-use Rattle.rstar_split.specs.Cuts.{before, order_of, front_box, back_box, margins_of, axis_margin, order_key, cut_key, Splits}
+use Rattle.rstar_split.specs.Cuts.{before, order_of, front_box, back_box, margins_of, axis_margin, order_key}
+use Rattle.rstar_split.specs.Cuts.{cut_key, Splits}
 
 abbrev at : ℕ → ℕ → ℕ → Item
-at id x y = record { bounds = record { low = pos x ∷ pos y ∷ []; high = pos x ∷ pos y ∷ [] }; reference = id; tag = 7 * id }
+at id x y =
+    record {
+      bounds = record { low = pos x ∷ pos y ∷ []; high = pos x ∷ pos y ∷ [] };
+      reference = id;
+      tag = 7 * id;
+    }
 
 -- ---- five points on a line: both axes have the same margin sum, and all volumes and overlaps are 0
 
@@ -29,13 +35,18 @@ axes (suc zero) lt = (omega (arith, line_margins), λ same. tt)
 axes (suc (suc a)) lt = absurd (omega (arith, lt))
 
 cuts : (b : Bound) (s : ℕ) → 2 ≤ s → s + 2 ≤ 5 → AtMost (cut_key 2 line 0 Lower 2) (cut_key 2 line 0 b s)
-unfolding order_of before order_key front_box back_box Rattle.tree_node.specs.Boxes.least_box Rattle.box_math.specs.Measures.overlap_of Rattle.box_math.specs.Bounds.meets_test
+unfolding order_of before order_key front_box back_box Rattle.tree_node.specs.Boxes.least_box
+    Rattle.box_math.specs.Measures.overlap_of Rattle.box_math.specs.Bounds.meets_test
 cuts b zero low high = absurd (omega (arith, low))
 cuts b (suc zero) low high = absurd (omega (arith, low))
-cuts Lower (suc (suc zero)) low high = (omega arith, λ a. (omega arith, λ b. (omega arith, λ c. (omega arith, λ d. tt))))
-cuts Upper (suc (suc zero)) low high = (omega arith, λ a. (omega arith, λ b. (omega arith, λ c. (omega arith, λ d. tt))))
-cuts Lower (suc (suc (suc zero))) low high = (omega arith, λ a. (omega arith, λ b. (omega arith, λ c. (omega arith, λ d. tt))))
-cuts Upper (suc (suc (suc zero))) low high = (omega arith, λ a. (omega arith, λ b. (omega arith, λ c. (omega arith, λ d. tt))))
+cuts Lower (suc (suc zero)) low high =
+    (omega arith, λ a. (omega arith, λ b. (omega arith, λ c. (omega arith, λ d. tt))))
+cuts Upper (suc (suc zero)) low high =
+    (omega arith, λ a. (omega arith, λ b. (omega arith, λ c. (omega arith, λ d. tt))))
+cuts Lower (suc (suc (suc zero))) low high =
+    (omega arith, λ a. (omega arith, λ b. (omega arith, λ c. (omega arith, λ d. tt))))
+cuts Upper (suc (suc (suc zero))) low high =
+    (omega arith, λ a. (omega arith, λ b. (omega arith, λ c. (omega arith, λ d. tt))))
 cuts b (suc (suc (suc (suc s)))) low high = absurd (omega (arith, high))
 
 line_splits : Splits 2 4 line (0 ∷ 1 ∷ []) (2 ∷ 3 ∷ 4 ∷ [])
@@ -61,6 +72,8 @@ cluster_margins : (axis_margin 2 clusters 2 0 ≡ 428) × (axis_margin 2 cluster
 unfolding order_of before margins_of front_box back_box Rattle.tree_node.specs.Boxes.least_box
 cluster_margins = (refl, refl)
 
-cluster_cuts : (cut_key 2 clusters 0 Lower 2 ≡ 0 ∷ 12 ∷ 0 ∷ 2 ∷ []) × (cut_key 2 clusters 0 Lower 3 ≡ 0 ∷ 10004 ∷ 0 ∷ 3 ∷ [])
-unfolding order_of before order_key front_box back_box Rattle.tree_node.specs.Boxes.least_box Rattle.box_math.specs.Measures.overlap_of Rattle.box_math.specs.Bounds.meets_test
+cluster_cuts : (cut_key 2 clusters 0 Lower 2 ≡ 0 ∷ 12 ∷ 0 ∷ 2 ∷ [])
+    × (cut_key 2 clusters 0 Lower 3 ≡ 0 ∷ 10004 ∷ 0 ∷ 3 ∷ [])
+unfolding order_of before order_key front_box back_box Rattle.tree_node.specs.Boxes.least_box
+    Rattle.box_math.specs.Measures.overlap_of Rattle.box_math.specs.Bounds.meets_test
 cluster_cuts = (refl, refl)

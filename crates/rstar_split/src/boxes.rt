@@ -1,4 +1,5 @@
-//! The boxes of the first and of the last entries of an order, each at the place that is how many entries are first.
+//! The boxes of the first and of the last entries of an order, each at the place that is how many entries are
+//! first.
 
 ghost use Rattle.std.specs.Prelude.{◌≡◌, ℕ, ◌<◌, ◌≤◌, length, slice_index};
 ghost use Rattle.tree_node.specs.Nodes.{items_of};

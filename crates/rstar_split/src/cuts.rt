@@ -4,7 +4,8 @@ ghost use Rattle.std.specs.Prelude.{◌≡◌, ℕ, ◌+◌, ◌-◌, ◌*◌, �
 ghost use Rattle.box_math.specs.Bounds.{IsDims};
 ghost use Rattle.tree_node.specs.Nodes.{Item};
 ghost use Rattle.tree_node.specs.Keys.{AtMost};
-ghost use Rattle.rstar_split.specs.Cuts.{AreFronts, AreBacks, margins_of, cuts_of, rank_of, order_key, numbers_of};
+ghost use Rattle.rstar_split.specs.Cuts.{AreFronts, AreBacks, margins_of, cuts_of, rank_of, order_key};
+ghost use Rattle.rstar_split.specs.Cuts.{numbers_of};
 ghost use Rattle.rstar_split.specs.Cuts.{IsLeastCut};
 
 use crate::sorting::Bound;
@@ -70,7 +71,8 @@ fn cut_at<const D: usize>(
     requires within { (0 < size) × (size ≤ 100) }
     ensures bound { result.bound ≡ bound }
     ensures size { result.size ≡ size }
-    ensures key { (items : List Item) (order : List ℕ) (least most n : ℕ) → AreFronts D items order most fronts.now
+    ensures key { (items : List Item) (order : List ℕ) (least most n : ℕ) →
+        AreFronts D items order most fronts.now
         → AreBacks D items order least n backs.now → least ≤ size → size ≤ most → size < n →
         numbers_of result ≡ order_key D items order bound size }
 {

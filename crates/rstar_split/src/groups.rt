@@ -132,7 +132,8 @@ pub fn split<const D: usize>(
     ensures divided { IsDividedBySplit D m_max entries.now.items result.0.items result.1.items }
     ensures all { IsPermutation entries.now.items (result.0.items ++ result.1.items) }
     ensures whole { array_vec_len result.0 + array_vec_len result.1 ≡ m_max + 1 }
-    ensures full { (least_entries m_max ≤ array_vec_len result.0) × (least_entries m_max ≤ array_vec_len result.1) }
+    ensures full { (least_entries m_max ≤ array_vec_len result.0)
+        × (least_entries m_max ≤ array_vec_len result.1) }
 {
     let all = entries.as_slice();
     let m = (2 * m_max / 5).max(2);

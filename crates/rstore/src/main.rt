@@ -1,4 +1,5 @@
-//! The program `rstore`: `rstore [--cache N] [--create | --read-only] [FILE]` (docs/COMMANDS.md, "The program").
+//! The program `rstore`: `rstore [--cache N] [--create | --read-only] [FILE]` (docs/COMMANDS.md, "The
+//! program").
 #![tactic(auto)]
 
 use command_line::{greet, serve};
@@ -13,7 +14,8 @@ use std::{env, io};
 // What is said where the last run over a file was cut short after a closing.
 const UNENDED: &[u8] = b"rstore: the last run did not end; what it had closed is kept\n";
 
-/// Runs on the words of the command line, standard input and standard output, and ends with the status of the run.
+/// Runs on the words of the command line, standard input and standard output, and ends with the status of the
+/// run.
 fn main(rt: HostRuntime) -> ExitCode {
     match run(&rt) {
         Ok(status) => ExitCode::from(status),

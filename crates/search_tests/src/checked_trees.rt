@@ -15,8 +15,8 @@ use std::alloc::Global;
 use std::test::Fail;
 use test_caches::{Cache, cache_of};
 
-// The page of a node on the level, of entries with boxes from (x, y) to (u, v). The tags are 5 and so on; no node above
-// the leaves has them.
+// The page of a node on the level, of entries with boxes from (x, y) to (u, v). The tags are 5 and so on; no
+// node above the leaves has them.
 fn page_of(level: u8, entries: &[([i32; 4], u64)]) -> [u8; 4096] {
     let mut page = [0; 4096];
     write_head(

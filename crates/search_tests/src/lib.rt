@@ -1,5 +1,5 @@
-//! Tests of nodes as pages, and of the checks and searches of trees whose pages are written by hand: bytes, worked
-//! rows, and damaged pages.
+//! Tests of nodes as pages, and of the checks and searches of trees whose pages are written by hand: bytes,
+//! worked rows, and damaged pages.
 #![tactic(auto)]
 
 #[cfg(test)]

@@ -28,8 +28,8 @@ fn put(page: &mut [u8; 4096], at: usize, bytes: [u8; 8])
     page[at..at + 8].copy_from_slice(&bytes);
 }
 
-// The page of a node on level 3 of two entries in three dimensions, which refer to pages 3 and 2^31 - 1, written out
-// by hand. The boxes are (-2,256,-2^31) to (5,16909060,2^31-1) and the point (1,-1,3).
+// The page of a node on level 3 of two entries in three dimensions, which refer to pages 3 and 2^31 - 1,
+// written out by hand. The boxes are (-2,256,-2^31) to (5,16909060,2^31-1) and the point (1,-1,3).
 fn page_of_two_in_space() -> [u8; 4096] {
     let mut page = [0; 4096];
     page[..5].copy_from_slice(&[6, 3, 0, 2, 3]);
@@ -44,7 +44,8 @@ fn page_of_two_in_space() -> [u8; 4096] {
     page
 }
 
-// A leaf of so many entries, with references and tags at the upper end of their ranges and coordinates at both.
+// A leaf of so many entries, with references and tags at the upper end of their ranges and coordinates at
+// both.
 fn leaf_of<const D: usize>(count: u8) -> Node<D> {
     let mut entries = ArrayVec::new();
     for k in 0..count {

@@ -24,8 +24,8 @@ impl Dice {
     }
 }
 
-// A page of either kind of up to three entries in two dimensions, each head, low, high or reference of which may be
-// damaged.
+// A page of either kind of up to three entries in two dimensions, each head, low, high or reference of which
+// may be damaged.
 fn some_page(dice: &mut Dice) -> [u8; 4096] {
     let mut page = [0; 4096];
     let kind = if dice.below(2) == 0 { 2 } else { 6 };

@@ -43,7 +43,8 @@ fn write_leaf(cache: &mut Cache, page: u32, ids: &[u64]) -> Result<(), Fault>
     Err(Fault::Damaged(page))
 }
 
-// The page of a node on this level that refers to pages 3 and 4, with boxes (0,0) to (0,1) and (2,2) to (3,2).
+// The page of a node on this level that refers to pages 3 and 4, with boxes (0,0) to (0,1) and (2,2) to
+// (3,2).
 fn page_of_two(level: u8) -> [u8; 4096] {
     let mut page = [0; 4096];
     page[..5].copy_from_slice(&[6, 2, 0, 2, level]);
@@ -82,7 +83,8 @@ fn a_node_is_written_and_read(rt: HostRuntime) -> Result<(), Fail> {
     Ok(())
 }
 
-// Adds object 9 with the box (4,4) to (5,6) and the tag 8 to a leaf of fewer than three, and answers the least box round all.
+// Adds object 9 with the box (4,4) to (5,6) and the tag 8 to a leaf of fewer than three, and answers the
+// least box round all.
 fn add_to_leaf(cache: &mut Cache, page: u32) -> Result<Option<BBox<2>>, Broken>
     requires { gate_of cache.old ≡ Open }
     ensures { gate_of cache.new ≡ Open }
@@ -113,7 +115,8 @@ fn an_entry_is_added_where_there_is_room_and_an_entry(rt: HostRuntime) -> Result
     Ok(())
 }
 
-// The page of format 1 of a leaf of objects 7 and 5, at the same point, with other bytes where a page has tags.
+// The page of format 1 of a leaf of objects 7 and 5, at the same point, with other bytes where a page has
+// tags.
 fn old_leaf() -> [u8; 4096] {
     let mut page = [0; 4096];
     page[..5].copy_from_slice(&[2, 2, 0, 2, 0]);

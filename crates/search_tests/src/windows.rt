@@ -61,8 +61,8 @@ fn bounds(low: [i32; 2], high: [i32; 2]) -> Result<BBox<2>, Fault> {
     BBox::try_new(low, high).ok_or(Fault::Damaged(0))
 }
 
-// The identifiers of the answer to a question of the tree at a root, at most five of them, with a tag those of the
-// objects that have it, and how many nodes were looked at so far.
+// The identifiers of the answer to a question of the tree at a root, at most five of them, with a tag those
+// of the objects that have it, and how many nodes were looked at so far.
 fn ask(
     alloc: Global,
     cache: &mut Cache,

@@ -75,7 +75,8 @@ fn ends_where_a_write_fails(rt: HostRuntime) -> Result<(), Fail> {
     Ok(())
 }
 
-// An interrupted read is not tried again: the line after it is not read, and the lines before it are answered first.
+// An interrupted read is not tried again: the line after it is not read, and the lines before it are answered
+// first.
 #[test]
 fn ends_where_a_read_is_interrupted_once(rt: HostRuntime) -> Result<(), Fail> {
     let mut input = Parts {

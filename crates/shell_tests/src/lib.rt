@@ -1,5 +1,6 @@
-//! Tests of what no contract of the shell says: that the definitions are those of docs/COMMANDS.md, and that a run goes
-//! on while it can. `lines`, `replies` and `faults` need only the shell, `sessions` the store's commands too.
+//! Tests of what no contract of the shell says: that the definitions are those of docs/COMMANDS.md, and that
+//! a run goes on while it can. `lines`, `replies` and `faults` need only the shell, `sessions` the store's
+//! commands too.
 #![tactic(auto)]
 
 #[cfg(test)]

@@ -85,8 +85,8 @@ fn a_run_whose_last_flush_fails_did_not_go_well(rt: HostRuntime) -> Result<(), F
     Ok(())
 }
 
-// The device fails after the making of the store, in 8 calls, and the changes of the text: two for the gate, and one
-// for each page that is given out, which are root and directory of the layer and the object's bucket.
+// The device fails after the making of the store, in 8 calls, and the changes of the text: two for the gate,
+// and one for each page that is given out, which are root and directory of the layer and the object's bucket.
 #[test]
 fn a_refused_closing_is_told(rt: HostRuntime) -> Result<(), Fail> {
     let fuse = FuseDevice::new(MemoryDevice::new(rt.alloc()), 13, FuseMode::Onward);
@@ -124,7 +124,8 @@ fn a_refused_closing_is_told_before_a_failed_output(rt: HostRuntime) -> Result<(
     Ok(())
 }
 
-// A reopening of a store that is closed already reads it all the same. The device fails after the making of the store.
+// A reopening of a store that is closed already reads it all the same. The device fails after the making of
+// the store.
 #[test]
 fn a_reopening_reads_what_is_closed(rt: HostRuntime) -> Result<(), Fail> {
     let fuse = FuseDevice::new(MemoryDevice::new(rt.alloc()), 8, FuseMode::Onward);

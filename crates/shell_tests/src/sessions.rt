@@ -430,8 +430,8 @@ const ONE: &[u8] = b"ok 1\n1 0 0 9 9\n";
 // And where it has two.
 const TWO_BOXES: &[u8] = b"ok 2\n1 0 0 9 9\n2 0 0 9 9\n";
 
-// Lines, and what a window over the layer answers before each. After a reopening no page is held, so that a move wants
-// memory.
+// Lines, and what a window over the layer answers before each. After a reopening no page is held, so that a
+// move wants memory.
 fn lines() -> [Row; 14] {
     [
         (b"create a 2 4", b"fail 3 NoLayer\n"),
@@ -474,8 +474,8 @@ enum LineEnd {
     Wrong,
 }
 
-// How a line ends whose growths are refused from the kth on, after those before it: it is answered, or the table is as
-// it was, or the store has failed.
+// How a line ends whose growths are refused from the kth on, after those before it: it is answered, or the
+// table is as it was, or the store has failed.
 fn end_of(
     alloc: Global,
     heap: &Refusing<Global>,

@@ -16,7 +16,9 @@ tree : Tree
 tree = record {
   page = 5;
   level = 1;
-  row = more (child (at (pos 0) (pos 2)) 3 (more (object (at (pos 0) (pos 2), 9) 9) (more (object (at (pos 1) (pos 1), 2) 2) end)))
+  row = more
+      (child (at (pos 0) (pos 2)) 3
+      (more (object (at (pos 0) (pos 2), 9) 9) (more (object (at (pos 1) (pos 1), 2) 2) end)))
       (more (child (at (pos 10) (pos 10)) 4 (more (object (at (pos 10) (pos 10), 5) 5) end)) end);
 }
 
@@ -34,9 +36,13 @@ a_pair = refl
 
 -- of one object beside others, in their order
 others : List Item
-others = record { bounds = at (pos 2) (pos 9); reference = 7; tag = 0 } ∷ record { bounds = at (pos 4) (pos 5); reference = 3; tag = 0 } ∷ record { bounds = at (pos 1) (pos 1); reference = 2; tag = 0 } ∷ []
+others =
+    record { bounds = at (pos 2) (pos 9); reference = 7; tag = 0 }
+    ∷ record { bounds = at (pos 4) (pos 5); reference = 3; tag = 0 }
+    ∷ record { bounds = at (pos 1) (pos 1); reference = 2; tag = 0 } ∷ []
 
-of_an_object : pairs_of 2 0 others (record { bounds = at (pos 0) (pos 2); reference = 9; tag = 0 }) ≡ (9, 7) ∷ (9, 2) ∷ []
+of_an_object : pairs_of 2 0 others
+    (record { bounds = at (pos 0) (pos 2); reference = 9; tag = 0 }) ≡ (9, 7) ∷ (9, 2) ∷ []
 unfolding others at near_test
 of_an_object = refl
 

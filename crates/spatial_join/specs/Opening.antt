@@ -1,5 +1,5 @@
--- How the nodes of a pair are opened: the higher one, or both of one level (our rule, docs/FORMAT.md, "Trees of
--- pages"). A node that is not opened stands for itself, as the only entry of a node above it.
+-- How the nodes of a pair are opened: the higher one, or both of one level (our rule, docs/FORMAT.md, "Trees
+-- of pages"). A node that is not opened stands for itself, as the only entry of a node above it.
 use Rattle.std.specs.Prelude.{◌≡◌, ℕ, ◌+◌, ◌^◌, ◌<◌, nat_le, List, [], ◌∷◌, All, ⊤, Option, Some, None}
 use Rattle.std.specs.Prelude.{if◌then◌else◌}
 use Rattle.box_math.specs.Bounds.{Bounds, Within}

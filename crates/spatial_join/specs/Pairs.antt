@@ -1,6 +1,7 @@
--- The pairs of objects that a join of two trees answers (the spatial join of Brinkhoff, Kriegel and Seeger 1993 by the
--- intersection of boxes, and here by their distance; the order of the pairs is our rule, docs/FORMAT.md, "Trees of pages").
--- `limit` is the greatest squared distance that counts: at 0 boxes have to meet.
+-- The pairs of objects that a join of two trees answers (the spatial join of Brinkhoff, Kriegel and Seeger
+-- 1993 by the intersection of boxes, and here by their distance; the order of the pairs is our rule,
+-- docs/FORMAT.md, "Trees of pages"). `limit` is the greatest squared distance that counts: at 0 boxes have to
+-- meet.
 use Rattle.std.specs.Prelude.{◌≡◌, ℕ, ◌+◌, List, map, IsPermutation}
 use Rattle.std.specs.List.{filter, flat_map}
 use Rattle.std.specs.List.Sorted.{IsSorted}
@@ -15,7 +16,8 @@ use Rattle.tree_node.specs.Trees.{Row, Tree, objects_in}
 -- the pairs of identifiers of an object and each of the others whose box is that near to its box
 abbrev pub pairs_with : ℕ → ℕ → List (ℕ × Object) → ℕ × Object → List (ℕ × ℕ)
 pairs_with dims limit others object =
-    map (λ other. (object.0, other.0)) (filter (λ other. near_test dims limit (bounds_of object.1) (bounds_of other.1)) others)
+    map (λ other. (object.0, other.0))
+    (filter (λ other. near_test dims limit (bounds_of object.1) (bounds_of other.1)) others)
 
 -- the pairs of identifiers of an object of each list whose boxes are that near
 abbrev pub near_objects : ℕ → ℕ → List (ℕ × Object) → List (ℕ × Object) → List (ℕ × ℕ)
@@ -35,11 +37,13 @@ pairs_of dims limit others item =
 abbrev pub pair_cmp : ℕ × ℕ → ℕ × ℕ → Ordering
 pair_cmp p q = ordering_then (nat_cmp p.0 q.0) (nat_cmp p.1 q.1)
 
--- all ordered pairs of an object of each tree whose boxes are that near, each as often as the trees have it, in order
+-- all ordered pairs of an object of each tree whose boxes are that near, each as often as the trees have it,
+-- in order
 pub record IsJoinAnswer (dims limit : ℕ) (s t : Tree) (pairs : List (ℕ × ℕ)) : Type 0 where
   pub all : IsPermutation (near_below dims limit s.row t.row) pairs
   pub order : IsSorted pair_cmp pairs
 
 -- the pairs below two nodes are added: each sum over the pairs rises by that over theirs
 abbrev pub GainsPairs : ℕ → ℕ → Row → Row → List (ℕ × ℕ) → List (ℕ × ℕ) → Type 0
-GainsPairs dims limit s t old now = (f : ℕ × ℕ → ℕ) → total f now ≡ total f old + total f (near_below dims limit s t)
+GainsPairs dims limit s t old now = (f : ℕ × ℕ → ℕ)
+    → total f now ≡ total f old + total f (near_below dims limit s t)

@@ -19,13 +19,14 @@ use page_cache::PageCache;
 use page_file::Fault;
 use std::alloc::Allocator;
 
-/// All pairs of identifiers of an object of each tree whose boxes have at most this squared distance, by the first and
-/// then by the second. Within 0 are boxes that meet, also where they only touch. The trees may be one and the same, and
-/// their nodes may have different greatest counts of entries.
+/// All pairs of identifiers of an object of each tree whose boxes have at most this squared distance, by the
+/// first and then by the second. Within 0 are boxes that meet, also where they only touch. The trees may be
+/// one and the same, and their nodes may have different greatest counts of entries.
 ///
-/// On an honest device, where both trees stand in the pages with the shape of an R-tree, a refusal is `Memory` or
-/// `Device`, and at most two pages are looked at for the pair of roots, and for each other pair of a node of each tree
-/// whose boxes are so near. On other pages a refusal may be `Damaged` too. Map and gate stay, also after a refusal.
+/// On an honest device, where both trees stand in the pages with the shape of an R-tree, a refusal is
+/// `Memory` or `Device`, and at most two pages are looked at for the pair of roots, and for each other pair
+/// of a node of each tree whose boxes are so near. On other pages a refusal may be `Damaged` too. Map and
+/// gate stay, also after a refusal.
 pub fn join<const D: usize, B: BlockDevice, A: Allocator + Copy, H: Allocator>(
     alloc: H,
     cache: &mut PageCache<B, A>,

@@ -10,8 +10,8 @@ ghost use Rattle.spatial_join.specs.Masks.{HaveBoxes};
 
 use node_page::Node;
 
-/// The lows and the highs of a node's entries, 100 at most: a column for each axis, each number in the place of its
-/// entry.
+/// The lows and the highs of a node's entries, 100 at most: a column for each axis, each number in the place
+/// of its entry.
 pub(crate) fn columns_of<const D: usize>(node: &Node<D>) -> ([[i32; 100]; D], [[i32; 100]; D])
     requires dims { IsDims D }
     requires few { length node.now.entries.items ≤ 100 }

@@ -1,6 +1,7 @@
 //! How the nodes of a pair are opened.
 
-ghost use Rattle.std.specs.Prelude.{◌≡◌, ◌⊎◌, ◌+◌, ◌-◌, ◌<◌, ◌≤◌, ◌^◌, ℕ, Some, None, IfOk, IfErr, OnOk, length};
+ghost use Rattle.std.specs.Prelude.{◌≡◌, ◌⊎◌, ◌+◌, ◌-◌, ◌<◌, ◌≤◌, ◌^◌, ℕ, Some, None, IfOk, IfErr, OnOk};
+ghost use Rattle.std.specs.Prelude.{length};
 ghost use Rattle.box_math.specs.Bounds.{IsDims};
 ghost use Rattle.page_file.specs.Fault.{IsDamage, IsOfDevice};
 ghost use Rattle.page_cache.specs.Cache.{IsHonest, looks_of, pages};
@@ -19,8 +20,8 @@ use page_file::Fault;
 use std::alloc::Allocator;
 use tree_node::least;
 
-/// Opens a node with its box, beside one on another level: the node itself where it is no lower, in one look, and else
-/// one above it that has it as the only entry.
+/// Opens a node with its box, beside one on another level: the node itself where it is no lower, in one look,
+/// and else one above it that has it as the only entry.
 pub(crate) fn open<const D: usize, B: BlockDevice, A: Allocator + Copy>(
     cache: &mut PageCache<B, A>,
     node: Root,
@@ -46,7 +47,8 @@ pub(crate) fn open<const D: usize, B: BlockDevice, A: Allocator + Copy>(
     Ok(above::<D>(node, Some(*bounds)))
 }
 
-/// Opens a root, in one look. Its box, where the other root is higher, is that of its entries; an empty one has none.
+/// Opens a root, in one look. Its box, where the other root is higher, is that of its entries; an empty one
+/// has none.
 pub(crate) fn open_root<const D: usize, B: BlockDevice, A: Allocator + Copy>(
     cache: &mut PageCache<B, A>,
     root: Root,

@@ -1,6 +1,7 @@
 //! The descent into the pairs of nodes whose boxes are near enough.
 
-ghost use Rattle.std.specs.Prelude.{◌≡◌, ◌⊎◌, ◌↔◌, ◌+◌, ◌*◌, ◌^◌, ◌<◌, ◌≤◌, ◌++◌, ℕ, IfErr, OnOk, length, map};
+ghost use Rattle.std.specs.Prelude.{◌≡◌, ◌⊎◌, ◌↔◌, ◌+◌, ◌*◌, ◌^◌, ◌<◌, ◌≤◌, ◌++◌, ℕ, IfErr, OnOk, length};
+ghost use Rattle.std.specs.Prelude.{map};
 ghost use Rattle.box_math.specs.Bounds.{IsDims};
 ghost use Rattle.box_math.specs.Measures.{near_test};
 ghost use Rattle.page_file.specs.Fault.{IsDamage, IsOfDevice};
@@ -62,8 +63,8 @@ pub(crate) fn add_pairs<const D: usize, B: BlockDevice, A: Allocator + Copy, H: 
     Ok(())
 }
 
-// Appends the pairs of objects below an entry of a node of that level and below those of the right node that the mask
-// names, whose boxes are in its reach. The node below the entry is opened once for all of them.
+// Appends the pairs of objects below an entry of a node of that level and below those of the right node that
+// the mask names, whose boxes are in its reach. The node below the entry is opened once for all of them.
 #[cycle(descent)]
 fn add_pairs_of_entry<const D: usize, B: BlockDevice, A: Allocator + Copy, H: Allocator>(
     cache: &mut PageCache<B, A>,
@@ -83,14 +84,17 @@ fn add_pairs_of_entry<const D: usize, B: BlockDevice, A: Allocator + Copy, H: Al
     requires mask { Tells (near_test D reach.limit (item_of entry.now).bounds) mask
         (map item_of right.now.entries.items) }
     ensures asks { Asks cache.old cache.new result }
-    ensures pairs { IsHonest cache.old → (s t : Row) → HasRow D (pages cache.old) (sole level (item_of entry.now)) s
+    ensures pairs { IsHonest cache.old → (s t : Row) →
+        HasRow D (pages cache.old) (sole level (item_of entry.now)) s
         → HasRow D (pages cache.old) (content_of right.now) t → Encloses D s → Encloses D t
         → OnOk result (GainsPairs D reach.limit s t pairs.old.items pairs.new.items) }
-    ensures looks { IsHonest cache.old → (s t : Row) → HasRow D (pages cache.old) (sole level (item_of entry.now)) s
+    ensures looks { IsHonest cache.old → (s t : Row) →
+        HasRow D (pages cache.old) (sole level (item_of entry.now)) s
         → HasRow D (pages cache.old) (content_of right.now) t
         → OnOk result (looks_of cache.new
         ≤ looks_of cache.old + 2 * near_pairs D reach.limit (boxes_below s) (boxes_below t)) }
-    ensures stands { IsHonest cache.old → (s t : Row) → HasRow D (pages cache.old) (sole level (item_of entry.now)) s
+    ensures stands { IsHonest cache.old → (s t : Row) →
+        HasRow D (pages cache.old) (sole level (item_of entry.now)) s
         → HasRow D (pages cache.old) (content_of right.now) t → IfErr result IsOfDevice }
     ensures other_faults { IfErr result (λ f. IsOfDevice f ⊎ IsDamage f) }
 {
@@ -116,7 +120,8 @@ fn add_pairs_of_entry<const D: usize, B: BlockDevice, A: Allocator + Copy, H: Al
     Ok(())
 }
 
-// Appends the pairs of an object and those of the right leaf that the mask names, whose boxes are in its reach.
+// Appends the pairs of an object and those of the right leaf that the mask names, whose boxes are in its
+// reach.
 fn push_pairs<const D: usize, H: Allocator>(
     entry: &Entry<D>,
     right: &Node<D>,
@@ -128,7 +133,8 @@ fn push_pairs<const D: usize, H: Allocator>(
     requires mask { Tells (near_test D reach.limit (item_of entry.now).bounds) mask
         (map item_of right.now.entries.items) }
     ensures pairs { OnOk result (pairs.new.items
-        ≡ pairs.old.items ++ pairs_of D reach.limit (map item_of right.now.entries.items) (item_of entry.now)) }
+        ≡ pairs.old.items ++ pairs_of D reach.limit (map item_of right.now.entries.items)
+        (item_of entry.now)) }
     ensures memory { IfErr result (λ f. f ≡ fault.Memory) }
 {
     let mut from = 0;

@@ -12,8 +12,8 @@ use crate::columns::next_place;
 use box_math::{BBox, meet_mask};
 use node_page::Node;
 
-/// The greatest squared distance of two boxes that are paired, and its root: each gap between such boxes is at most
-/// that, so that a box that is widened by it meets them all.
+/// The greatest squared distance of two boxes that are paired, and its root: each gap between such boxes is
+/// at most that, so that a box that is widened by it meets them all.
 #[derive(Clone, Copy)]
 pub(crate) struct Reach {
     pub(crate) limit: u64,

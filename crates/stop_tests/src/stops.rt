@@ -1,5 +1,5 @@
-//! A store over a base and its journal in memory that is stopped at each call: within opening, changes, closings and
-//! the clean end. What is left is opened, and has a table that was closed.
+//! A store over a base and its journal in memory that is stopped at each call: within opening, changes,
+//! closings and the clean end. What is left is opened, and has a table that was closed.
 ghost use Rattle.std.specs.Prelude.{◌≡◌, ◌<◌, ◌-◌, ◌^◌, length};
 
 use block_device::{BlockDevice, FuseMode, Left, MemoryDevice};
@@ -60,8 +60,8 @@ fn ended(device: Device) -> (MemoryPair, bool) {
     (pair.into_inner(), done)
 }
 
-// Inserts boxes up to this one, each before a closing. Tells the last whose closing was begun, and the last whose
-// closing was finished.
+// Inserts boxes up to this one, each before a closing. Tells the last whose closing was begun, and the last
+// whose closing was finished.
 fn grown<D: BlockDevice>(store: &mut Store<D, Global>, from: u64, to: u64) -> (u64, u64) {
     for id in from..to {
         if store.insert(b"a", id, BOX, 0).is_err() {
@@ -116,8 +116,8 @@ fn worked<D: BlockDevice>(alloc: Global, device: D) -> (D, (u64, u64)) {
     }
 }
 
-// What a run left that was stopped: the pair, the last table whose closing was begun and was finished, by its boxes,
-// and whether it came to its end.
+// What a run left that was stopped: the pair, the last table whose closing was begun and was finished, by its
+// boxes, and whether it came to its end.
 #[derive(Drop)]
 struct Stopped {
     pair: MemoryPair,

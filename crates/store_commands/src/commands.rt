@@ -81,8 +81,8 @@ impl Command<'_> {
     }
 }
 
-/// The numbers of an answer's rows, one after the other: a count, or identifiers with bounds, squared distances or
-/// other identifiers, or the bytes of names with numbers. A change has none.
+/// The numbers of an answer's rows, one after the other: a count, or identifiers with bounds, squared
+/// distances or other identifiers, or the bytes of names with numbers. A change has none.
 pub type Answer = Result<Vec<i128>, Refusal>;
 
 /// Puts the command to a store.
@@ -112,7 +112,8 @@ pub fn answer_all<D: BlockDevice, A: Allocator + Copy + Drop>(
     Ok(())
 }
 
-// Puts a change to a store. Here and below the other commands are named too, so that no new one is passed over.
+// Puts a change to a store. Here and below the other commands are named too, so that no new one is passed
+// over.
 fn change<D: BlockDevice, A: Allocator + Copy + Drop>(
     store: &mut Store<D, A>,
     change: Command<'_>,
@@ -196,7 +197,8 @@ pub fn listed(alloc: Global, table: &mut ListTable<Global>, command: Command<'_>
     Ok(Vec::new(alloc))
 }
 
-// Puts a question to the plain list. A check and a closing find nothing to do, and changes have been made before.
+// Puts a question to the plain list. A check and a closing find nothing to do, and changes have been made
+// before.
 fn list_answer(alloc: Global, table: &ListTable<Global>, question: Command<'_>) -> Answer {
     let mut numbers = Vec::new(alloc);
     match question {
@@ -340,9 +342,9 @@ fn push_dump(numbers: &mut Vec<i128>, rows: &[DumpRow]) -> Result<(), AllocError
     Ok(())
 }
 
-/// Whether the store's pages are as they have to be, and it has the layers and objects that the plain list has: by a
-/// dump, and the objects of the layers of these names by windows, those with an identifier below a bound by their
-/// identifier tables too, and their counts.
+/// Whether the store's pages are as they have to be, and it has the layers and objects that the plain list
+/// has: by a dump, and the objects of the layers of these names by windows, those with an identifier below a
+/// bound by their identifier tables too, and their counts.
 pub fn represents<D: BlockDevice, A: Allocator + Copy + Drop>(
     alloc: Global,
     store: &mut Store<D, A>,

@@ -1,4 +1,5 @@
-//! Commands as plain data, put to a store and to the plain list, and worked scenes, for the tests of the store.
+//! Commands as plain data, put to a store and to the plain list, and worked scenes, for the tests of the
+//! store.
 #![tactic(auto)]
 
 mod commands;

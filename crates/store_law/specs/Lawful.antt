@@ -1,5 +1,6 @@
--- What a request may be answered, and in which state it may leave a store.
--- A store answers as the plain table does; only want of memory or a fault of the device may refuse a command instead. Our rule, docs/COMMANDS.md.
+-- What a request may be answered, and in which state it may leave a store. A store answers as the plain table
+-- does; only want of memory or a fault of the device may refuse a command instead. Our rule,
+-- docs/COMMANDS.md.
 use Rattle.std.specs.Prelude.{◌≡◌, ◌⊎◌, Bool, true, false, ◌==◌}
 use Rattle.plain_table.specs.Commands.{Command, MayGiveUp}
 use Rattle.plain_table.specs.Commands.Command.{Reopen}

@@ -8,7 +8,8 @@ use Rattle.store_law.specs.States.{Request, StoreState}
 use Rattle.store_law.specs.States.StoreState.{Alive}
 use Rattle.store_law.specs.Stops.{Stops, after_request}
 
--- What is known of a store between two requests: its state, what stops leave, and how often the device has failed so far.
+-- What is known of a store between two requests: its state, what stops leave, and how often the device has
+-- failed so far.
 pub record SessionState : Type 0 where
   pub state : StoreState
   pub stops : Stops
@@ -18,7 +19,8 @@ pub record SessionState : Type 0 where
 abbrev pub LawfulAnswer : SessionState → Request → Answer → SessionState → Type 0
 LawfulAnswer old r a new = Lawful (HasRisen old.faults new.faults) old.state r a new.state
 
--- One request answered lawfully, and what stops leave after it. How often the device has failed does not fall.
+-- One request answered lawfully, and what stops leave after it. How often the device has failed does not
+-- fall.
 pub record LawfulStep (old : SessionState) (r : Request) (a : Answer) (new : SessionState) : Type 0 where
   pub answer : LawfulAnswer old r a new
   pub stops : new.stops ≡ after_request old.state old.stops r a

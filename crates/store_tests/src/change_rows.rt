@@ -1,5 +1,5 @@
-//! Worked rows of loads, moves, removals, joins and listings: small scenes, with the answers to questions, and how many
-//! nodes these look at.
+//! Worked rows of loads, moves, removals, joins and listings: small scenes, with the answers to questions,
+//! and how many nodes these look at.
 
 use crate::rows::ask_thrice;
 use block_device::BlockDevice;

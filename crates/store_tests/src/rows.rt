@@ -1,5 +1,5 @@
-//! Worked rows: small scenes with the answers to questions and how many nodes these look at, which stay after a
-//! reopening, and after a closing and an opening.
+//! Worked rows: small scenes with the answers to questions and how many nodes these look at, which stay after
+//! a reopening, and after a closing and an opening.
 
 use block_device::{BlockDevice, MemoryDevice};
 use layer_store::{RawBox, RawPoint, RawQuery, Refusal, Store};
@@ -64,7 +64,8 @@ const EXTREMES: Scene = Scene {
     ],
 };
 
-// The second overflow, which splits the leaf to which object 1 comes back: the leaves are {1,2}, {3,4,5} and {7,8,6}.
+// The second overflow, which splits the leaf to which object 1 comes back: the leaves are {1,2}, {3,4,5} and
+// {7,8,6}.
 const SECOND_OVERFLOW: Scene = Scene {
     made: &[
         Command::Create(b"l", 2, 4),
@@ -237,7 +238,8 @@ fn ask(rt: &impl Abort, alloc: Global, store: &mut Store<MemoryDevice>, asked: &
     }
 }
 
-/// Asks now, after a reopening, and after a closing and an opening. Closings after the first one write nothing.
+/// Asks now, after a reopening, and after a closing and an opening. Closings after the first one write
+/// nothing.
 pub fn ask_thrice(
     rt: &impl Abort,
     alloc: Global,

@@ -87,7 +87,8 @@ fn any_objects(dice: &mut Dice, alloc: Global, place: usize) -> Result<Vec<Objec
     Ok(objects)
 }
 
-// A change of one of the layers: `a` has two axes, and the others mostly have three. Seldom a box does not fit.
+// A change of one of the layers: `a` has two axes, and the others mostly have three. Seldom a box does not
+// fit.
 fn any_change(dice: &mut Dice, place: usize) -> Command<'static>
     requires { place < 8 }
 {

@@ -17,6 +17,7 @@ pub struct TitledPair<P: DevicePair> {
     first: Snapshots<P, u32>,
     ghost room: { P.honest pair → HasRoom (P.may_leave pair) } by { λ p q i h.
         room_is_fact (P.may_leave pair) (p h) (q h) i },
-    ghost titled: { P.honest pair → StaysTitled P.journal P.moment P.left_since first.taken pair } by { λ p q i h.
-        stays_is_fact P.journal P.moment P.left_since first.taken pair (p h) (q h) i },
+    ghost titled: { P.honest pair →
+        StaysTitled P.journal P.moment P.left_since first.taken pair } by { λ p q i h.
+            stays_is_fact P.journal P.moment P.left_since first.taken pair (p h) (q h) i },
 }

@@ -4,7 +4,8 @@ ghost use Rattle.block_bytes.specs.Numbers.{zeros};
 ghost use Rattle.block_device.specs.Device.{Blocks, Counts, block_at};
 ghost use Rattle.device_pair.specs.Pairs.{PairLeaves};
 ghost use Rattle.titled_pair.specs.Calls.{IsQuiet, LeavesItsBase};
-ghost use Rattle.titled_pair.specs.Title.{end_of, end_text, header_in, reads_title, title_of, title_text, with_text};
+ghost use Rattle.titled_pair.specs.Title.{end_of, end_text, header_in, reads_title, title_of, title_text};
+ghost use Rattle.titled_pair.specs.Title.{with_text};
 
 use block_bytes::{read_u64, write_u64, zero_block};
 use block_device::DeviceError;
@@ -44,8 +45,8 @@ fn read_header<P: DevicePair>(pair: &mut P) -> Result<[u8; 4096], DeviceError>
     Ok(header)
 }
 
-/// The title that a journal of the base has: the text `RSTARTTL`, and behind it the bytes of block 1 of the base, zeros
-/// where there is none. It fails where the device does.
+/// The title that a journal of the base has: the text `RSTARTTL`, and behind it the bytes of block 1 of the
+/// base, zeros where there is none. It fails where the device does.
 pub fn title_of_base<P: DevicePair>(pair: &mut P) -> Result<[u8; 4096], DeviceError>
     ensures is { P.honest pair.old → IfOk result (λ page. page ≡ title_of (P.base pair.old)) }
     ensures quiet { P.honest pair.old → IsQuiet P.DevicePair pair.old pair.new }
@@ -56,7 +57,8 @@ pub fn title_of_base<P: DevicePair>(pair: &mut P) -> Result<[u8; 4096], DeviceEr
     Ok(text_page(TITLE_TEXT, &header))
 }
 
-/// The end that a journal of the base has when its session has ended: the text `RSTAREND`, and the same bytes.
+/// The end that a journal of the base has when its session has ended: the text `RSTAREND`, and the same
+/// bytes.
 pub fn end_of_base<P: DevicePair>(pair: &mut P) -> Result<[u8; 4096], DeviceError>
     ensures is { P.honest pair.old → IfOk result (λ page. page ≡ end_of (P.base pair.old)) }
     ensures quiet { P.honest pair.old → IsQuiet P.DevicePair pair.old pair.new }
@@ -78,7 +80,8 @@ pub fn is_title(page: &[u8; 4096]) -> bool
 pub fn make_title<P: DevicePair>(pair: &mut P) -> Result<(), DeviceError>
     requires none { length (P.journal pair.old) ≡ 0 }
     ensures base { P.honest pair.old → P.base pair.new ≡ P.base pair.old }
-    ensures title { P.honest pair.old → OnOk result (block_at 0 (P.journal pair.new) ≡ title_of (P.base pair.old)) }
+    ensures title { P.honest pair.old →
+        OnOk result (block_at 0 (P.journal pair.new) ≡ title_of (P.base pair.old)) }
     ensures room { P.honest pair.old → OnOk result (length (P.journal pair.new) ≡ 2) }
     ensures stops { P.honest pair.old →
         PairLeaves P.moment P.left_since pair.old pair.new (LeavesItsBase (P.may_leave pair.old)) }

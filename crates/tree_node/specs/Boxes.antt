@@ -29,4 +29,5 @@ least_box dims (item ∷ items) = box_round dims item.bounds items
 abbrev pub RowHasBoxes : ℕ → Row → Type 0
 RowHasBoxes dims end = ⊤
 RowHasBoxes dims (more (object kept id) rest) = IsBox dims (bounds_of kept) × RowHasBoxes dims rest
-RowHasBoxes dims (more (child bounds page below) rest) = IsBox dims bounds × RowHasBoxes dims below × RowHasBoxes dims rest
+RowHasBoxes dims (more (child bounds page below) rest) = IsBox dims bounds × RowHasBoxes dims below
+    × RowHasBoxes dims rest

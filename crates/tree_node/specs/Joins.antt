@@ -1,5 +1,5 @@
--- The pairs of nodes that a join of two trees has to look at (the spatial join of Brinkhoff, Kriegel and Seeger 1993; which pairs
--- are admitted is our rule, docs/FORMAT.md, "Trees of pages").
+-- The pairs of nodes that a join of two trees has to look at (the spatial join of Brinkhoff, Kriegel and
+-- Seeger 1993; which pairs are admitted is our rule, docs/FORMAT.md, "Trees of pages").
 use Rattle.std.specs.Prelude.{ℕ, ◌+◌, Bool, if◌then◌else◌, List, [], ◌∷◌, ◌++◌}
 use Rattle.box_math.specs.Bounds.{Bounds}
 use Rattle.box_math.specs.Measures.{near_test}
@@ -26,9 +26,10 @@ count_passing test boxes = total (λ b. if test b then 1 else 0) boxes
 abbrev pub near_pairs : ℕ → ℕ → List Bounds → List Bounds → ℕ
 near_pairs dims within boxes others = total (λ b. count_passing (near_test dims within b) others) boxes
 
--- the pairs that a join within that squared distance admits: the two roots, and each other pair of a node of each tree
--- whose boxes are that near
+-- the pairs that a join within that squared distance admits: the two roots, and each other pair of a node of
+-- each tree whose boxes are that near
 abbrev pub admitted_pairs : ℕ → ℕ → Tree → Tree → ℕ
 admitted_pairs dims within s t =
-    1 + near_pairs dims within (root_box dims s.row) (boxes_below t.row) + near_pairs dims within (boxes_below s.row) (root_box dims t.row)
+    1 + near_pairs dims within (root_box dims s.row) (boxes_below t.row) + near_pairs dims within
+    (boxes_below s.row) (root_box dims t.row)
     + near_pairs dims within (boxes_below s.row) (boxes_below t.row)

@@ -4,7 +4,8 @@ use Rattle.box_math.specs.Bounds.{Bounds}
 use Rattle.tree_node.specs.declared.node.Entry.{Entry}
 use Rattle.tree_node.specs.declared.node.Node.{Node}
 
--- an entry: a box, the identifier of an object or the page of a child, and the tag of the object, 0 for a child
+-- an entry: a box, the identifier of an object or the page of a child, and the tag of the object, 0 for a
+-- child
 pub record Item : Type 0 where
   pub bounds : Bounds
   pub reference : ℕ

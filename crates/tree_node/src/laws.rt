@@ -12,8 +12,8 @@ pub fn a_node_has_one_least_box()
     ensures joined { JoinIsLeastBox }
 {}
 
-/// The nodes that a search admits are the root and those of which a box passes its test. Under the shape of a tree they
-/// are just those that are reached through such boxes.
+/// The nodes that a search admits are the root and those of which a box passes its test. Under the shape of a
+/// tree they are just those that are reached through such boxes.
 #[tactic(auto, using(crate::proofs::SearchLemmas::search_laws, crate::proofs::JoinLemmas::join_laws))]
 pub fn admitted_nodes_are_reached()
     ensures counted { AdmittedAreCounted }

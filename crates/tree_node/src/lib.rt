@@ -1,6 +1,6 @@
-//! Trees of nodes as values: nodes and their entries, rows of a tree with what lies below them, the shape of a tree,
-//! what a search of it finds, and the words of rules that choose among entries. Nothing here speaks of bytes, or of
-//! pages that are read.
+//! Trees of nodes as values: nodes and their entries, rows of a tree with what lies below them, the shape of
+//! a tree, what a search of it finds, and the words of rules that choose among entries. Nothing here speaks
+//! of bytes, or of pages that are read.
 #![tactic(auto)]
 
 mod entries;

@@ -3,7 +3,8 @@
 use arrayvec::ArrayVec;
 use box_math::BBox;
 
-/// A box and what it stands for: on level 0 an object, with its identifier and its tag, above it the page of a child.
+/// A box and what it stands for: on level 0 an object, with its identifier and its tag, above it the page of
+/// a child.
 #[derive(Clone, Copy, PartialEq, Eq, Debug, Default)]
 pub struct Entry<const D: usize> {
     /// The box of the object, or one that encloses all boxes of the child.
@@ -19,8 +20,8 @@ pub struct Entry<const D: usize> {
 pub struct Node<const D: usize> {
     /// How many levels lie below the node.
     pub level: u8,
-    /// The entries by place. A page has at most 100 of them: there is room for one more, with which an overfull
-    /// node stands here before it is split.
+    /// The entries by place. A page has at most 100 of them: there is room for one more, with which an
+    /// overfull node stands here before it is split.
     pub entries: ArrayVec<Entry<D>, 101>,
 }
 

@@ -1,4 +1,5 @@
-//! Many boxes inserted one after the other: the tree is checked on the way, and answers windows as a plain filter does.
+//! Many boxes inserted one after the other: the tree is checked on the way, and answers windows as a plain
+//! filter does.
 
 ghost use Rattle.std.specs.Prelude.{◌≤◌};
 

@@ -1,4 +1,5 @@
-//! Many boxes loaded at once: the tree is checked, and answers each range query as a plain filter of the list does.
+//! Many boxes loaded at once: the tree is checked, and answers each range query as a plain filter of the list
+//! does.
 
 ghost use Rattle.std.specs.Prelude.{◌≤◌};
 
@@ -12,8 +13,8 @@ use std::process::Abort;
 use std::test::Fail;
 use test_caches::{Cache, bare};
 
-// A window, a box to lie in, a box to be around, or a point, by turns. The last two are a box of the list and its
-// lowest point.
+// A window, a box to lie in, a box to be around, or a point, by turns. The last two are a box of the list and
+// its lowest point.
 fn ask(dice: &mut Dice, spread: Spread, turn: u32, objects: &[Entry<2>]) -> Asked<2> {
     let near = match objects.get((turn as usize).wrapping_mul(331)) {
         Some(object) => object.bounds,

@@ -1,5 +1,5 @@
-//! Growths and calls of the device refused in turn: an insertion, a removal and the freeing of a tree say why they
-//! broke off, and leave the tree as it was where they say that no page was touched.
+//! Growths and calls of the device refused in turn: an insertion, a removal and the freeing of a tree say why
+//! they broke off, and leave the tree as it was where they say that no page was touched.
 
 ghost use Rattle.std.specs.Prelude.{◌≡◌};
 ghost use Rattle.page_cache.specs.Cache.{gate_of};
@@ -101,8 +101,8 @@ impl Refusals {
     }
 }
 
-// The refusals until the call is made, where all growths from the first on are refused, then all from the second on,
-// and so on; or `None` if one is not as it must be.
+// The refusals until the call is made, where all growths from the first on are refused, then all from the
+// second on, and so on; or `None` if one is not as it must be.
 fn refused_growths(alloc: Global, call: Call) -> Result<Option<Refusals>, Fault> {
     let heap = Refusing::new(alloc);
     let mut refusals = Refusals {

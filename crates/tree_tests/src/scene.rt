@@ -218,7 +218,8 @@ pub fn point(reference: u64, x: i32, y: i32) -> Entry<2> {
     object(reference, [x, y, x, y])
 }
 
-/// Five points on a line, of which all ties are equal: four to a node they stand in leaves {1, 2} and {3, 4, 5}.
+/// Five points on a line, of which all ties are equal: four to a node they stand in leaves {1, 2} and {3, 4,
+/// 5}.
 pub fn line() -> [Entry<2>; 5] {
     [
         point(1, 0, 0),

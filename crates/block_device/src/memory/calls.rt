@@ -1,9 +1,12 @@
 //! The calls of a device in memory.
-ghost use Rattle.std.specs.Prelude.{false, true, slice_index_or, IsOk, ◌≡◌, ◌<◌, [], length, OnOk, OnErr, IsErrOf};
+ghost use Rattle.std.specs.Prelude.{false, true, slice_index_or, IsOk, ◌≡◌, ◌<◌, [], length, OnOk, OnErr};
+ghost use Rattle.std.specs.Prelude.{IsErrOf};
 ghost use Rattle.block_device.specs.Kept.{Keeps};
-ghost use Rattle.block_device.specs.Memory.{shown_of, history_of, writes_of, may_leave_of, moment_of, left_since_of};
+ghost use Rattle.block_device.specs.Memory.{shown_of, history_of, writes_of, may_leave_of, moment_of};
+ghost use Rattle.block_device.specs.Memory.{left_since_of};
 ghost use Rattle.block_device.specs.Memory.{AnswersRead, AnswersWrite, AnswersSync};
-ghost use Rattle.block_device.specs.Outcomes.{shown_left, no_longer_left, now_since, since_now, since_earlier_left};
+ghost use Rattle.block_device.specs.Outcomes.{shown_left, no_longer_left, now_since, since_now};
+ghost use Rattle.block_device.specs.Outcomes.{since_earlier_left};
 ghost use Rattle.block_device.specs.Outcomes.{none_fits};
 
 use crate::append::append;
@@ -103,7 +106,8 @@ impl<A: Allocator + Copy> BlockDevice for MemoryDevice<A> {
 
     ghost only_now = { λ d c _ left. since_now (shown_of d) (history_of d) c left };
 
-    ghost since_earlier = { λ d t u c _ le left. since_earlier_left (shown_of d) (history_of d) t u c le left };
+    ghost since_earlier = { λ d t u c _ le left.
+        since_earlier_left (shown_of d) (history_of d) t u c le left };
 
     ghost brought_now = { λ d c _ found. absurd found };
 

@@ -1,6 +1,7 @@
 //! What is kept: taken, added to, and begun anew.
 
-ghost use Rattle.std.specs.Prelude.{◌≡◌, ◌+◌, ◌≤◌, ◌<◌, ◌++◌, ◌∷◌, [], All, map, reverse, IsNone, IfSome, IfErr};
+ghost use Rattle.std.specs.Prelude.{◌≡◌, ◌+◌, ◌≤◌, ◌<◌, ◌++◌, ◌∷◌, [], All, map, reverse, IsNone, IfSome};
+ghost use Rattle.std.specs.Prelude.{IfErr};
 ghost use Rattle.arrayvec.specs.ArrayVec.{array_vec_len};
 ghost use Rattle.page_file.specs.declared.fault.Fault.TheVariants as fault;
 ghost use Rattle.node_page.specs.Layout.{IsOfLevel};
@@ -14,7 +15,8 @@ use std::alloc::Allocator;
 use tree_node::Entry;
 
 impl<const D: usize> Kept<D> {
-    /// Takes the memory for all that removals keep, at once: a box in which nothing is kept. A refusal is `Memory`.
+    /// Takes the memory for all that removals keep, at once: a box in which nothing is kept. A refusal is
+    /// `Memory`.
     pub fn make<H: Allocator>(alloc: H) -> Result<Box<Kept<D>, H>, Fault>
         ensures { IfErr result (λ f. f ≡ fault.Memory) }
     {
@@ -45,8 +47,10 @@ impl<const D: usize> Kept<D> {
     pub(crate) fn keep(&mut self, entries: &ArrayVec<Entry<D>, 101>, level: u8)
         requires room { array_vec_len self.old.orphans + array_vec_len entries.now ≤ 1560 }
         requires refers { All (λ e. IsOfLevel level e.reference e.tag) entries.now.items }
-        ensures held { held_now self.new ≡ held_now self.old ++ reverse (map (held_with level) entries.now.items) }
-        ensures len { array_vec_len self.new.orphans ≡ array_vec_len self.old.orphans + array_vec_len entries.now }
+        ensures held { held_now self.new
+            ≡ held_now self.old ++ reverse (map (held_with level) entries.now.items) }
+        ensures len { array_vec_len self.new.orphans
+            ≡ array_vec_len self.old.orphans + array_vec_len entries.now }
     {
         for passed in 0..entries.len() {
             let entry = entries[entries.len() - 1 - passed];

@@ -107,8 +107,8 @@ fn remove_all(cache: &mut Cache, table: u32, plain: &mut Plain, ids: &[u64]) -> 
     Ok(())
 }
 
-// How many objects of the table are in the plain map, and how many pages it has; a table that does not stand is
-// refused.
+// How many objects of the table are in the plain map, and how many pages it has; a table that does not stand
+// is refused.
 fn count_checked(
     alloc: Global,
     cache: &mut Cache,

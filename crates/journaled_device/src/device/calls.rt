@@ -1,10 +1,13 @@
 //! The calls of a device over a base and its journal.
 ghost use Rattle.journaled_device.specs.CommitLaws.{begins, few_shown};
-ghost use Rattle.journaled_device.specs.DeviceLaws.{committed_of, counts_now_of, only_now_of, pair_left, shown_counts_of};
+ghost use Rattle.journaled_device.specs.DeviceLaws.{committed_of, counts_now_of, only_now_of, pair_left};
+ghost use Rattle.journaled_device.specs.DeviceLaws.{shown_counts_of};
 ghost use Rattle.journaled_device.specs.DeviceLaws.{since_earlier_of};
-ghost use Rattle.journaled_device.specs.Journaled.{events_of, inner_of, left_since_of, may_leave_of, moment_of, pair_of};
+ghost use Rattle.journaled_device.specs.Journaled.{events_of, inner_of, left_since_of, may_leave_of};
+ghost use Rattle.journaled_device.specs.Journaled.{moment_of, pair_of};
 ghost use Rattle.journaled_device.specs.Journaled.{recovery_of};
-ghost use Rattle.journaled_device.specs.Standing.{base_of, homes_of, journal_of, shown_of, IsHonest, IsSettled};
+ghost use Rattle.journaled_device.specs.Standing.{base_of, homes_of, journal_of, shown_of, IsHonest};
+ghost use Rattle.journaled_device.specs.Standing.{IsSettled};
 ghost use Rattle.page_file.specs.Opening.{failed_check};
 ghost use Rattle.std.specs.Prelude.{◌≡◌, None, OnOk};
 ghost use Rattle.block_device.specs.Outcomes.{no_longer_left};
@@ -49,7 +52,8 @@ impl<P: DevicePair, A: Allocator + Copy> BlockDevice for JournaledDevice<P, A> {
         self.make_last()
     }
 
-    ghost few_blocks = { λ d. few_shown (homes_of (inner_of d)) (journal_of (inner_of d)) (base_of (inner_of d))
+    ghost few_blocks = { λ d.
+        few_shown (homes_of (inner_of d)) (journal_of (inner_of d)) (base_of (inner_of d))
         (P.few_blocks (pair_of d)).0 };
 
     ghost shown_counts = { λ d h. shown_counts_of d h };

@@ -11,7 +11,8 @@ use device_pair::DevicePair;
 use std::alloc::Allocator;
 
 impl<P: DevicePair, A: Allocator + Copy> JournaledDevice<P, A> {
-    // Writes a block. A refused one may hold anything, so it is noted too, unless it was to be appended and was not.
+    // Writes a block. A refused one may hold anything, so it is noted too, unless it was to be appended and
+    // was not.
     pub(crate) fn put(&mut self, i: u32, bytes: &[u8; 4096]) -> Result<(), DeviceError>
         requires within { i ≤ length (shown_of (inner_of self.old)) }
         requires small { i < 2 ^ 31 }

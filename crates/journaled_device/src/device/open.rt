@@ -14,11 +14,11 @@ use device_pair::{DevicePair, Snapshots};
 use std::alloc::Allocator;
 
 impl<P: DevicePair, A: Allocator + Copy> JournaledDevice<P, A> {
-    /// Opens a base and its journal, which may be empty, and finishes a commit that was cut short. It may be cut short
-    /// itself, at any moment.
+    /// Opens a base and its journal, which may be empty, and finishes a commit that was cut short. It may be
+    /// cut short itself, at any moment.
     ///
-    /// What is then read is what recovery makes of base and journal as they were read. It is the one commit, and as a
-    /// plain disk all of it is synced.
+    /// What is then read is what recovery makes of base and journal as they were read. It is the one commit,
+    /// and as a plain disk all of it is synced.
     pub fn open(pair: P, alloc: A) -> Result<JournaledDevice<P, A>, (OpenFault, P)>
         ensures shown { IfOk result (λ d. P.honest pair →
             shown_of (inner_of d) ≡ recovered (P.base pair) (P.journal pair)) }
@@ -27,7 +27,8 @@ impl<P: DevicePair, A: Allocator + Copy> JournaledDevice<P, A> {
         ensures synced { IfOk result (λ d. events_of d ≡ []) }
         ensures moment { IfOk result (λ d. moment_of d ≡ P.moment (pair_of d)) }
 
-        // A stop leaves what one before the call might have left, or what recovers to blocks that begin with these.
+        // A stop leaves what one before the call might have left, or what recovers to blocks that begin with
+        // these.
         ensures stops { IfOk result (λ d. P.honest pair →
             PairLeaves P.moment P.left_since pair (pair_of d)
             (LeavesOr (P.may_leave pair) (recovered (P.base pair) (P.journal pair)))) }

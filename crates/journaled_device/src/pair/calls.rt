@@ -4,7 +4,8 @@ ghost use Rattle.block_device.specs.Device.{Blocks, Counts, Torn, block_at, writ
 ghost use Rattle.device_pair.specs.Pairs.{PairElapses, PairsNoMore};
 ghost use Rattle.journaled_device.specs.Calls.{IsStill};
 ghost use Rattle.journaled_device.specs.Commits.{CommitsNoMore, Either, OrNew};
-ghost use Rattle.journaled_device.specs.Standing.{base_of, commits_of, homes_of, journal_of, kept_of, pair_of, shown_of};
+ghost use Rattle.journaled_device.specs.Standing.{base_of, commits_of, homes_of, journal_of, kept_of};
+ghost use Rattle.journaled_device.specs.Standing.{pair_of, shown_of};
 ghost use Rattle.journaled_device.specs.Standing.{stage_of, IsHonest, IsSettled, KeepsTo, SameSlots};
 
 use crate::pair::JournaledPair;
@@ -31,7 +32,8 @@ impl<P: DevicePair, A: Allocator + Copy> JournaledPair<P, A> {
         ensures stops { IsHonest self.old →
             PairsNoMore (P.may_leave (pair_of self.old)) (P.may_leave (pair_of self.new)) }
         ensures time { IsHonest self.old →
-            PairElapses (P.moment (pair_of self.old)) (P.moment (pair_of self.new)) (P.left_since (pair_of self.old))
+            PairElapses (P.moment (pair_of self.old)) (P.moment (pair_of self.new))
+            (P.left_since (pair_of self.old))
             (P.left_since (pair_of self.new)) (P.may_leave (pair_of self.new)) }
         ensures honest { IsHonest self.old ↔ IsHonest self.new }
         ensures faults { Counts (P.faults (pair_of self.old)) (P.faults (pair_of self.new)) result }

@@ -1,13 +1,16 @@
 //! A commit, from the journal as it is synced to the base as it is synced.
-ghost use Rattle.std.specs.Prelude.{◌≡◌, ◌≤◌, ◌<◌, ◌+◌, ◌^◌, ◌↔◌, ◌⊎◌, [], length, set, slice_index, ℕ, OnOk, OnErr};
+ghost use Rattle.std.specs.Prelude.{◌≡◌, ◌≤◌, ◌<◌, ◌+◌, ◌^◌, ◌↔◌, ◌⊎◌, [], length, set, slice_index, ℕ, OnOk};
+ghost use Rattle.std.specs.Prelude.{OnErr};
 ghost use Rattle.block_device.specs.Device.{Blocks, Torn, Counts, block_at, written};
 ghost use Rattle.journaled_device.specs.Commits.{CommitsNoMore, Either, OrNew};
 ghost use Rattle.device_pair.specs.Pairs.{PairElapses, PairsNoMore};
 ghost use Rattle.journaled_device.specs.Journal.{gate_block};
-ghost use Rattle.journaled_device.specs.Standing.{base_of, journal_of, homes_of, kept_of, shown_of, stage_of, pair_of};
+ghost use Rattle.journaled_device.specs.Standing.{base_of, journal_of, homes_of, kept_of, shown_of, stage_of};
+ghost use Rattle.journaled_device.specs.Standing.{pair_of};
 ghost use Rattle.journaled_device.specs.Standing.{commits_of, IsHonest, IsSettled, KeepsTo, SameSlots};
 ghost use Rattle.journaled_device.specs.Stages.{IsRecorded, SameBehind};
-ghost use Rattle.journaled_device.specs.declared.stage.Stage.TheVariants.{Filling, Deciding, Copying, Clearing};
+ghost use Rattle.journaled_device.specs.declared.stage.Stage.TheVariants.{Filling, Deciding, Copying};
+ghost use Rattle.journaled_device.specs.declared.stage.Stage.TheVariants.{Clearing};
 
 use crate::Stage;
 use crate::gate::gate_page;
@@ -83,7 +86,8 @@ impl<P: DevicePair, A: Allocator + Copy> JournaledPair<P, A> {
         ensures done { OnOk result (stage_of self.new ≡ Filling) }
         ensures durable { IsHonest self.old → ¬ (stage_of self.old ≡ Filling) →
             OnOk result ((kept : Blocks) → commits_of self.new kept → kept ≡ shown_of self.old) }
-        ensures settled { IsHonest self.old → ¬ (stage_of self.old ≡ Filling) → OnOk result (IsSettled self.new) }
+        ensures settled { IsHonest self.old → ¬ (stage_of self.old ≡ Filling) →
+            OnOk result (IsSettled self.new) }
         ensures going_on { OnErr result (¬ (stage_of self.new ≡ Filling)) }
         ensures shown { IsHonest self.old → shown_of self.new ≡ shown_of self.old }
         ensures keeps { IsHonest self.old → KeepsTo (commits_of self.old) self.old self.new }
@@ -176,7 +180,8 @@ impl<P: DevicePair, A: Allocator + Copy> JournaledPair<P, A> {
         requires { (stage_of self.old ≡ Deciding) ⊎ (stage_of self.old ≡ Clearing) }
         ensures slots { SameSlots self.old self.new }
         ensures base { IsHonest self.old → base_of self.new ≡ base_of self.old }
-        ensures gate { IsHonest self.old → OnOk result (block_at 0 (journal_of self.new) ≡ gate_block complete) }
+        ensures gate { IsHonest self.old →
+            OnOk result (block_at 0 (journal_of self.new) ≡ gate_block complete) }
         ensures behind { IsHonest self.old → SameBehind (journal_of self.new) (journal_of self.old) }
         ensures shown { IsHonest self.old → shown_of self.new ≡ shown_of self.old }
         ensures keeps { IsHonest self.old → KeepsTo (commits_of self.old) self.old self.new }
@@ -213,7 +218,8 @@ impl<P: DevicePair, A: Allocator + Copy> JournaledPair<P, A> {
         ensures slots { SameSlots self.old self.new }
         ensures journal { IsHonest self.old → journal_of self.new ≡ journal_of self.old }
         ensures copied { IsHonest self.old → OnOk result (base_of self.new ≡
-            set (base_of self.old) (slice_index (homes_of self.old) k) (block_at (2 + k) (journal_of self.old))) }
+            set (base_of self.old) (slice_index (homes_of self.old) k)
+            (block_at (2 + k) (journal_of self.old))) }
         ensures shown { IsHonest self.old → shown_of self.new ≡ shown_of self.old }
         ensures keeps { IsHonest self.old → KeepsTo (commits_of self.old) self.old self.new }
         ensures honest { IsHonest self.old ↔ IsHonest self.new }
@@ -234,7 +240,8 @@ impl<P: DevicePair, A: Allocator + Copy> JournaledPair<P, A> {
         ensures stops { IsHonest self.old →
             PairsNoMore (P.may_leave (pair_of self.old)) (P.may_leave (pair_of self.new)) }
         ensures time { IsHonest self.old →
-            PairElapses (P.moment (pair_of self.old)) (P.moment (pair_of self.new)) (P.left_since (pair_of self.old))
+            PairElapses (P.moment (pair_of self.old)) (P.moment (pair_of self.new))
+            (P.left_since (pair_of self.old))
             (P.left_since (pair_of self.new)) (P.may_leave (pair_of self.new)) }
         ensures keeps { IsHonest self.old → KeepsTo (commits_of self.old) self.old self.new }
         ensures honest { IsHonest self.old ↔ IsHonest self.new }

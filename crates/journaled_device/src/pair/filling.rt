@@ -7,7 +7,8 @@ ghost use Rattle.device_pair.specs.Pairs.{BaseFollows, PairElapses, PairsNoMore}
 ghost use Rattle.block_device.specs.Device.{Blocks};
 ghost use Rattle.block_device.specs.Device.{Begins};
 ghost use Rattle.journaled_device.specs.Found.{IsSlot};
-ghost use Rattle.journaled_device.specs.Standing.{base_of, journal_of, homes_of, kept_of, shown_of, stage_of, pair_of};
+ghost use Rattle.journaled_device.specs.Standing.{base_of, journal_of, homes_of, kept_of, shown_of, stage_of};
+ghost use Rattle.journaled_device.specs.Standing.{pair_of};
 ghost use Rattle.journaled_device.specs.Room.{HasRoom};
 ghost use Rattle.journaled_device.specs.Standing.{commits_of, slots_of, IsHonest, KeepsTo, SameSlots};
 ghost use Rattle.journaled_device.specs.declared.stage.Stage.TheVariants.{Filling};
@@ -81,7 +82,8 @@ impl<P: DevicePair, A: Allocator + Copy> JournaledPair<P, A> {
         self.put_journal(2 + slot, bytes)
     }
 
-    // Writes a block that has none. The memory is taken before the write, so that no slot is written that is not found.
+    // Writes a block that has none. The memory is taken before the write, so that no slot is written that is
+    // not found.
     pub(crate) fn put_first(&mut self, i: u32, bytes: &[u8; 4096]) -> Result<(), DeviceError>
         requires filling { stage_of self.old ≡ Filling }
         requires committed { i < kept_of self.old }
@@ -145,7 +147,8 @@ impl<P: DevicePair, A: Allocator + Copy> JournaledPair<P, A> {
         ensures stops { IsHonest self.old →
             PairsNoMore (P.may_leave (pair_of self.old)) (P.may_leave (pair_of self.new)) }
         ensures time { IsHonest self.old →
-            PairElapses (P.moment (pair_of self.old)) (P.moment (pair_of self.new)) (P.left_since (pair_of self.old))
+            PairElapses (P.moment (pair_of self.old)) (P.moment (pair_of self.new))
+            (P.left_since (pair_of self.old))
             (P.left_since (pair_of self.new)) (P.may_leave (pair_of self.new)) }
         ensures keeps { IsHonest self.old → KeepsTo (commits_of self.old) self.old self.new }
         ensures honest { IsHonest self.old ↔ IsHonest self.new }

@@ -1,5 +1,6 @@
 //! A base and its journal opened, after a stop or not.
-ghost use Rattle.std.specs.Prelude.{◌≡◌, ◌≤◌, ◌<◌, ◌+◌, ◌^◌, ◌/◌, ◌↔◌, ◌⊎◌, ℕ, Some, None, true, false, if◌then◌else◌, length};
+ghost use Rattle.std.specs.Prelude.{◌≡◌, ◌≤◌, ◌<◌, ◌+◌, ◌^◌, ◌/◌, ◌↔◌, ◌⊎◌, ℕ, Some, None, true, false};
+ghost use Rattle.std.specs.Prelude.{if◌then◌else◌, length};
 ghost use Rattle.std.specs.Prelude.{IfOk, IfErr, OnOk, OnErr, nat_le, slice_index};
 ghost use Rattle.std.specs.List.{All};
 ghost use Rattle.block_device.specs.Device.{Blocks, Counts, block_at};
@@ -51,7 +52,8 @@ fn sync_both<P: DevicePair>(pair: &mut P) -> Result<(), DeviceError>
     ensures durable { P.honest pair.old →
         OnOk result (AreSynced (P.base pair.old) (P.journal pair.old) (P.may_leave pair.new)) }
     ensures now { P.honest pair.old → PairsNoMore (P.may_leave pair.old) (P.may_leave pair.new) }
-    ensures stops { P.honest pair.old → PairLeaves P.moment P.left_since pair.old pair.new (P.may_leave pair.old) }
+    ensures stops { P.honest pair.old →
+        PairLeaves P.moment P.left_since pair.old pair.new (P.may_leave pair.old) }
     ensures honest { P.honest pair.old ↔ P.honest pair.new }
     ensures faults { Counts (P.faults pair.old) (P.faults pair.new) result }
 {
@@ -62,13 +64,15 @@ fn sync_both<P: DevicePair>(pair: &mut P) -> Result<(), DeviceError>
 // Makes a journal that is empty, where there is none.
 fn make_journal<P: DevicePair>(pair: &mut P) -> Result<(), DeviceError>
     requires none { length (P.journal pair.old) < 2 }
-    requires synced { P.honest pair.old → AreSynced (P.base pair.old) (P.journal pair.old) (P.may_leave pair.old) }
+    requires synced { P.honest pair.old →
+        AreSynced (P.base pair.old) (P.journal pair.old) (P.may_leave pair.old) }
     ensures base { P.honest pair.old → P.base pair.new ≡ P.base pair.old }
     ensures room { P.honest pair.old → OnOk result (length (P.journal pair.new) ≡ 2) }
     ensures empty { P.honest pair.old → OnOk result (gate_says (block_at 0 (P.journal pair.new)) ≡ false) }
     ensures durable { P.honest pair.old →
         OnOk result (AreSynced (P.base pair.new) (P.journal pair.new) (P.may_leave pair.new)) }
-    ensures now { P.honest pair.old → (a b : Blocks) → P.may_leave pair.new a b → recovered a b ≡ P.base pair.old }
+    ensures now { P.honest pair.old → (a b : Blocks) → P.may_leave pair.new a b →
+        recovered a b ≡ P.base pair.old }
     ensures stops { P.honest pair.old →
         PairLeaves P.moment P.left_since pair.old pair.new (λ a b. recovered a b ≡ P.base pair.old) }
     ensures honest { P.honest pair.old ↔ P.honest pair.new }
@@ -88,14 +92,16 @@ fn read_count<P: DevicePair>(pair: &mut P) -> Result<Option<u32>, OpenFault>
     requires room { 2 ≤ length (P.journal pair.old) }
     ensures base { P.honest pair.old → P.base pair.new ≡ P.base pair.old }
     ensures journal { P.honest pair.old → P.journal pair.new ≡ P.journal pair.old }
-    ensures none { P.honest pair.old → IfOk result (λ r. r ≡ None → gate_says (block_at 0 (P.journal pair.old)) ≡ false) }
+    ensures none { P.honest pair.old →
+        IfOk result (λ r. r ≡ None → gate_says (block_at 0 (P.journal pair.old)) ≡ false) }
     ensures some { P.honest pair.old → IfOk result (λ r. (n : ℕ) → r ≡ Some n →
         (n ≡ count_in (P.journal pair.old)) × (gate_says (block_at 0 (P.journal pair.old)) ≡ true) ×
         (has_room (P.journal pair.old) ≡ true)) }
     ensures malformed { P.honest pair.old → IsErrOf result fault.Malformed →
         (gate_says (block_at 0 (P.journal pair.old)) ≡ true) × (has_room (P.journal pair.old) ≡ false) }
     ensures now { P.honest pair.old → PairsNoMore (P.may_leave pair.old) (P.may_leave pair.new) }
-    ensures stops { P.honest pair.old → PairLeaves P.moment P.left_since pair.old pair.new (P.may_leave pair.old) }
+    ensures stops { P.honest pair.old →
+        PairLeaves P.moment P.left_since pair.old pair.new (P.may_leave pair.old) }
     ensures honest { P.honest pair.old ↔ P.honest pair.new }
 {
     let mut page = zero_block();
@@ -125,7 +131,8 @@ fn read_home<P: DevicePair>(pair: &mut P, n: u32, k: u32, limit: u32) -> Result<
     ensures malformed { P.honest pair.old → IsErrOf result fault.Malformed →
         (length (P.journal pair.old) ≤ 2 + n + k / 1024) ⊎ (limit ≤ home_in n k (P.journal pair.old)) }
     ensures now { P.honest pair.old → PairsNoMore (P.may_leave pair.old) (P.may_leave pair.new) }
-    ensures stops { P.honest pair.old → PairLeaves P.moment P.left_since pair.old pair.new (P.may_leave pair.old) }
+    ensures stops { P.honest pair.old →
+        PairLeaves P.moment P.left_since pair.old pair.new (P.may_leave pair.old) }
     ensures honest { P.honest pair.old ↔ P.honest pair.new }
 {
     let at = 2 + u64::from(n) + u64::from(k) / HOMES as u64;
@@ -150,12 +157,14 @@ fn read_homes<P: DevicePair, A: Allocator + Copy>(
 ) -> Result<Slots<A>, OpenFault>
     ensures base { P.honest pair.old → P.base pair.new ≡ P.base pair.old }
     ensures journal { P.honest pair.old → P.journal pair.new ≡ P.journal pair.old }
-    ensures homes { P.honest pair.old → IfOk result (λ slots. AreHomes n (blocks_of slots) (P.journal pair.old)) }
+    ensures homes { P.honest pair.old →
+        IfOk result (λ slots. AreHomes n (blocks_of slots) (P.journal pair.old)) }
     ensures below { IfOk result (λ slots. All (λ h. h < limit) (blocks_of slots)) }
     ensures malformed { P.honest pair.old → IsErrOf result fault.Malformed → (k : ℕ) × (k < n) ×
         ((length (P.journal pair.old) ≤ 2 + n + k / 1024) ⊎ (limit ≤ home_in n k (P.journal pair.old))) }
     ensures now { P.honest pair.old → PairsNoMore (P.may_leave pair.old) (P.may_leave pair.new) }
-    ensures stops { P.honest pair.old → PairLeaves P.moment P.left_since pair.old pair.new (P.may_leave pair.old) }
+    ensures stops { P.honest pair.old →
+        PairLeaves P.moment P.left_since pair.old pair.new (P.may_leave pair.old) }
     ensures honest { P.honest pair.old ↔ P.honest pair.new }
 {
     let mut slots = Slots::new(alloc);
@@ -180,12 +189,15 @@ fn read_state<P: DevicePair, A: Allocator + Copy>(
     alloc: A,
 ) -> Result<State<A>, OpenFault>
     ensures stands { P.honest pair.old → IfOk result (λ s.
-        IsStanding s.stage (length (P.base pair.new)) (blocks_of s.slots) (P.base pair.new) (P.journal pair.new)
+        IsStanding s.stage (length (P.base pair.new)) (blocks_of s.slots) (P.base pair.new)
+        (P.journal pair.new)
         (P.may_leave pair.new)) }
     ensures shown { P.honest pair.old → IfOk result (λ s.
-        overlaid (blocks_of s.slots) (P.journal pair.new) (P.base pair.new) ≡ recovered (P.base pair.old) (P.journal pair.old)) }
+        overlaid (blocks_of s.slots) (P.journal pair.new) (P.base pair.new)
+        ≡ recovered (P.base pair.old) (P.journal pair.old)) }
     ensures commits { P.honest pair.old → IfOk result (λ s. (kept : Blocks) →
-        CommitsIn s.stage (length (P.base pair.new)) (blocks_of s.slots) (P.base pair.new) (P.journal pair.new) kept →
+        CommitsIn s.stage (length (P.base pair.new)) (blocks_of s.slots) (P.base pair.new)
+        (P.journal pair.new) kept →
         kept ≡ recovered (P.base pair.old) (P.journal pair.old)) }
     ensures malformed { P.honest pair.old → IsErrOf result fault.Malformed →
         IsMalformed (P.base pair.old) (P.journal pair.old) }
@@ -219,8 +231,8 @@ fn read_state<P: DevicePair, A: Allocator + Copy>(
 }
 
 impl<P: DevicePair, A: Allocator + Copy> JournaledPair<P, A> {
-    /// Opens a base and its journal, which may be empty, and finishes a commit that was cut short. It may be cut short
-    /// itself, at any moment.
+    /// Opens a base and its journal, which may be empty, and finishes a commit that was cut short. It may be
+    /// cut short itself, at any moment.
     ///
     /// What is then read is what recovery makes of base and journal as they were read, and is the one commit.
     pub fn open(pair: P, alloc: A) -> Result<JournaledPair<P, A>, (OpenFault, P)>
@@ -230,7 +242,8 @@ impl<P: DevicePair, A: Allocator + Copy> JournaledPair<P, A> {
             kept ≡ recovered (P.base pair) (P.journal pair)) }
         ensures filling { IfOk result (λ d. stage_of d ≡ Filling) }
 
-        // A stop leaves what one before the call might have left, or a commit of blocks that recover to the same.
+        // A stop leaves what one before the call might have left, or a commit of blocks that recover to the
+        // same.
         ensures stops { IfOk result (λ d. P.honest pair →
             PairLeaves P.moment P.left_since pair (pair_of d)
             (LeavesOr (P.may_leave pair) (recovered (P.base pair) (P.journal pair)))) }
@@ -276,7 +289,8 @@ impl<P: DevicePair, A: Allocator + Copy> JournaledPair<P, A> {
         ensures filling { IfOk result (λ d. stage_of d ≡ Filling) }
         ensures keeps { IfOk result (λ d. IsHonest self → KeepsTo (commits_of self) self d) }
         ensures refused_stops { IfErr result (λ e. IsHonest self →
-            PairLeaves P.moment P.left_since (pair_of self) e.1 (λ a b. BeginsOne (commits_of self) (recovered a b))) }
+            PairLeaves P.moment P.left_since (pair_of self) e.1
+            (λ a b. BeginsOne (commits_of self) (recovered a b))) }
         ensures never { IfErr result (λ e. e.0 ≡ fault.Malformed → ⊥) }
         ensures honest { IfOk result (λ d. IsHonest self ↔ IsHonest d) }
         ensures refused_honest { IfErr result (λ e. IsHonest self ↔ P.honest e.1) }

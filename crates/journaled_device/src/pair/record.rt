@@ -1,9 +1,11 @@
 //! The index of the journal.
-ghost use Rattle.std.specs.Prelude.{◌≡◌, ◌≤◌, ◌<◌, ◌+◌, ◌*◌, ◌^◌, ◌↔◌, ◌⊎◌, ℕ, length, slice_index, OnOk, OnErr};
+ghost use Rattle.std.specs.Prelude.{◌≡◌, ◌≤◌, ◌<◌, ◌+◌, ◌*◌, ◌^◌, ◌↔◌, ◌⊎◌, ℕ, length, slice_index, OnOk};
+ghost use Rattle.std.specs.Prelude.{OnErr};
 ghost use Rattle.block_bytes.specs.Numbers.{number_at};
 ghost use Rattle.block_device.specs.Device.{Counts};
 ghost use Rattle.journaled_device.specs.Journal.{count_block};
-ghost use Rattle.journaled_device.specs.Standing.{base_of, journal_of, homes_of, kept_of, shown_of, stage_of, pair_of};
+ghost use Rattle.journaled_device.specs.Standing.{base_of, journal_of, homes_of, kept_of, shown_of, stage_of};
+ghost use Rattle.journaled_device.specs.Standing.{pair_of};
 ghost use Rattle.journaled_device.specs.Standing.{commits_of, IsHonest, KeepsTo, SameSlots};
 ghost use Rattle.journaled_device.specs.Index.{HasIndex};
 ghost use Rattle.journaled_device.specs.Stages.{IsRecorded};
@@ -49,7 +51,8 @@ impl<P: DevicePair, A: Allocator + Copy> JournaledPair<P, A> {
     pub(crate) fn record(&mut self) -> Result<(), DeviceError>
         requires { stage_of self.old ≡ Filling }
         ensures slots { SameSlots self.old self.new }
-        ensures recorded { IsHonest self.old → OnOk result (IsRecorded (homes_of self.new) (journal_of self.new)) }
+        ensures recorded { IsHonest self.old →
+            OnOk result (IsRecorded (homes_of self.new) (journal_of self.new)) }
         ensures shown { IsHonest self.old → shown_of self.new ≡ shown_of self.old }
         ensures keeps { IsHonest self.old → KeepsTo (commits_of self.old) self.old self.new }
         ensures honest { IsHonest self.old ↔ IsHonest self.new }

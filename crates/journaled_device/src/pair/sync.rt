@@ -4,7 +4,8 @@ ghost use Rattle.block_device.specs.Device.{Blocks, Counts, block_at};
 ghost use Rattle.page_file.specs.Opening.{failed_check};
 ghost use Rattle.journaled_device.specs.Calls.{IsStill};
 ghost use Rattle.journaled_device.specs.Commits.{OrOpened};
-ghost use Rattle.journaled_device.specs.Standing.{commits_of, pair_of, shown_of, IsHonest, IsSettled, KeepsTo};
+ghost use Rattle.journaled_device.specs.Standing.{commits_of, pair_of, shown_of, IsHonest, IsSettled};
+ghost use Rattle.journaled_device.specs.Standing.{KeepsTo};
 
 use crate::pair::JournaledPair;
 use block_bytes::zero_block;
@@ -17,7 +18,8 @@ impl<P: DevicePair, A: Allocator + Copy> JournaledPair<P, A> {
     // Reads block i where there are three blocks, fewer than which opening refuses. Tells whether it did.
     fn read_where_there(&mut self, i: u32, into: &mut [u8; 4096]) -> Result<bool, DeviceError>
         requires { i < 3 }
-        ensures bytes { IsHonest self.old → IfOk result (λ t. t ≡ true → into.new ≡ block_at i (shown_of self.old)) }
+        ensures bytes { IsHonest self.old →
+            IfOk result (λ t. t ≡ true → into.new ≡ block_at i (shown_of self.old)) }
         ensures none { IsHonest self.old → IfOk result (λ t. t ≡ false → length (shown_of self.old) < 3) }
         ensures still { IsHonest self.old → IsStill self.old self.new }
         ensures honest { IsHonest self.old ↔ IsHonest self.new }
@@ -49,8 +51,8 @@ impl<P: DevicePair, A: Allocator + Copy> JournaledPair<P, A> {
         Ok(fault.is_none())
     }
 
-    /// Commits what is read where opening takes it, and makes no call but reads where it does not. After an `Ok` what
-    /// opening takes is the only commit, after an `Err` it may be one more.
+    /// Commits what is read where opening takes it, and makes no call but reads where it does not. After an
+    /// `Ok` what opening takes is the only commit, after an `Err` it may be one more.
     pub(crate) fn sync(&mut self) -> Result<(), DeviceError>
         ensures shown { IsHonest self.old → shown_of self.new ≡ shown_of self.old }
         ensures durable { IsHonest self.old → failed_check (shown_of self.old) ≡ None →

@@ -125,7 +125,8 @@ impl<A: Allocator + Copy> Slots<A> {
     fn spread(&mut self, count: usize) -> Result<(), DeviceError>
         requires some { 0 < count }
         requires few { count < 2 ^ 32 }
-        requires fits { count ≤ (length (blocks_of self.old) + (length (blocks_of self.old) / 4 + 1)) / 3 + 1 }
+        requires fits { count
+            ≤ (length (blocks_of self.old) + (length (blocks_of self.old) / 4 + 1)) / 3 + 1 }
         ensures same { blocks_of self.new ≡ blocks_of self.old }
         ensures buckets { OnOk result (vec_len self.new.heads ≡ count) }
         ensures refused { IfErr result (λ e. e ≡ Memory) }

@@ -11,20 +11,26 @@ use Rattle.journaled_store.proofs.a_stop_leaves_a_table_that_was_closed.Goals as
 
 pub returns-clause-now : goal.returns-clause-now
 returns-clause-now g c = λ store s a b represents left.
-    c.a_stop_is_found_to_have_left_a_closed_table.ensures.now store s represents (λ k. (λ taken. taken, λ passes. passes)) (recovered a b)
+    c.a_stop_is_found_to_have_left_a_closed_table.ensures.now store s represents
+    (λ k. (λ taken. taken, λ passes. passes)) (recovered a b)
     (c.recovery_gives_a_commit.ensures (device_in store) a b (what_is_kept store s represents).honest left)
 
 pub returns-clause-so_far : goal.returns-clause-so_far
 returns-clause-so_far g c = λ store s a b represents left.
-    c.a_stop_is_found_to_have_left_a_closed_table.ensures.so_far store s represents (λ k. (λ taken. taken, λ passes. passes)) (recovered a b)
-    (c.stops_of_the_pair_are_found.ensures (device_in store) s.stops.since s.stops.since a b (what_is_kept store s represents).honest (omega arith) left)
+    c.a_stop_is_found_to_have_left_a_closed_table.ensures.so_far store s represents
+    (λ k. (λ taken. taken, λ passes. passes)) (recovered a b)
+    (c.stops_of_the_pair_are_found.ensures (device_in store) s.stops.since s.stops.since a b
+    (what_is_kept store s represents).honest (omega arith) left)
 
 pub returns-clause-given_up : goal.returns-clause-given_up
 returns-clause-given_up g c = λ store s represents.
     let pair = pair_of (device_in store) in
     let honest = (what_is_kept store s represents).honest in
-    c.a_stop_is_found_to_have_left_a_closed_table.ensures.now store s represents (λ k. (λ taken. taken, λ passes. passes)) (recovered (g.P.DevicePair.base pair) (g.P.DevicePair.journal pair))
-    (c.recovery_gives_a_commit.ensures (device_in store) (g.P.DevicePair.base pair) (g.P.DevicePair.journal pair) honest (g.met.P.DevicePair.shown_counts pair honest))
+    c.a_stop_is_found_to_have_left_a_closed_table.ensures.now store s represents
+    (λ k. (λ taken. taken, λ passes. passes))
+    (recovered (g.P.DevicePair.base pair) (g.P.DevicePair.journal pair))
+    (c.recovery_gives_a_commit.ensures (device_in store) (g.P.DevicePair.base pair)
+    (g.P.DevicePair.journal pair) honest (g.met.P.DevicePair.shown_counts pair honest))
 
 -- blocks that pass the checks are not refused
 not_refused : (c : Blocks) → failed_check c ≡ None → IsRefused c → ⊥
@@ -32,6 +38,9 @@ not_refused c passes refused = let no = ap is_some (sym passes) ∙ refused in c
 
 pub returns-clause-never_refused : goal.returns-clause-never_refused
 returns-clause-never_refused g c = λ store s a b represents left.
-    let found = c.a_stop_is_found_to_have_left_a_closed_table.ensures.so_far store s represents (λ k. (λ taken. taken, λ passes. passes)) (recovered a b)
-    (c.stops_of_the_pair_are_found.ensures (device_in store) s.stops.since s.stops.since a b (what_is_kept store s represents).honest (omega arith) left) in
+    let found =
+    c.a_stop_is_found_to_have_left_a_closed_table.ensures.so_far store s represents
+    (λ k. (λ taken. taken, λ passes. passes)) (recovered a b)
+    (c.stops_of_the_pair_are_found.ensures (device_in store) s.stops.since s.stops.since a b
+    (what_is_kept store s represents).honest (omega arith) left) in
     not_refused (recovered a b) found.2.passes

@@ -31,11 +31,12 @@ use plain_table::Refusal;
 use std::alloc::Allocator;
 
 impl<D: BlockDevice, A: Allocator + Copy> Store<D, A> {
-    /// Closes the table into the file, forgets what is held of it, and reads gate, header and catalog again. The blocks
-    /// are then an image of the table, and each tree stays.
+    /// Closes the table into the file, forgets what is held of it, and reads gate, header and catalog again.
+    /// The blocks are then an image of the table, and each tree stays.
     ///
-    /// Refused while closing it answers `Memory` or `Device`, and the store goes on. Refused afterwards it answers
-    /// `StoreFailed` with the number of the fault, the store has failed, and the blocks are an image of its table.
+    /// Refused while closing it answers `Memory` or `Device`, and the store goes on. Refused afterwards it
+    /// answers `StoreFailed` with the number of the fault, the store has failed, and the blocks are an image
+    /// of its table.
     pub fn reopen(&mut self) -> Result<(), Refusal>
         ensures step { TakesStep self.old self.new Reopen (done_answer result) }
         ensures reply { TakesReply self.old self.new Reopen (done_answer result) }
@@ -45,8 +46,8 @@ impl<D: BlockDevice, A: Allocator + Copy> Store<D, A> {
         ensures trees { (t : Table) → IsInState self.old (Alive t) →
             KeepsEachTree (layers_in self.old) (layers_in self.new) }
 
-        // A stop leaves what one before the call leaves, or an image of the table; and after a closing that is finished
-        // nothing but what is read.
+        // A stop leaves what one before the call leaves, or an image of the table; and after a closing that
+        // is finished nothing but what is read.
         ensures stops { (s : SessionState) (t : Table) → Represents self.old s → s.state ≡ Alive t →
             StopsLeave self.old self.new (IsRefusedOrImageOf (t ∷ tables_left s.stops.now)) }
         ensures durable { (t : Table) → IsInState self.old (Alive t) → IsOk result ⊎ IsInState self.new Dead →
@@ -57,13 +58,14 @@ impl<D: BlockDevice, A: Allocator + Copy> Store<D, A> {
         ensures quiet { (t : Table) → IsInState self.old (Alive t) → IsSettled self.old →
             StopsLeave self.old self.new (λ c. c ≡ blocks_in self.old) }
 
-        // One that is refused has failed, or was not finished: its gate is not shut. One that has failed stays so, on any
-        // device.
+        // One that is refused has failed, or was not finished: its gate is not shut. One that has failed
+        // stays so, on any device.
         ensures ends { OnErr result (IsInState self.new Dead ⊎ ¬ (gate_of (cache_in self.new) ≡ Shut)) }
         // It is refused by StoreFailed exactly where it is dead afterwards, also one that is not sound.
         ensures ended { IfErr result (TellsOfEnd self.new) }
-        // On any honest device all pages but that of the catalog stay, which then spells the records. Refused, it keeps the
-        // records, which that page spells where nothing was changed since the last closing or its try.
+        // On any honest device all pages but that of the catalog stay, which then spells the records.
+        // Refused, it keeps the records, which that page spells where nothing was changed since the last
+        // closing or its try.
         ensures beside { D.honest (device_in self.old) →
             SameBut 2 (pages (cache_in self.old)) (pages (cache_in self.new)) }
         ensures records { OnErr result (records_in (layers_in self.new) ≡ records_in (layers_in self.old)) }
@@ -82,22 +84,26 @@ impl<D: BlockDevice, A: Allocator + Copy> Store<D, A> {
 
     /// Closes the table into the file, and hands the device back.
     ///
-    /// Closed, its blocks are an image of the table, and have each tree. Refused it answers `Memory` or `Device`, and
-    /// the device comes back: then a stop leaves of it blocks that opening refuses, or an image of a table that was
-    /// closed before, or of this one. A store that failed answers `StoreFailed(19)`, with the device as it is.
+    /// Closed, its blocks are an image of the table, and have each tree. Refused it answers `Memory` or
+    /// `Device`, and the device comes back: then a stop leaves of it blocks that opening refuses, or an image
+    /// of a table that was closed before, or of this one. A store that failed answers `StoreFailed(19)`, with
+    /// the device as it is.
     pub fn close(self) -> Result<D, (Refusal, D)>
-        ensures closed { (t : Table) → IsInState self (Alive t) → IfOk result (λ device. IsImage (D.shown device) t) }
+        ensures closed { (t : Table) → IsInState self (Alive t) →
+            IfOk result (λ device. IsImage (D.shown device) t) }
         ensures trees { (t : Table) → IsInState self (Alive t) →
             IfOk result (λ device. LeavesTreesIn (layers_in self) (D.shown device)) }
 
-        // A stop leaves what one before the call leaves, or an image of the table; and after a closing that is finished
-        // nothing but what is read.
-        ensures stops { (s : SessionState) (t : Table) → Represents self s → s.state ≡ Alive t → IfOk result (λ device.
+        // A stop leaves what one before the call leaves, or an image of the table; and after a closing that
+        // is finished nothing but what is read.
+        ensures stops { (s : SessionState) (t : Table) → Represents self s → s.state ≡ Alive t →
+            IfOk result (λ device.
             LeavesOnly D.moment D.left_since D.recovery (device_in self) device
             (IsRefusedOrImageOf (t ∷ tables_left s.stops.now))) }
         ensures refused_stops { (s : SessionState) (t : Table) → Represents self s → s.state ≡ Alive t →
             IfErr result (λ e.
-            LeavesOnly D.moment D.left_since D.recovery (device_in self) e.1 (IsRefusedOrImageOf (t ∷ tables_left s.stops.now))) }
+            LeavesOnly D.moment D.left_since D.recovery (device_in self) e.1
+            (IsRefusedOrImageOf (t ∷ tables_left s.stops.now))) }
         ensures durable { (t : Table) → IsInState self (Alive t) →
             IfOk result (λ device. Only (D.shown device) (D.may_leave device)) }
 
@@ -106,13 +112,16 @@ impl<D: BlockDevice, A: Allocator + Copy> Store<D, A> {
 
         ensures refused { (t : Table) → IsInState self (Alive t) → IfErr result (λ e. IsMemoryOrDevice e.0) }
 
-        // One that is refused was not finished: what is left is what a refused reopening leaves, and its gate is not shut.
-        ensures unfinished { (t : Table) → IsInState self (Alive t) → IfErr result (λ e. IsUnfinished self e.0 e.1) }
+        // One that is refused was not finished: what is left is what a refused reopening leaves, and its gate
+        // is not shut.
+        ensures unfinished { (t : Table) → IsInState self (Alive t) →
+            IfErr result (λ e. IsUnfinished self e.0 e.1) }
 
         ensures dead { IsInState self Dead → result ≡ Err (refusal.StoreFailed 19, device_in self) }
         ensures failed { HasFailed self → result ≡ Err (refusal.StoreFailed 19, device_in self) }
         ensures no_fault { IfOk result (λ device. D.faults device ≡ D.faults (device_in self)) }
-        ensures cause { IfErr result (λ e. D.faults e.1 ≡ faults_after_refusal e.0 (D.faults (device_in self))) }
+        ensures cause { IfErr result
+            (λ e. D.faults e.1 ≡ faults_after_refusal e.0 (D.faults (device_in self))) }
         ensures honest { IfOk result (λ device. D.honest (device_in self) → D.honest device) }
         ensures refused_honest { IfErr result (λ e. D.honest (device_in self) → D.honest e.1) }
     {
@@ -134,9 +143,9 @@ impl<D: BlockDevice, A: Allocator + Copy> Store<D, A> {
         }
     }
 
-    /// Gives up what was changed since the last closing: hands the device back as it is, of a store that is alive or
-    /// has failed, and makes no call of it. Opening refuses such a device where a change was begun; one that commits
-    /// brings back what was closed last.
+    /// Gives up what was changed since the last closing: hands the device back as it is, of a store that is
+    /// alive or has failed, and makes no call of it. Opening refuses such a device where a change was begun;
+    /// one that commits brings back what was closed last.
     pub fn abandon(self) -> D
         ensures { result ≡ device_in self }
     {

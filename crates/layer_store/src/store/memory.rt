@@ -22,8 +22,8 @@ impl<D: BlockDevice, A: Allocator + Copy> Store<D, A> {
         self.layers.alloc()
     }
 
-    /// What a command is answered for which the caller found no memory: `Memory`, or `StoreFailed(19)` by a store that
-    /// failed. The store stays as it is.
+    /// What a command is answered for which the caller found no memory: `Memory`, or `StoreFailed(19)` by a
+    /// store that failed. The store stays as it is.
     pub fn out_of_memory(&mut self) -> Refusal
         ensures step { (c : Command) → MayGiveUp c → TakesStep self.old self.new c (Refused result) }
         ensures reply { (c : Command) → MayGiveUp c → TakesReply self.old self.new c (Refused result) }

@@ -50,8 +50,9 @@ impl<D: BlockDevice, A: Allocator + Copy> Store<D, A> {
         self.layers.count(layer)
     }
 
-    /// The objects of a layer that the query seeks, with a tag only those that have it, ascending by identifier. It
-    /// looks at the root of the layer's tree, and at each other node whose box the query admits.
+    /// The objects of a layer that the query seeks, with a tag only those that have it, ascending by
+    /// identifier. It looks at the root of the layer's tree, and at each other node whose box the query
+    /// admits.
     ///
     /// Refused, in this order, by BadName, NoLayer, WrongDims and BadBox.
     pub fn range(
@@ -71,9 +72,10 @@ impl<D: BlockDevice, A: Allocator + Copy> Store<D, A> {
         self.layers.range(layer, query, tag)
     }
 
-    /// The k objects of a layer that are nearest to the point, or all of fewer: identifiers with squared distances, by
-    /// distance, and of equal distances by identifier. So many are 1 to 1,000,000. It looks at the root of the layer's
-    /// tree, and at each other node that is no farther than the kth of them, or at each where there are fewer.
+    /// The k objects of a layer that are nearest to the point, or all of fewer: identifiers with squared
+    /// distances, by distance, and of equal distances by identifier. So many are 1 to 1,000,000. It looks at
+    /// the root of the layer's tree, and at each other node that is no farther than the kth of them, or at
+    /// each where there are fewer.
     ///
     /// Refused, in this order, by BadName, NoLayer, WrongDims and BadCount.
     pub fn nearest(
@@ -94,8 +96,8 @@ impl<D: BlockDevice, A: Allocator + Copy> Store<D, A> {
         self.layers.nearest(layer, k, point)
     }
 
-    /// The objects of a layer whose boxes meet the window (boxes that touch meet), with a tag only those that have it,
-    /// ascending by identifier.
+    /// The objects of a layer whose boxes meet the window (boxes that touch meet), with a tag only those that
+    /// have it, ascending by identifier.
     ///
     /// Refused, in this order, by BadName, NoLayer, WrongDims and BadBox.
     pub fn window(
@@ -104,7 +106,8 @@ impl<D: BlockDevice, A: Allocator + Copy> Store<D, A> {
         bounds: RawBox,
         tag: Option<u32>,
     ) -> Result<Vec<(u64, AnyBox, u32), A>, Refusal>
-        ensures answers { Answers self.old self.new (Range layer.now (RawQuery.Window bounds) tag) boxes_answer result }
+        ensures answers { Answers self.old self.new (Range layer.now (RawQuery.Window bounds) tag)
+            boxes_answer result }
         ensures looks { (t : Table) → IsInState self.old (Alive t) →
             OnOk result (LooksAtTree (layers_in self.old) (layers_in self.new) layer.now
             (admitted (is_admitted (layer_at t layer.now).dims (RawQuery.Window bounds)))) }
@@ -122,7 +125,8 @@ impl<D: BlockDevice, A: Allocator + Copy> Store<D, A> {
         bounds: RawBox,
         tag: Option<u32>,
     ) -> Result<Vec<(u64, AnyBox, u32), A>, Refusal>
-        ensures answers { Answers self.old self.new (Range layer.now (RawQuery.Inside bounds) tag) boxes_answer result }
+        ensures answers { Answers self.old self.new (Range layer.now (RawQuery.Inside bounds) tag)
+            boxes_answer result }
         ensures looks { (t : Table) → IsInState self.old (Alive t) →
             OnOk result (LooksAtTree (layers_in self.old) (layers_in self.new) layer.now
             (admitted (is_admitted (layer_at t layer.now).dims (RawQuery.Inside bounds)))) }
@@ -140,7 +144,8 @@ impl<D: BlockDevice, A: Allocator + Copy> Store<D, A> {
         bounds: RawBox,
         tag: Option<u32>,
     ) -> Result<Vec<(u64, AnyBox, u32), A>, Refusal>
-        ensures answers { Answers self.old self.new (Range layer.now (RawQuery.Around bounds) tag) boxes_answer result }
+        ensures answers { Answers self.old self.new (Range layer.now (RawQuery.Around bounds) tag)
+            boxes_answer result }
         ensures looks { (t : Table) → IsInState self.old (Alive t) →
             OnOk result (LooksAtTree (layers_in self.old) (layers_in self.new) layer.now
             (admitted (is_admitted (layer_at t layer.now).dims (RawQuery.Around bounds)))) }
@@ -158,7 +163,8 @@ impl<D: BlockDevice, A: Allocator + Copy> Store<D, A> {
         point: RawPoint,
         tag: Option<u32>,
     ) -> Result<Vec<(u64, AnyBox, u32), A>, Refusal>
-        ensures answers { Answers self.old self.new (Range layer.now (RawQuery.Point point) tag) boxes_answer result }
+        ensures answers { Answers self.old self.new (Range layer.now (RawQuery.Point point) tag) boxes_answer
+            result }
         ensures looks { (t : Table) → IsInState self.old (Alive t) →
             OnOk result (LooksAtTree (layers_in self.old) (layers_in self.new) layer.now
             (admitted (is_admitted (layer_at t layer.now).dims (RawQuery.Point point)))) }
@@ -166,12 +172,13 @@ impl<D: BlockDevice, A: Allocator + Copy> Store<D, A> {
         self.range(layer, RawQuery::Point(point), tag)
     }
 
-    /// All pairs of an object of the first layer and an object of the second whose boxes have at most this squared
-    /// distance, and within 0 meet: their identifiers, ascending by the first and then by the second. It looks at no
-    /// more than twice as many nodes as there are pairs of nodes of the two trees that a join admits.
+    /// All pairs of an object of the first layer and an object of the second whose boxes have at most this
+    /// squared distance, and within 0 meet: their identifiers, ascending by the first and then by the second.
+    /// It looks at no more than twice as many nodes as there are pairs of nodes of the two trees that a join
+    /// admits.
     ///
-    /// Refused, in this order, by BadName, NoLayer and DimsDiffer. Both names are tried before it is asked whether
-    /// there are such layers.
+    /// Refused, in this order, by BadName, NoLayer and DimsDiffer. Both names are tried before it is asked
+    /// whether there are such layers.
     pub fn join(
         &mut self,
         first: &[u8],
@@ -189,8 +196,8 @@ impl<D: BlockDevice, A: Allocator + Copy> Store<D, A> {
         self.layers.join(first, second, within)
     }
 
-    /// How many nodes questions have looked at so far, with the pages that other commands have. The count stays at
-    /// u64::MAX.
+    /// How many nodes questions have looked at so far, with the pages that other commands have. The count
+    /// stays at u64::MAX.
     pub fn looks(&self) -> u64
         ensures { result ≡ looks_in self.now }
     {

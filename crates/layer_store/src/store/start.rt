@@ -34,11 +34,11 @@ fn is_cache(pages: u32) -> bool
     pages >= 8 && pages <= 4096
 }
 
-/// Makes a store without layers on a device without blocks, which takes its memory from this allocator and holds at
-/// most so many pages in memory (8 to 4096). Its blocks are an image of the empty table.
+/// Makes a store without layers on a device without blocks, which takes its memory from this allocator and
+/// holds at most so many pages in memory (8 to 4096). Its blocks are an image of the empty table.
 ///
-/// Refused by `BadCache`, before any call of the device. On an honest device any other refusal is `Memory` or `Device`.
-/// The device comes back.
+/// Refused by `BadCache`, before any call of the device. On an honest device any other refusal is `Memory` or
+/// `Device`. The device comes back.
 pub fn create_store<D: BlockDevice, A: Allocator + Copy>(
     alloc: A,
     device: D,
@@ -46,8 +46,10 @@ pub fn create_store<D: BlockDevice, A: Allocator + Copy>(
 ) -> Result<Store<D, A>, (Refusal, D)>
     requires { length (D.shown device) ≡ 0 }
     ensures bad_cache { is_cache cache ≡ false → result ≡ Err (refusal.BadCache, device) }
-    // What stops leave is told since the store is made, and of a device without a commit since before the call.
-    ensures begins { IfOk result (λ store. D.honest device → ((k : Blocks) → D.recovery.commits device k → ⊥) →
+    // What stops leave is told since the store is made, and of a device without a commit since before the
+    // call.
+    ensures begins { IfOk result (λ store. D.honest device →
+        ((k : Blocks) → D.recovery.commits device k → ⊥) →
         BeginsWith store (D.moment device) empty) }
     ensures made { IfOk result (λ store. D.honest device →
         BeginsWith store (D.moment (device_in store)) empty) }
@@ -55,13 +57,15 @@ pub fn create_store<D: BlockDevice, A: Allocator + Copy>(
     ensures now_settled { IfOk result IsSettled }
     ensures spelled { IfOk result (λ store. D.honest device → SpellsRecords store) }
 
-    // A stop leaves blocks that opening refuses, or an image of the empty table; and once the store is made nothing but
-    // what is read.
+    // A stop leaves blocks that opening refuses, or an image of the empty table; and once the store is made
+    // nothing but what is read.
     ensures stops { IfOk result (λ store. D.honest device →
-        LeavesOnly D.moment D.left_since D.recovery device (device_in store) (λ c. IsRefused c ⊎ IsImage c empty)) }
+        LeavesOnly D.moment D.left_since D.recovery device (device_in store) (λ c. IsRefused c
+        ⊎ IsImage c empty)) }
     ensures refused_stops { is_cache cache ≡ true → IfErr result (λ e. D.honest device →
         LeavesOnly D.moment D.left_since D.recovery device e.1 (λ c. IsRefused c ⊎ IsImage c empty)) }
-    ensures durable { IfOk result (λ store. D.honest device → Only (blocks_in store) (D.may_leave (device_in store))) }
+    ensures durable { IfOk result (λ store. D.honest device →
+        Only (blocks_in store) (D.may_leave (device_in store))) }
 
     ensures refused { is_cache cache ≡ true → IfErr result (λ e. D.honest device → IsMemoryOrDevice e.0) }
     ensures no_fault { IfOk result (λ store. D.faults (device_in store) ≡ D.faults device) }
@@ -78,15 +82,15 @@ pub fn create_store<D: BlockDevice, A: Allocator + Copy>(
     }
 }
 
-/// Opens the store that lies on a device: gate, header and catalog are read and checked (docs/FORMAT.md, "Opening"), no
-/// other page is read, and nothing is written. The store takes its memory from this allocator and holds at most so many
-/// pages in memory (8 to 4096).
+/// Opens the store that lies on a device: gate, header and catalog are read and checked (docs/FORMAT.md,
+/// "Opening"), no other page is read, and nothing is written. The store takes its memory from this allocator
+/// and holds at most so many pages in memory (8 to 4096).
 ///
-/// On an honest device an image of a table is opened as a store of that table and of its trees, but for `Memory` and
-/// `Device`; and blocks are opened only where no check refuses them.
+/// On an honest device an image of a table is opened as a store of that table and of its trees, but for
+/// `Memory` and `Device`; and blocks are opened only where no check refuses them.
 ///
-/// Refused by `BadCache`, before any call of the device. On an honest device any other refusal is `Memory`, `Device`,
-/// or that of the first check that fails. The device comes back, with its blocks as they were.
+/// Refused by `BadCache`, before any call of the device. On an honest device any other refusal is `Memory`,
+/// `Device`, or that of the first check that fails. The device comes back, with its blocks as they were.
 pub fn open_store<D: BlockDevice, A: Allocator + Copy>(
     alloc: A,
     device: D,
@@ -95,24 +99,28 @@ pub fn open_store<D: BlockDevice, A: Allocator + Copy>(
     ensures bad_cache { is_cache cache ≡ false → result ≡ Err (refusal.BadCache, device) }
     ensures image { (t : Table) → D.honest device → IsImage (D.shown device) t →
         IfOk result (λ store. BeginsWith store (D.moment (device_in store)) t) }
-    // Where it was durable, and all that a stop would bring back, also a stop within the call leaves that table.
+    // Where it was durable, and all that a stop would bring back, also a stop within the call leaves that
+    // table.
     ensures durable_image { (t : Table) → D.honest device → IsImage (D.shown device) t →
         Only (D.shown device) (D.may_leave device) →
         ((k : Blocks) → D.recovery.commits device k → k ≡ D.shown device) →
         IfOk result (λ store. BeginsWith store (D.moment device) t) }
 
     ensures trees { IfOk result (λ store. D.honest device → FindsTreesIn (layers_in store) (D.shown device)) }
-    ensures opened { IfOk result (λ store. D.honest device → (f : Fault) → OpeningRefuses (D.shown device) f → ⊥) }
+    ensures opened { IfOk result (λ store. D.honest device → (f : Fault) → OpeningRefuses (D.shown device) f →
+        ⊥) }
     ensures refused { is_cache cache ≡ true →
         IfErr result (λ e. D.honest device → IsMemoryOrDevice e.0 ⊎ OpeningRefusesAs (D.shown device) e.0) }
 
-    // A stop leaves nothing but what one before the call might have left; and once the store is opened nothing but what
-    // is read.
+    // A stop leaves nothing but what one before the call might have left; and once the store is opened
+    // nothing but what is read.
     ensures stops { IfOk result (λ store. D.honest device →
         LeavesOnly D.moment D.left_since D.recovery device (device_in store) (D.may_leave device)) }
     ensures refused_stops { is_cache cache ≡ true →
-        IfErr result (λ e. D.honest device → LeavesOnly D.moment D.left_since D.recovery device e.1 (D.may_leave device)) }
-    ensures durable { IfOk result (λ store. D.honest device → Only (blocks_in store) (D.may_leave (device_in store))) }
+        IfErr result (λ e. D.honest device →
+        LeavesOnly D.moment D.left_since D.recovery device e.1 (D.may_leave device)) }
+    ensures durable { IfOk result (λ store. D.honest device →
+        Only (blocks_in store) (D.may_leave (device_in store))) }
 
     ensures now_settled { IfOk result IsSettled }
     ensures spelled { IfOk result (λ store. D.honest device → SpellsRecords store) }
@@ -132,7 +140,8 @@ pub fn open_store<D: BlockDevice, A: Allocator + Copy>(
     }
 }
 
-// The store over a file whose gate is shut: its catalog is read and checked, and no other page. The blocks stay.
+// The store over a file whose gate is shut: its catalog is read and checked, and no other page. The blocks
+// stay.
 fn begin<D: BlockDevice, A: Allocator + Copy>(
     alloc: A,
     file: PageFile<D>,
@@ -142,7 +151,8 @@ fn begin<D: BlockDevice, A: Allocator + Copy>(
     requires capacity { is_cache capacity ≡ true }
     ensures image { (t : Table) (blocks : Blocks) → IsHonest file → LiesIn file blocks → IsImage blocks t →
         IfOk result (λ store. IsInState store (Alive t)) }
-    ensures not_refused { (t : Table) (blocks : Blocks) → IsHonest file → LiesIn file blocks → IsImage blocks t →
+    ensures not_refused { (t : Table) (blocks : Blocks) → IsHonest file → LiesIn file blocks →
+        IsImage blocks t →
         IfErr result (λ e. IsMemoryOrDevice e.0) }
     ensures trees { (blocks : Blocks) → IsHonest file → LiesIn file blocks →
         IfOk result (λ store. FindsTreesIn (layers_in store) blocks) }
@@ -152,7 +162,8 @@ fn begin<D: BlockDevice, A: Allocator + Copy>(
     ensures settled { IfOk result IsSettled }
     ensures spelled { IfOk result (λ store. IsHonest file → SpellsRecords store) }
     ensures stops { IfOk result (λ store. IsHonest file →
-        AddsOnly D.moment D.left_since D.recovery (device_of file) (device_in store) (StopSince Shut (blocks_of file))) }
+        AddsOnly D.moment D.left_since D.recovery (device_of file) (device_in store)
+        (StopSince Shut (blocks_of file))) }
     ensures refused_stops { IfErr result (λ e. IsHonest file →
         AddsOnly D.moment D.left_since D.recovery (device_of file) e.1 (StopSince Shut (blocks_of file))) }
     ensures blocks { IfOk result (λ store. IsHonest file → blocks_in store ≡ blocks_of file) }

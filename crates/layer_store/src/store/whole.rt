@@ -20,8 +20,8 @@ use plain_table::{DumpRow, LayerInfo, Refusal};
 use std::alloc::Allocator;
 
 impl<D: BlockDevice, A: Allocator + Copy> Store<D, A> {
-    /// The layers, ascending by name, by their records: the name, axes, fanout and number of objects of each. It takes
-    /// no memory, and makes no call of the device.
+    /// The layers, ascending by name, by their records: the name, axes, fanout and number of objects of each.
+    /// It takes no memory, and makes no call of the device.
     pub fn layers(&mut self) -> Result<ArrayVec<LayerInfo, 60>, Refusal>
         ensures answers { Answers self.old self.new ListLayers layers_answer result }
         ensures gives_up { IfErr result (λ r. r ≡ refusal.StoreFailed 19) }
@@ -34,8 +34,8 @@ impl<D: BlockDevice, A: Allocator + Copy> Store<D, A> {
         }
     }
 
-    /// All layers and objects, as the commands that make them again: for each layer, ascending by name, the one that
-    /// creates it, and then those that insert its objects, ascending by identifier.
+    /// All layers and objects, as the commands that make them again: for each layer, ascending by name, the
+    /// one that creates it, and then those that insert its objects, ascending by identifier.
     pub fn dump(&mut self) -> Result<Vec<DumpRow, A>, Refusal>
         ensures answers { Answers self.old self.new Dump dump_answer result }
     {
@@ -45,11 +45,12 @@ impl<D: BlockDevice, A: Allocator + Copy> Store<D, A> {
         self.layers.dump()
     }
 
-    /// Checks all pages. On an honest device it is done only where they hold a table, whatever file was opened; so a
-    /// store that was opened and checked begins as one of an image does. It looks at each page given out at most twice
-    /// for each layer, and once at the catalog.
+    /// Checks all pages. On an honest device it is done only where they hold a table, whatever file was
+    /// opened; so a store that was opened and checked begins as one of an image does. It looks at each page
+    /// given out at most twice for each layer, and once at the catalog.
     ///
-    /// Refused by `Memory`, `Device` or `Damaged`, and on an honest device with a sound store not by `Damaged`.
+    /// Refused by `Memory`, `Device` or `Damaged`, and on an honest device with a sound store not by
+    /// `Damaged`.
     pub fn check(&mut self) -> Result<(), Refusal>
         ensures answers { Answers self.old self.new Check done_answer result }
         ensures sound { D.honest (device_in self.old) → OnOk result (IsAliveWithSome self.new) }

@@ -38,8 +38,9 @@ use plain_table::Refusal;
 use std::alloc::Allocator;
 
 impl<B: BlockDevice, A: Allocator + Copy> Layers<B, A> {
-    /// Checks all pages: on an honest device it answers so only where the layers are sound with some table, and else
-    /// `Damaged` with the number of a page. Layers that are sound are refused by `Memory` or `Device` alone.
+    /// Checks all pages: on an honest device it answers so only where the layers are sound with some table,
+    /// and else `Damaged` with the number of a page. Layers that are sound are refused by `Memory` or
+    /// `Device` alone.
     ///
     /// It makes at most two looks for each layer and number below the next one, and one at the catalog.
     pub fn check(&mut self) -> Result<(), Refusal>
@@ -89,8 +90,8 @@ fn are_good(records: &[LayerRecord], next: u32, object_count: u64) -> bool
     count_of(records) == object_count
 }
 
-// Sees that the layers of the records stand in the pages, and that each page given out stands in one place: in the
-// catalog, in a layer, or among the free pages.
+// Sees that the layers of the records stand in the pages, and that each page given out stands in one place:
+// in the catalog, in a layer, or among the free pages.
 fn check_pages<B: BlockDevice, A: Allocator + Copy>(
     alloc: A,
     cache: &mut PageCache<B, A>,

@@ -5,7 +5,8 @@ ghost use Rattle.block_device.specs.Device.{LeavesOnly};
 ghost use Rattle.page_file.specs.Fault.{HasCause, IsDamage, IsOfDevice};
 ghost use Rattle.page_file.specs.declared.gate.Gate.TheVariants.{Shut};
 ghost use Rattle.page_file.specs.Pages.{SameBut};
-ghost use Rattle.page_cache.specs.Cache.{IsHonest, IsPageMap, IsUnchanged, blocks_of, device_of, gate_of, next_of};
+ghost use Rattle.page_cache.specs.Cache.{IsHonest, IsPageMap, IsUnchanged, blocks_of, device_of, gate_of};
+ghost use Rattle.page_cache.specs.Cache.{next_of};
 ghost use Rattle.page_cache.specs.Cache.{pages};
 ghost use Rattle.plain_table.specs.Table.{Table};
 ghost use Rattle.live_layers.specs.Image.{IsImage, IsRefusedOrImageOf};
@@ -24,10 +25,13 @@ impl<B: BlockDevice, A: Allocator + Copy> Layers<B, A> {
     // Writes the records into the page of the catalog, if it does not spell them.
     fn write(&mut self) -> Result<(), Fault>
         // A stop leaves what one at rest leaves.
-        ensures stops { (ts : List Table) → IsHonest (cache_of self.old) → RestLeavesOneOf (cache_of self.old) ts →
-            LeavesOnly B.moment B.left_since B.recovery (device_of (cache_of self.old)) (device_of (cache_of self.new))
+        ensures stops { (ts : List Table) → IsHonest (cache_of self.old) →
+            RestLeavesOneOf (cache_of self.old) ts →
+            LeavesOnly B.moment B.left_since B.recovery (device_of (cache_of self.old))
+            (device_of (cache_of self.new))
             (IsRefusedOrImageOf ts) }
-        ensures rests { (ts : List Table) → IsHonest (cache_of self.old) → RestLeavesOneOf (cache_of self.old) ts →
+        ensures rests { (ts : List Table) → IsHonest (cache_of self.old) →
+            RestLeavesOneOf (cache_of self.old) ts →
             RestLeavesOneOf (cache_of self.new) ts }
 
         ensures sound { (t : Table) → IsSound self.old t → IsSound self.new t }
@@ -43,7 +47,8 @@ impl<B: BlockDevice, A: Allocator + Copy> Layers<B, A> {
         ensures honest { IsHonest (cache_of self.old) ↔ IsHonest (cache_of self.new) }
         ensures faults { IsPageMap (cache_of self.old) → IfErr result IsOfDevice }
         ensures other_faults { IfErr result (λ f. IsOfDevice f ⊎ IsDamage f) }
-        ensures cause { HasCause (B.faults (device_of (cache_of self.old))) (B.faults (device_of (cache_of self.new)))
+        ensures cause { HasCause (B.faults (device_of (cache_of self.old)))
+            (B.faults (device_of (cache_of self.new)))
             result }
     {
         if self.written {
@@ -57,21 +62,26 @@ impl<B: BlockDevice, A: Allocator + Copy> Layers<B, A> {
         Ok(())
     }
 
-    /// Writes the records into the page of the catalog, if it does not spell them, and shuts the gate after all pages.
-    /// The table stays with its trees, and the blocks are an image of it then, and have them.
+    /// Writes the records into the page of the catalog, if it does not spell them, and shuts the gate after
+    /// all pages. The table stays with its trees, and the blocks are an image of it then, and have them.
     ///
     /// On an honest device with a sound store it is refused by `Memory` or `Device`.
     pub fn settle(&mut self) -> Result<(), Fault>
         // A stop leaves what one at rest leaves, or an image of the table.
-        ensures stops { (ts : List Table) (t : Table) → IsSound self.old t → RestLeavesOneOf (cache_of self.old) ts →
-            LeavesOnly B.moment B.left_since B.recovery (device_of (cache_of self.old)) (device_of (cache_of self.new))
+        ensures stops { (ts : List Table) (t : Table) → IsSound self.old t →
+            RestLeavesOneOf (cache_of self.old) ts →
+            LeavesOnly B.moment B.left_since B.recovery (device_of (cache_of self.old))
+            (device_of (cache_of self.new))
             (IsRefusedOrImageOf (t ∷ ts)) }
-        ensures closed { (t : Table) → IsSound self.old t → OnOk result (IsImage (blocks_of (cache_of self.new)) t) }
-        ensures rests { (ts : List Table) (t : Table) → IsSound self.old t → RestLeavesOneOf (cache_of self.old) ts →
+        ensures closed { (t : Table) → IsSound self.old t →
+            OnOk result (IsImage (blocks_of (cache_of self.new)) t) }
+        ensures rests { (ts : List Table) (t : Table) → IsSound self.old t →
+            RestLeavesOneOf (cache_of self.old) ts →
             RestLeavesOneOf (cache_of self.new) (t ∷ ts) }
 
         // Where nothing is to be written, nothing is done.
-        ensures was_settled { IsSettled self.old → IsUnchanged (cache_of self.old) (cache_of self.new) × IsOk result }
+        ensures was_settled { IsSettled self.old →
+            IsUnchanged (cache_of self.old) (cache_of self.new) × IsOk result }
 
         ensures sound { (t : Table) → IsSound self.old t → IsSound self.new t }
         ensures trees { (t : Table) → IsSound self.old t → KeepsEachTree self.old self.new }
@@ -81,18 +91,20 @@ impl<B: BlockDevice, A: Allocator + Copy> Layers<B, A> {
         ensures refused { OnErr result (¬ (gate_of (cache_of self.new) ≡ Shut)) }
         ensures written { OnOk result (IsWritten self.new) }
 
-        // All pages but that of the catalog stay, and the records, which that page spells where nothing was changed since
-        // the last closing or its try.
+        // All pages but that of the catalog stay, and the records, which that page spells where nothing was
+        // changed since the last closing or its try.
         ensures beside { IsHonest (cache_of self.old) →
             SameBut 2 (pages (cache_of self.old)) (pages (cache_of self.new)) }
         ensures records { records_in self.new ≡ records_in self.old }
-        ensures spelled { (t : Table) → IsSound self.old t → SpellsUnchanged self.old → SpellsUnchanged self.new }
+        ensures spelled { (t : Table) → IsSound self.old t → SpellsUnchanged self.old →
+            SpellsUnchanged self.new }
 
         ensures next { next_of (cache_of self.new) ≡ next_of (cache_of self.old) }
         ensures honest { IsHonest (cache_of self.old) ↔ IsHonest (cache_of self.new) }
         ensures faults { (t : Table) → IsSound self.old t → IfErr result IsOfDevice }
         ensures other_faults { IfErr result (λ f. IsOfDevice f ⊎ IsDamage f) }
-        ensures cause { HasCause (B.faults (device_of (cache_of self.old))) (B.faults (device_of (cache_of self.new)))
+        ensures cause { HasCause (B.faults (device_of (cache_of self.old)))
+            (B.faults (device_of (cache_of self.new)))
             result }
     {
         self.write()?;

@@ -17,8 +17,8 @@ use block_device::BlockDevice;
 use std::alloc::Allocator;
 
 impl<B: BlockDevice, A: Allocator + Copy> Layers<B, A> {
-    /// Deletes the object with that identifier from a layer: by a lawful removal from its tree, and then from its
-    /// identifier table.
+    /// Deletes the object with that identifier from a layer: by a lawful removal from its tree, and then from
+    /// its identifier table.
     ///
     /// Refused, in this order, by BadName, NoLayer and NoObject.
     pub fn delete(&mut self, name: &[u8], id: u64, rooms: &mut Rooms<A>) -> Result<(), Unmade>

@@ -33,8 +33,8 @@ use range_query::window;
 use std::alloc::{AllocError, Allocator};
 
 impl<B: BlockDevice, A: Allocator + Copy> Layers<B, A> {
-    /// All layers, ascending by name: of each the command that creates it, and then those that insert its objects,
-    /// ascending by identifier.
+    /// All layers, ascending by name: of each the command that creates it, and then those that insert its
+    /// objects, ascending by identifier.
     ///
     /// Refused, on an honest device with sound layers, by `Memory` or `Device`.
     pub fn dump(&mut self) -> Result<Vec<DumpRow, A>, Refusal>
@@ -99,7 +99,8 @@ fn dump_layer<B: BlockDevice, A: Allocator + Copy>(
     }
 }
 
-// All objects of the layer whose tree is at a root, ascending by identifier: those that meet the window of all points.
+// All objects of the layer whose tree is at a root, ascending by identifier: those that meet the window of
+// all points.
 fn objects_at<const D: usize, B: BlockDevice, A: Allocator + Copy>(
     alloc: A,
     cache: &mut PageCache<B, A>,

@@ -18,8 +18,8 @@ use node_page::Broken;
 use std::alloc::Allocator;
 
 impl<B: BlockDevice, A: Allocator + Copy> Layers<B, A> {
-    // Puts these objects into the layer at a place, which has none: a packed tree, and a table of their identifiers,
-    // which are all different. They are left in another order.
+    // Puts these objects into the layer at a place, which has none: a packed tree, and a table of their
+    // identifiers, which are all different. They are left in another order.
     pub(crate) fn fill<const D: usize>(
         &mut self,
         place: usize,
@@ -28,7 +28,8 @@ impl<B: BlockDevice, A: Allocator + Copy> Layers<B, A> {
         requires dims { IsDims D }
         requires within { place < length (records_in self.old) }
         requires room { self.old.object_count + length objects.old ≤ most_objects }
-        ensures filled { (t : Table) (name : List ℕ) (all : Objects) → IsSound self.old t → Finds t name place →
+        ensures filled { (t : Table) (name : List ℕ) (all : Objects) → IsSound self.old t →
+            Finds t name place →
             (layer_at t name).dims ≡ D → map.len (layer_at t name).objects ≡ 0 →
             IsPermutation objects.old (map.entries all) →
             OnOk result (IsSound self.new (map.insert t name (record (layer_at t name) { objects = all }))) }
@@ -36,7 +37,8 @@ impl<B: BlockDevice, A: Allocator + Copy> Layers<B, A> {
             (layer_at t name).dims ≡ D → map.len (layer_at t name).objects ≡ 0 →
             IsPermutation objects.old (map.entries all) →
             OnOk result (ChangesTree self.old self.new name (HasFilled (layer_at t name) objects.old)) }
-        ensures faults { (t : Table) (name : List ℕ) (all : Objects) → IsSound self.old t → Finds t name place →
+        ensures faults { (t : Table) (name : List ℕ) (all : Objects) → IsSound self.old t →
+            Finds t name place →
             (layer_at t name).dims ≡ D → map.len (layer_at t name).objects ≡ 0 →
             IsPermutation objects.old (map.entries all) →
             IfErr result (λ b. IsOfDevice b.cause) }

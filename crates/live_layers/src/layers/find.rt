@@ -15,7 +15,8 @@ impl<D: BlockDevice, A: Allocator> Layers<D, A> {
         ensures within { IfOk result (λ place. place < length (records_in self.now)) }
         ensures end { IfErr result (λ place. place ≤ length (records_in self.now)) }
         ensures found { (t : Table) → IsSound self.now t → IfOk result (λ place. Finds t name.now place) }
-        ensures belongs { (t : Table) → IsSound self.now t → IfErr result (λ place. Belongs t name.now place) }
+        ensures belongs { (t : Table) → IsSound self.now t →
+            IfErr result (λ place. Belongs t name.now place) }
     {
         search(&self.records, name)
     }

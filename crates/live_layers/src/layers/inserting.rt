@@ -20,8 +20,8 @@ use plain_table::RawBox;
 use std::alloc::Allocator;
 
 impl<B: BlockDevice, A: Allocator + Copy> Layers<B, A> {
-    /// Inserts an object with a new identifier, a box and a tag into a layer: by a lawful insertion into its tree, and
-    /// then into its identifier table.
+    /// Inserts an object with a new identifier, a box and a tag into a layer: by a lawful insertion into its
+    /// tree, and then into its identifier table.
     ///
     /// Refused, in this order, by BadName, NoLayer, WrongDims, BadBox, Duplicate and TooManyObjects.
     pub fn insert(

@@ -20,7 +20,8 @@ use std::alloc::Allocator;
 impl<B: BlockDevice, A: Allocator> Layers<B, A> {
     /// The layers, ascending by name. It takes no memory and makes no call of the device.
     pub fn layers(&self) -> ArrayVec<LayerInfo, 60>
-        ensures answered { (t : Table) → IsSound self.now t → layers_answer (Ok result) ≡ reply_of t ListLayers }
+        ensures answered { (t : Table) → IsSound self.now t →
+            layers_answer (Ok result) ≡ reply_of t ListLayers }
     {
         let mut all = ArrayVec::new();
         for record in self.records.as_slice() {

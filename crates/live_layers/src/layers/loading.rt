@@ -21,10 +21,11 @@ use plain_table::RawBox;
 use std::alloc::Allocator;
 
 impl<B: BlockDevice, A: Allocator + Copy> Layers<B, A> {
-    /// Puts objects into a layer that has none, all at once: its tree is packed from them in the order given, and its
-    /// identifier table has them. A load of no objects changes nothing.
+    /// Puts objects into a layer that has none, all at once: its tree is packed from them in the order given,
+    /// and its identifier table has them. A load of no objects changes nothing.
     ///
-    /// Refused, in this order, by BadName, NoLayer, WrongDims, BadBox, NotEmpty, DuplicateInLoad and TooManyObjects.
+    /// Refused, in this order, by BadName, NoLayer, WrongDims, BadBox, NotEmpty, DuplicateInLoad and
+    /// TooManyObjects.
     pub fn load(&mut self, name: &[u8], objects: &[(u64, RawBox, u32)]) -> Result<(), Unmade>
         ensures change { IsChangeBy self.old self.new (Load name.now objects.now) result }
         ensures tree { (t : Table) → IsSound self.old t → changes t (Load name.now objects.now) ≡ true →

@@ -22,8 +22,8 @@ use plain_table::RawBox;
 use std::alloc::Allocator;
 
 impl<B: BlockDevice, A: Allocator + Copy> Layers<B, A> {
-    /// Gives the object with that identifier another box: by a lawful removal and then a lawful insertion. It keeps its
-    /// tag. A move to the box that it has changes nothing.
+    /// Gives the object with that identifier another box: by a lawful removal and then a lawful insertion. It
+    /// keeps its tag. A move to the box that it has changes nothing.
     ///
     /// Refused, in this order, by BadName, NoLayer, WrongDims, BadBox and NoObject.
     pub fn move_object(

@@ -14,8 +14,8 @@ use node_page::Root;
 use std::alloc::Allocator;
 
 impl<B: BlockDevice, A: Allocator> Layers<B, A> {
-    // Notes in the record at a place where the tree of the layer begins now, and how many objects it has. Page 2 is
-    // not written.
+    // Notes in the record at a place where the tree of the layer begins now, and how many objects it has.
+    // Page 2 is not written.
     pub(crate) fn note(&mut self, place: usize, root: Root, count: u64)
         requires within { place < length (records_in self.old) }
         requires root { CanBeRoot root }

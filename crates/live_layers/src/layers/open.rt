@@ -1,13 +1,15 @@
 //! Live layers over the pages of a file that was opened.
 
-ghost use Rattle.std.specs.Prelude.{◌≡◌, ◌+◌, ◌≤◌, ◌⊎◌, Some, None, IsTrue, IfOk, IfErr, map as each, option_map};
+ghost use Rattle.std.specs.Prelude.{◌≡◌, ◌+◌, ◌≤◌, ◌⊎◌, Some, None, IsTrue, IfOk, IfErr, map as each};
+ghost use Rattle.std.specs.Prelude.{option_map};
 ghost use Rattle.block_device.specs.Device.{Blocks};
 ghost use Rattle.catalog_page.specs.Layout.{record_of, records_of};
 ghost use Rattle.page_file.specs.Fault.{IsDamage, IsOfDevice, faults_after};
 ghost use Rattle.page_file.specs.Stops.{AddsOnly, StopSince};
 ghost use Rattle.page_file.specs.declared.fault.Fault.TheVariants as fault;
 ghost use Rattle.page_file.specs.declared.gate.Gate.TheVariants.{Open};
-ghost use Rattle.page_cache.specs.Cache.{IsHonest, LiesIn, blocks_of, device_of, gate_of, looks_of, next_of, pages};
+ghost use Rattle.page_cache.specs.Cache.{IsHonest, LiesIn, blocks_of, device_of, gate_of, looks_of, next_of};
+ghost use Rattle.page_cache.specs.Cache.{pages};
 ghost use Rattle.page_cache.specs.Calls.{Asks, AsksUntil};
 ghost use Rattle.plain_table.specs.Table.{Table, most_objects};
 ghost use Rattle.live_layers.specs.Catalog.{is_good_catalog, objects_named};
@@ -26,15 +28,18 @@ use page_file::Fault;
 use std::alloc::Allocator;
 
 impl<B: BlockDevice, A: Allocator + Copy> Layers<B, A> {
-    /// The layers that the catalog of a file names. Its page is read and checked, and no other: `Damaged` with its
-    /// number where it holds no good catalog.
+    /// The layers that the catalog of a file names. Its page is read and checked, and no other: `Damaged`
+    /// with its number where it holds no good catalog.
     ///
-    /// On an honest device any other refusal is `Memory` or `Device`, and an image of a table is opened as layers that
-    /// are sound with it, and have its trees. The device comes back, with its blocks as they were.
+    /// On an honest device any other refusal is `Memory` or `Device`, and an image of a table is opened as
+    /// layers that are sound with it, and have its trees. The device comes back, with its blocks as they
+    /// were.
     pub fn open(alloc: A, cache: PageCache<B, A>) -> Result<Layers<B, A>, (Fault, B)>
-        ensures image { (t : Table) (blocks : Blocks) → IsHonest cache → LiesIn cache blocks → IsImage blocks t →
+        ensures image { (t : Table) (blocks : Blocks) → IsHonest cache → LiesIn cache blocks →
+            IsImage blocks t →
             IfOk result (λ layers. IsSound layers t) }
-        ensures not_refused { (t : Table) (blocks : Blocks) → IsHonest cache → LiesIn cache blocks → IsImage blocks t →
+        ensures not_refused { (t : Table) (blocks : Blocks) → IsHonest cache → LiesIn cache blocks →
+            IsImage blocks t →
             IfErr result (λ e. IsOfDevice e.0) }
         ensures trees { (blocks : Blocks) → IsHonest cache → LiesIn cache blocks →
             IfOk result (λ layers. FindsTreesIn layers blocks) }
@@ -48,7 +53,8 @@ impl<B: BlockDevice, A: Allocator + Copy> Layers<B, A> {
         ensures written { IfOk result IsWritten }
         ensures asks { IfOk result (λ layers. AsksUntil cache (cache_of layers) None) }
         ensures refused_stops { IfErr result (λ e. IsHonest cache →
-            AddsOnly B.moment B.left_since B.recovery (device_of cache) e.1 (StopSince (gate_of cache) (blocks_of cache))) }
+            AddsOnly B.moment B.left_since B.recovery (device_of cache) e.1
+            (StopSince (gate_of cache) (blocks_of cache))) }
         ensures refused_blocks { IfErr result (λ e. IsHonest cache → ¬ (gate_of cache ≡ Open) →
             B.shown e.1 ≡ blocks_of cache) }
         ensures cause { IfErr result (λ e. B.faults e.1 ≡ faults_after e.0 (B.faults (device_of cache))) }

@@ -28,8 +28,8 @@ use plain_table::{AnyBox, RawPoint, RawQuery, Refusal, is_layer_name};
 use std::alloc::Allocator;
 
 impl<B: BlockDevice, A: Allocator + Copy> Layers<B, A> {
-    /// The objects of a layer that the query seeks, with a tag only those that have it, ascending by identifier. The root
-    /// of the layer's tree is looked at, and each other node whose box the query admits.
+    /// The objects of a layer that the query seeks, with a tag only those that have it, ascending by
+    /// identifier. The root of the layer's tree is looked at, and each other node whose box the query admits.
     ///
     /// Refused, in this order, by BadName, NoLayer, WrongDims and BadBox.
     pub fn range(
@@ -76,7 +76,8 @@ impl<B: BlockDevice, A: Allocator + Copy> Layers<B, A> {
     ///
     /// Refused, in this order, by BadName and NoLayer.
     pub fn count(&self, name: &[u8]) -> Result<u64, Refusal>
-        ensures answered { (t : Table) → IsSound self.now t → count_answer result ≡ reply_of t (Count name.now) }
+        ensures answered { (t : Table) → IsSound self.now t →
+            count_answer result ≡ reply_of t (Count name.now) }
         ensures gives_up { IfErr result (λ r. (r ≡ refusal.BadName) ⊎ (r ≡ refusal.NoLayer)) }
         ensures cause { IfErr result (λ refusal. is_plain refusal ≡ true) }
     {
@@ -84,9 +85,10 @@ impl<B: BlockDevice, A: Allocator + Copy> Layers<B, A> {
         Ok(self.records[place].count)
     }
 
-    /// The k objects of a layer that are nearest to the point, or all of fewer: identifiers with squared distances, by
-    /// distance, and of equal distances by identifier. So many are 1 to 1,000,000. The root of the layer's tree is
-    /// looked at, and each other node that is no farther than the kth of them, or each where there are fewer.
+    /// The k objects of a layer that are nearest to the point, or all of fewer: identifiers with squared
+    /// distances, by distance, and of equal distances by identifier. So many are 1 to 1,000,000. The root of
+    /// the layer's tree is looked at, and each other node that is no farther than the kth of them, or each
+    /// where there are fewer.
     ///
     /// Refused, in this order, by BadName, NoLayer, WrongDims and BadCount.
     pub fn nearest(
@@ -110,12 +112,13 @@ impl<B: BlockDevice, A: Allocator + Copy> Layers<B, A> {
         }
     }
 
-    /// All pairs of an object of the first layer and an object of the second whose boxes have at most this squared
-    /// distance, and within 0 meet: their identifiers, ascending by the first and then by the second. At most twice as many nodes are looked at as there are pairs of
-    /// nodes of the two trees that have to be.
+    /// All pairs of an object of the first layer and an object of the second whose boxes have at most this
+    /// squared distance, and within 0 meet: their identifiers, ascending by the first and then by the second.
+    /// At most twice as many nodes are looked at as there are pairs of nodes of the two trees that have to
+    /// be.
     ///
-    /// Refused, in this order, by BadName, NoLayer and DimsDiffer. Both names are tried before it is asked whether
-    /// there are such layers.
+    /// Refused, in this order, by BadName, NoLayer and DimsDiffer. Both names are tried before it is asked
+    /// whether there are such layers.
     pub fn join(
         &mut self,
         first: &[u8],
@@ -124,7 +127,8 @@ impl<B: BlockDevice, A: Allocator + Copy> Layers<B, A> {
     ) -> Result<Vec<(u64, u64), A>, Refusal>
         ensures answered { (t : Table) → IsSound self.old t →
             IsAnswered self.old self.new t (Join first.now second.now within) (pairs_answer result) }
-        ensures looks { (t : Table) → IsSound self.old t → OnOk result (LooksAtTrees self.old self.new first.now
+        ensures looks { (t : Table) → IsSound self.old t →
+            OnOk result (LooksAtTrees self.old self.new first.now
             second.now (λ tree other. 2 * admitted_pairs (layer_at t first.now).dims within tree other)) }
         ensures keeps { KeepsInQuestion self.old self.new result }
     {

@@ -10,7 +10,8 @@ ghost use Rattle.plain_table.specs.Commands.Command.{Reopen};
 ghost use Rattle.plain_table.specs.Table.{Table};
 ghost use Rattle.live_layers.specs.Changes.{GoesOn, IsBegun, IsChanged};
 ghost use Rattle.live_layers.specs.Closings.{ClosingLeaves};
-ghost use Rattle.live_layers.specs.Keeping.{IsSettled, IsSound, IsWritten, SpellsRecords, SpellsUnchanged, cache_of};
+ghost use Rattle.live_layers.specs.Keeping.{IsSettled, IsSound, IsWritten, SpellsRecords, SpellsUnchanged};
+ghost use Rattle.live_layers.specs.Keeping.{cache_of};
 ghost use Rattle.live_layers.specs.Keeping.{records_in};
 ghost use Rattle.live_layers.specs.Faults.{HasUnmadeCause};
 ghost use Rattle.live_layers.specs.Staying.{KeepsEachTree};
@@ -24,24 +25,25 @@ use page_file::Fault;
 use std::alloc::Allocator;
 
 impl<B: BlockDevice, A: Allocator + Copy> Layers<B, A> {
-    /// Settles the layers, forgets what is held of their pages, and reads gate, header and catalog again: the table
-    /// stays, and each tree.
+    /// Settles the layers, forgets what is held of their pages, and reads gate, header and catalog again: the
+    /// table stays, and each tree.
     ///
-    /// Refused while settling, on an honest device with sound layers by `Memory` or `Device`, they go on. A fault met
-    /// afterwards breaks it off: the blocks are then an image of the table.
+    /// Refused while settling, on an honest device with sound layers by `Memory` or `Device`, they go on. A
+    /// fault met afterwards breaks it off: the blocks are then an image of the table.
     pub fn reopen(&mut self) -> Result<(), Unmade>
         ensures changed { (t : Table) → IsSound self.old t → IsChanged self.old self.new t Reopen result }
         ensures leaves { (t : Table) → IsSound self.old t → ClosingLeaves self.old self.new t result }
         ensures trees { (t : Table) → IsSound self.old t → KeepsEachTree self.old self.new }
         ensures settled { IsOk result → IsSettled self.new }
 
-        // All pages but that of the catalog stay, which then spells the records. Refused, it keeps the records, which that
-        // page spells where nothing was changed since the last closing or its try.
+        // All pages but that of the catalog stay, which then spells the records. Refused, it keeps the
+        // records, which that page spells where nothing was changed since the last closing or its try.
         ensures beside { IsHonest (cache_of self.old) →
             SameBut 2 (pages (cache_of self.old)) (pages (cache_of self.new)) }
         ensures records { OnErr result (records_in self.new ≡ records_in self.old) }
         ensures read { IsHonest (cache_of self.old) → OnOk result (SpellsRecords self.new) }
-        ensures spelled { (t : Table) → IsSound self.old t → SpellsUnchanged self.old → SpellsUnchanged self.new }
+        ensures spelled { (t : Table) → IsSound self.old t → SpellsUnchanged self.old →
+            SpellsUnchanged self.new }
 
         // Where it was not finished the gate is not shut.
         ensures refused { IsBegun result ⊎ ¬ (gate_of (cache_of self.new) ≡ Shut) }
@@ -67,7 +69,8 @@ impl<B: BlockDevice, A: Allocator + Copy> Layers<B, A> {
         requires { gate_of (cache_of self.old) ≡ Shut }
         ensures gate { KeepsGate (cache_of self.old) (cache_of self.new) }
         ensures sound { (t : Table) → IsSound self.old t → IsWritten self.old → IsSound self.new t }
-        ensures trees { (t : Table) → IsSound self.old t → IsWritten self.old → KeepsEachTree self.old self.new }
+        ensures trees { (t : Table) → IsSound self.old t → IsWritten self.old →
+            KeepsEachTree self.old self.new }
         ensures written { IsWritten self.old → IsWritten self.new }
         ensures map { IsHonest (cache_of self.old) → KeepsMap (cache_of self.old) (cache_of self.new) }
         ensures records { OnErr result (records_in self.new ≡ records_in self.old) }
@@ -76,7 +79,8 @@ impl<B: BlockDevice, A: Allocator + Copy> Layers<B, A> {
             next_of (cache_of self.new) ≡ next_of (cache_of self.old) }
         ensures faults { (t : Table) → IsSound self.old t → IsWritten self.old → IfErr result IsOfDevice }
         ensures never { IfErr result (λ f. ¬ (f ≡ fault.NoPages)) }
-        ensures cause { HasCause (B.faults (device_of (cache_of self.old))) (B.faults (device_of (cache_of self.new)))
+        ensures cause { HasCause (B.faults (device_of (cache_of self.old)))
+            (B.faults (device_of (cache_of self.new)))
             result }
     {
         self.cache.check_again()?;

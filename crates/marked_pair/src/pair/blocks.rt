@@ -13,12 +13,15 @@ use block_device::DeviceError;
 use device_pair::DevicePair;
 
 impl<P: DevicePair + Drop> MarkedPair<P> {
-    // Writes the gate: a shut one with the mark. Another one is refused where there is the mark, and so is one with it.
+    // Writes the gate: a shut one with the mark. Another one is refused where there is the mark, and so is
+    // one with it.
     fn write_gate(&mut self, bytes: &[u8; 4096]) -> Result<(), DeviceError>
-        ensures written { IsHonest self.old → OnOk result (base_of self.new ≡ written 0 bytes.now (base_of self.old)) }
+        ensures written { IsHonest self.old →
+            OnOk result (base_of self.new ≡ written 0 bytes.now (base_of self.old)) }
         ensures torn { IsHonest self.old → OnErr result (Torn 0 (base_of self.old) (base_of self.new)) }
         ensures tears { IsHonest self.old → IsTorn 0 self.old self.new }
-        ensures marks { bytes.now ≡ gate_block 1 → IsHonest self.old → OnOk result (¬ (mark_of self.new ≡ Unknown)) }
+        ensures marks { bytes.now ≡ gate_block 1 → IsHonest self.old →
+            OnOk result (¬ (mark_of self.new ≡ Unknown)) }
         ensures allowed { bytes.now ≡ gate_block 1 → refusals_of self.new ≡ refusals_of self.old }
         ensures honest { IsHonest self.old ↔ IsHonest self.new }
         ensures faults { Counts (faults_of self.old) (faults_of self.new) result }
@@ -31,7 +34,8 @@ impl<P: DevicePair + Drop> MarkedPair<P> {
 
     // Writes a gate that is not the shut one.
     fn write_other_gate(&mut self, bytes: &[u8; 4096]) -> Result<(), DeviceError>
-        ensures written { IsHonest self.old → OnOk result (base_of self.new ≡ written 0 bytes.now (base_of self.old)) }
+        ensures written { IsHonest self.old →
+            OnOk result (base_of self.new ≡ written 0 bytes.now (base_of self.old)) }
         ensures torn { IsHonest self.old → OnErr result (Torn 0 (base_of self.old) (base_of self.new)) }
         ensures tears { IsHonest self.old → IsTorn 0 self.old self.new }
         ensures honest { IsHonest self.old ↔ IsHonest self.new }
@@ -54,7 +58,8 @@ impl<P: DevicePair + Drop> MarkedPair<P> {
         ensures refused { mark_of self.old ≡ Unknown → pair_of self.new ≡ pair_of self.old }
         ensures allowed { IsHonest self.old → ¬ (mark_of self.old ≡ Unknown) →
             refusals_of self.new ≡ refusals_of self.old }
-        ensures written { IsHonest self.old → OnOk result (disk_of self.new ≡ written i bytes.now (disk_of self.old)) }
+        ensures written { IsHonest self.old →
+            OnOk result (disk_of self.new ≡ written i bytes.now (disk_of self.old)) }
         ensures torn { IsHonest self.old → OnErr result (Torn i (disk_of self.old) (disk_of self.new)) }
         ensures tears { IsHonest self.old → IsTorn i self.old self.new }
         ensures honest { IsHonest self.old ↔ IsHonest self.new }
@@ -72,7 +77,8 @@ impl<P: DevicePair + Drop> MarkedPair<P> {
         requires within { i ≤ length (disk_of self.old) }
         requires small { i < 2 ^ 31 }
         requires second { 0 < i }
-        ensures written { IsHonest self.old → OnOk result (base_of self.new ≡ written i bytes.now (base_of self.old)) }
+        ensures written { IsHonest self.old →
+            OnOk result (base_of self.new ≡ written i bytes.now (base_of self.old)) }
         ensures torn { IsHonest self.old → OnErr result (Torn i (base_of self.old) (base_of self.new)) }
         ensures tears { IsHonest self.old → IsTorn i self.old self.new }
         ensures honest { IsHonest self.old ↔ IsHonest self.new }
@@ -88,7 +94,8 @@ impl<P: DevicePair + Drop> MarkedPair<P> {
     pub(crate) fn write_block(&mut self, i: u32, bytes: &[u8; 4096]) -> Result<(), DeviceError>
         requires within { i ≤ length (disk_of self.old) }
         requires small { i < 2 ^ 31 }
-        ensures written { IsHonest self.old → OnOk result (base_of self.new ≡ written i bytes.now (base_of self.old)) }
+        ensures written { IsHonest self.old →
+            OnOk result (base_of self.new ≡ written i bytes.now (base_of self.old)) }
         ensures torn { IsHonest self.old → OnErr result (Torn i (base_of self.old) (base_of self.new)) }
         ensures tears { IsHonest self.old → IsTorn i self.old self.new }
         ensures honest { IsHonest self.old ↔ IsHonest self.new }
@@ -100,8 +107,8 @@ impl<P: DevicePair + Drop> MarkedPair<P> {
         self.write_other(i, bytes)
     }
 
-    // Whether block i of the journal is a slot, and may not be one yet: where the base had no header, the mark is
-    // synced first.
+    // Whether block i of the journal is a slot, and may not be one yet: where the base had no header, the
+    // mark is synced first.
     pub(crate) fn is_early(&self, i: u32) -> bool
         ensures { result ≡ false → kept_of self.now < 2 → 2 ≤ i → mark_of self.now ≡ Synced }
     {

@@ -1,7 +1,8 @@
 //! The calls of a pair behind a mark.
 ghost use Rattle.std.specs.Prelude.{◌≡◌, ◌<◌, ◌≤◌, length, refl};
 ghost use Rattle.block_device.specs.Fuse.{faults_with-fits};
-ghost use Rattle.marked_pair.specs.Pair.{base_of, disk_of, faults_of, left_since_of, may_leave_of, pair_of, refusals_of};
+ghost use Rattle.marked_pair.specs.Pair.{base_of, disk_of, faults_of, left_since_of, may_leave_of, pair_of};
+ghost use Rattle.marked_pair.specs.Pair.{refusals_of};
 ghost use Rattle.marked_pair.specs.PairLaws.{few_blocks_of, no_longer_of};
 ghost use Rattle.marked_pair.specs.ShownLaws.{shown_whole};
 
@@ -68,14 +69,19 @@ impl<P: DevicePair + Drop> DevicePair for MarkedPair<P> {
 
     ghost shown_counts = { λ d honest. (disk_of d, P.shown_counts (pair_of d) honest, refl) };
 
-    ghost no_longer = { λ d a b honest left. no_longer_of (disk_of d) (P.journal (pair_of d)) left.0 a b left.2
+    ghost no_longer = { λ d a b honest left.
+        no_longer_of (disk_of d) (P.journal (pair_of d)) left.0 a b left.2
         (P.no_longer (pair_of d) left.0 b honest left.1) };
 
     ghost whole = { λ d a b honest left.
         let both = P.whole (pair_of d) left.0 b honest left.1 in
         (shown_whole left.0 a left.2 both.0, both.1) };
 
-    ghost counts_now = { λ d t a b honest le left. (left.0, P.counts_now (pair_of d) t left.0 b honest le left.1, left.2) };
+    ghost counts_now = { λ d t a b honest le left. (
+      left.0,
+      P.counts_now (pair_of d) t left.0 b honest le left.1,
+      left.2,
+    ) };
 
     ghost only_now = { λ d a b honest left. (left.0, P.only_now (pair_of d) left.0 b honest left.1, left.2) };
 

@@ -34,8 +34,10 @@ impl<P: DevicePair + Drop> MarkedPair<P> {
 
     // Whether the base has the mark.
     pub(crate) fn has_mark(&mut self) -> Result<bool, DeviceError>
-        ensures found { IsHonest self.old → IfOk result (λ found. found ≡ true → IsMarked (disk_of self.new)) }
-        ensures missing { IsHonest self.old → IfOk result (λ found. found ≡ false → ¬ IsMarked (disk_of self.new)) }
+        ensures found { IsHonest self.old →
+            IfOk result (λ found. found ≡ true → IsMarked (disk_of self.new)) }
+        ensures missing { IsHonest self.old →
+            IfOk result (λ found. found ≡ false → ¬ IsMarked (disk_of self.new)) }
         ensures mark { mark_of self.new ≡ mark_of self.old }
         ensures quiet { IsHonest self.old → IsQuiet self.old self.new }
         ensures here { IsSameHere self.old self.new }

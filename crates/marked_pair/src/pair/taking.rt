@@ -11,8 +11,8 @@ use block_device::DeviceError;
 use device_pair::{DevicePair, Snapshots};
 
 impl<P: DevicePair + Drop> MarkedPair<P> {
-    /// Takes a pair, which is synced first; where that is refused, it is given back. No mark is known. Where the base
-    /// has no header, the journal has no slots.
+    /// Takes a pair, which is synced first; where that is refused, it is given back. No mark is known. Where
+    /// the base has no header, the journal has no slots.
     pub fn over(pair: P) -> Result<MarkedPair<P>, (DeviceError, P)>
         requires few { length (P.base pair) < 2 → length (P.journal pair) ≤ 2 }
         ensures base { IfOk result (λ d. P.honest pair → disk_of d ≡ P.base pair) }
@@ -71,7 +71,8 @@ fn sync_both<P: DevicePair>(pair: &mut P) -> Result<(), DeviceError>
     ensures journal { P.honest pair.old → P.journal pair.new ≡ P.journal pair.old }
     ensures durable { P.honest pair.old →
         OnOk result (IsSynced (P.base pair.old) (P.journal pair.old) (P.may_leave pair.new)) }
-    ensures stops { P.honest pair.old → PairLeaves P.moment P.left_since pair.old pair.new (P.may_leave pair.old) }
+    ensures stops { P.honest pair.old →
+        PairLeaves P.moment P.left_since pair.old pair.new (P.may_leave pair.old) }
     ensures honest { P.honest pair.old ↔ P.honest pair.new }
 {
     pair.sync_base()?;

@@ -30,7 +30,8 @@ impl<P: DevicePair + Drop> MarkedPair<P> {
     // Writes block 0 as it is told, where there is no mark.
     pub(crate) fn put_gate(&mut self, bytes: &[u8; 4096]) -> Result<(), DeviceError>
         requires plain { IsHonest self.old → ¬ IsMarked (disk_of self.old) }
-        ensures written { IsHonest self.old → OnOk result (disk_of self.new ≡ written 0 bytes.now (disk_of self.old)) }
+        ensures written { IsHonest self.old →
+            OnOk result (disk_of self.new ≡ written 0 bytes.now (disk_of self.old)) }
         ensures torn { IsHonest self.old → OnErr result (Torn 0 (disk_of self.old) (disk_of self.new)) }
         ensures tears { IsHonest self.old → IsTorn 0 self.old self.new }
         ensures mark { IsHonest self.old → mark_of self.new ≡ Unknown }
@@ -45,7 +46,8 @@ impl<P: DevicePair + Drop> MarkedPair<P> {
     // Writes the mark, where there is none.
     fn put_mark(&mut self) -> Result<(), DeviceError>
         requires plain { IsHonest self.old → ¬ IsMarked (disk_of self.old) }
-        ensures written { IsHonest self.old → OnOk result (disk_of self.new ≡ written 0 (gate_block 2) (disk_of self.old)) }
+        ensures written { IsHonest self.old →
+            OnOk result (disk_of self.new ≡ written 0 (gate_block 2) (disk_of self.old)) }
         ensures torn { IsHonest self.old → OnErr result (Torn 0 (disk_of self.old) (disk_of self.new)) }
         ensures tears { IsHonest self.old → IsTorn 0 self.old self.new }
         ensures mark { IsHonest self.old → OnOk result (mark_of self.new ≡ Written) }
@@ -75,7 +77,8 @@ impl<P: DevicePair + Drop> MarkedPair<P> {
             OnOk result (base_of self.new ≡ written 0 (gate_block 1) (base_of self.old)) }
         ensures torn { IsHonest self.old → OnErr result (Torn 0 (disk_of self.old) (disk_of self.new)) }
         ensures tears { IsHonest self.old → IsTorn 0 self.old self.new }
-        ensures still { IsHonest self.old → IsMarked (disk_of self.old) → disk_of self.new ≡ disk_of self.old }
+        ensures still { IsHonest self.old → IsMarked (disk_of self.old) →
+            disk_of self.new ≡ disk_of self.old }
         ensures mark { IsHonest self.old → OnOk result (¬ (mark_of self.new ≡ Unknown)) }
         ensures here { IsSameHere self.old self.new }
         ensures honest { IsHonest self.old ↔ IsHonest self.new }
@@ -94,7 +97,8 @@ impl<P: DevicePair + Drop> MarkedPair<P> {
         requires small { i < 2 ^ 31 }
         requires second { 0 < i }
         requires behind { kept_of self.old ≤ i }
-        ensures written { IsHonest self.old → OnOk result (disk_of self.new ≡ written i bytes.now (disk_of self.old)) }
+        ensures written { IsHonest self.old →
+            OnOk result (disk_of self.new ≡ written i bytes.now (disk_of self.old)) }
         ensures torn { IsHonest self.old → OnErr result (Torn i (disk_of self.old) (disk_of self.new)) }
         ensures tears { IsHonest self.old → IsTorn i self.old self.new }
         ensures mark { mark_of self.new ≡ mark_of self.old }
@@ -112,7 +116,8 @@ impl<P: DevicePair + Drop> MarkedPair<P> {
         requires small { i < 2 ^ 31 }
         requires second { 0 < i }
         requires synced { mark_of self.old ≡ Synced }
-        ensures written { IsHonest self.old → OnOk result (disk_of self.new ≡ written i bytes.now (disk_of self.old)) }
+        ensures written { IsHonest self.old →
+            OnOk result (disk_of self.new ≡ written i bytes.now (disk_of self.old)) }
         ensures torn { IsHonest self.old → OnErr result (Torn i (disk_of self.old) (disk_of self.new)) }
         ensures tears { IsHonest self.old → IsTorn i self.old self.new }
         ensures mark { mark_of self.new ≡ mark_of self.old }
@@ -124,14 +129,15 @@ impl<P: DevicePair + Drop> MarkedPair<P> {
         self.pair.write_base(i, bytes)
     }
 
-    // Writes a block that was there, behind a mark that a sync has made last. Where there is no such block by then, the
-    // pair is not honest.
+    // Writes a block that was there, behind a mark that a sync has made last. Where there is no such block by
+    // then, the pair is not honest.
     pub(crate) fn put_after_sync(&mut self, i: u32, bytes: &[u8; 4096]) -> Result<(), DeviceError>
         requires within { i ≤ length (disk_of self.old) }
         requires small { i < 2 ^ 31 }
         requires second { 0 < i }
         requires known { ¬ (mark_of self.old ≡ Unknown) }
-        ensures written { IsHonest self.old → OnOk result (disk_of self.new ≡ written i bytes.now (disk_of self.old)) }
+        ensures written { IsHonest self.old →
+            OnOk result (disk_of self.new ≡ written i bytes.now (disk_of self.old)) }
         ensures torn { IsHonest self.old → OnErr result (Torn i (disk_of self.old) (disk_of self.new)) }
         ensures tears { IsHonest self.old → IsTorn i self.old self.new }
         ensures allowed { IsHonest self.old → refusals_of self.new ≡ refusals_of self.old }

@@ -1,5 +1,6 @@
 //! A page changed where it lies in memory.
-ghost use Rattle.std.specs.Prelude.{◌≡◌, ◌⊎◌, ◌≤◌, ◌<◌, ℕ, List, Some, Err, IsErrOf, IfOk, IfErr, OnOk, OnErr};
+ghost use Rattle.std.specs.Prelude.{◌≡◌, ◌⊎◌, ◌≤◌, ◌<◌, ℕ, List, Some, Err, IsErrOf, IfOk, IfErr, OnOk};
+ghost use Rattle.std.specs.Prelude.{OnErr};
 ghost use Rattle.std.specs.Prelude.{if◌then◌else◌, ◌==◌, true};
 ghost use Rattle.std.specs.Fn.{FnOnceReturnsAtMut};
 ghost use Rattle.block_device.specs.Device.{IsBlock};
@@ -26,11 +27,12 @@ fn see_block(page: &[u8; 4096])
 }
 
 impl<D: BlockDevice, A: Allocator + Copy> PageCache<D, A> {
-    /// Changes a live page where it lies in memory, and holds it: `change` gets its bytes, and its answer is handed on.
-    /// The gate has to be open. A number outside 2 to the last one given out is `Damaged` with that number, without a
-    /// call of the device.
+    /// Changes a live page where it lies in memory, and holds it: `change` gets its bytes, and its answer is
+    /// handed on. The gate has to be open. A number outside 2 to the last one given out is `Damaged` with
+    /// that number, without a call of the device.
     ///
-    /// It counts no look. After a refusal, which on an honest device is `Memory` or `Device`, the map is as before.
+    /// It counts no look. After a refusal, which on an honest device is `Memory` or `Device`, the map is as
+    /// before.
     #[tactic(auto, using(crate::specs::Calls::counted_by_end))]
     pub fn edit<T, F: FnOnce(&mut [u8; 4096]) -> T>(
         &mut self,
@@ -64,18 +66,19 @@ impl<D: BlockDevice, A: Allocator + Copy> PageCache<D, A> {
         Ok(self.change_held(n, change))
     }
 
-    /// Fills a live page in memory, and holds it: `fill` gets a page of any bytes, which is that page where it is held.
-    /// The gate has to be open. A number outside 2 to the last one given out is `Damaged` with that number, without a
-    /// call of the device.
+    /// Fills a live page in memory, and holds it: `fill` gets a page of any bytes, which is that page where
+    /// it is held. The gate has to be open. A number outside 2 to the last one given out is `Damaged` with
+    /// that number, without a call of the device.
     ///
-    /// It counts no look. After a refusal, which on an honest device is `Memory` or `Device`, the page is still live
-    /// and may hold any bytes; all others are as before.
+    /// It counts no look. After a refusal, which on an honest device is `Memory` or `Device`, the page is
+    /// still live and may hold any bytes; all others are as before.
     #[tactic(auto, using(crate::specs::Calls::counted_by_end))]
     pub fn refill<F: FnOnce(&mut [u8; 4096])>(&mut self, n: u32, fill: F) -> Result<(), Fault>
         requires open { gate_of self.old ≡ Open }
         requires fill { F.IsAlwaysCallable fill }
         ensures changes { Changes self.old self.new result }
-        ensures filled { IsHonest self.old → OnOk result ((before after : List ℕ) × (given self.new n ≡ Some after)
+        ensures filled { IsHonest self.old →
+            OnOk result ((before after : List ℕ) × (given self.new n ≡ Some after)
             × (IsLive self.old n → pages self.new n ≡ Some after)
             × FnOnceReturnsAtMut F.FnOnce fill before tt after) }
         ensures live { IsHonest self.old → IsLive self.old n → IsLive self.new n }

@@ -16,8 +16,8 @@ use std::alloc::Allocator;
 use std::num::NonZeroUsize;
 
 impl<D: BlockDevice, A: Allocator + Copy> PageCache<D, A> {
-    /// Puts a cache of at most `capacity` pages, 8 to 4096, over a file. It shows what the file shows, and holds
-    /// no page yet.
+    /// Puts a cache of at most `capacity` pages, 8 to 4096, over a file. It shows what the file shows, and
+    /// holds no page yet.
     ///
     /// A refusal is `Memory`, and the device of the file comes back as it is, without a call of it.
     pub fn over(alloc: A, file: PageFile<D>, capacity: u32) -> Result<PageCache<D, A>, (Fault, D)>
@@ -29,7 +29,8 @@ impl<D: BlockDevice, A: Allocator + Copy> PageCache<D, A> {
         ensures pages { IfOk result (λ cache. (k : ℕ) → pages cache k ≡ below.pages file k) }
         ensures given { IfOk result (λ cache. (k : ℕ) → given cache k ≡ below.given file k) }
         ensures sound { IfOk result (λ cache. IsPageMap cache ↔ below.IsPageMap file) }
-        ensures lies { IfOk result (λ cache. (blocks : Blocks) → LiesIn cache blocks ↔ below.LiesIn file blocks) }
+        ensures lies { IfOk result (λ cache. (blocks : Blocks) →
+            LiesIn cache blocks ↔ below.LiesIn file blocks) }
         ensures holds_none { IfOk result (λ cache. (n : ℕ) → ¬ (IsHeld cache n)) }
         ensures capacity { IfOk result (λ cache. capacity_of cache ≡ capacity) }
         ensures looks { IfOk result (λ cache. looks_of cache ≡ 0) }

@@ -1,5 +1,6 @@
 //! The pages: given out, put, freed and lent.
-ghost use Rattle.std.specs.Prelude.{◌≡◌, ◌⊎◌, ◌≤◌, ◌<◌, ◌+◌, ◌^◌, ℕ, Some, None, Err, IsErrOf, IsOk, IfOk, IfErr};
+ghost use Rattle.std.specs.Prelude.{◌≡◌, ◌⊎◌, ◌≤◌, ◌<◌, ◌+◌, ◌^◌, ℕ, Some, None, Err, IsErrOf, IsOk, IfOk};
+ghost use Rattle.std.specs.Prelude.{IfErr};
 ghost use Rattle.std.specs.Prelude.{OnOk, OnErr, option_map, slice_get};
 ghost use Rattle.std.specs.Borrow.{sem};
 ghost use Rattle.block_bytes.specs.Numbers.{zeros};
@@ -24,11 +25,12 @@ impl<D: BlockDevice, A: Allocator + Copy> PageCache<D, A> {
     /// Lends a page that was given out, and counts a look. A number outside 2 to the last one given out is
     /// `Damaged` with that number, without a call of the device, and a page that is held is lent without one.
     ///
-    /// A refusal counts no look; on an honest device that of a page given out is `Memory` or `Device`. Map, gate and
-    /// next number stay, also after a refusal.
+    /// A refusal counts no look; on an honest device that of a page given out is `Memory` or `Device`. Map,
+    /// gate and next number stay, also after a refusal.
     pub fn page(&mut self, n: u32) -> Result<&[u8; 4096], Fault>
         ensures* looked_at { sem 𝓛 (EndsLookedAt D.row A.row D.BlockDevice A.Allocator self.entry n result) }
-        ensures bytes { IsHonest self.old → IsLive self.old n → IfOk result (λ page. pages self.old n ≡ Some page.now) }
+        ensures bytes { IsHonest self.old → IsLive self.old n →
+            IfOk result (λ page. pages self.old n ≡ Some page.now) }
         ensures given_bytes { IsHonest self.old → IfOk result (λ page. given self.old n ≡ Some page.now) }
         ensures held { IsHeld self.old n → IsOk result }
         ensures outside { (n < 2) ⊎ (next_of self.old ≤ n) → IsErrOf result (fault.Damaged n) }
@@ -77,8 +79,8 @@ impl<D: BlockDevice, A: Allocator + Copy> PageCache<D, A> {
         self.fetch(n)
     }
 
-    /// Changes a live page in memory, and holds it. The gate has to be open. A number outside 2 to the last one
-    /// given out is `Damaged` with that number, without a call of the device.
+    /// Changes a live page in memory, and holds it. The gate has to be open. A number outside 2 to the last
+    /// one given out is `Damaged` with that number, without a call of the device.
     ///
     /// After a refusal the page is still live and may hold any bytes; all others are as before. On an
     /// honest device that is `Memory` or `Device`.
@@ -86,7 +88,8 @@ impl<D: BlockDevice, A: Allocator + Copy> PageCache<D, A> {
     pub fn put(&mut self, n: u32, bytes: &[u8; 4096]) -> Result<(), Fault>
         requires { gate_of self.old ≡ Open }
         ensures changes { Changes self.old self.new result }
-        ensures written { IsHonest self.old → IsLive self.old n → OnOk result (pages self.new n ≡ Some bytes.now) }
+        ensures written { IsHonest self.old → IsLive self.old n →
+            OnOk result (pages self.new n ≡ Some bytes.now) }
         ensures live { IsHonest self.old → IsLive self.old n → IsLive self.new n }
         ensures others { IsHonest self.old → IsLive self.old n → SameBut n (pages self.old) (pages self.new) }
         ensures given { IsHonest self.old → OnOk result (given self.new n ≡ Some bytes.now) }
@@ -104,13 +107,13 @@ impl<D: BlockDevice, A: Allocator + Copy> PageCache<D, A> {
         self.refill(n, |page: &mut [u8; 4096]| *page = *bytes)
     }
 
-    /// Gives out a page of zeros that was not live: the first free page where there is one, and else one of a new
-    /// number. The gate has to be open.
+    /// Gives out a page of zeros that was not live: the first free page where there is one, and else one of a
+    /// new number. The gate has to be open.
     ///
     /// After a refusal one page that was not live may hold any bytes, and may be live; all others are as
     /// before. `NoPages` comes only where each number from 2 to 2^31 - 1 is live. `Damaged` comes with the
-    /// number of the first free page, where that is no free page (docs/FORMAT.md, "Pages"). A refusal that leaves as
-    /// many pages free leaves the map.
+    /// number of the first free page, where that is no free page (docs/FORMAT.md, "Pages"). A refusal that
+    /// leaves as many pages free leaves the map.
     #[tactic(auto, using(crate::specs::Calls::counted_by_end))]
     pub fn allocate(&mut self) -> Result<u32, Fault>
         requires { gate_of self.old ≡ Open }
@@ -121,12 +124,14 @@ impl<D: BlockDevice, A: Allocator + Copy> PageCache<D, A> {
         ensures taken { IsPageMap self.old →
             IfOk result (λ n. TakesFirst n (free_of self.old) (next_of self.old) (free_of self.new)
             (next_of self.new)) }
-        ensures given_others { IsHonest self.old → IfOk result (λ n. SameBut n (given self.old) (given self.new)) }
+        ensures given_others { IsHonest self.old →
+            IfOk result (λ n. SameBut n (given self.old) (given self.new)) }
         ensures given_refused { IsHonest self.old →
             OnErr result ((n : ℕ) × SameBut n (given self.old) (given self.new)) }
         ensures refused { IsPageMap self.old →
             OnErr result ((n : ℕ) × (pages self.old n ≡ None) × SameBut n (pages self.old) (pages self.new)) }
-        ensures kept { OnErr result (free_count_of self.new ≡ free_count_of self.old → KeepsMap self.old self.new) }
+        ensures kept { OnErr result (free_count_of self.new ≡ free_count_of self.old →
+            KeepsMap self.old self.new) }
         ensures sound { IsPageMap self.old → IsPageMap self.new }
         ensures number { IfOk result (λ n. (3 ≤ n) × (n < next_of self.new)) }
         ensures next { (next_of self.old ≤ next_of self.new) × (next_of self.new ≤ next_of self.old + 1) }
@@ -145,8 +150,8 @@ impl<D: BlockDevice, A: Allocator + Copy> PageCache<D, A> {
         self.file.allocate()
     }
 
-    /// Frees a live page other than the catalog: it is no longer live. The gate has to be open. A number outside
-    /// 3 to the last one given out is `Damaged` with that number, without a call of the device.
+    /// Frees a live page other than the catalog: it is no longer live. The gate has to be open. A number
+    /// outside 3 to the last one given out is `Damaged` with that number, without a call of the device.
     ///
     /// After a refusal the page may hold any bytes, and may be live or not; all others are as before.
     /// With a sound map that is `Memory` or `Device`.
@@ -173,8 +178,9 @@ impl<D: BlockDevice, A: Allocator + Copy> PageCache<D, A> {
         self.file.free(n)
     }
 
-    /// The free pages, in the order in which they are given out again. `Damaged` where they are no chain of free pages
-    /// as the format has it (docs/FORMAT.md, "Pages"), with the number of the page at which it ends to be one.
+    /// The free pages, in the order in which they are given out again. `Damaged` where they are no chain of
+    /// free pages as the format has it (docs/FORMAT.md, "Pages"), with the number of the page at which it
+    /// ends to be one.
     ///
     /// What was put is written first, and no page is held afterwards. Map and gate stay.
     #[tactic(auto, using(crate::specs::Calls::counted_by_end))]

@@ -5,7 +5,8 @@ ghost use Rattle.page_file.specs.Fault.{HasCause, IsDamage, IsOfDevice, faults_a
 ghost use Rattle.page_file.specs.Opening.{IsRefused};
 ghost use Rattle.page_file.specs.Stops.{SameButGate};
 ghost use Rattle.page_file.specs.declared.gate.Gate.TheVariants.{Shut, Open, Unsure};
-ghost use Rattle.page_cache.specs.Cache.{IsHonest, IsUnchanged, KeepsMap, LiesIn, blocks_of, capacity_of, device_of};
+ghost use Rattle.page_cache.specs.Cache.{IsHonest, IsUnchanged, KeepsMap, LiesIn, blocks_of, capacity_of};
+ghost use Rattle.page_cache.specs.Cache.{device_of};
 ghost use Rattle.page_cache.specs.Cache.{gate_of, looks_of};
 
 use crate::cache::PageCache;
@@ -15,8 +16,8 @@ use std::alloc::Allocator;
 
 impl<D: BlockDevice, A: Allocator + Copy> PageCache<D, A> {
     /// Shuts the gate after all that was put. With the gate open the pages and the header are written and
-    /// synced, and then the gate is written shut and synced; with it unsure the gate alone; with it shut nothing
-    /// is written. The cache stays usable.
+    /// synced, and then the gate is written shut and synced; with it unsure the gate alone; with it shut
+    /// nothing is written. The cache stays usable.
     ///
     /// After a refusal the gate is unsure, or open as before. On an honest device that is `Memory` or
     /// `Device`. The map stays.
@@ -30,10 +31,11 @@ impl<D: BlockDevice, A: Allocator + Copy> PageCache<D, A> {
             SameButGate (blocks_of self.new) (blocks_of self.old) }
         ensures map { KeepsMap self.old self.new }
 
-        // A stop leaves blocks that opening refuses, or those that are read afterwards, the gate aside, in which the
-        // map lies.
+        // A stop leaves blocks that opening refuses, or those that are read afterwards, the gate aside, in
+        // which the map lies.
         ensures stops { IsHonest self.old →
-            LeavesOnly D.moment D.left_since D.recovery (device_of self.old) (device_of self.new) (λ c. IsRefused c ⊎
+            LeavesOnly D.moment D.left_since D.recovery (device_of self.old) (device_of self.new)
+            (λ c. IsRefused c ⊎
             (SameButGate c (blocks_of self.new) × LiesIn self.new c)) }
 
         ensures looks { looks_of self.new ≡ looks_of self.old }
@@ -49,15 +51,15 @@ impl<D: BlockDevice, A: Allocator + Copy> PageCache<D, A> {
 
     /// Settles the cache, and hands the device back. Opened again, it has the same map.
     ///
-    /// After a refusal, which on an honest device is `Memory` or `Device`, the device comes back; a stop leaves of it
-    /// what one during the call leaves.
+    /// After a refusal, which on an honest device is `Memory` or `Device`, the device comes back; a stop
+    /// leaves of it what one during the call leaves.
     pub fn close(self) -> Result<D, (Fault, D)>
         ensures lies { IfOk result (λ device. IsHonest self → LiesIn self (D.shown device)) }
         ensures durable { IfOk result (λ device. IsHonest self → Only (D.shown device) (D.may_leave device)) }
         ensures was_shut { gate_of self ≡ Shut → result ≡ Ok (device_of self) }
 
-        // A stop leaves blocks that opening refuses, or those that are read afterwards, the gate aside, in which the
-        // map lies.
+        // A stop leaves blocks that opening refuses, or those that are read afterwards, the gate aside, in
+        // which the map lies.
         ensures stops { IfOk result (λ device. IsHonest self →
             LeavesOnly D.moment D.left_since D.recovery (device_of self) device (λ c. IsRefused c ⊎
             (SameButGate c (D.shown device) × LiesIn self c))) }

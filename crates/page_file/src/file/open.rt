@@ -2,7 +2,8 @@
 ghost use Rattle.std.specs.Prelude.{◌≡◌, ◌⊎◌, ◌↔◌, ◌≤◌, ◌<◌, ℕ, Some, None, length, IfOk, IfErr};
 ghost use Rattle.block_device.specs.Device.{Only, LeavesOnly};
 ghost use Rattle.page_file.specs.Fault.{HasCause, IsOfDevice, IsDamage, faults_after};
-ghost use Rattle.page_file.specs.File.{device_of, blocks_of, gate_of, next_of, pages, IsHonest, IsNewFile, IsPageMap};
+ghost use Rattle.page_file.specs.File.{device_of, blocks_of, gate_of, next_of, pages, IsHonest, IsNewFile};
+ghost use Rattle.page_file.specs.File.{IsPageMap};
 ghost use Rattle.page_file.specs.File.{KeepsGate, KeepsMap, LiesIn};
 ghost use Rattle.page_file.specs.Layout.{catalog_block, version_in};
 ghost use Rattle.page_file.specs.Opening.{IsRefused, failed_check};
@@ -97,7 +98,8 @@ pub fn create_pages<D: BlockDevice>(device: D) -> Result<PageFile<D>, (Fault, D)
         LeavesOnly D.moment D.left_since D.recovery device (device_of file) (λ c. IsRefused c ⊎
         (SameButGate c (blocks_of file) × IsNewFile c))) }
     ensures refused_stops { IfErr result (λ e. D.honest device →
-        LeavesOnly D.moment D.left_since D.recovery device e.1 (λ c. IsRefused c ⊎ (SameButGate c (D.shown e.1) × IsNewFile c))) }
+        LeavesOnly D.moment D.left_since D.recovery device e.1 (λ c. IsRefused c
+        ⊎ (SameButGate c (D.shown e.1) × IsNewFile c))) }
 
     ensures honest { IfOk result (λ file. D.honest device ↔ D.honest (device_of file)) }
     ensures refused_honest { IfErr result (λ e. D.honest device ↔ D.honest e.1) }

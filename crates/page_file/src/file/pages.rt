@@ -1,13 +1,16 @@
 //! The pages: given out, written, freed and read.
-ghost use Rattle.std.specs.Prelude.{◌≡◌, ◌⊎◌, ◌≤◌, ◌<◌, ◌+◌, ◌-◌, ◌^◌, ℕ, Some, None, true, Err, IsErrOf, IfOk};
+ghost use Rattle.std.specs.Prelude.{◌≡◌, ◌⊎◌, ◌≤◌, ◌<◌, ◌+◌, ◌-◌, ◌^◌, ℕ, Some, None, true, Err, IsErrOf};
+ghost use Rattle.std.specs.Prelude.{IfOk};
 ghost use Rattle.std.specs.Prelude.{IfErr, OnOk, OnErr};
 ghost use Rattle.block_bytes.specs.Numbers.{zeros};
 ghost use Rattle.block_device.specs.Device.{Only, Torn, block_at, written};
 ghost use Rattle.page_file.specs.Fault.{HasCause, IsOfDevice, IsDamage};
 ghost use Rattle.page_file.specs.File.{device_of, blocks_of, free_of, header_of, IsBroken, IsHonest, gate_of};
-ghost use Rattle.page_file.specs.File.{Grows, IsFull, next_of, pages, given, IsLive, IsPageMap, KeepsGate, KeepsMap};
+ghost use Rattle.page_file.specs.File.{Grows, IsFull, next_of, pages, given, IsLive, IsPageMap, KeepsGate};
+ghost use Rattle.page_file.specs.File.{KeepsMap};
 ghost use Rattle.page_file.specs.Layout.{free_block};
-ghost use Rattle.page_file.specs.Pages.{HasGiven, MayHaveGiven, SameBut, TakesFirst, free_page_link, may_link};
+ghost use Rattle.page_file.specs.Pages.{HasGiven, MayHaveGiven, SameBut, TakesFirst, free_page_link};
+ghost use Rattle.page_file.specs.Pages.{may_link};
 ghost use Rattle.page_file.specs.Pages.{next_given, with_one_free, with_one_given, with_one_taken};
 ghost use Rattle.page_file.specs.declared.fault.Fault.TheVariants as fault;
 ghost use Rattle.page_file.specs.declared.gate.Gate.TheVariants.{Open};
@@ -24,12 +27,13 @@ use std::alloc::Allocator;
 const MAX_PAGES: u32 = 1 << 31;
 
 impl<D: BlockDevice> PageFile<D> {
-    /// Gives out a page of zeros that was not live: the first free page where there is one, and else one of a new
-    /// number. The gate has to be open.
+    /// Gives out a page of zeros that was not live: the first free page where there is one, and else one of a
+    /// new number. The gate has to be open.
     ///
-    /// After a refusal one page that was not live may hold any bytes, and may be live; all others are as before.
-    /// `NoPages` comes only where each number from 2 to 2^31 - 1 is live. `Damaged` comes with the number of the first
-    /// free page, where its block is not that of a free page (docs/FORMAT.md, "Pages"); nothing has changed then.
+    /// After a refusal one page that was not live may hold any bytes, and may be live; all others are as
+    /// before. `NoPages` comes only where each number from 2 to 2^31 - 1 is live. `Damaged` comes with the
+    /// number of the first free page, where its block is not that of a free page (docs/FORMAT.md, "Pages");
+    /// nothing has changed then.
     pub fn allocate(&mut self) -> Result<u32, Fault>
         requires { gate_of self.old ≡ Open }
         ensures gate { KeepsGate self.old self.new }
@@ -42,12 +46,14 @@ impl<D: BlockDevice> PageFile<D> {
         ensures refused { IsPageMap self.old →
             OnErr result ((n : ℕ) × (pages self.old n ≡ None) × SameBut n (pages self.old) (pages self.new)) }
         ensures sound { IsPageMap self.old → IsPageMap self.new }
-        ensures given_others { IsHonest self.old → IfOk result (λ n. SameBut n (given self.old) (given self.new)) }
+        ensures given_others { IsHonest self.old →
+            IfOk result (λ n. SameBut n (given self.old) (given self.new)) }
         ensures given_refused { IsHonest self.old →
             OnErr result ((n : ℕ) × SameBut n (given self.old) (given self.new)) }
         ensures which { IfOk result (λ n. n ≡ next_given (header_of self.old)) }
         ensures gives { IsHonest self.old →
-            OnOk result (HasGiven (blocks_of self.old) (blocks_of self.new) (header_of self.old) (header_of self.new)) }
+            OnOk result (HasGiven (blocks_of self.old) (blocks_of self.new) (header_of self.old)
+            (header_of self.new)) }
         ensures may_give { IsHonest self.old →
             OnErr result (MayHaveGiven (blocks_of self.old) (blocks_of self.new) (header_of self.old)
             (header_of self.new)) }
@@ -72,7 +78,8 @@ impl<D: BlockDevice> PageFile<D> {
         ensures gate { KeepsGate self.old self.new }
         ensures which { IfOk result (λ n. n ≡ next_given (header_of self.old)) }
         ensures gives { IsHonest self.old →
-            OnOk result (HasGiven (blocks_of self.old) (blocks_of self.new) (header_of self.old) (header_of self.new)) }
+            OnOk result (HasGiven (blocks_of self.old) (blocks_of self.new) (header_of self.old)
+            (header_of self.new)) }
         ensures may_give { IsHonest self.old →
             OnErr result (MayHaveGiven (blocks_of self.old) (blocks_of self.new) (header_of self.old)
             (header_of self.new)) }
@@ -118,8 +125,8 @@ impl<D: BlockDevice> PageFile<D> {
         Ok(n)
     }
 
-    // Gives out the first free page. Its link is read, then it leaves the chain in memory, and only then it is written:
-    // were that write torn while the chain still led through it, the map would be lost.
+    // Gives out the first free page. Its link is read, then it leaves the chain in memory, and only then it
+    // is written: were that write torn while the chain still led through it, the map would be lost.
     fn give_first(&mut self) -> Result<u32, Fault>
         requires open { gate_of self.old ≡ Open }
         requires some { 0 < (header_of self.old).count }
@@ -128,15 +135,18 @@ impl<D: BlockDevice> PageFile<D> {
         ensures header { IsHonest self.old →
             OnOk result (header_of self.new ≡ with_one_taken (blocks_of self.old) (header_of self.old)) }
         ensures refused_header { IsHonest self.old →
-            OnErr result (((header_of self.new ≡ header_of self.old) × (blocks_of self.new ≡ blocks_of self.old)) ⊎
+            OnErr result (((header_of self.new ≡ header_of self.old)
+            × (blocks_of self.new ≡ blocks_of self.old)) ⊎
             (header_of self.new ≡ with_one_taken (blocks_of self.old) (header_of self.old))) }
         ensures block { IsHonest self.old →
             OnOk result (blocks_of self.new ≡ written (header_of self.old).first zeros (blocks_of self.old)) }
-        ensures torn { IsHonest self.old → Torn (header_of self.old).first (blocks_of self.old) (blocks_of self.new) }
+        ensures torn { IsHonest self.old →
+            Torn (header_of self.old).first (blocks_of self.old) (blocks_of self.new) }
         ensures grows { Grows 1 self.old self.new }
         ensures number { (3 ≤ (header_of self.old).first) × ((header_of self.old).first < next_of self.old) }
         ensures next { next_of self.new ≡ next_of self.old }
-        ensures damaged { IsHonest self.old → IfErr result (λ f. IsOfDevice f ⊎ IsBroken self.old self.new f) }
+        ensures damaged { IsHonest self.old →
+            IfErr result (λ f. IsOfDevice f ⊎ IsBroken self.old self.new f) }
         ensures other_faults { IfErr result (λ f. IsOfDevice f ⊎ IsDamage f) }
         ensures cause { HasCause (D.faults (device_of self.old)) (D.faults (device_of self.new)) result }
     {
@@ -151,8 +161,8 @@ impl<D: BlockDevice> PageFile<D> {
         Ok(n)
     }
 
-    // The page that a free page names as the next, where so many are free from it on. `Damaged` with its number where
-    // it is no free page as the format has it.
+    // The page that a free page names as the next, where so many are free from it on. `Damaged` with its
+    // number where it is no free page as the format has it.
     fn read_link(&mut self, n: u32, count: u32) -> Result<u32, Fault>
         requires within { (3 ≤ n) × (n < next_of self.old) }
         ensures gate { KeepsGate self.old self.new }
@@ -178,9 +188,10 @@ impl<D: BlockDevice> PageFile<D> {
         }
     }
 
-    /// The free pages, in the order in which they are given out again. `Damaged` where they are no chain of free pages
-    /// as the format has it (docs/FORMAT.md, "Pages"), with the number of the page at which it ends to be one: where a
-    /// page of it is of another kind, where it closes on itself, and where it is longer or shorter than the count.
+    /// The free pages, in the order in which they are given out again. `Damaged` where they are no chain of
+    /// free pages as the format has it (docs/FORMAT.md, "Pages"), with the number of the page at which it
+    /// ends to be one: where a page of it is of another kind, where it closes on itself, and where it is
+    /// longer or shorter than the count.
     pub fn free_pages<A: Allocator>(&mut self, alloc: A) -> Result<Vec<u32, A>, Fault>
         ensures gate { KeepsGate self.old self.new }
         ensures map { KeepsMap self.old self.new }
@@ -211,16 +222,17 @@ impl<D: BlockDevice> PageFile<D> {
         self.header.first
     }
 
-    /// Writes a live page. The gate has to be open. A number outside 2 to the last one given out is `Damaged` with
-    /// that number, without a call of the device.
+    /// Writes a live page. The gate has to be open. A number outside 2 to the last one given out is `Damaged`
+    /// with that number, without a call of the device.
     ///
-    /// After a refusal the page is still live and may hold any bytes; all others are as before. On an
-    /// honest device that is `Memory` or `Device`. A page given out that is not live is written, too, and no other page
-    /// given out changes; which pages are live is then not said.
+    /// After a refusal the page is still live and may hold any bytes; all others are as before. On an honest
+    /// device that is `Memory` or `Device`. A page given out that is not live is written, too, and no other
+    /// page given out changes; which pages are live is then not said.
     pub fn write(&mut self, n: u32, bytes: &[u8; 4096]) -> Result<(), Fault>
         requires { gate_of self.old ≡ Open }
         ensures gate { KeepsGate self.old self.new }
-        ensures written { IsHonest self.old → IsLive self.old n → OnOk result (pages self.new n ≡ Some bytes.now) }
+        ensures written { IsHonest self.old → IsLive self.old n →
+            OnOk result (pages self.new n ≡ Some bytes.now) }
         ensures live { IsHonest self.old → IsLive self.old n → IsLive self.new n }
         ensures others { IsHonest self.old → IsLive self.old n → SameBut n (pages self.old) (pages self.new) }
         ensures given { IsHonest self.old → OnOk result (given self.new n ≡ Some bytes.now) }
@@ -231,7 +243,8 @@ impl<D: BlockDevice> PageFile<D> {
             OnOk result (blocks_of self.new ≡ written n bytes.now (blocks_of self.old)) }
         ensures torn { IsHonest self.old → Torn n (blocks_of self.old) (blocks_of self.new) }
         ensures next { next_of self.new ≡ next_of self.old }
-        ensures outside { (n < 2) ⊎ (next_of self.old ≤ n) → (result ≡ Err (fault.Damaged n)) × (self.new ≡ self.old) }
+        ensures outside { (n < 2) ⊎ (next_of self.old ≤ n) →
+            (result ≡ Err (fault.Damaged n)) × (self.new ≡ self.old) }
         ensures faults { IsHonest self.old → 2 ≤ n → n < next_of self.old → IfErr result IsOfDevice }
         ensures other_faults { IfErr result (λ f. IsOfDevice f ⊎ (f ≡ fault.Damaged n)) }
         ensures cause { HasCause (D.faults (device_of self.old)) (D.faults (device_of self.new)) result }
@@ -242,8 +255,8 @@ impl<D: BlockDevice> PageFile<D> {
         write_block(&mut self.device, n, bytes)
     }
 
-    /// Frees a live page other than the catalog: it is no longer live, and is the first of the free
-    /// pages. The gate has to be open. A number outside 3 to the last one given out is `Damaged` with that number,
+    /// Frees a live page other than the catalog: it is no longer live, and is the first of the free pages.
+    /// The gate has to be open. A number outside 3 to the last one given out is `Damaged` with that number,
     /// without a call of the device.
     ///
     /// After a refusal the page may hold any bytes, and may be live or not; all others are as before.
@@ -263,15 +276,16 @@ impl<D: BlockDevice> PageFile<D> {
         ensures torn { IsHonest self.old → Torn n (blocks_of self.old) (blocks_of self.new) }
         ensures next { next_of self.new ≡ next_of self.old }
         ensures grows { Grows 0 self.old self.new }
-        ensures outside { (n < 3) ⊎ (next_of self.old ≤ n) → (result ≡ Err (fault.Damaged n)) × (self.new ≡ self.old) }
+        ensures outside { (n < 3) ⊎ (next_of self.old ≤ n) →
+            (result ≡ Err (fault.Damaged n)) × (self.new ≡ self.old) }
         ensures faults { IsPageMap self.old → IsLive self.old n → ¬ (n ≡ 2) → IfErr result IsOfDevice }
         ensures room_faults { IsHonest self.old → 3 ≤ n → n < next_of self.old →
             (header_of self.old).count < next_of self.old - 3 → IfErr result IsOfDevice }
         ensures other_faults { IfErr result (λ f. IsOfDevice f ⊎ (f ≡ fault.Damaged n)) }
         ensures cause { HasCause (D.faults (device_of self.old)) (D.faults (device_of self.new)) result }
     {
-        // Where the page is live, not all are free; the last test keeps the count in bounds on a device that is not
-        // honest.
+        // Where the page is live, not all are free; the last test keeps the count in bounds on a device that
+        // is not honest.
         if n < 3 || n >= self.header.next || self.header.count >= self.header.next - 3 {
             return Err(Fault::Damaged(n));
         }
@@ -286,11 +300,13 @@ impl<D: BlockDevice> PageFile<D> {
     pub fn read(&mut self, n: u32, into: &mut [u8; 4096]) -> Result<(), Fault>
         ensures gate { KeepsGate self.old self.new }
         ensures map { KeepsMap self.old self.new }
-        ensures bytes { IsHonest self.old → IsLive self.old n → OnOk result (pages self.old n ≡ Some into.new) }
+        ensures bytes { IsHonest self.old → IsLive self.old n →
+            OnOk result (pages self.old n ≡ Some into.new) }
         ensures given_bytes { IsHonest self.old → OnOk result (given self.old n ≡ Some into.new) }
         ensures blocks { IsHonest self.old → blocks_of self.new ≡ blocks_of self.old }
         ensures header { header_of self.new ≡ header_of self.old }
-        ensures outside { (n < 2) ⊎ (next_of self.old ≤ n) → (result ≡ Err (fault.Damaged n)) × (self.new ≡ self.old) }
+        ensures outside { (n < 2) ⊎ (next_of self.old ≤ n) →
+            (result ≡ Err (fault.Damaged n)) × (self.new ≡ self.old) }
         ensures faults { IsHonest self.old → 2 ≤ n → n < next_of self.old → IfErr result IsOfDevice }
         ensures other_faults { IfErr result (λ f. IsOfDevice f ⊎ (f ≡ fault.Damaged n)) }
         ensures cause { HasCause (D.faults (device_of self.old)) (D.faults (device_of self.new)) result }

@@ -35,10 +35,11 @@ impl<D: BlockDevice> PageFile<D> {
             SameButGate (blocks_of self.new) (blocks_of self.old) }
         ensures map { KeepsMap self.old self.new }
 
-        // A stop leaves blocks that opening refuses, or those that are read afterwards, the gate aside, in which
-        // the file lies.
+        // A stop leaves blocks that opening refuses, or those that are read afterwards, the gate aside, in
+        // which the file lies.
         ensures stops { IsHonest self.old →
-            LeavesOnly D.moment D.left_since D.recovery (device_of self.old) (device_of self.new) (λ c. IsRefused c ⊎
+            LeavesOnly D.moment D.left_since D.recovery (device_of self.old) (device_of self.new)
+            (λ c. IsRefused c ⊎
             (SameButGate c (blocks_of self.new) × LiesIn self.new c)) }
 
         ensures honest { IsHonest self.old ↔ IsHonest self.new }
@@ -54,15 +55,15 @@ impl<D: BlockDevice> PageFile<D> {
 
     /// Settles the file, and hands its device back. Opened again, it has the same map.
     ///
-    /// After a refusal, which on an honest device is `Memory` or `Device`, the device comes back; a stop leaves of it
-    /// what one during the call leaves.
+    /// After a refusal, which on an honest device is `Memory` or `Device`, the device comes back; a stop
+    /// leaves of it what one during the call leaves.
     pub fn close(self) -> Result<D, (Fault, D)>
         ensures lies { IfOk result (λ device. IsHonest self → LiesIn self (D.shown device)) }
         ensures durable { IfOk result (λ device. IsHonest self → Only (D.shown device) (D.may_leave device)) }
         ensures was_shut { gate_of self ≡ Shut → result ≡ Ok (device_of self) }
 
-        // A stop leaves blocks that opening refuses, or those that are read afterwards, the gate aside, in which
-        // the file lies.
+        // A stop leaves blocks that opening refuses, or those that are read afterwards, the gate aside, in
+        // which the file lies.
         ensures stops { IfOk result (λ device. IsHonest self →
             LeavesOnly D.moment D.left_since D.recovery (device_of self) device (λ c. IsRefused c ⊎
             (SameButGate c (D.shown device) × LiesIn self c))) }

@@ -1,5 +1,5 @@
-//! Tests of many pages: which writes are made and when, how many pages are held, and that what is lent is what was
-//! put last, whatever left in between.
+//! Tests of many pages: which writes are made and when, how many pages are held, and that what is lent is
+//! what was put last, whatever left in between.
 ghost use Rattle.std.specs.Prelude.{◌≡◌, IfOk, ◌<◌, ◌≤◌};
 ghost use Rattle.page_file.specs.declared.gate.Gate.TheVariants.{Open};
 ghost use Rattle.page_cache.specs.Cache.{gate_of};
@@ -86,8 +86,8 @@ fn scrambled(x: u64) -> u64 {
     b.wrapping_mul(0xbf58_476d_1ce4_e5b9) ^ (b >> 32)
 }
 
-// Puts and asks for pages 3 to 22 at random, and says after how many turns a page was lent that is not what was put
-// last. A fault ends the turns.
+// Puts and asks for pages 3 to 22 at random, and says after how many turns a page was lent that is not what
+// was put last. A fault ends the turns.
 fn turns<D: BlockDevice>(
     cache: &mut PageCache<D, Global>,
     bytes: &mut [u8; 20],

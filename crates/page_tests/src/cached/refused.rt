@@ -78,8 +78,8 @@ fn fill<D: BlockDevice, A: Allocator + Copy>(cache: &mut PageCache<D, A>) -> Res
     Ok(())
 }
 
-// A cache of 8 pages over a new file, its gate open: pages 3 to 11 are filled with their number, and two are free. It
-// holds 8 of them, or none.
+// A cache of 8 pages over a new file, its gate open: pages 3 to 11 are filled with their number, and two are
+// free. It holds 8 of them, or none.
 fn scene<A: Allocator + Copy>(alloc: A, held: bool) -> Result<PageCache<MemoryDevice<A>, A>, Fault>
     ensures { IfOk result (λ cache. gate_of cache ≡ Open) }
 {

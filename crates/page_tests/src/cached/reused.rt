@@ -99,8 +99,8 @@ fn scrambled(x: u64) -> u64 {
     b.wrapping_mul(0xbf58_476d_1ce4_e5b9) ^ (b >> 32)
 }
 
-// One call at random, and whether its answer is that of a plain map: 0 for a page that is not live, and else one more
-// than the byte that fills it.
+// One call at random, and whether its answer is that of a plain map: 0 for a page that is not live, and else
+// one more than the byte that fills it.
 fn turn<D: BlockDevice, A: Allocator + Copy>(
     cache: &mut PageCache<D, A>,
     map: &mut [u16; 64],

@@ -65,7 +65,8 @@ impl<'a, R: BlockReader> BlockDevice for ReadOnlyDevice<'a, R> {
 
     ghost no_longer = { λ d c _ left. one_longer c (R.shown (reader_of d)) left };
 
-    ghost whole = { λ d c honest left. left_is_whole c (R.shown (reader_of d)) left (R.whole (reader_of d) honest) };
+    ghost whole = { λ d c honest left.
+        left_is_whole c (R.shown (reader_of d)) left (R.whole (reader_of d) honest) };
 
     ghost counts_now = { λ _ _ _ _ _ left. left };
 

@@ -62,16 +62,23 @@ impl<P: DevicePair + Drop> DevicePair for TitledPair<P> {
         self.pair.sync_journal()
     }
 
-    ghost few_blocks = { λ d. few_behind (P.base (pair_of d)) (P.journal (pair_of d)) (P.few_blocks (pair_of d)) };
+    ghost few_blocks = { λ d.
+        few_behind (P.base (pair_of d)) (P.journal (pair_of d)) (P.few_blocks (pair_of d)) };
 
     ghost shown_counts = { λ d honest. (P.journal (pair_of d), P.shown_counts (pair_of d) honest, refl) };
 
-    ghost no_longer = { λ d a b honest left. no_longer_behind (P.base (pair_of d)) (P.journal (pair_of d)) a left.0 b
+    ghost no_longer = { λ d a b honest left.
+        no_longer_behind (P.base (pair_of d)) (P.journal (pair_of d)) a left.0 b
         left.2 (P.no_longer (pair_of d) a left.0 honest left.1) };
 
-    ghost whole = { λ d a b honest left. untitled_whole_of a left.0 b left.2 (P.whole (pair_of d) a left.0 honest left.1) };
+    ghost whole = { λ d a b honest left.
+        untitled_whole_of a left.0 b left.2 (P.whole (pair_of d) a left.0 honest left.1) };
 
-    ghost counts_now = { λ d t a b honest le left. (left.0, P.counts_now (pair_of d) t a left.0 honest le left.1, left.2) };
+    ghost counts_now = { λ d t a b honest le left. (
+      left.0,
+      P.counts_now (pair_of d) t a left.0 honest le left.1,
+      left.2,
+    ) };
 
     ghost only_now = { λ d a b honest left. (left.0, P.only_now (pair_of d) a left.0 honest left.1, left.2) };
 

@@ -9,7 +9,8 @@ use block_device::DeviceError;
 use device_pair::{DevicePair, Snapshots};
 
 impl<P: DevicePair + Drop> TitledPair<P> {
-    /// Takes a pair whose journal has a title, which is synced first. Where that is refused, the pair is given back.
+    /// Takes a pair whose journal has a title, which is synced first. Where that is refused, the pair is
+    /// given back.
     pub fn over(pair: P) -> Result<TitledPair<P>, (DeviceError, P)>
         requires titled { 2 ≤ length (P.journal pair) }
         ensures base { IfOk result (λ d. P.honest pair → P.base (pair_of d) ≡ P.base pair) }

@@ -3,4 +3,5 @@ use Rattle.block_bytes.proofs.Back.{put_back}
 use Rattle.block_bytes.proofs.writing.write_u32.Goals as goal
 
 pub returns : goal.returns
-returns c = put_back 4 c.args.at c.args.x c.args.block.now c.write_u32.new.buf c.told-block c.write_u32.ensures
+returns c =
+    put_back 4 c.args.at c.args.x c.args.block.now c.write_u32.new.buf c.told-block c.write_u32.ensures

@@ -6,5 +6,6 @@ use Rattle.block_device.proofs.log.restore.Given as goal
 abbrev pub invariant-loop-k : goal.invariant-loop-k
 invariant-loop-k g l = record {
   as_many : length l.blocks.items ≡ length l.fn.blocks.items;
-  same : restored (drop l.k (writes_in l.numbers l.olds)) l.blocks.items ≡ restored (writes_in l.numbers l.olds) l.fn.blocks.items;
+  same : restored (drop l.k (writes_in l.numbers l.olds)) l.blocks.items ≡ restored
+      (writes_in l.numbers l.olds) l.fn.blocks.items;
 }

@@ -7,7 +7,9 @@ use Rattle.box_math.proofs.masks.last_mask.Goals as goal
 
 pub returns : goal.returns
 returns g c =
-    let t : ℕ → Bool = λ k. meets_test g.row.D (box_in_columns g.row.D c.args.low.now c.args.high.now k) c.args.window.now in
+    let t : ℕ
+    → Bool =
+    λ k. meets_test g.row.D (box_in_columns g.row.D c.args.low.now c.args.high.now k) c.args.window.now in
     let n = c.args.n in
     let at = c.args.at in
     let before = at + 8 - n in

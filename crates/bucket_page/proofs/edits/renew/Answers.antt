@@ -13,11 +13,14 @@ returns-then-read_u8-ne-UNTAGGED_BUCKET_KIND-clause-kind g c = λ bucket is. ⊎
 
 pub returns-in-Some-clause-same : goal.returns-in-Some-clause-same
 returns-in-Some-clause-same g c =
-    let was : bucket_at g.row.D c.args.page.now ≡ Some (content_of c.in-Some.bucket) = sym c.in-Some.ensures.spelled in
+    let was : bucket_at g.row.D c.args.page.now ≡ Some (content_of c.in-Some.bucket) =
+    sym c.in-Some.ensures.spelled in
     spelled g.row.D c.encode.new.page (content_of c.in-Some.bucket) c.encode.ensures.spelled ∙ sym was
 
 pub returns-in-Some-clause-count : goal.returns-in-Some-clause-count
 returns-in-Some-clause-count g c =
     let bucket = content_of c.in-Some.bucket in
     let was : bucket_at g.row.D c.args.page.now ≡ Some bucket = sym c.in-Some.ensures.spelled in
-    count_of_bucket g.row.D c.encode.new.page bucket (spelled g.row.D c.encode.new.page bucket c.encode.ensures.spelled) ∙ sym (count_of_bucket g.row.D c.args.page.now bucket was)
+    count_of_bucket g.row.D c.encode.new.page bucket
+    (spelled g.row.D c.encode.new.page bucket c.encode.ensures.spelled)
+    ∙ sym (count_of_bucket g.row.D c.args.page.now bucket was)

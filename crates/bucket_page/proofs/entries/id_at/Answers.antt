@@ -12,4 +12,5 @@ returns-clause-value g c =
     c.read_u64.ensures ∙ ap (λ (p : ℕ). number_at 8 p c.args.page.now) at
 
 pub returns-clause-of_bucket : goal.returns-clause-of_bucket
-returns-clause-of_bucket g c = λ bucket other is lt. returns-clause-value g c ∙ sym (id_of_bucket g.row.D c.args.page.now bucket c.args.place other is lt)
+returns-clause-of_bucket g c = λ bucket other is lt. returns-clause-value g c
+    ∙ sym (id_of_bucket g.row.D c.args.page.now bucket c.args.place other is lt)

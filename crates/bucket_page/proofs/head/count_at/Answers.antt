@@ -4,4 +4,5 @@ use Rattle.bucket_page.proofs.Reading.{count_of_bucket}
 use Rattle.bucket_page.proofs.head.count_at.Goals as goal
 
 pub returns-clause-of_bucket : goal.returns-clause-of_bucket
-returns-clause-of_bucket c = λ dims bucket is. c.from.ensures ∙ c.read_u16.ensures ∙ count_of_bucket dims c.args.page.now bucket is
+returns-clause-of_bucket c = λ dims bucket is. c.from.ensures ∙ c.read_u16.ensures
+    ∙ count_of_bucket dims c.args.page.now bucket is

@@ -4,4 +4,5 @@ use Rattle.bulk_load.proofs.nodes.node_of.Given as goal
 
 -- the entries so far are in the node
 abbrev pub invariant-entries : goal.invariant-entries
-invariant-entries g l = record { level : l.node.level ≡ l.level; so_far : l.node.entries.items ≡ take l.place l.entries }
+invariant-entries g l =
+    record { level : l.node.level ≡ l.level; so_far : l.node.entries.items ≡ take l.place l.entries }

@@ -7,11 +7,16 @@ use Rattle.node_page.specs.Faults.{IsNoDamage}
 use Rattle.bulk_load.proofs.nodes.write_new.Goals as goal
 
 pub returns-in_err-write_node-clause-changes : goal.returns-in_err-write_node-clause-changes
-returns-in_err-write_node-clause-changes g c = changes_and_refuses c.args.cache.now c.allocate.new.self c.write_node.new.cache c.in_err-write_node.field-0.0 c.from_residual-in_err-write_node.result
-    c.from_residual-in_err-write_node.ensures.1 c.in_ok-page.ensures.changes c.in_err-write_node.ensures.changes
+returns-in_err-write_node-clause-changes g c =
+    changes_and_refuses c.args.cache.now c.allocate.new.self c.write_node.new.cache
+    c.in_err-write_node.field-0.0 c.from_residual-in_err-write_node.result
+    c.from_residual-in_err-write_node.ensures.1 c.in_ok-page.ensures.changes
+    c.in_err-write_node.ensures.changes
 
 pub returns-clause-changes : goal.returns-clause-changes
-returns-clause-changes g c = changes_in_turn c.args.cache.now c.allocate.new.self c.write_node.new.cache None c.in_ok-page.ensures.changes c.in_ok-write_node.ensures.changes
+returns-clause-changes g c =
+    changes_in_turn c.args.cache.now c.allocate.new.self c.write_node.new.cache None
+    c.in_ok-page.ensures.changes c.in_ok-write_node.ensures.changes
 
 pub returns-clause-others : goal.returns-clause-others
 returns-clause-others g c = λ map k other.
@@ -21,5 +26,7 @@ returns-clause-others g c = λ map k other.
 
 pub returns-in_err-page-clause-faults : goal.returns-in_err-page-clause-faults
 returns-in_err-page-clause-faults g c = λ map.
-    at_error c.from_residual.result c.in_err-page.field-0.0 (IsNoDamage c.allocate.new.self) c.from_residual.ensures.1
-    (⊎_elim (λ device. inl device) (λ none. inr (none, c.in_err-page.ensures.full (cc none))) (c.in_err-page.ensures.faults map))
+    at_error c.from_residual.result c.in_err-page.field-0.0 (IsNoDamage c.allocate.new.self)
+    c.from_residual.ensures.1
+    (⊎_elim (λ device. inl device) (λ none. inr (none, c.in_err-page.ensures.full (cc none)))
+    (c.in_err-page.ensures.faults map))

@@ -1,5 +1,6 @@
 -- A root, or a level and what is above it.
-use Rattle.std.proofs.Common.{◌≡◌, ◌∙◌, ℕ, suc, ◌+◌, ◌<◌, ◌≤◌, List, length, All, refl, sym, ap, subst, arith, rules}
+use Rattle.std.proofs.Common.{◌≡◌, ◌∙◌, ℕ, suc, ◌+◌, ◌<◌, ◌≤◌, List, length, All, refl, sym, ap, subst, arith}
+use Rattle.std.proofs.Common.{rules}
 use Rattle.std.proofs.lemmas.List.{length-map}
 use Rattle.std.proofs.lemmas.List.Sorted.{IsPermutation-refl}
 use Rattle.page_cache.specs.Cache.{pages}
@@ -15,17 +16,22 @@ use Rattle.bulk_load.proofs.packing.+pack.Goals as goal
 
 pub returns-in-Ok-clause-packed : goal.returns-in-Ok-clause-packed
 returns-in-Ok-clause-packed g t c = λ sound bs waits.
-    root_written g.row.D c.args.m_max c.args.level (pages c.args.cache.now) (pages c.write_new.new.cache) (items_of c.args.entries.now) bs (record { page = c.in-Ok.page; level = c.args.level }) waits
-    (omega (arith, length-map c.args.entries.now item_of, c.if-entries-from.true, c.from.ensures)) refl (c.in-Ok.ensures.fresh sound) (c.in-Ok.ensures.others sound) (c.in-Ok.ensures.node sound)
+    root_written g.row.D c.args.m_max c.args.level (pages c.args.cache.now) (pages c.write_new.new.cache)
+    (items_of c.args.entries.now) bs (record { page = c.in-Ok.page; level = c.args.level }) waits
+    (omega (arith, length-map c.args.entries.now item_of, c.if-entries-from.true, c.from.ensures)) refl
+    (c.in-Ok.ensures.fresh sound) (c.in-Ok.ensures.others sound) (c.in-Ok.ensures.node sound)
 
 pub returns-in-Err-clause-all : goal.returns-in-Err-clause-all
 returns-in-Err-clause-all g t c = IsPermutation-refl c.args.entries.now
 
 pub pack-requires : goal.pack-requires
 pack-requires g t c κs within =
-    let long : length c.as_mut_slice.result.now ≡ length c.in_ok-parents.parents.items = ap length c.as_mut_slice.ensures.value in
-    let half : length c.in_ok-parents.parents.items + length c.in_ok-parents.parents.items ≤ length c.args.entries.now = omega (arith, c.in_ok-parents.ensures.half) in
-    let smaller : length c.as_mut_slice.result.now < length c.args.entries.now = omega (arith, long, half, c.in_ok-parents.ensures.two) in (
+    let long : length c.as_mut_slice.result.now ≡ length c.in_ok-parents.parents.items =
+    ap length c.as_mut_slice.ensures.value in
+    let half : length c.in_ok-parents.parents.items + length c.in_ok-parents.parents.items ≤ length
+    c.args.entries.now = omega (arith, c.in_ok-parents.ensures.half) in
+    let smaller : length c.as_mut_slice.result.now < length c.args.entries.now =
+    omega (arith, long, half, c.in_ok-parents.ensures.two) in (
       omega (arith, smaller, c.decreases),
       (
         search rules,
@@ -46,8 +52,12 @@ pack-requires g t c κs within =
                       (
                         λ above. omega (arith, long, c.in_ok-parents.ensures.two),
                         (
-                          subst (λ (es : List (Entry g.row.D)). All (λ (item : Item). IsOfLevel (c.args.level + 1) item.reference item.tag) (items_of es)) (sym c.as_mut_slice.ensures.value) c.in_ok-parents.ensures.refers,
-                          next_fits (length c.args.entries.now) (length c.as_mut_slice.result.now) c.args.level (omega (arith, long, half)) c.requires.fits,
+                          subst (λ (es : List (Entry g.row.D)). All
+                              (λ (item : Item). IsOfLevel (c.args.level + 1) item.reference item.tag)
+                              (items_of es)) (sym c.as_mut_slice.ensures.value)
+                              c.in_ok-parents.ensures.refers,
+                          next_fits (length c.args.entries.now) (length c.as_mut_slice.result.now)
+                              c.args.level (omega (arith, long, half)) c.requires.fits,
                         ),
                       ),
                     ),
@@ -61,20 +71,38 @@ pack-requires g t c κs within =
     )
 
 pub returns-in-Ok-pack-clause-alters : goal.returns-in-Ok-pack-clause-alters
-returns-in-Ok-pack-clause-alters g t c = alters_in_turn c.args.cache.now c.pack_level.new.cache c.pack.new.cache c.in_ok-parents.parents c.in-Ok-pack.root c.in_ok-parents.ensures.alters c.in-Ok-pack.ensures.alters
+returns-in-Ok-pack-clause-alters g t c =
+    alters_in_turn c.args.cache.now c.pack_level.new.cache c.pack.new.cache c.in_ok-parents.parents
+    c.in-Ok-pack.root c.in_ok-parents.ensures.alters c.in-Ok-pack.ensures.alters
 
 pub returns-in-Ok-pack-clause-packed : goal.returns-in-Ok-pack-clause-packed
 returns-in-Ok-pack-clause-packed g t c = λ sound bs waits.
     let l = c.in_ok-parents.ensures.packed sound bs waits in
     let one : suc c.args.level ≡ c.args.level + 1 = omega arith in
-    let wait : WaitFor g.row.D (c.args.level + 1) (pages c.pack_level.new.cache) (items_of c.as_mut_slice.result.now) l.parents =
-    subst (λ (es : List (Entry g.row.D)). WaitFor g.row.D (c.args.level + 1) (pages c.pack_level.new.cache) (items_of es) l.parents) (sym c.as_mut_slice.ensures.value)
-    (subst (λ (level : ℕ). WaitFor g.row.D level (pages c.pack_level.new.cache) (items_of c.in_ok-parents.parents.items) l.parents) one l.wait) in
-    let p : PackedAt g.row.D c.args.m_max (suc c.args.level) (pages c.pack_level.new.cache) (pages c.pack.new.cache) l.parents c.in-Ok-pack.root =
-    subst (λ (level : ℕ). PackedAt g.row.D c.args.m_max level (pages c.pack_level.new.cache) (pages c.pack.new.cache) l.parents c.in-Ok-pack.root) (sym one)
+    let wait : WaitFor g.row.D (c.args.level + 1) (pages c.pack_level.new.cache)
+    (items_of c.as_mut_slice.result.now) l.parents =
+    subst (λ (es : List (Entry g.row.D)). WaitFor g.row.D (c.args.level + 1) (pages c.pack_level.new.cache)
+    (items_of es) l.parents) (sym c.as_mut_slice.ensures.value)
+    (subst (λ (level : ℕ). WaitFor g.row.D level (pages c.pack_level.new.cache)
+    (items_of c.in_ok-parents.parents.items) l.parents) one l.wait) in
+    let p : PackedAt g.row.D c.args.m_max (suc c.args.level) (pages c.pack_level.new.cache)
+    (pages c.pack.new.cache) l.parents c.in-Ok-pack.root =
+    subst (λ (level : ℕ). PackedAt g.row.D c.args.m_max level (pages c.pack_level.new.cache)
+    (pages c.pack.new.cache) l.parents c.in-Ok-pack.root) (sym one)
     (c.in-Ok-pack.ensures.packed (c.in_ok-parents.ensures.sound sound) l.parents wait) in
-    level_packed g.row.D c.args.m_max c.args.level (pages c.args.cache.now) (pages c.pack_level.new.cache) (pages c.pack.new.cache) bs l.runs l.parents c.in-Ok-pack.root
-    (omega (arith, ap length waits.are, length-map bs item_in, length-map c.args.entries.now item_of, c.if-entries-from.false, c.from.ensures)) l.tiled l.made l.moves p
+    level_packed g.row.D c.args.m_max c.args.level (pages c.args.cache.now) (pages c.pack_level.new.cache)
+    (pages c.pack.new.cache) bs l.runs l.parents c.in-Ok-pack.root
+    (omega (
+      arith,
+      ap length waits.are,
+      length-map bs item_in,
+      length-map c.args.entries.now item_of,
+      c.if-entries-from.false,
+      c.from.ensures,
+    )) l.tiled l.made l.moves p
 
 pub returns-clause-alters : goal.returns-clause-alters
-returns-clause-alters g t c = alters_and_breaks c.args.cache.now c.pack_level.new.cache c.pack.new.cache c.in_ok-parents.parents c.in-Err-pack.broken _ c.midway-in-Err-pack.ensures c.in_ok-parents.ensures.alters c.in-Err-pack.ensures.alters
+returns-clause-alters g t c =
+    alters_and_breaks c.args.cache.now c.pack_level.new.cache c.pack.new.cache c.in_ok-parents.parents
+    c.in-Err-pack.broken _ c.midway-in-Err-pack.ensures c.in_ok-parents.ensures.alters
+    c.in-Err-pack.ensures.alters

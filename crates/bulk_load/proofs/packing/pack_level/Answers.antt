@@ -15,7 +15,9 @@ use Rattle.bulk_load.proofs.packing.pack_level.Goals as goal
 pub write_level-requires : goal.write_level-requires
 write_level-requires g c =
     let P : Item → Type 0 = λ item. IsOfLevel c.args.level item.reference item.tag in
-    let t : TiledSizes (length c.tile.new.entries) c.in_ok-sizes.sizes.items = tiled_sizes c.args.m_max c.args.entries.now c.tile.new.entries c.in_ok-sizes.sizes.items c.requires.dims c.requires.sized.0 c.requires.sized.1 c.requires.above c.in_ok-sizes.ensures.tiled in (
+    let t : TiledSizes (length c.tile.new.entries) c.in_ok-sizes.sizes.items =
+    tiled_sizes c.args.m_max c.args.entries.now c.tile.new.entries c.in_ok-sizes.sizes.items
+    c.requires.dims c.requires.sized.0 c.requires.sized.1 c.requires.above c.in_ok-sizes.ensures.tiled in (
       search rules,
       (
         c.requires.dims,
@@ -26,7 +28,9 @@ write_level-requires g c =
             (
               subst (λ (sizes : List ℕ). AreSizes sizes) (sym c.as_slice.ensures.value) t.sized,
               (
-                All-permutation P (items_of c.args.entries.now) (items_of c.tile.new.entries) (IsPermutation-map item_of c.args.entries.now c.tile.new.entries c.tile.ensures.all) c.requires.refers,
+                All-permutation P (items_of c.args.entries.now) (items_of c.tile.new.entries)
+                    (IsPermutation-map item_of c.args.entries.now c.tile.new.entries c.tile.ensures.all)
+                    c.requires.refers,
                 c.in_ok-parents.ensures.empty,
               ),
             ),
@@ -37,17 +41,28 @@ write_level-requires g c =
 
 pub returns-in-Ok-clause-two : goal.returns-in-Ok-clause-two
 returns-in-Ok-clause-two g c =
-    let t : TiledSizes (length c.tile.new.entries) c.in_ok-sizes.sizes.items = tiled_sizes c.args.m_max c.args.entries.now c.tile.new.entries c.in_ok-sizes.sizes.items c.requires.dims c.requires.sized.0 c.requires.sized.1 c.requires.above c.in_ok-sizes.ensures.tiled in
+    let t : TiledSizes (length c.tile.new.entries) c.in_ok-sizes.sizes.items =
+    tiled_sizes c.args.m_max c.args.entries.now c.tile.new.entries c.in_ok-sizes.sizes.items
+    c.requires.dims c.requires.sized.0 c.requires.sized.1 c.requires.above c.in_ok-sizes.ensures.tiled in
     omega (arith, t.two, c.in-Ok.ensures.count, ap length c.as_slice.ensures.value)
 
 pub returns-in-Ok-clause-half : goal.returns-in-Ok-clause-half
 returns-in-Ok-clause-half g c =
-    let t : TiledSizes (length c.tile.new.entries) c.in_ok-sizes.sizes.items = tiled_sizes c.args.m_max c.args.entries.now c.tile.new.entries c.in_ok-sizes.sizes.items c.requires.dims c.requires.sized.0 c.requires.sized.1 c.requires.above c.in_ok-sizes.ensures.tiled in
-    omega (arith, t.half, c.in-Ok.ensures.count, ap length c.as_slice.ensures.value, length_permutation c.args.entries.now c.tile.new.entries c.tile.ensures.all)
+    let t : TiledSizes (length c.tile.new.entries) c.in_ok-sizes.sizes.items =
+    tiled_sizes c.args.m_max c.args.entries.now c.tile.new.entries c.in_ok-sizes.sizes.items
+    c.requires.dims c.requires.sized.0 c.requires.sized.1 c.requires.above c.in_ok-sizes.ensures.tiled in
+    omega (
+      arith,
+      t.half,
+      c.in-Ok.ensures.count,
+      ap length c.as_slice.ensures.value,
+      length_permutation c.args.entries.now c.tile.new.entries c.tile.ensures.all,
+    )
 
 pub returns-in-Ok-clause-packed : goal.returns-in-Ok-clause-packed
 returns-in-Ok-clause-packed g c = λ sound bs waits.
-    let w = wait_tiled c.args.m_max c.args.level (pages c.args.cache.now) bs c.args.entries.now c.tile.new.entries c.in_ok-sizes.sizes.items c.in_ok-sizes.ensures.tiled waits in
+    let w = wait_tiled c.args.m_max c.args.level (pages c.args.cache.now) bs c.args.entries.now
+    c.tile.new.entries c.in_ok-sizes.sizes.items c.in_ok-sizes.ensures.tiled waits in
     let l = c.in-Ok.ensures.written sound w.runs (w.lengths ∙ sym c.as_slice.ensures.value) w.wait in
     record {
       runs = w.runs;
@@ -55,16 +70,33 @@ returns-in-Ok-clause-packed g c = λ sound bs waits.
       parents = l.parents;
       made = l.made;
       wait = l.wait;
-      moves = moves_same (pages c.args.cache.now) (pages c.write_level.new.cache) (pages_below (joined w.runs)) (pages_below bs) (pages_below l.parents) (pages_below l.parents)
+      moves = moves_same (pages c.args.cache.now) (pages c.write_level.new.cache)
+          (pages_below (joined w.runs)) (pages_below bs) (pages_below l.parents) (pages_below l.parents)
           (λ n. below_permuted bs (joined w.runs) n w.same) (λ n. refl) l.moves;
     }
 
 pub returns-in-Ok-clause-grows : goal.returns-in-Ok-clause-grows
 returns-in-Ok-clause-grows g c =
-    let t : TiledSizes (length c.tile.new.entries) c.in_ok-sizes.sizes.items = tiled_sizes c.args.m_max c.args.entries.now c.tile.new.entries c.in_ok-sizes.sizes.items c.requires.dims c.requires.sized.0 c.requires.sized.1 c.requires.above c.in_ok-sizes.ensures.tiled in
-    omega (arith, t.half, c.write_level.ensures.grows, ap length c.as_slice.ensures.value, length_permutation c.args.entries.now c.tile.new.entries c.tile.ensures.all)
+    let t : TiledSizes (length c.tile.new.entries) c.in_ok-sizes.sizes.items =
+    tiled_sizes c.args.m_max c.args.entries.now c.tile.new.entries c.in_ok-sizes.sizes.items
+    c.requires.dims c.requires.sized.0 c.requires.sized.1 c.requires.above c.in_ok-sizes.ensures.tiled in
+    omega (
+      arith,
+      t.half,
+      c.write_level.ensures.grows,
+      ap length c.as_slice.ensures.value,
+      length_permutation c.args.entries.now c.tile.new.entries c.tile.ensures.all,
+    )
 
 pub returns-clause-grows : goal.returns-clause-grows
 returns-clause-grows g c =
-    let t : TiledSizes (length c.tile.new.entries) c.in_ok-sizes.sizes.items = tiled_sizes c.args.m_max c.args.entries.now c.tile.new.entries c.in_ok-sizes.sizes.items c.requires.dims c.requires.sized.0 c.requires.sized.1 c.requires.above c.in_ok-sizes.ensures.tiled in
-    omega (arith, t.half, c.write_level.ensures.grows, ap length c.as_slice.ensures.value, length_permutation c.args.entries.now c.tile.new.entries c.tile.ensures.all)
+    let t : TiledSizes (length c.tile.new.entries) c.in_ok-sizes.sizes.items =
+    tiled_sizes c.args.m_max c.args.entries.now c.tile.new.entries c.in_ok-sizes.sizes.items
+    c.requires.dims c.requires.sized.0 c.requires.sized.1 c.requires.above c.in_ok-sizes.ensures.tiled in
+    omega (
+      arith,
+      t.half,
+      c.write_level.ensures.grows,
+      ap length c.as_slice.ensures.value,
+      length_permutation c.args.entries.now c.tile.new.entries c.tile.ensures.all,
+    )

@@ -20,6 +20,8 @@ invariant-runs g l = record {
   here : l.from ≡ total (λ size. size) (take l.place l.sizes);
   count : length l.parents.items ≡ l.place;
   refers : All (λ item. IsOfLevel (l.level + 1) item.reference item.tag) (items_of l.parents.items);
-  written : IsPageMap l.fn.cache → (runs : List (List Branch)) → map length runs ≡ l.sizes → WaitFor g.row.D l.level (pages l.fn.cache) (items_of l.entries) (joined runs)
-      → Written g.row.D l.level (pages l.fn.cache) (pages l.cache) runs l.place (drop l.from (items_of l.entries)) (items_of l.parents.items);
+  written : IsPageMap l.fn.cache → (runs : List (List Branch)) → map length runs ≡ l.sizes
+      → WaitFor g.row.D l.level (pages l.fn.cache) (items_of l.entries) (joined runs)
+      → Written g.row.D l.level (pages l.fn.cache) (pages l.cache) runs l.place
+      (drop l.from (items_of l.entries)) (items_of l.parents.items);
 }

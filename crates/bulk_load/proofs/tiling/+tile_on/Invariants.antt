@@ -9,4 +9,6 @@ abbrev pub decreases-tile_on : goal.decreases-tile_on
 decreases-tile_on g l = g.row.D - l.axis
 
 abbrev pub invariant-slabs : goal.invariant-slabs
-invariant-slabs g l = Progress item_of g.row.D l.m_max (g.row.D - (l.axis + 1)) l.fn.entries l.initial.entries l.count l.slabs l.slab l.from l.entries l.fn.sizes.items l.sizes.items
+invariant-slabs g l =
+    Progress item_of g.row.D l.m_max (g.row.D - (l.axis + 1)) l.fn.entries l.initial.entries l.count l.slabs
+    l.slab l.from l.entries l.fn.sizes.items l.sizes.items

@@ -26,8 +26,15 @@ returns-in-Some-clause-value c =
     })) ∙ ap (λ (at : ℕ). record_from at page) c.place_of-at.ensures.value
 
 pub returns-in-Some-clause-some : goal.returns-in-Some-clause-some
-returns-in-Some-clause-some c = (λ h. (has_name_at c.place_of-at.result c.args.place c.args.page.now c.place_of-at.ensures.value).0 (c.in-Some.ensures.some.0 refl), λ is. refl)
+returns-in-Some-clause-some c = (
+  λ h. (has_name_at c.place_of-at.result c.args.place c.args.page.now c.place_of-at.ensures.value).0
+      (c.in-Some.ensures.some.0 refl),
+  λ is. refl,
+)
 
 pub returns-in-None-clause-some : goal.returns-in-None-clause-some
-returns-in-None-clause-some c =
-    (λ h. absurd (cc), λ is. c.in-None.ensures.some.1 ((has_name_at c.place_of-at.result c.args.place c.args.page.now c.place_of-at.ensures.value).1 is))
+returns-in-None-clause-some c = (
+  λ h. absurd (cc),
+  λ is. c.in-None.ensures.some.1
+      ((has_name_at c.place_of-at.result c.args.place c.args.page.now c.place_of-at.ensures.value).1 is),
+)

@@ -13,10 +13,25 @@ returns-clause-written c =
     let root : layer.root < 2 ^ 32 = omega arith in
     let directory : layer.directory < 2 ^ 32 = omega arith in
     let count : layer.count < 2 ^ 64 = omega arith in
-    rw (c.write_u64.ensures, c.write_u32-2.ensures, c.write_u32.ensures, c.write_u8-3.ensures, c.write_u8-2.ensures, c.write_u8.ensures)
-    (numbers_written c.args.at (record_of layer) c.args.page.now c.told-page c.requires dims fanout level root directory count)
+    rw (
+      c.write_u64.ensures,
+      c.write_u32-2.ensures,
+      c.write_u32.ensures,
+      c.write_u8-3.ensures,
+      c.write_u8-2.ensures,
+      c.write_u8.ensures,
+    )
+    (numbers_written c.args.at (record_of layer) c.args.page.now c.told-page c.requires dims fanout level
+    root directory count)
 
 pub returns-clause-others : goal.returns-clause-others
 returns-clause-others c =
-    rw (c.write_u64.ensures, c.write_u32-2.ensures, c.write_u32.ensures, c.write_u8-3.ensures, c.write_u8-2.ensures, c.write_u8.ensures)
+    rw (
+      c.write_u64.ensures,
+      c.write_u32-2.ensures,
+      c.write_u32.ensures,
+      c.write_u8-3.ensures,
+      c.write_u8-2.ensures,
+      c.write_u8.ensures,
+    )
     (numbers_change c.args.at (record_of c.args.layer.now) c.args.page.now c.told-page c.requires)

@@ -3,12 +3,16 @@ use Rattle.tree_node.specs.Keys.{AtMost}
 use Rattle.tree_node.specs.Nodes.{items_of}
 use Rattle.choose_subtree.specs.declared.key.Key.{Key}
 use Rattle.choose_subtree.specs.Choice.{numbers_with, numbers_of}
-use Rattle.choose_subtree.proofs.ChoiceLaws.{IsBest, best_of_one, best_keeps, best_takes, first_least-of_best_area}
+use Rattle.choose_subtree.proofs.ChoiceLaws.{IsBest, best_of_one, best_keeps, best_takes}
+use Rattle.choose_subtree.proofs.ChoiceLaws.{first_least-of_best_area}
 use Rattle.choose_subtree.proofs.choice.least_area.Goals as goal
 use Rattle.choose_subtree.proofs.choice.least_area.Goals.{then-not-at_most, else-not-at_most}
 
 pub loop-k-init : goal.loop-k-init
-loop-k-init g c = best_of_one (numbers_with 0 g.row.D (items_of c.args.entries.now) c.args.new.now) (length c.args.entries.now) _ _ c.requires.some (ap (λ (x : Key). x.position) c.key_of-best.ensures) (ap numbers_of c.key_of-best.ensures)
+loop-k-init g c =
+    best_of_one (numbers_with 0 g.row.D (items_of c.args.entries.now) c.args.new.now)
+    (length c.args.entries.now) _ _ c.requires.some (ap (λ (x : Key). x.position) c.key_of-best.ensures)
+    (ap numbers_of c.key_of-best.ensures)
 
 pub loop-k-preserved : goal.loop-k-preserved
 loop-k-preserved g c =
@@ -21,10 +25,18 @@ loop-k-preserved g c =
     let is : numbers_of c.key_of-key.result ≡ key k = ap numbers_of c.key_of-key.ensures in
     elim c.if-not-at_most.branch [
       | then-not-at_most w ↦
-          let taken : IsBest key (length e) (k + 1) (numbers_of c.key_of-key.result) k = best_takes key (length e) k (numbers_of b) b.position (numbers_of c.key_of-key.result) i c.loop-k-test.true is refl (λ h. let t = c.at_most.ensures.1 h in search rules) in
-          subst turn (sym w.best-is) (subst (IsBest key (length e) (k + 1) (numbers_of c.key_of-key.result)) (sym (ap (λ (x : Key). x.position) c.key_of-key.ensures)) taken)
-      | else-not-at_most w ↦ subst turn (sym w.best-is) (best_keeps key (length e) k (numbers_of b) b.position i (subst (AtMost (numbers_of b)) is (c.at_most.ensures.0 (search rules))))
+          let taken : IsBest key (length e) (k + 1) (numbers_of c.key_of-key.result) k =
+          best_takes key (length e) k (numbers_of b) b.position (numbers_of c.key_of-key.result) i
+          c.loop-k-test.true is refl (λ h. let t = c.at_most.ensures.1 h in search rules) in
+          subst turn (sym w.best-is)
+          (subst (IsBest key (length e) (k + 1) (numbers_of c.key_of-key.result))
+          (sym (ap (λ (x : Key). x.position) c.key_of-key.ensures)) taken)
+      | else-not-at_most w ↦ subst turn (sym w.best-is)
+          (best_keeps key (length e) k (numbers_of b) b.position i
+          (subst (AtMost (numbers_of b)) is (c.at_most.ensures.0 (search rules))))
     ]
 
 pub returns : goal.returns
-returns g c = first_least-of_best_area g.row.D (items_of c.args.entries.now) c.args.new.now (length c.args.entries.now) c.loop-k.k _ _ (omega arith) c.loop-k.invariant
+returns g c =
+    first_least-of_best_area g.row.D (items_of c.args.entries.now) c.args.new.now (length c.args.entries.now)
+    c.loop-k.k _ _ (omega arith) c.loop-k.invariant

@@ -5,4 +5,6 @@ use Rattle.choose_subtree.proofs.ChoiceLaws.{IsBest}
 use Rattle.choose_subtree.proofs.choice.least_area.Given as goal
 
 abbrev pub invariant-loop-k : goal.invariant-loop-k
-invariant-loop-k g l = IsBest (numbers_with 0 g.row.D (items_of l.entries) l.new) (length l.entries) l.k (numbers_of l.best) l.best.position
+invariant-loop-k g l =
+    IsBest (numbers_with 0 g.row.D (items_of l.entries) l.new) (length l.entries) l.k (numbers_of l.best)
+    l.best.position

@@ -8,5 +8,8 @@ use Rattle.choose_subtree.proofs.choice.least_overlap.Given as goal
 -- the best so far is no greater than any before it, nor than the entry that it began with
 abbrev pub invariant-loop-k : goal.invariant-loop-k
 invariant-loop-k g l =
-    IsBest (λ k. numbers_with (overlap_growth g.row.D (items_of l.entries) l.new k) g.row.D (items_of l.entries) l.new k) (length l.entries) l.k (numbers_of l.best) l.best.position
-    × AtMost (numbers_of l.best) (numbers_with (overlap_growth g.row.D (items_of l.entries) l.new l.first) g.row.D (items_of l.entries) l.new l.first)
+    IsBest (λ k. numbers_with (overlap_growth g.row.D (items_of l.entries) l.new k) g.row.D
+    (items_of l.entries) l.new k) (length l.entries) l.k (numbers_of l.best) l.best.position
+    × AtMost (numbers_of l.best)
+    (numbers_with (overlap_growth g.row.D (items_of l.entries) l.new l.first) g.row.D
+    (items_of l.entries) l.new l.first)

@@ -12,7 +12,8 @@ or_else (inr b) = inr (inl b)
 
 pub returns-in_default-clause-in_memory : goal.returns-in_default-clause-in_memory
 returns-in_default-clause-in_memory g c = λ taken none.
-    or_else (begun_or_answered _ _ _ _ _ _ _ _ _ _ _ _ _ _ _ _ _ _ c.serve_new.result (c.serve_new.ensures.serves c.new-device.ensures.honest) refl)
+    or_else (begun_or_answered _ _ _ _ _ _ _ _ _ _ _ _ _ _ _ _ _ _ c.serve_new.result
+    (c.serve_new.ensures.serves c.new-device.ensures.honest) refl)
 
 same_path : (a b : List ℕ) → Some a ≡ Some b → a ≡ b
 same_path a b e = cc
@@ -23,4 +24,12 @@ returns-in-Ok-serve_path-clause-in_file g c = λ path taken named.
     let served = c.in-Ok-serve_path.ensures.served in
     let is = ap (option_map (λ f. f.now)) (sym c.in-Some.is) ∙ asked.file_is ∙ named in
     let read = subst (AsksToRead (texts c.args.words.now)) c.if-options-2.false asked.read_is in
-    inr (inr (inl (c.in-Some.path, c.in-Ok.options.create, same_path _ _ is, asked.create_is, read, inr (served.0, c.in-Ok-serve_path.served, served.1, refl, served.2))))
+    inr (inr
+    (inl (
+      c.in-Some.path,
+      c.in-Ok.options.create,
+      same_path _ _ is,
+      asked.create_is,
+      read,
+      inr (served.0, c.in-Ok-serve_path.served, served.1, refl, served.2),
+    )))

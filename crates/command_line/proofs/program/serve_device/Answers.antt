@@ -1,4 +1,5 @@
--- A store that is made as asked begins with the empty table, and one that is opened with the table of the image.
+-- A store that is made as asked begins with the empty table, and one that is opened with the table of the
+-- image.
 use Rattle.std.proofs.Common.{◌∙◌, refl, sym, arith}
 use Rattle.std.proofs.lemmas.Bool.{true≢false}
 use Rattle.command_line.proofs.program.serve_device.Goals as goal

@@ -10,7 +10,9 @@ returns-in-Ok-clause-served g c =
     let is = sym c.over.ensures.reader in
     record {
       answers = λ honest t image.
-          let begun = c.in-Ok.ensures.image t (subst g.B.BlockReader.honest is honest) (subst (λ b. IsImage (g.B.BlockReader.shown b) t) is image) in
+          let begun =
+          c.in-Ok.ensures.image t (subst g.B.BlockReader.honest is honest)
+          (subst (λ b. IsImage (g.B.BlockReader.shown b) t) is image) in
           let run = c.run_and_close.ensures.run begun.next begun.represents in
           inr (record {
             old = begun.next;
@@ -21,13 +23,19 @@ returns-in-Ok-clause-served g c =
             well = λ zero. (run.1.well (sym c.status_of.ensures.is ∙ ap (λ n. n == 0) zero)).0;
           });
       checked = λ honest.
-          let run = c.run_and_close.ensures.checked (c.in-Ok.ensures.honest (subst g.B.BlockReader.honest is honest)) in
+          let run =
+          c.run_and_close.ensures.checked
+          (c.in-Ok.ensures.honest (subst g.B.BlockReader.honest is honest)) in
           inr (record {
             end = run.end;
-            runs = runs_so _ _ (λ rs xs once. once_checked_so _ _ (λ s ends. tt) rs xs once) run.end _ _ _ _ run.runs;
+            runs = runs_so _ _ (λ rs xs once. once_checked_so _ _ (λ s ends. tt) rs xs once) run.end _ _ _ _
+                run.runs;
             well = λ zero. run.well (sym c.status_of.ensures.is ∙ ap (λ n. n == 0) zero);
           });
-      refused = λ honest f refuses. absurd (c.in-Ok.ensures.opened (subst g.B.BlockReader.honest is honest) f (subst (λ b. OpeningRefuses (g.B.BlockReader.shown b) f) is refuses));
+      refused =
+          λ honest f refuses. absurd
+          (c.in-Ok.ensures.opened (subst g.B.BlockReader.honest is honest) f
+          (subst (λ b. OpeningRefuses (g.B.BlockReader.shown b) f) is refuses));
     }
 
 pub returns-in-Err-clause-served : goal.returns-in-Err-clause-served

@@ -2,7 +2,8 @@
 use Rattle.std.proofs.Common.{◌≡◌, ◌∙◌, ap, sym, codes, Some, arith}
 use Rattle.std.specs.Str.Parse.{ExplainsUnsignedError, HasUnsignedDigitsIfOk, ParsesUnsigned}
 use Rattle.clap.specs.Walk.{texts}
-use Rattle.clap.specs.Words.{App, app_of, fault_of, first_of, found_of, is_simple, is_simple_and_free, matches_of, one_of, one_text, rows_of}
+use Rattle.clap.specs.Words.{App, app_of, fault_of, first_of, found_of, is_simple, is_simple_and_free}
+use Rattle.clap.specs.Words.{matches_of, one_of, one_text, rows_of}
 use Rattle.clap.proofs.WalkLemmas.{first_value-rows, one_text-rows}
 use Rattle.command_line.specs.Words.{program}
 use Rattle.command_line.proofs.WordsLemmas.{flag_read, in_range, number_read}
@@ -11,21 +12,28 @@ use Rattle.command_line.proofs.words.read_words.Goals as goal
 pub returns-clause-refused : goal.returns-clause-refused
 returns-clause-refused c =
     let is : app_of c.in_ok-command.field-0 ≡ program = c.in_ok-command.ensures in
-    ap (λ (a : App). fault_of a (texts c.args.words.now)) (sym is) ∙ c.in_ok-matches.ensures.kinds (ap is_simple_and_free is)
+    ap (λ (a : App). fault_of a (texts c.args.words.now)) (sym is)
+    ∙ c.in_ok-matches.ensures.kinds (ap is_simple_and_free is)
 
 pub returns-clause-asked : goal.returns-clause-asked
 returns-clause-asked c =
     let is : app_of c.in_ok-command.field-0 ≡ program = c.in_ok-command.ensures in
     let found = found_of c.in_ok-matches.matches in
     let rows : rows_of found ≡ matches_of program (texts c.args.words.now) =
-    (c.in_ok-matches.ensures.matches (ap is_simple is)).0 ∙ ap (λ (a : App). matches_of a (texts c.args.words.now)) is in
+    (c.in_ok-matches.ensures.matches (ap is_simple is)).0
+    ∙ ap (λ (a : App). matches_of a (texts c.args.words.now)) is in
     let cached : one_text found (codes "cache") ≡ one_of (codes "cache") (matches_of program (texts c.args.words.now)) = one_text-rows found (codes "cache") ∙ ap (one_of (codes "cache")) rows in
     let created : one_text found (codes "create") ≡ one_of (codes "create") (matches_of program (texts c.args.words.now)) = one_text-rows found (codes "create") ∙ ap (one_of (codes "create")) rows in
     let reading : one_text found (codes "read-only") ≡ one_of (codes "read-only") (matches_of program (texts c.args.words.now)) = one_text-rows found (codes "read-only") ∙ ap (one_of (codes "read-only")) rows in
     record {
-      taken = ap (λ (a : App). fault_of a (texts c.args.words.now)) (sym is) ∙ c.in_ok-matches.ensures.kinds (ap is_simple_and_free is);
+      taken = ap (λ (a : App). fault_of a (texts c.args.words.now)) (sym is)
+          ∙ c.in_ok-matches.ensures.kinds (ap is_simple_and_free is);
       cache_is = λ text n one number low high.
-          let got : c.get_one.result ≡ Some n = number_read _ (λ bs r. ParsesUnsigned 32 10 bs r × ExplainsUnsignedError 10 bs r × HasUnsignedDigitsIfOk bs r) text n c.get_one.result (c.get_one.ensures.value text (cached ∙ one)) (λ bs x g. g.0) number (omega (arith, high)) in
+          let got : c.get_one.result ≡ Some n =
+          number_read _
+          (λ bs r. ParsesUnsigned 32 10 bs r × ExplainsUnsignedError 10 bs r
+          × HasUnsignedDigitsIfOk bs r) text n c.get_one.result
+          (c.get_one.ensures.value text (cached ∙ one)) (λ bs x g. g.0) number (omega (arith, high)) in
           (rw got at c.cached_pages.ensures.as_asked) (in_range n low high);
       create_is = λ flag one. flag_read c.get_flag.result (one_text found (codes "create")) c.get_flag.ensures.value c.get_flag.ensures.other flag (created ∙ one);
       read_is = λ flag one. flag_read c.get_flag-2.result (one_text found (codes "read-only")) c.get_flag-2.ensures.value c.get_flag-2.ensures.other flag (reading ∙ one);

@@ -8,7 +8,8 @@ use Rattle.command_shell.proofs.in_memory.answers_to.Goals as goal
 
 -- where nothing is left, what was taken is the text
 all_read : (xs left more text : List ℕ) → xs ≡ more ++ left → left ≡ [] → more ≡ text ++ [] → text ≡ xs
-all_read xs left more text e none so = sym (append-nil text) ∙ sym so ∙ sym (append-nil more) ∙ ap (λ (t : List ℕ). more ++ t) (sym none) ∙ sym e
+all_read xs left more text e none so = sym (append-nil text) ∙ sym so ∙ sym (append-nil more)
+    ∙ ap (λ (t : List ℕ). more ++ t) (sym none) ∙ sym e
 
 pub returns-in-Finished : goal.returns-in-Finished
 returns-in-Finished c =
@@ -16,12 +17,15 @@ returns-in-Finished c =
     let end = c.in-Finished.ensures.session begun.next begun.represents in
     let serves = end.so.0 in
     let reads = serves.reads in
-    let same : serves.text ≡ c.args.text.now = all_read c.args.text.now c.run-end.new.input.now reads.read.more serves.text reads.read.read reads.stops.1 reads.read.so in
+    let same : serves.text ≡ c.args.text.now =
+    all_read c.args.text.now c.run-end.new.input.now reads.read.more serves.text reads.read.read
+    reads.stops.1 reads.read.so in
     record {
       requests = serves.requests;
       answers = serves.answers;
       asked = subst (λ (t : List ℕ). AreCommands true (lines_of t) serves.requests) same serves.asked;
       lawful = record { old = begun.next; new = end.next; begins = begun.so.0; lawful = serves.lawful };
       faultless = (session_state_is c.run-end.new.store end.next end.represents).faults;
-      written = serves.written ∙ ap (λ (xs : List ℕ). xs ++ texts_of serves.answers) c.new-output.ensures.items;
+      written = serves.written
+          ∙ ap (λ (xs : List ℕ). xs ++ texts_of serves.answers) c.new-output.ensures.items;
     }

@@ -8,7 +8,8 @@ use Rattle.command_shell.proofs.loading.gather.Given as goal
 -- so many entry lines were taken so far, and gathered
 abbrev pub invariant-loop-taken : goal.invariant-loop-taken
 invariant-loop-taken g l = record {
-  takes : TakesAll l.taken false l.fn.gathered l.gathered (g.R.Read.remaining l.fn.input) (g.R.Read.remaining l.input) (pending l.fn.lines) (pending l.lines);
+  takes : TakesAll l.taken false l.fn.gathered l.gathered (g.R.Read.remaining l.fn.input)
+      (g.R.Read.remaining l.input) (pending l.fn.lines) (pending l.lines);
   kept : Keeps (g.W.Write.contents l.fn.output) (g.W.Write.contents l.output);
   fewer : work_left l.lines ≤ work_left l.fn.lines;
 }

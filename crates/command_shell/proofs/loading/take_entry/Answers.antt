@@ -9,14 +9,18 @@ use Rattle.command_shell.specs.Pending.{pending}
 use Rattle.command_shell.proofs.CommandLemmas.{lines_of-line}
 use Rattle.command_shell.proofs.GatherLemmas.{bad_more, long_entry}
 use Rattle.command_shell.proofs.LineLemmas.{none_found, of_err}
-use Rattle.command_shell.proofs.ReadLemmas.{begun_read, last_front, last_left, last_line, last_read, line_read, long_last_line, long_last_read, long_read, one_line, reads_none}
+use Rattle.command_shell.proofs.ReadLemmas.{begun_read, last_front, last_left, last_line, last_read}
+use Rattle.command_shell.proofs.ReadLemmas.{line_read, long_last_line, long_last_read, long_read, one_line}
+use Rattle.command_shell.proofs.ReadLemmas.{reads_none}
 use Rattle.command_shell.proofs.loading.take_entry.Goals as goal
 
 pub returns-then-is_err-clause-takes : goal.returns-then-is_err-clause-takes
 returns-then-is_err-clause-takes g c =
     let unread = pending c.args.lines.now in record {
       unread = unread;
-      one_line = none_found unread c.line-line.result c.line-line.ensures (of_err c.hand_on.result _ c.hand_on.ensures.none c.if-is_err.ensures.value);
+      one_line =
+          none_found unread c.line-line.result c.line-line.ensures
+          (of_err c.hand_on.result _ c.hand_on.ensures.none c.if-is_err.ensures.value);
       reads = reads_none (g.R.Read.remaining c.args.input.now) unread;
     }
 
@@ -33,7 +37,9 @@ returns-in-Ok-Line-clause-takes g c =
       line = take n mid;
       reads = line_read r r' bytes mid (pending c.take.new.self) n at_end found c.take.ensures.pending;
       is_line = lines_of-line (take n mid) (one_line r r' bytes mid (pending c.take.new.self) n at_end found);
-      gathers = λ layer lines h. subst (λ (l : List ℕ). IsGathered c.add.new.self layer (lines ++ l ∷ [])) c.front.ensures (c.add.ensures layer lines h);
+      gathers =
+          λ layer lines h. subst (λ (l : List ℕ). IsGathered c.add.new.self layer (lines ++ l ∷ []))
+          c.front.ensures (c.add.ensures layer lines h);
     }
 
 pub returns-in-Ok-Last-clause-takes : goal.returns-in-Ok-Last-clause-takes
@@ -48,14 +54,22 @@ returns-in-Ok-Last-clause-takes g c =
     let found = rw c.in-Ok-Last.field-0-is at c.in-Ok-Last.ensures.found in record {
       text = mid;
       line = mid;
-      reads = last_read r r' bytes mid left n found (c.take-in-Ok-Last.ensures.pending ∙ last_left r r' bytes mid n at_end found);
+      reads = last_read r r' bytes mid left n found
+          (c.take-in-Ok-Last.ensures.pending ∙ last_left r r' bytes mid n at_end found);
       is_line = last_line r r' bytes mid n at_end found;
-      gathers = λ layer lines h. subst (λ (l : List ℕ). IsGathered c.add-in-Ok-Last.new.self layer (lines ++ l ∷ [])) (c.front-in-Ok-Last.ensures ∙ last_front r r' bytes mid n at_end found) (c.add-in-Ok-Last.ensures layer lines h);
+      gathers =
+          λ layer lines h. subst
+          (λ (l : List ℕ). IsGathered c.add-in-Ok-Last.new.self layer (lines ++ l ∷ []))
+          (c.front-in-Ok-Last.ensures ∙ last_front r r' bytes mid n at_end found)
+          (c.add-in-Ok-Last.ensures layer lines h);
     }
 
 -- a line that is too long was gathered
-spoiled : (good room : Bool) (name : List ℕ) (objects : GivenObjects) (layer : List ℕ) (lines : List (List ℕ)) (line : List ℕ) → good ≡ false → objects_in (lines ++ line ∷ []) ≡ None → Tells good room name objects layer (objects_in (lines ++ line ∷ []))
-spoiled good room name objects layer lines line is bad = subst (λ (b : Bool). Tells b room name objects layer (objects_in (lines ++ line ∷ []))) (sym is) bad
+spoiled : (good room : Bool) (name : List ℕ) (objects : GivenObjects) (layer : List ℕ)
+    (lines : List (List ℕ)) (line : List ℕ) → good ≡ false → objects_in (lines ++ line ∷ []) ≡ None
+    → Tells good room name objects layer (objects_in (lines ++ line ∷ []))
+spoiled good room name objects layer lines line is bad =
+    subst (λ (b : Bool). Tells b room name objects layer (objects_in (lines ++ line ∷ []))) (sym is) bad
 
 pub returns-in-Ok-TooLong-clause-takes : goal.returns-in-Ok-TooLong-clause-takes
 returns-in-Ok-TooLong-clause-takes g c =
@@ -68,7 +82,10 @@ returns-in-Ok-TooLong-clause-takes g c =
       line = found.so.0;
       reads = long_read r r' bytes left (IsAtEnd r') found;
       is_line = lines_of-line found.so.0 found.so.2;
-      gathers = λ layer lines h. spoiled c.spoil.new.self.good c.spoil.new.self.room c.spoil.new.self.layer.items c.spoil.new.self.objects.items layer lines found.so.0 c.spoil.ensures (bad_more lines found.so.0 (long_entry found.so.0 found.so.1));
+      gathers =
+          λ layer lines h. spoiled c.spoil.new.self.good c.spoil.new.self.room c.spoil.new.self.layer.items
+          c.spoil.new.self.objects.items layer lines found.so.0 c.spoil.ensures
+          (bad_more lines found.so.0 (long_entry found.so.0 found.so.1));
     }
 
 pub returns-in-Ok-LastTooLong-clause-takes : goal.returns-in-Ok-LastTooLong-clause-takes
@@ -83,7 +100,11 @@ returns-in-Ok-LastTooLong-clause-takes g c =
       line = line;
       reads = long_last_read r r' bytes left found;
       is_line = long_last_line line found.so.0 found.so.1;
-      gathers = λ layer lines h. spoiled c.spoil-in-Ok-LastTooLong.new.self.good c.spoil-in-Ok-LastTooLong.new.self.room c.spoil-in-Ok-LastTooLong.new.self.layer.items c.spoil-in-Ok-LastTooLong.new.self.objects.items layer lines line c.spoil-in-Ok-LastTooLong.ensures (bad_more lines line (long_entry line found.so.0));
+      gathers =
+          λ layer lines h. spoiled c.spoil-in-Ok-LastTooLong.new.self.good
+          c.spoil-in-Ok-LastTooLong.new.self.room c.spoil-in-Ok-LastTooLong.new.self.layer.items
+          c.spoil-in-Ok-LastTooLong.new.self.objects.items layer lines line c.spoil-in-Ok-LastTooLong.ensures
+          (bad_more lines line (long_entry line found.so.0));
     }
 
 pub returns-in-Err-clause-takes : goal.returns-in-Err-clause-takes
@@ -91,5 +112,6 @@ returns-in-Err-clause-takes g c =
     let bytes = pending c.args.lines.now in record {
       unread = bytes ++ c.in-Err.ensures.found.more;
       one_line = c.in-Err.ensures.found.so;
-      reads = begun_read (g.R.Read.remaining c.args.input.now) (g.R.Read.remaining c.find.new.reader) bytes c.in-Err.ensures.found;
+      reads = begun_read (g.R.Read.remaining c.args.input.now) (g.R.Read.remaining c.find.new.reader) bytes
+          c.in-Err.ensures.found;
     }

@@ -6,7 +6,8 @@ use Rattle.command_shell.proofs.parse.tagged_coordinates.Given as goal
 -- the coordinates so far, and then those of what is left before a tag; and what is left from the tag on
 abbrev pub invariant-loop-word : goal.invariant-loop-word
 invariant-loop-word l = record {
-  before : option_map (λ cs. l.bounds.items ++ cs) (coordinates_of (before_tag l.words)) ≡ coordinates_of (before_tag l.initial.words);
+  before : option_map (λ cs. l.bounds.items ++ cs) (coordinates_of (before_tag l.words)) ≡ coordinates_of
+      (before_tag l.initial.words);
   from : from_tag l.words ≡ from_tag l.initial.words;
 }
 

@@ -7,5 +7,7 @@ use Rattle.command_shell.proofs.reply_line.put.Goals as goal
 pub loop-done-preserved : goal.loop-done-preserved
 loop-done-preserved g c = record {
   within = omega (arith, c.in_ok-count.ensures.bound);
-  written = rw (← taken_more, ← take_rest c.args.text.now c.loop-done.done) (appends_more _ _ _ _ _ c.loop-done.invariant.written c.in_ok-count.ensures.bytes);
+  written =
+      rw (← taken_more, ← take_rest c.args.text.now c.loop-done.done)
+      (appends_more _ _ _ _ _ c.loop-done.invariant.written c.in_ok-count.ensures.bytes);
 }

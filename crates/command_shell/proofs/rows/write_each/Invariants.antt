@@ -5,4 +5,6 @@ use Rattle.command_shell.proofs.rows.write_each.Given as goal
 
 -- the rows so far were written
 abbrev pub invariant-loop-row : goal.invariant-loop-row
-invariant-loop-row g l = Appends (g.W.Write.contents l.fn.writer) (g.W.Write.contents l.writer) (flat_map g.T.Row.text (take l.row-index l.rows))
+invariant-loop-row g l =
+    Appends (g.W.Write.contents l.fn.writer) (g.W.Write.contents l.writer)
+    (flat_map g.T.Row.text (take l.row-index l.rows))

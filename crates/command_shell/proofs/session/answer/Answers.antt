@@ -4,7 +4,11 @@ use Rattle.command_shell.proofs.AnswerLemmas.{written, unwritten}
 use Rattle.command_shell.proofs.session.answer.Goals as goal
 
 pub returns-in-None : goal.returns-in-None
-returns-in-None g c = unwritten (said c.args.line) _ (g.W.Write.contents c.args.output.now) c.in-None.ensures.replies
+returns-in-None g c =
+    unwritten (said c.args.line) _ (g.W.Write.contents c.args.output.now) c.in-None.ensures.replies
 
 pub returns-in-Some : goal.returns-in-Some
-returns-in-Some g c = written (said c.args.line) _ (g.W.Write.contents c.args.output.now) (g.W.Write.contents c.write_reply.new.writer) c.in-Some.reply c.write_reply.result c.in-Some.ensures.replies c.write_reply.ensures
+returns-in-Some g c =
+    written (said c.args.line) _ (g.W.Write.contents c.args.output.now)
+    (g.W.Write.contents c.write_reply.new.writer) c.in-Some.reply c.write_reply.result
+    c.in-Some.ensures.replies c.write_reply.ensures

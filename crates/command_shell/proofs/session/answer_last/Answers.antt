@@ -10,18 +10,22 @@ use Rattle.command_shell.proofs.CommandLemmas.{append_none}
 use Rattle.command_shell.proofs.session.answer_last.Goals as goal
 
 pub returns-in-Load : goal.returns-in-Load
-returns-in-Load g c = λ text is. let k = c.last_load_reply-reply.ensures text (sym is ∙ ap said c.in-Load.is) in record {
-  requests = k.request ∷ [];
-  asked = k.asked;
-  answers = reply_answer c.last_load_reply-reply.result ∷ [];
-  lawful = (_, k.step, refl);
-  written = wrote_reply c.last_load_reply-reply.result (g.W.Write.contents c.args.output.now) (g.W.Write.contents c.write_reply.new.writer) c.write_reply.result c.write_reply.ensures;
-}
+returns-in-Load g c = λ text is. let k =
+    c.last_load_reply-reply.ensures text (sym is ∙ ap said c.in-Load.is) in record {
+      requests = k.request ∷ [];
+      asked = k.asked;
+      answers = reply_answer c.last_load_reply-reply.result ∷ [];
+      lawful = (_, k.step, refl);
+      written =
+          wrote_reply c.last_load_reply-reply.result (g.W.Write.contents c.args.output.now)
+          (g.W.Write.contents c.write_reply.new.writer) c.write_reply.result c.write_reply.ensures;
+    }
 
 pub returns : goal.returns
 returns g c = λ text is. let k = c.answer.ensures in record {
   requests = k.requests;
-  asked = subst (AreCommands true (text ∷ [])) (append_none k.requests) (one k.requests (subst (λ (m : Meaning). AsksAlone m k.requests) is k.asked) none);
+  asked = subst (AreCommands true (text ∷ [])) (append_none k.requests)
+      (one k.requests (subst (λ (m : Meaning). AsksAlone m k.requests) is k.asked) none);
   answers = k.answers;
   lawful = k.lawful;
   written = k.written;

@@ -12,7 +12,8 @@ use Rattle.command_shell.proofs.SessionLemmas.{Joins, ends_run, serves_kept, ser
 use Rattle.command_shell.proofs.session.answer_lines.Goals as goal
 
 -- calls in turn, and then further ones
-joins : {D A : Type 0} {m : _} (old mid new : Store D A m) → Joins (Calls old mid) (Calls mid new) (Calls old new)
+joins : {D A : Type 0} {m : _} (old mid new : Store D A m)
+    → Joins (Calls old mid) (Calls mid new) (Calls old new)
 joins old mid new rs ss xs ys p q = steps_join IsAsked old mid new rs ss xs ys p q
 
 pub loop-lines-init : goal.loop-lines-init
@@ -20,23 +21,36 @@ loop-lines-init g c =
     let r = g.R.Read.remaining c.args.input.now in
     let w = g.W.Write.contents c.args.output.now in
     let none = Calls c.args.store.now c.args.store.now in
-    subst (λ (left : List ℕ). ServesBy none false true r r w w [] left) (sym c.new-lines.ensures) (serves_none none refl false r r w [] [] (reads_none r []))
+    subst (λ (left : List ℕ). ServesBy none false true r r w w [] left) (sym c.new-lines.ensures)
+    (serves_none none refl false r r w [] [] (reads_none r []))
 
 pub returns-then-is_err : goal.returns-then-is_err
 returns-then-is_err g c =
     let remaining = g.R.Read.remaining in
     let contents = g.W.Write.contents in
     let unread = pending c.loop-lines.lines in
-    let unfinished = none_found unread c.line-line.result c.line-line.ensures (of_err c.hand_on.result _ c.hand_on.ensures.none c.if-is_err.ensures.value) in
-    inr (unread, in_line unfinished, serves_kept _ false true (remaining c.args.input.now) (remaining c.loop-lines.input) (contents c.args.output.now) (contents c.loop-lines.output) (contents c.hand_on.new.output) [] unread c.loop-lines.invariant c.hand_on.ensures.kept)
+    let unfinished =
+    none_found unread c.line-line.result c.line-line.ensures
+    (of_err c.hand_on.result _ c.hand_on.ensures.none c.if-is_err.ensures.value) in
+    inr (
+      unread,
+      in_line unfinished,
+      serves_kept _ false true (remaining c.args.input.now) (remaining c.loop-lines.input)
+          (contents c.args.output.now) (contents c.loop-lines.output) (contents c.hand_on.new.output) [] unread
+          c.loop-lines.invariant c.hand_on.ensures.kept,
+    )
 
 pub returns-in-Some : goal.returns-in-Some
 returns-in-Some g c =
     let remaining = g.R.Read.remaining in
     let contents = g.W.Write.contents in
     let unread = pending c.loop-lines.lines in
-    ends_run _ _ _ (joins c.args.store.now c.loop-lines.store c.step.new.store) (remaining c.args.input.now) (remaining c.loop-lines.input) (remaining c.step.new.input) (contents c.args.output.now) (contents c.hand_on.new.output) (contents c.step.new.output) [] unread
-    (serves_kept _ false true (remaining c.args.input.now) (remaining c.loop-lines.input) (contents c.args.output.now) (contents c.loop-lines.output) (contents c.hand_on.new.output) [] unread c.loop-lines.invariant c.hand_on.ensures.kept)
+    ends_run _ _ _ (joins c.args.store.now c.loop-lines.store c.step.new.store) (remaining c.args.input.now)
+    (remaining c.loop-lines.input) (remaining c.step.new.input) (contents c.args.output.now)
+    (contents c.hand_on.new.output) (contents c.step.new.output) [] unread
+    (serves_kept _ false true (remaining c.args.input.now) (remaining c.loop-lines.input)
+    (contents c.args.output.now) (contents c.loop-lines.output) (contents c.hand_on.new.output) [] unread
+    c.loop-lines.invariant c.hand_on.ensures.kept)
     c.in-Some.end c.in-Some.ensures.steps
 
 pub loop-lines-preserved : goal.loop-lines-preserved
@@ -44,6 +58,11 @@ loop-lines-preserved g c =
     let remaining = g.R.Read.remaining in
     let contents = g.W.Write.contents in
     let unread = pending c.loop-lines.lines in
-    serves_more _ _ _ (joins c.args.store.now c.loop-lines.store c.step.new.store) false true (remaining c.args.input.now) (remaining c.loop-lines.input) (remaining c.step.new.input) (contents c.args.output.now) (contents c.hand_on.new.output) (contents c.step.new.output) [] unread (pending c.step.new.lines)
-    (serves_kept _ false true (remaining c.args.input.now) (remaining c.loop-lines.input) (contents c.args.output.now) (contents c.loop-lines.output) (contents c.hand_on.new.output) [] unread c.loop-lines.invariant c.hand_on.ensures.kept)
+    serves_more _ _ _ (joins c.args.store.now c.loop-lines.store c.step.new.store) false true
+    (remaining c.args.input.now) (remaining c.loop-lines.input) (remaining c.step.new.input)
+    (contents c.args.output.now) (contents c.hand_on.new.output) (contents c.step.new.output) [] unread
+    (pending c.step.new.lines)
+    (serves_kept _ false true (remaining c.args.input.now) (remaining c.loop-lines.input)
+    (contents c.args.output.now) (contents c.loop-lines.output) (contents c.hand_on.new.output) [] unread
+    c.loop-lines.invariant c.hand_on.ensures.kept)
     c.in_default.ensures.steps

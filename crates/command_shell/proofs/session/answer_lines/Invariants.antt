@@ -8,7 +8,8 @@ use Rattle.command_shell.proofs.session.answer_lines.Given as goal
 -- whole lines were taken so far, and each of them is answered
 abbrev pub invariant-loop-lines : goal.invariant-loop-lines
 invariant-loop-lines g l = ServesBy (Calls l.fn.store l.store) false true
-    (g.R.Read.remaining l.fn.input) (g.R.Read.remaining l.input) (g.W.Write.contents l.fn.output) (g.W.Write.contents l.output) [] (pending l.lines)
+    (g.R.Read.remaining l.fn.input) (g.R.Read.remaining l.input) (g.W.Write.contents l.fn.output)
+    (g.W.Write.contents l.output) [] (pending l.lines)
 
 abbrev pub decreases-loop-lines : goal.decreases-loop-lines
 decreases-loop-lines g l = work_left l.lines

@@ -11,18 +11,35 @@ use Rattle.command_shell.proofs.session.load.Goals as goal
 pub returns-in-Full-clause-steps : goal.returns-in-Full-clause-steps
 returns-in-Full-clause-steps g c = λ before unread first layer one means gathered reads.
     let t = c.in-Full.ensures.gathers in
-    loads_full _ before (g.R.Read.remaining c.args.input.now) (g.R.Read.remaining c.gather.new.input) (g.W.Write.contents c.args.output.now) (g.W.Write.contents c.gather.new.output) (g.W.Write.contents c.write_reply.new.writer)
-    unread (pending c.args.lines.now) (pending c.gather.new.lines) first t.text layer c.args.count c.in-Full.ended c.end_after.result c.write_reply.result c.load_reply-reply.result c.end_after.ensures one means reads t.reads t.count_is c.in-Full.ensures.kept c.write_reply.ensures
+    loads_full _ before (g.R.Read.remaining c.args.input.now) (g.R.Read.remaining c.gather.new.input)
+    (g.W.Write.contents c.args.output.now) (g.W.Write.contents c.gather.new.output)
+    (g.W.Write.contents c.write_reply.new.writer)
+    unread (pending c.args.lines.now) (pending c.gather.new.lines) first t.text layer c.args.count
+    c.in-Full.ended c.end_after.result c.write_reply.result c.load_reply-reply.result c.end_after.ensures
+    one means reads t.reads t.count_is c.in-Full.ensures.kept c.write_reply.ensures
     (_, c.load_reply-reply.ensures layer (lines_of t.text) (t.gathers layer gathered), refl)
 
 pub returns-in-Short-clause-steps : goal.returns-in-Short-clause-steps
 returns-in-Short-clause-steps g c = λ before unread first layer one means gathered reads.
     let t = c.in-Short.ensures.gathers in
-    loads_short _ before (g.R.Read.remaining c.args.input.now) (g.R.Read.remaining c.gather.new.input) (g.W.Write.contents c.args.output.now) (g.W.Write.contents c.gather.new.output) (g.W.Write.contents c.write_reply-in-Short.new.writer)
-    unread (pending c.args.lines.now) (pending c.gather.new.lines) first t.text layer c.args.count c.end_after-in-Short.result c.write_reply-in-Short.result c.bad_reply.result c.end_after-in-Short.ensures one means reads t.reads t.few c.in-Short.ensures.kept c.write_reply-in-Short.ensures
-    (_, asked_badly c.args.store.now _ (λ honest b left. g.met.D.BlockDevice.only_now (device_in c.args.store.now) b honest left) c.bad_reply.ensures, refl)
+    loads_short _ before (g.R.Read.remaining c.args.input.now) (g.R.Read.remaining c.gather.new.input)
+    (g.W.Write.contents c.args.output.now) (g.W.Write.contents c.gather.new.output)
+    (g.W.Write.contents c.write_reply-in-Short.new.writer)
+    unread (pending c.args.lines.now) (pending c.gather.new.lines) first t.text layer c.args.count
+    c.end_after-in-Short.result c.write_reply-in-Short.result c.bad_reply.result
+    c.end_after-in-Short.ensures one means reads t.reads t.few c.in-Short.ensures.kept
+    c.write_reply-in-Short.ensures (
+      _,
+      asked_badly c.args.store.now _
+          (λ honest b left. g.met.D.BlockDevice.only_now (device_in c.args.store.now) b honest left)
+          c.bad_reply.ensures,
+      refl,
+    )
 
 pub returns-clause-steps : goal.returns-clause-steps
 returns-clause-steps g c = λ before unread first layer one means gathered reads.
-    loads_broken _ refl before (g.R.Read.remaining c.args.input.now) (g.R.Read.remaining c.gather.new.input) (g.W.Write.contents c.args.output.now) (g.W.Write.contents c.gather.new.output)
-    unread (pending c.args.lines.now) (pending c.gather.new.lines) first layer c.args.count c.in-Broken.end (λ e. c.in-Broken.ensures.going (ap Broken e)) one means reads c.in-Broken.ensures.gathers c.in-Broken.ensures.kept
+    loads_broken _ refl before (g.R.Read.remaining c.args.input.now) (g.R.Read.remaining c.gather.new.input)
+    (g.W.Write.contents c.args.output.now) (g.W.Write.contents c.gather.new.output)
+    unread (pending c.args.lines.now) (pending c.gather.new.lines) first layer c.args.count c.in-Broken.end
+    (λ e. c.in-Broken.ensures.going (ap Broken e)) one means reads c.in-Broken.ensures.gathers
+    c.in-Broken.ensures.kept

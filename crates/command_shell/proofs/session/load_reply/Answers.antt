@@ -19,17 +19,27 @@ use Rattle.command_shell.proofs.session.load_reply.Goals as goal
 pub returns-then-not-gathered : goal.returns-then-not-gathered
 returns-then-not-gathered g c = λ layer entries h.
     let gathered = c.args.gathered.now in
-    let bad = told_bad gathered.good gathered.room gathered.layer.items layer gathered.objects.items (objects_in entries) h c.if-not-gathered.true in
-    subst (λ (all : Option GivenObjects). IsAsked c.args.store.now (load_request layer all) (reply_answer c.bad_reply.result) c.args.store.now) (sym bad)
-    (asked_badly c.args.store.now (reply_answer c.bad_reply.result) (λ honest b left. g.met.D.BlockDevice.only_now (device_in c.args.store.now) b honest left) c.bad_reply.ensures)
+    let bad =
+    told_bad gathered.good gathered.room gathered.layer.items layer gathered.objects.items
+    (objects_in entries) h c.if-not-gathered.true in
+    subst (λ (all : Option GivenObjects). IsAsked c.args.store.now (load_request layer all)
+    (reply_answer c.bad_reply.result) c.args.store.now) (sym bad)
+    (asked_badly c.args.store.now (reply_answer c.bad_reply.result)
+    (λ honest b left. g.met.D.BlockDevice.only_now (device_in c.args.store.now) b honest left)
+    c.bad_reply.ensures)
 
 pub returns-then-not-gathered-2 : goal.returns-then-not-gathered-2
 returns-then-not-gathered-2 g c = λ layer entries h.
     let gathered = c.args.gathered.now in
     let wanting = c.out_of_memory.ensures in
-    out_of_room (λ (r : Request). IsAsked c.args.store.now r (Refused c.out_of_memory.result) c.out_of_memory.new.self) layer (objects_in entries)
-    (told_room gathered.good gathered.room gathered.layer.items layer gathered.objects.items (objects_in entries) h c.if-not-gathered.false c.if-not-gathered-2.true)
-    (λ command may. asked_in_want command c.out_of_memory.result (λ honest b left. g.met.D.BlockDevice.only_now (device_in c.args.store.now) b honest left) wanting.same (wanting.step command may) (wanting.reply command may))
+    out_of_room
+    (λ (r : Request). IsAsked c.args.store.now r (Refused c.out_of_memory.result)
+    c.out_of_memory.new.self) layer (objects_in entries)
+    (told_room gathered.good gathered.room gathered.layer.items layer gathered.objects.items
+    (objects_in entries) h c.if-not-gathered.false c.if-not-gathered-2.true)
+    (λ command may. asked_in_want command c.out_of_memory.result
+    (λ honest b left. g.met.D.BlockDevice.only_now (device_in c.args.store.now) b honest left)
+    wanting.same (wanting.step command may) (wanting.reply command may))
 
 pub returns : goal.returns
 returns g c = λ layer entries h.
@@ -37,9 +47,16 @@ returns g c = λ layer entries h.
     let old = c.args.store.now in
     let new = c.load.new.self in
     let answer = reply_answer c.change_reply.result in
-    let all = told_all gathered.good gathered.room gathered.layer.items layer gathered.objects.items (objects_in entries) h c.if-not-gathered.false c.if-not-gathered-2.false in
-    let asked = asked_by_change (λ honest b left. g.met.D.BlockDevice.only_now (device_in old) b honest left) (λ e. absurd (cc)) c.load.ensures.changes in
+    let all =
+    told_all gathered.good gathered.room gathered.layer.items layer gathered.objects.items
+    (objects_in entries) h c.if-not-gathered.false c.if-not-gathered-2.false in
+    let asked =
+    asked_by_change (λ honest b left. g.met.D.BlockDevice.only_now (device_in old) b honest left)
+    (λ e. absurd (cc)) c.load.ensures.changes in
     subst (λ (o : Option GivenObjects). IsAsked old (load_request layer o) answer new) (sym all.0)
-    (subst (λ (objects : GivenObjects). IsAsked old (Asks (Load layer objects)) answer new) c.as_slice-2.ensures.value
-    (subst (λ (name : List ℕ). IsAsked old (Asks (Load name c.as_slice-2.result.now)) answer new) (c.as_slice.ensures.value ∙ all.1)
-    (subst (λ (a : Answer). IsAsked old (Asks (Load c.as_slice.result.now c.as_slice-2.result.now)) a new) (sym c.change_reply.ensures) asked)))
+    (subst (λ (objects : GivenObjects). IsAsked old (Asks (Load layer objects)) answer new)
+    c.as_slice-2.ensures.value
+    (subst (λ (name : List ℕ). IsAsked old (Asks (Load name c.as_slice-2.result.now)) answer new)
+    (c.as_slice.ensures.value ∙ all.1)
+    (subst (λ (a : Answer). IsAsked old (Asks (Load c.as_slice.result.now c.as_slice-2.result.now)) a new)
+    (sym c.change_reply.ensures) asked)))

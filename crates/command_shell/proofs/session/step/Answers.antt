@@ -9,13 +9,17 @@ use Rattle.command_shell.specs.TextCommands.{AreCommands}
 use Rattle.command_shell.specs.declared.lines.Found.TheVariants as Found
 use Rattle.command_shell.specs.TextCommands.IsUnfinished.{in_line}
 use Rattle.command_shell.proofs.CommandLemmas.{lines_of-line, long_meaning}
-use Rattle.command_shell.proofs.ReadLemmas.{begun_read, last_read, last_front, last_left, last_line, long_read, long_last_read, long_last_line, end_read}
+use Rattle.command_shell.proofs.ReadLemmas.{begun_read, last_read, last_front, last_left, last_line}
+use Rattle.command_shell.proofs.ReadLemmas.{long_read, long_last_read, long_last_line, end_read}
 use Rattle.command_shell.proofs.SessionLemmas.{ends_there, fails_there, steps_after, steps_line}
 use Rattle.command_shell.proofs.session.step.Goals as goal
 
 -- what was found is pending
-pending_read : (before after : Option (List ℕ)) (at_end : Type 0) (bytes mid : List ℕ) (n : ℕ) → ReadsTo before after (λ more. Finds at_end (Found.Line n) (bytes ++ more) mid) → ReadsTo before after (λ more. bytes ++ more ≡ mid)
-pending_read before after at_end bytes mid n found = record { more = found.more; read = found.read; so = sym found.so.0 }
+pending_read : (before after : Option (List ℕ)) (at_end : Type 0) (bytes mid : List ℕ) (n : ℕ)
+    → ReadsTo before after (λ more. Finds at_end (Found.Line n) (bytes ++ more) mid)
+    → ReadsTo before after (λ more. bytes ++ more ≡ mid)
+pending_read before after at_end bytes mid n found =
+    record { more = found.more; read = found.read; so = sym found.so.0 }
 
 pub step_line-requires : goal.step_line-requires
 step_line-requires g c =
@@ -28,7 +32,8 @@ returns-in-Ok-Line-clause-steps g c =
     let r' = g.R.Read.remaining c.find.new.reader in
     let bytes = pending c.args.lines.now in
     let found = rw c.in-Ok-Line.field-0-is at c.in-Ok-Line.ensures.found in
-    c.step_line.ensures.steps r bytes (pending_read r r' (IsAtEnd r') bytes (pending c.find.new.self) c.in-Ok-Line.len found)
+    c.step_line.ensures.steps r bytes
+    (pending_read r r' (IsAtEnd r') bytes (pending c.find.new.self) c.in-Ok-Line.len found)
 
 pub returns-in-Ok-Last-clause-steps : goal.returns-in-Ok-Last-clause-steps
 returns-in-Ok-Last-clause-steps g c =
@@ -43,9 +48,13 @@ returns-in-Ok-Last-clause-steps g c =
     let at_end = IsAtEnd r' in
     let found = rw c.in-Ok-Last.field-0-is at c.in-Ok-Last.ensures.found in
     let line = last_line r r' bytes mid n at_end found in
-    let reads = last_read r r' bytes mid left n found (c.take.ensures.pending ∙ last_left r r' bytes mid n at_end found) in
-    let a = c.answer_last-written.ensures mid (c.parse_line.ensures ∙ ap meaning_of (c.front.ensures ∙ last_front r r' bytes mid n at_end found)) in
-    steps_after _ r r' w w' bytes left mid a.requests a.answers true c.end_after.result c.answer_last-written.result c.end_after.ensures reads
+    let reads =
+    last_read r r' bytes mid left n found
+    (c.take.ensures.pending ∙ last_left r r' bytes mid n at_end found) in
+    let a = c.answer_last-written.ensures mid
+    (c.parse_line.ensures ∙ ap meaning_of (c.front.ensures ∙ last_front r r' bytes mid n at_end found)) in
+    steps_after _ r r' w w' bytes left mid a.requests a.answers true c.end_after.result
+    c.answer_last-written.result c.end_after.ensures reads
     (subst (λ (ls : List (List ℕ)). AreCommands true ls a.requests) (sym line) a.asked) a.lawful a.written
 
 pub returns-in-Ok-TooLong-clause-steps : goal.returns-in-Ok-TooLong-clause-steps
@@ -54,8 +63,12 @@ returns-in-Ok-TooLong-clause-steps g c =
     let bytes = pending c.args.lines.now in
     let at_end = IsAtEnd (g.R.Read.remaining c.find.new.reader) in
     let found = rw c.in-Ok-TooLong.field-0-is at c.in-Ok-TooLong.ensures.found in
-    steps_line _ (g.R.Read.remaining c.args.input.now) (g.R.Read.remaining c.find.new.reader) (g.W.Write.contents c.args.output.now) (g.W.Write.contents c.answer.new.output) bytes left (found.so.0 ++ newline ∷ []) found.so.0 _ false c.end_after-in-Ok-TooLong.result c.answer.result c.end_after-in-Ok-TooLong.ensures
-    (long_read (g.R.Read.remaining c.args.input.now) (g.R.Read.remaining c.find.new.reader) bytes left at_end found)
+    steps_line _ (g.R.Read.remaining c.args.input.now) (g.R.Read.remaining c.find.new.reader)
+    (g.W.Write.contents c.args.output.now) (g.W.Write.contents c.answer.new.output) bytes left
+    (found.so.0 ++ newline ∷ []) found.so.0 _ false c.end_after-in-Ok-TooLong.result c.answer.result
+    c.end_after-in-Ok-TooLong.ensures
+    (long_read (g.R.Read.remaining c.args.input.now) (g.R.Read.remaining c.find.new.reader) bytes left at_end
+    found)
     (lines_of-line found.so.0 found.so.2)
     (long_meaning found.so.0 found.so.1) c.answer.ensures
 
@@ -65,8 +78,12 @@ returns-in-Ok-LastTooLong-clause-steps g c =
     let bytes = pending c.args.lines.now in
     let found = rw c.in-Ok-LastTooLong.field-0-is at c.in-Ok-LastTooLong.ensures.found in
     let line = bytes ++ found.more in
-    steps_line _ (g.R.Read.remaining c.args.input.now) (g.R.Read.remaining c.find.new.reader) (g.W.Write.contents c.args.output.now) (g.W.Write.contents c.answer-in-Ok-LastTooLong.new.output) bytes left line line _ true c.end_after-in-Ok-LastTooLong.result c.answer-in-Ok-LastTooLong.result c.end_after-in-Ok-LastTooLong.ensures
-    (long_last_read (g.R.Read.remaining c.args.input.now) (g.R.Read.remaining c.find.new.reader) bytes left found)
+    steps_line _ (g.R.Read.remaining c.args.input.now) (g.R.Read.remaining c.find.new.reader)
+    (g.W.Write.contents c.args.output.now) (g.W.Write.contents c.answer-in-Ok-LastTooLong.new.output)
+    bytes left line line _ true c.end_after-in-Ok-LastTooLong.result c.answer-in-Ok-LastTooLong.result
+    c.end_after-in-Ok-LastTooLong.ensures
+    (long_last_read (g.R.Read.remaining c.args.input.now) (g.R.Read.remaining c.find.new.reader) bytes left
+    found)
     (long_last_line line found.so.0 found.so.1)
     (long_meaning line found.so.0) c.answer-in-Ok-LastTooLong.ensures
 
@@ -75,9 +92,18 @@ returns-in-Ok-End-clause-steps g c =
     let bytes = pending c.args.lines.now in
     let found = rw c.in-Ok-End.field-0-is at c.in-Ok-End.ensures.found in
     let left = pending c.find.new.self in
-    ends_there _ refl (g.R.Read.remaining c.args.input.now) (g.R.Read.remaining c.find.new.reader) (g.W.Write.contents c.args.output.now) bytes left (subst (λ l. Reads true (g.R.Read.remaining c.args.input.now) (g.R.Read.remaining c.find.new.reader) bytes l []) found.so.0 (end_read (g.R.Read.remaining c.args.input.now) (g.R.Read.remaining c.find.new.reader) bytes left found))
+    ends_there _ refl (g.R.Read.remaining c.args.input.now) (g.R.Read.remaining c.find.new.reader)
+    (g.W.Write.contents c.args.output.now) bytes left
+    (subst (λ l. Reads true (g.R.Read.remaining c.args.input.now) (g.R.Read.remaining c.find.new.reader)
+    bytes l []) found.so.0
+    (end_read (g.R.Read.remaining c.args.input.now) (g.R.Read.remaining c.find.new.reader) bytes left
+    found))
 
 pub returns-in-Err-clause-steps : goal.returns-in-Err-clause-steps
 returns-in-Err-clause-steps g c =
     let bytes = pending c.args.lines.now in
-    fails_there _ refl (g.R.Read.remaining c.args.input.now) (g.R.Read.remaining c.find.new.reader) (g.W.Write.contents c.args.output.now) bytes (pending c.find.new.self) _ (in_line c.in-Err.ensures.found.so) (begun_read (g.R.Read.remaining c.args.input.now) (g.R.Read.remaining c.find.new.reader) bytes c.in-Err.ensures.found)
+    fails_there _ refl (g.R.Read.remaining c.args.input.now) (g.R.Read.remaining c.find.new.reader)
+    (g.W.Write.contents c.args.output.now) bytes (pending c.find.new.self) _
+    (in_line c.in-Err.ensures.found.so)
+    (begun_read (g.R.Read.remaining c.args.input.now) (g.R.Read.remaining c.find.new.reader) bytes
+    c.in-Err.ensures.found)

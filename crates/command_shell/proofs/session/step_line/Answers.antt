@@ -13,9 +13,15 @@ use Rattle.command_shell.proofs.SessionLemmas.{steps_line}
 use Rattle.command_shell.proofs.session.step_line.Goals as goal
 
 -- the line that is pending was found there
-found_line : (before after : Option (List ℕ)) (at_end : Type 0) (unread mid : List ℕ) (n : ℕ) → ReadsTo before after (λ more. unread ++ more ≡ mid) → BeginsLine mid n
+found_line : (before after : Option (List ℕ)) (at_end : Type 0) (unread mid : List ℕ) (n : ℕ)
+    → ReadsTo before after (λ more. unread ++ more ≡ mid) → BeginsLine mid n
     → ReadsTo before after (λ more. Finds at_end (Found.Line n) (unread ++ more) mid)
-found_line before after at_end unread mid n reads begins = record { more = reads.more; read = reads.read; so = (sym reads.so, subst (λ (b : List ℕ). BeginsLine b n) (sym reads.so) begins) }
+found_line before after at_end unread mid n reads begins =
+    record {
+      more = reads.more;
+      read = reads.read;
+      so = (sym reads.so, subst (λ (b : List ℕ). BeginsLine b n) (sym reads.so) begins);
+    }
 
 pub returns-in-Load-clause-steps : goal.returns-in-Load-clause-steps
 returns-in-Load-clause-steps g c = λ before unread reads.
@@ -23,8 +29,10 @@ returns-in-Load-clause-steps g c = λ before unread reads.
     let mid = pending c.args.lines.now in
     let n = c.args.len in
     let found = found_line before r (IsAtEnd r) unread mid n reads c.requires in
-    c.load.ensures.steps before unread (take n mid) c.in-Load.layer.now (one_line before r unread mid (pending c.take.new.self) n (IsAtEnd r) found)
-    (sym (c.parse_line-line.ensures ∙ ap meaning_of c.front.ensures) ∙ ap said c.in-Load.is) c.new-gathered.ensures
+    c.load.ensures.steps before unread (take n mid) c.in-Load.layer.now
+    (one_line before r unread mid (pending c.take.new.self) n (IsAtEnd r) found)
+    (sym (c.parse_line-line.ensures ∙ ap meaning_of c.front.ensures) ∙ ap said c.in-Load.is)
+    c.new-gathered.ensures
     (line_read before r unread mid (pending c.take.new.self) n (IsAtEnd r) found c.take.ensures.pending)
 
 pub returns-clause-steps : goal.returns-clause-steps
@@ -34,7 +42,9 @@ returns-clause-steps g c = λ before unread reads.
     let n = c.args.len in
     let left = pending c.take-2.new.self in
     let found = found_line before r (IsAtEnd r) unread mid n reads c.requires in
-    steps_line _ before r (g.W.Write.contents c.args.output.now) (g.W.Write.contents c.answer-written.new.output) unread left (take n mid ++ newline ∷ []) (take n mid) _ false c.end_after.result c.answer-written.result c.end_after.ensures
+    steps_line _ before r (g.W.Write.contents c.args.output.now)
+    (g.W.Write.contents c.answer-written.new.output) unread left (take n mid ++ newline ∷ [])
+    (take n mid) _ false c.end_after.result c.answer-written.result c.end_after.ensures
     (line_read before r unread mid left n (IsAtEnd r) found c.take-2.ensures.pending)
     (lines_of-line (take n mid) (one_line before r unread mid left n (IsAtEnd r) found))
     (c.parse_line-line.ensures ∙ ap meaning_of c.front.ensures) c.answer-written.ensures

@@ -5,7 +5,9 @@ use Rattle.command_shell.proofs.NumberLemmas.{too_large, all_read}
 use Rattle.command_shell.proofs.words.number.Goals as goal
 
 pub returns-in_err-value : goal.returns-in_err-value
-returns-in_err-value c = c.from_residual-in_err-value.ensures ∙ too_large c.args.word.now c.loop-byte.byte-index c.loop-byte.value _ (omega arith) refl c.loop-byte.invariant (omega (arith, c.in_ok-digit.ensures.1, c.in_err-value.ensures))
+returns-in_err-value c = c.from_residual-in_err-value.ensures
+    ∙ too_large c.args.word.now c.loop-byte.byte-index c.loop-byte.value _ (omega arith) refl
+    c.loop-byte.invariant (omega (arith, c.in_ok-digit.ensures.1, c.in_err-value.ensures))
 
 pub returns : goal.returns
 returns c =

@@ -7,7 +7,8 @@ use Rattle.tree_node.specs.Rows.{occurs_waiting}
 use Rattle.node_page.specs.Standing.{PageMap}
 use Rattle.reinsert.specs.Placed.{Held}
 use Rattle.condense.specs.Taken.{held_now, orphan_held}
-use Rattle.condense.proofs.FillLemmas.{Filled, can_insert, comes, comes_shaped, filled_end, filled_first, filled_more}
+use Rattle.condense.proofs.FillLemmas.{Filled, can_insert, comes, comes_shaped, filled_end, filled_first}
+use Rattle.condense.proofs.FillLemmas.{filled_more}
 use Rattle.condense.proofs.fill.insert_kept.Goals as goal
 
 pub inserting-init : goal.inserting-init
@@ -16,8 +17,11 @@ inserting-init g c = (
   c.requires.root,
   omega arith,
   omega arith,
-  λ h t ws elsewhere can.
-      (h, filled_first g.row.D c.args.m_max (pages c.args.cache.now) t ws elsewhere c.args.root (held_now c.args.kept.now) can),
+  λ h t ws elsewhere can. (
+    h,
+    filled_first g.row.D c.args.m_max (pages c.args.cache.now) t ws elsewhere c.args.root
+        (held_now c.args.kept.now) can,
+  ),
 )
 
 pub returns-then-orphan-now-clause-faults : goal.returns-then-orphan-now-clause-faults
@@ -26,7 +30,8 @@ returns-then-orphan-now-clause-faults g c = λ h t ws elsewhere can shaped.
     let m : PageMap = pages c.args.cache.now in
     let m1 : PageMap = pages c.inserting.cache in
     let so_far = c.inserting.invariant.4 h t ws elsewhere can in
-    let f = subst (λ (hs : List Held). Filled D c.args.m_max m m1 t ws elsewhere c.inserting.now hs) c.in-Some.ensures.some so_far.1 in
+    let f = subst (λ (hs : List Held). Filled D c.args.m_max m m1 t ws elsewhere c.inserting.now hs)
+    c.in-Some.ensures.some so_far.1 in
     let item = item_of c.in-Some.orphan.entry in
     let level = c.in-Some.orphan.level in
     let held = held_now c.next.new.self in
@@ -36,8 +41,25 @@ returns-then-orphan-now-clause-faults g c = λ h t ws elsewhere can shaped.
 
 pub insert_with-requires : goal.insert_with-requires
 insert_with-requires g c =
-    let gate = c.inserting.invariant.0.gate.gate ∙ c.requires.open in
-    (search rules, (search rules, (c.requires.dims, (gate, (c.requires.most, ((omega (arith, c.if-orphan-now.false), c.inserting.invariant.1.low), (c.inserting.invariant.1.page, c.in-Some.ensures.refers)))))))
+    let gate = c.inserting.invariant.0.gate.gate ∙ c.requires.open in (
+      search rules,
+      (
+        search rules,
+        (
+          c.requires.dims,
+          (
+            gate,
+            (
+              c.requires.most,
+              (
+                (omega (arith, c.if-orphan-now.false), c.inserting.invariant.1.low),
+                (c.inserting.invariant.1.page, c.in-Some.ensures.refers),
+              ),
+            ),
+          ),
+        ),
+      ),
+    )
 
 pub returns-in-Err-clause-faults : goal.returns-in-Err-clause-faults
 returns-in-Err-clause-faults g c = λ h t ws elsewhere can shaped.
@@ -45,35 +67,49 @@ returns-in-Err-clause-faults g c = λ h t ws elsewhere can shaped.
     let m : PageMap = pages c.args.cache.now in
     let m1 : PageMap = pages c.inserting.cache in
     let so_far = c.inserting.invariant.4 h t ws elsewhere can in
-    let f = subst (λ (hs : List Held). Filled D c.args.m_max m m1 t ws elsewhere c.inserting.now hs) c.in-Some.ensures.some so_far.1 in
+    let f = subst (λ (hs : List Held). Filled D c.args.m_max m m1 t ws elsewhere c.inserting.now hs)
+    c.in-Some.ensures.some so_far.1 in
     let item = item_of c.in-Some.orphan.entry in
     let level = c.in-Some.orphan.level in
     let held = held_now c.next.new.self in
     let k = comes D c.args.m_max m m1 t ws elsewhere c.inserting.now item level held f in
     let s = comes_shaped D c.args.m_max m m1 t ws elsewhere c.inserting.now item level held f k shaped in
     c.in-Err.ensures.faults so_far.0 f.mid k.w.branch (λ n. occurs_waiting n k.ws' + elsewhere n)
-    (can_insert D c.args.m_max m m1 t ws elsewhere c.inserting.now item level held f k (omega (arith, c.if-orphan-now.false))) s.1 s.2 s.3
+    (can_insert D c.args.m_max m m1 t ws elsewhere c.inserting.now item level held f k
+    (omega (arith, c.if-orphan-now.false))) s.1 s.2 s.3
 
 pub inserting-preserved : goal.inserting-preserved
 inserting-preserved g c = (
-  changes_in_turn c.args.cache.now c.inserting.cache c.insert_with.new.cache None c.inserting.invariant.0 c.in-Ok.ensures.alters.changes,
+  changes_in_turn c.args.cache.now c.inserting.cache c.insert_with.new.cache None c.inserting.invariant.0
+      c.in-Ok.ensures.alters.changes,
   record { low = c.in-Ok.ensures.root.low; page = c.in-Ok.ensures.root.page },
   omega (arith, c.inserting.invariant.2, c.in-Some.ensures.fewer),
-  omega (arith, c.inserting.invariant.2, c.inserting.invariant.3, c.in-Some.ensures.fewer, c.in-Ok.ensures.grows),
+  omega (
+    arith,
+    c.inserting.invariant.2,
+    c.inserting.invariant.3,
+    c.in-Some.ensures.fewer,
+    c.in-Ok.ensures.grows,
+  ),
   λ h t ws elsewhere can.
       let D = g.row.D in
       let m : PageMap = pages c.args.cache.now in
       let m1 : PageMap = pages c.inserting.cache in
       let so_far = c.inserting.invariant.4 h t ws elsewhere can in
-      let f = subst (λ (hs : List Held). Filled D c.args.m_max m m1 t ws elsewhere c.inserting.now hs) c.in-Some.ensures.some so_far.1 in
+      let f = subst (λ (hs : List Held). Filled D c.args.m_max m m1 t ws elsewhere c.inserting.now hs)
+      c.in-Some.ensures.some so_far.1 in
       let item = item_of c.in-Some.orphan.entry in
       let level = c.in-Some.orphan.level in
       let held = held_now c.next.new.self in
       let k = comes D c.args.m_max m m1 t ws elsewhere c.inserting.now item level held f in
-      let done = c.in-Ok.ensures.inserted so_far.0 f.mid k.w.branch (λ n. occurs_waiting n k.ws' + elsewhere n)
-      (can_insert D c.args.m_max m m1 t ws elsewhere c.inserting.now item level held f k (omega (arith, c.if-orphan-now.false))) in (
+      let done =
+      c.in-Ok.ensures.inserted so_far.0 f.mid k.w.branch (λ n. occurs_waiting n k.ws' + elsewhere n)
+      (can_insert D c.args.m_max m m1 t ws elsewhere c.inserting.now item level held f k
+      (omega (arith, c.if-orphan-now.false))) in (
         done.0,
-        filled_more D c.args.m_max m m1 t ws elsewhere c.inserting.now item level held f k (pages c.insert_with.new.cache) c.in-Ok.after c.in-Ok.ensures.root.rises (omega (arith, c.requires.most)) done.1,
+        filled_more D c.args.m_max m m1 t ws elsewhere c.inserting.now item level held f k
+            (pages c.insert_with.new.cache) c.in-Ok.after c.in-Ok.ensures.root.rises
+            (omega (arith, c.requires.most)) done.1,
       ),
 )
 
@@ -81,10 +117,12 @@ pub returns-clause-filled : goal.returns-clause-filled
 returns-clause-filled g c = λ h t ws elsewhere can.
     let so_far = c.inserting.invariant.4 h t ws elsewhere can in (
       so_far.0,
-      filled_end g.row.D c.args.m_max (pages c.args.cache.now) (pages c.inserting.cache) t ws elsewhere c.inserting.now (held_now c.inserting.kept) so_far.1
+      filled_end g.row.D c.args.m_max (pages c.args.cache.now) (pages c.inserting.cache) t ws elsewhere
+          c.inserting.now (held_now c.inserting.kept) so_far.1
           (ap (map (orphan_held {D = g.row.D})) (c.in_default.ensures.none refl)),
     )
 
 pub returns-in-Err-clause-changes : goal.returns-in-Err-clause-changes
 returns-in-Err-clause-changes g c =
-    changes_in_turn c.args.cache.now c.inserting.cache c.insert_with.new.cache (Some c.in-Err.broken.cause) c.inserting.invariant.0 c.in-Err.ensures.alters.changes
+    changes_in_turn c.args.cache.now c.inserting.cache c.insert_with.new.cache (Some c.in-Err.broken.cause)
+    c.inserting.invariant.0 c.in-Err.ensures.alters.changes

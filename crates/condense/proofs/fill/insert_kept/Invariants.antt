@@ -18,9 +18,12 @@ invariant-inserting g l =
     ChangesUntil l.fn.cache l.cache None
     × IsRoot l.now
     × (array_vec_len l.kept.orphans ≤ array_vec_len l.fn.kept.orphans)
-    × Grows (most_new_pages * (array_vec_len l.fn.kept.orphans - array_vec_len l.kept.orphans)) l.fn.cache l.cache
-    × (IsPageMap l.fn.cache → (t : Tree) (ws : List Waiter) (elsewhere : ℕ → ℕ) → CanFill g.row.D (pages l.fn.cache) l.fn.root t ws elsewhere (held_now l.fn.kept)
-    → IsPageMap l.cache × Filled g.row.D l.m_max (pages l.fn.cache) (pages l.cache) t ws elsewhere l.now (held_now l.kept))
+    × Grows (most_new_pages * (array_vec_len l.fn.kept.orphans - array_vec_len l.kept.orphans)) l.fn.cache
+    l.cache
+    × (IsPageMap l.fn.cache → (t : Tree) (ws : List Waiter) (elsewhere : ℕ → ℕ)
+    → CanFill g.row.D (pages l.fn.cache) l.fn.root t ws elsewhere (held_now l.fn.kept)
+    → IsPageMap l.cache
+    × Filled g.row.D l.m_max (pages l.fn.cache) (pages l.cache) t ws elsewhere l.now (held_now l.kept))
 
 abbrev pub decreases-inserting : goal.decreases-inserting
 decreases-inserting g l = array_vec_len l.kept.orphans

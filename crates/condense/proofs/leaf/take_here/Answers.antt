@@ -16,8 +16,12 @@ pub returns-in_default-clause-none : goal.returns-in_default-clause-none
 returns-in_default-clause-none g c = λ h content there lacks.
     let m : PageMap = pages c.args.cache.now in
     let live = page_of_node g.row.D (m c.args.page) content there in
-    let same = same_content g.row.D m c.args.page (content_in c.in_ok-leaf.leaf) content (c.in_ok-leaf.ensures.node h live) there in
-    subst (λ (x : NodeContent). (at : ℕ) (d : Item) → at < length x.entries → ¬ (get_or x.entries at d ≡ record { bounds = c.args.bounds.now; reference = c.args.id; tag = c.args.tag })) same
+    let same =
+    same_content g.row.D m c.args.page (content_in c.in_ok-leaf.leaf) content
+    (c.in_ok-leaf.ensures.node h live) there in
+    subst (λ (x : NodeContent). (at : ℕ) (d : Item) → at < length x.entries
+    → ¬ (get_or x.entries at
+    d ≡ record { bounds = c.args.bounds.now; reference = c.args.id; tag = c.args.tag })) same
     (at_none c.position_of.result _ c.position_of.ensures.none c.in_default.not-Some)
 
 pub returns-clause-cut : goal.returns-clause-cut
@@ -25,17 +29,28 @@ returns-clause-cut g c = λ yes.
     let now = c.decode_into.new.node in
     let view = content_in c.in_ok-leaf.leaf in
     let same : content_of now ≡ view = c.decode_into.ensures in
-    let within : c.in-Some.place < length now.entries.items = omega (arith, c.in-Some.ensures.within, ap (λ (x : NodeContent). length x.entries) same, length-map now.entries.items (item_of {D = g.row.D})) in
-    subst (λ l. IsCut l (content_of (record { level = now.level; entries = c.remove.new.self }))) (ap (λ (x : NodeContent). x.level) same ∙ c.in_ok-leaf.ensures.level)
-    (cut_removed now.level now.entries.items c.remove.new.self.items c.in-Some.place (subst IsSpellable (sym same) c.in_ok-leaf.ensures.spellable) within c.remove.ensures.items)
+    let within : c.in-Some.place < length now.entries.items =
+    omega (
+      arith,
+      c.in-Some.ensures.within,
+      ap (λ (x : NodeContent). length x.entries) same,
+      length-map now.entries.items (item_of {D = g.row.D}),
+    ) in
+    subst (λ l. IsCut l (content_of (record { level = now.level; entries = c.remove.new.self })))
+    (ap (λ (x : NodeContent). x.level) same ∙ c.in_ok-leaf.ensures.level)
+    (cut_removed now.level now.entries.items c.remove.new.self.items c.in-Some.place
+    (subst IsSpellable (sym same) c.in_ok-leaf.ensures.spellable) within c.remove.ensures.items)
 
 pub returns-clause-taken : goal.returns-clause-taken
 returns-clause-taken g c = λ h content there yes.
     let m : PageMap = pages c.args.cache.now in
     let live = page_of_node g.row.D (m c.args.page) content there in
     let now = c.decode_into.new.node in
-    let viewed = same_content g.row.D m c.args.page (content_in c.in_ok-leaf.leaf) content (c.in_ok-leaf.ensures.node h live) there in
-    subst (λ (x : NodeContent). IsTakenFrom c.args.id (c.args.bounds.now, c.args.tag) x.entries (map item_of c.remove.new.self.items)) viewed (record {
+    let viewed =
+    same_content g.row.D m c.args.page (content_in c.in_ok-leaf.leaf) content
+    (c.in_ok-leaf.ensures.node h live) there in
+    subst (λ (x : NodeContent). IsTakenFrom c.args.id (c.args.bounds.now, c.args.tag) x.entries
+    (map item_of c.remove.new.self.items)) viewed (record {
       at = c.in-Some.place;
       within = c.in-Some.ensures.within;
       found = c.in-Some.ensures.found;

@@ -12,7 +12,8 @@ use Rattle.condense.proofs.look.first_enclosing.Goals as goal
 
 pub entries-init : goal.entries-init
 entries-init g c = λ k below lt.
-    unset_holds_not g.row.D (content_in c.args.node.now).entries c.args.bounds.now c.mask-mask.result k c.low.ensures.is_box c.mask-mask.ensures.met (c.next_set-place.ensures.unset k (omega arith) below) lt
+    unset_holds_not g.row.D (content_in c.args.node.now).entries c.args.bounds.now c.mask-mask.result k
+    c.low.ensures.is_box c.mask-mask.ensures.met (c.next_set-place.ensures.unset k (omega arith) below) lt
 
 pub entries-preserved : goal.entries-preserved
 entries-preserved g c =
@@ -21,7 +22,14 @@ entries-preserved g c =
     let bounds = c.args.bounds.now in
     let place = c.entries.place in
     let x = c.entry.result in
-    let box : place < length items → x.bounds ≡ box_at items place = λ within. ap (λ (y : Item). y.bounds) (c.entry.ensures ∙ get_or_default items place (item_of x) no_item within) in
-    up_to (λ k. k < length items → ¬ Within D bounds (box_at items k)) place c.next_set-place-in-entries.result c.entries.invariant
-    (λ within inside. let encloses = c.encloses.ensures.encloses.1 (subst (Within D bounds) (sym (box within)) inside) in absurd (true≢false (sym encloses ∙ c.if-encloses.false)))
-    (λ k up below lt. unset_holds_not D items bounds c.mask-mask.result k c.low.ensures.is_box c.mask-mask.ensures.met (c.next_set-place-in-entries.ensures.unset k up below) lt)
+    let box : place < length items
+    → x.bounds ≡ box_at items place =
+    λ within. ap (λ (y : Item). y.bounds)
+    (c.entry.ensures ∙ get_or_default items place (item_of x) no_item within) in
+    up_to (λ k. k < length items → ¬ Within D bounds (box_at items k)) place
+    c.next_set-place-in-entries.result c.entries.invariant
+    (λ within inside. let encloses =
+    c.encloses.ensures.encloses.1 (subst (Within D bounds) (sym (box within)) inside) in
+    absurd (true≢false (sym encloses ∙ c.if-encloses.false)))
+    (λ k up below lt. unset_holds_not D items bounds c.mask-mask.result k c.low.ensures.is_box
+    c.mask-mask.ensures.met (c.next_set-place-in-entries.ensures.unset k up below) lt)

@@ -7,7 +7,8 @@ use Rattle.condense.proofs.look.first_enclosing.Given as goal
 
 -- no entry so far encloses the object's box
 abbrev pub invariant-entries : goal.invariant-entries
-invariant-entries g l = (k : ℕ) → k < l.place → k < length (content_in l.node).entries → ¬ Within g.row.D l.bounds (box_at (content_in l.node).entries k)
+invariant-entries g l = (k : ℕ) → k < l.place → k < length (content_in l.node).entries
+    → ¬ Within g.row.D l.bounds (box_at (content_in l.node).entries k)
 
 abbrev pub decreases-entries : goal.decreases-entries
 decreases-entries g l = 256 - l.place

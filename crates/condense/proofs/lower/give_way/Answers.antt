@@ -8,11 +8,17 @@ use Rattle.tree_node.specs.Trees.{row_items}
 use Rattle.node_page.specs.Standing.{PageMap}
 use Rattle.reinsert.proofs.BrokenLemmas.{at_none}
 use Rattle.condense.proofs.CutLemmas.{length-items}
-use Rattle.condense.proofs.LowerLemmas.{at_fault, lowered_end, lowered_first, lowered_more, lowered_same, root_is_live, root_node}
+use Rattle.condense.proofs.LowerLemmas.{at_fault, lowered_end, lowered_first, lowered_more, lowered_same}
+use Rattle.condense.proofs.LowerLemmas.{root_is_live, root_node}
 use Rattle.condense.proofs.lower.give_way.Goals as goal
 
 pub lowering-init : goal.lowering-init
-lowering-init g c = (no_call_changes c.args.cache.now, c.requires.root, omega arith, λ h t at stands. (h, lowered_first g.row.D (pages c.args.cache.now) t c.args.root at stands))
+lowering-init g c = (
+  no_call_changes c.args.cache.now,
+  c.requires.root,
+  omega arith,
+  λ h t at stands. (h, lowered_first g.row.D (pages c.args.cache.now) t c.args.root at stands),
+)
 
 pub returns-in_err-below-clause-faults : goal.returns-in_err-below-clause-faults
 returns-in_err-below-clause-faults g c = λ h t at stands.
@@ -20,15 +26,21 @@ returns-in_err-below-clause-faults g c = λ h t at stands.
     let m0 : PageMap = pages c.lowering.cache in
     let content : NodeContent = record { level = so_far.1.mid.level; entries = row_items so_far.1.mid.row } in
     at_fault c.from_residual.result c.in_err-below.field-0.0 IsOfDevice c.from_residual.ensures.1
-    (c.in_err-below.ensures.there so_far.0.honest content (root_node g.row.D (pages c.args.cache.now) m0 m0 t c.lowering.now so_far.1 (λ n. refl)) so_far.1.at.level)
+    (c.in_err-below.ensures.there so_far.0.honest content
+    (root_node g.row.D (pages c.args.cache.now) m0 m0 t c.lowering.now so_far.1 (λ n. refl))
+    so_far.1.at.level)
 
 pub returns-in_err-free-clause-faults : goal.returns-in_err-free-clause-faults
 returns-in_err-free-clause-faults g c = λ h t at stands.
     let so_far = c.lowering.invariant.3 h t at stands in
     let m : PageMap = pages c.args.cache.now in
-    let l = lowered_same g.row.D m (pages c.lowering.cache) (pages c.only_child.new.cache) t c.lowering.now (c.in_ok-below.ensures.asks.map.pages_stay so_far.0.honest) so_far.1 in
-    at_fault c.from_residual-in_err-free.result c.in_err-free.field-0.0 IsOfDevice c.from_residual-in_err-free.ensures.1
-    (c.in_err-free.ensures.faults (c.in_ok-below.ensures.asks.map.sound.0 so_far.0) (root_is_live g.row.D m (pages c.only_child.new.cache) t c.lowering.now l) (λ two. omega (arith, two, c.lowering.invariant.1.page)))
+    let l = lowered_same g.row.D m (pages c.lowering.cache) (pages c.only_child.new.cache) t c.lowering.now
+    (c.in_ok-below.ensures.asks.map.pages_stay so_far.0.honest) so_far.1 in
+    at_fault c.from_residual-in_err-free.result c.in_err-free.field-0.0 IsOfDevice
+    c.from_residual-in_err-free.ensures.1
+    (c.in_err-free.ensures.faults (c.in_ok-below.ensures.asks.map.sound.0 so_far.0)
+    (root_is_live g.row.D m (pages c.only_child.new.cache) t c.lowering.now l)
+    (λ two. omega (arith, two, c.lowering.invariant.1.page)))
 
 pub returns-in_default-clause-lowered : goal.returns-in_default-clause-lowered
 returns-in_default-clause-lowered g c = λ h t at stands.
@@ -41,17 +53,30 @@ returns-in_default-clause-lowered g c = λ h t at stands.
     let content : NodeContent = record { level = l.mid.level; entries = row_items l.mid.row } in (
       c.in_ok-below.ensures.asks.map.sound.0 so_far.0,
       lowered_end g.row.D m m1 t c.lowering.now l (λ high one.
-          at_none c.in_ok-below.field-0 _ (c.in_ok-below.ensures.several so_far.0.honest content (root_node g.row.D m m0 m1 t c.lowering.now l same)) c.in_default.not-Some
+          at_none c.in_ok-below.field-0 _
+          (c.in_ok-below.ensures.several so_far.0.honest content
+          (root_node g.row.D m m0 m1 t c.lowering.now l same)) c.in_default.not-Some
           (omega (arith, one, length-items l.mid.row))),
     )
 
 pub lowering-preserved : goal.lowering-preserved
 lowering-preserved g c =
-    let down = subst (λ o. IfSome o (λ below. (below.level ≡ c.lowering.now.level - 1) × (3 ≤ below.page) × (below.page < 2 ^ 31))) c.in-Some.is c.in_ok-below.ensures.root in (
+    let down =
+    subst (λ o. IfSome o
+    (λ below. (below.level ≡ c.lowering.now.level - 1) × (3 ≤ below.page) × (below.page < 2 ^ 31)))
+    c.in-Some.is c.in_ok-below.ensures.root in (
       changes_in_turn c.args.cache.now c.lowering.cache c.free.new.self None c.lowering.invariant.0
-          (changes_in_turn c.lowering.cache c.only_child.new.cache c.free.new.self None (asks_changes c.lowering.cache c.only_child.new.cache None c.in_ok-below.ensures.asks) c.in_ok-free.ensures.changes),
+          (changes_in_turn c.lowering.cache c.only_child.new.cache c.free.new.self None
+          (asks_changes c.lowering.cache c.only_child.new.cache None c.in_ok-below.ensures.asks)
+          c.in_ok-free.ensures.changes),
       record { low = omega (arith, c.lowering.invariant.1.low, down.0); page = (down.1, down.2) },
-      omega (arith, c.lowering.invariant.2, c.in_ok-below.ensures.asks.map.next, c.in_ok-below.ensures.asks.map.free_count, c.in_ok-free.ensures.grows),
+      omega (
+        arith,
+        c.lowering.invariant.2,
+        c.in_ok-below.ensures.asks.map.next,
+        c.in_ok-below.ensures.asks.map.free_count,
+        c.in_ok-free.ensures.grows,
+      ),
       λ h t at stands.
           let so_far = c.lowering.invariant.3 h t at stands in
           let m : PageMap = pages c.args.cache.now in
@@ -60,33 +85,46 @@ lowering-preserved g c =
           let same = c.in_ok-below.ensures.asks.map.pages_stay so_far.0.honest in
           let l = lowered_same g.row.D m m0 m1 t c.lowering.now same so_far.1 in
           let content : NodeContent = record { level = l.mid.level; entries = row_items l.mid.row } in
-          let only = subst (λ o. IfSome o (λ below. (length (row_items l.mid.row) ≡ 1) × ((d : Item) → below.page ≡ (get_or (row_items l.mid.row) 0 d).reference))) c.in-Some.is
-          (c.in_ok-below.ensures.child so_far.0.honest content (root_node g.row.D m m0 m1 t c.lowering.now l same)) in
+          let only =
+          subst (λ o. IfSome o
+          (λ below. (length (row_items l.mid.row) ≡ 1)
+          × ((d : Item) → below.page ≡ (get_or (row_items l.mid.row) 0 d).reference))) c.in-Some.is
+          (c.in_ok-below.ensures.child so_far.0.honest content
+          (root_node g.row.D m m0 m1 t c.lowering.now l same)) in
           let sound = c.in_ok-below.ensures.asks.map.sound.0 so_far.0 in
           let live = root_is_live g.row.D m m1 t c.lowering.now l in (
             c.in_ok-free.ensures.sound sound live,
-            lowered_more m m1 (pages c.free.new.self) t c.lowering.now c.in-Some.below l (omega (arith, c.lowering-test.true)) only.0 only.1 down.0
-                (c.in_ok-free.ensures.others sound.honest live) (c.in_ok-free.ensures.freed sound.honest live),
+            lowered_more m m1 (pages c.free.new.self) t c.lowering.now c.in-Some.below l
+                (omega (arith, c.lowering-test.true)) only.0 only.1 down.0
+                (c.in_ok-free.ensures.others sound.honest live)
+                (c.in_ok-free.ensures.freed sound.honest live),
           ),
     )
 
 pub returns-after-lowering-clause-lowered : goal.returns-after-lowering-clause-lowered
 returns-after-lowering-clause-lowered g c = λ h t at stands.
-    let so_far = c.lowering.invariant.3 h t at stands in
-    (so_far.0, lowered_end g.row.D (pages c.args.cache.now) (pages c.lowering.cache) t c.lowering.now so_far.1 (λ high. absurd (omega (arith, high, c.lowering-test.false))))
+    let so_far = c.lowering.invariant.3 h t at stands in (
+      so_far.0,
+      lowered_end g.row.D (pages c.args.cache.now) (pages c.lowering.cache) t c.lowering.now so_far.1
+          (λ high. absurd (omega (arith, high, c.lowering-test.false))),
+    )
 
 pub returns-in_err-below-clause-changes : goal.returns-in_err-below-clause-changes
 returns-in_err-below-clause-changes g c =
     let f = c.in_err-below.field-0.0 in
-    changes_and_refuses c.args.cache.now c.lowering.cache c.only_child.new.cache f c.from_residual.result c.from_residual.ensures.1 c.lowering.invariant.0
+    changes_and_refuses c.args.cache.now c.lowering.cache c.only_child.new.cache f c.from_residual.result
+    c.from_residual.ensures.1 c.lowering.invariant.0
     (asks_changes c.lowering.cache c.only_child.new.cache (Some f) c.in_err-below.ensures.asks)
 
 pub returns-in_err-free-clause-changes : goal.returns-in_err-free-clause-changes
 returns-in_err-free-clause-changes g c =
-    changes_and_refuses c.args.cache.now c.only_child.new.cache c.free.new.self c.in_err-free.field-0.0 c.from_residual-in_err-free.result c.from_residual-in_err-free.ensures.1
-    (changes_in_turn c.args.cache.now c.lowering.cache c.only_child.new.cache None c.lowering.invariant.0 (asks_changes c.lowering.cache c.only_child.new.cache None c.in_ok-below.ensures.asks))
+    changes_and_refuses c.args.cache.now c.only_child.new.cache c.free.new.self c.in_err-free.field-0.0
+    c.from_residual-in_err-free.result c.from_residual-in_err-free.ensures.1
+    (changes_in_turn c.args.cache.now c.lowering.cache c.only_child.new.cache None c.lowering.invariant.0
+    (asks_changes c.lowering.cache c.only_child.new.cache None c.in_ok-below.ensures.asks))
     c.in_err-free.ensures.changes
 
 pub returns-in_default-clause-changes : goal.returns-in_default-clause-changes
 returns-in_default-clause-changes g c =
-    changes_in_turn c.args.cache.now c.lowering.cache c.only_child.new.cache None c.lowering.invariant.0 (asks_changes c.lowering.cache c.only_child.new.cache None c.in_ok-below.ensures.asks)
+    changes_in_turn c.args.cache.now c.lowering.cache c.only_child.new.cache None c.lowering.invariant.0
+    (asks_changes c.lowering.cache c.only_child.new.cache None c.in_ok-below.ensures.asks)

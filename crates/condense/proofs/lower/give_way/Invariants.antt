@@ -15,7 +15,8 @@ invariant-lowering g l =
     ChangesUntil l.fn.cache l.cache None
     × IsRoot l.now
     × Grows 0 l.fn.cache l.cache
-    × (IsPageMap l.fn.cache → (t : Tree) → IsRootOf l.fn.root t → Stands g.row.D (pages l.fn.cache) t → IsPageMap l.cache × Lowered g.row.D (pages l.fn.cache) (pages l.cache) t l.now)
+    × (IsPageMap l.fn.cache → (t : Tree) → IsRootOf l.fn.root t → Stands g.row.D (pages l.fn.cache) t
+    → IsPageMap l.cache × Lowered g.row.D (pages l.fn.cache) (pages l.cache) t l.now)
 
 abbrev pub decreases-lowering : goal.decreases-lowering
 decreases-lowering g l = l.now.level

@@ -15,5 +15,9 @@ returns-clause-child g c = λ h content there.
     let view : NodeContent = content_in c.in_ok-node.node in
     let one : length view.entries ≡ 1 = omega (arith, c.len.ensures.count, c.if-len-ne1.false) in
     let same = same_content g.row.D m c.args.at.page view content (c.in_ok-node.ensures.node h live) there in
-    subst (λ (x : NodeContent). (length x.entries ≡ 1) × ((d : Item) → c.entry.result.reference ≡ (get_or x.entries 0 d).reference)) same
-    (one, λ d. ap (λ (x : Item). x.reference) (c.entry.ensures ∙ get_or_default view.entries 0 (item_of c.entry.result) d (omega (arith, one))))
+    subst (λ (x : NodeContent). (length x.entries ≡ 1)
+    × ((d : Item) → c.entry.result.reference ≡ (get_or x.entries 0 d).reference)) same (
+      one,
+      λ d. ap (λ (x : Item). x.reference)
+          (c.entry.ensures ∙ get_or_default view.entries 0 (item_of c.entry.result) d (omega (arith, one))),
+    )

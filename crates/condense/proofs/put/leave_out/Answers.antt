@@ -10,15 +10,21 @@ use Rattle.condense.proofs.put.leave_out.Goals as goal
 
 pub keep-requires : goal.keep-requires
 keep-requires g c =
-    let refers : All (λ (e : Entry g.row.D). IsOfLevel c.args.lower.now.level e.reference e.tag) c.args.lower.now.entries.items =
-    subst (λ l. All (λ (e : Entry g.row.D). IsOfLevel l e.reference e.tag) c.args.lower.now.entries.items) (sym c.requires.cut.level_is) (All-mapped (c.args.node.now.level - 1) c.args.lower.now.entries.items c.requires.cut.refers) in
+    let refers : All (λ (e : Entry g.row.D). IsOfLevel c.args.lower.now.level e.reference e.tag)
+    c.args.lower.now.entries.items =
+    subst (λ l. All (λ (e : Entry g.row.D). IsOfLevel l e.reference e.tag) c.args.lower.now.entries.items)
+    (sym c.requires.cut.level_is)
+    (All-mapped (c.args.node.now.level - 1) c.args.lower.now.entries.items c.requires.cut.refers) in
     (search rules, (search rules, (search rules, (omega (arith, c.requires.room, c.requires.few), refers))))
 
 pub returns-clause-cut : goal.returns-clause-cut
-returns-clause-cut g c = cut_removed c.args.node.now.level c.args.node.now.entries.items c.remove.new.self.items c.args.place c.requires.spellable c.requires.within c.remove.ensures.items
+returns-clause-cut g c =
+    cut_removed c.args.node.now.level c.args.node.now.entries.items c.remove.new.self.items c.args.place
+    c.requires.spellable c.requires.within c.remove.ensures.items
 
 pub returns-clause-entries : goal.returns-clause-entries
-returns-clause-entries g c = items-removed c.remove.new.self.items c.args.node.now.entries.items c.args.place c.remove.ensures.items
+returns-clause-entries g c =
+    items-removed c.remove.new.self.items c.args.node.now.entries.items c.args.place c.remove.ensures.items
 
 pub returns-clause-gone : goal.returns-clause-gone
 returns-clause-gone g c = λ h live. c.in_ok-free.ensures.freed h.honest live
@@ -28,7 +34,8 @@ returns-in_err-free-clause-others g c = λ h live. c.free.ensures.others h.hones
 
 pub returns-in_err-free-clause-faults : goal.returns-in_err-free-clause-faults
 returns-in_err-free-clause-faults g c = λ h live.
-    at_fault c.from_residual.result c.in_err-free.field-0.0 IsOfDevice c.from_residual.ensures.1 (c.in_err-free.ensures.faults h live (λ two. omega (arith, two, c.requires.page)))
+    at_fault c.from_residual.result c.in_err-free.field-0.0 IsOfDevice c.from_residual.ensures.1
+    (c.in_err-free.ensures.faults h live (λ two. omega (arith, two, c.requires.page)))
 
 pub returns-clause-others : goal.returns-clause-others
 returns-clause-others g c = λ h live. c.free.ensures.others h.honest live

@@ -15,12 +15,20 @@ returns-then-len-least_entries-clause-taken g c = λ h m page id removed row hel
     let reference = c.child_of-page.result.page in
     let entries = map (item_of {D = g.row.D}) c.args.node.now.entries.items in
     let es = c.args.lower.now.entries.items in
-    let l = lower c.args.m_max m m1 page c.args.node.now.level id removed row c.args.place held (held_now c.args.kept.now) entries es reference took c.requires.above
-    (omega (arith, c.requires.within, length-map c.args.node.now.entries.items (item_of {D = g.row.D}))) c.child_of-page.ensures.page in
-    let live = lives c.args.m_max m m1 page c.args.node.now.level id removed row c.args.place held (held_now c.args.kept.now) entries es reference l in
-    left_ok c.args.m_max m m1 (pages c.leave_out.new.cache) page c.args.node.now.level id removed row c.args.place held (held_now c.args.kept.now) (held_now c.leave_out.new.kept) entries es reference l
-    c.leave_out.result (IsPageMap c.leave_out.new.cache) (map (item_of {D = g.row.D}) c.leave_out.new.node.entries.items) (c.leave_out.ensures.sound h live) (c.leave_out.ensures.others h live)
-    (omega (arith, c.if-len-least_entries.true, c.len.ensures.value, c.least_entries.ensures.value)) (c.leave_out.ensures.gone h live) c.leave_out.ensures.entries c.leave_out.ensures.held
+    let l = lower c.args.m_max m m1 page c.args.node.now.level id removed row c.args.place held
+    (held_now c.args.kept.now) entries es reference took c.requires.above
+    (omega (arith, c.requires.within, length-map c.args.node.now.entries.items (item_of {D = g.row.D})))
+    c.child_of-page.ensures.page in
+    let live =
+    lives c.args.m_max m m1 page c.args.node.now.level id removed row c.args.place held
+    (held_now c.args.kept.now) entries es reference l in
+    left_ok c.args.m_max m m1 (pages c.leave_out.new.cache) page c.args.node.now.level id removed row
+    c.args.place held (held_now c.args.kept.now) (held_now c.leave_out.new.kept) entries es reference l
+    c.leave_out.result (IsPageMap c.leave_out.new.cache)
+    (map (item_of {D = g.row.D}) c.leave_out.new.node.entries.items) (c.leave_out.ensures.sound h live)
+    (c.leave_out.ensures.others h live)
+    (omega (arith, c.if-len-least_entries.true, c.len.ensures.value, c.least_entries.ensures.value))
+    (c.leave_out.ensures.gone h live) c.leave_out.ensures.entries c.leave_out.ensures.held
 
 pub returns-then-len-least_entries-clause-faults : goal.returns-then-len-least_entries-clause-faults
 returns-then-len-least_entries-clause-faults g c = λ h m page id removed row held took is.
@@ -28,9 +36,13 @@ returns-then-len-least_entries-clause-faults g c = λ h m page id removed row he
     let reference = c.child_of-page.result.page in
     let entries = map (item_of {D = g.row.D}) c.args.node.now.entries.items in
     let es = c.args.lower.now.entries.items in
-    let l = lower c.args.m_max m m1 page c.args.node.now.level id removed row c.args.place held (held_now c.args.kept.now) entries es reference took c.requires.above
-    (omega (arith, c.requires.within, length-map c.args.node.now.entries.items (item_of {D = g.row.D}))) c.child_of-page.ensures.page in
-    c.leave_out.ensures.faults h (lives c.args.m_max m m1 page c.args.node.now.level id removed row c.args.place held (held_now c.args.kept.now) entries es reference l)
+    let l = lower c.args.m_max m m1 page c.args.node.now.level id removed row c.args.place held
+    (held_now c.args.kept.now) entries es reference took c.requires.above
+    (omega (arith, c.requires.within, length-map c.args.node.now.entries.items (item_of {D = g.row.D})))
+    c.child_of-page.ensures.page in
+    c.leave_out.ensures.faults h
+    (lives c.args.m_max m m1 page c.args.node.now.level id removed row c.args.place held
+    (held_now c.args.kept.now) entries es reference l)
 
 pub returns-clause-taken : goal.returns-clause-taken
 returns-clause-taken g c = λ h m page id removed row held took is.
@@ -38,14 +50,25 @@ returns-clause-taken g c = λ h m page id removed row held took is.
     let reference = c.child_of-page.result.page in
     let entries = map (item_of {D = g.row.D}) c.args.node.now.entries.items in
     let es = c.args.lower.now.entries.items in
-    let l = lower c.args.m_max m m1 page c.args.node.now.level id removed row c.args.place held (held_now c.args.kept.now) entries es reference took c.requires.above
-    (omega (arith, c.requires.within, length-map c.args.node.now.entries.items (item_of {D = g.row.D}))) c.child_of-page.ensures.page in
-    let live = lives c.args.m_max m m1 page c.args.node.now.level id removed row c.args.place held (held_now c.args.kept.now) entries es reference l in
-    let below : c.args.settled.now ≡ true → node_in g.row.D (m1 reference) ≡ Some (content_of c.args.lower.now) = λ yes.
-    subst (λ k. node_in g.row.D (m1 k) ≡ Some (content_of c.args.lower.now)) (sym (c.child_of-page.ensures.page no_item)) (is yes no_item) in
-    stayed_ok c.args.m_max m m1 (pages c.write_back.new.cache) page c.args.node.now.level id removed row c.args.place held (held_now c.args.kept.now) (held_now c.args.kept.now) entries es reference l
-    c.write_back.result (IsPageMap c.write_back.new.cache) (map (item_of {D = g.row.D}) c.write_back.new.node.entries.items) (c.write_back.ensures.sound h live) (c.write_back.ensures.others h live)
-    (omega (arith, c.if-len-least_entries.false, c.len.ensures.value, c.least_entries.ensures.value)) c.args.lower.now.level c.requires.cut.level_is (c.write_back.ensures.there h live (λ yes. below yes)) c.write_back.ensures.entries refl
+    let l = lower c.args.m_max m m1 page c.args.node.now.level id removed row c.args.place held
+    (held_now c.args.kept.now) entries es reference took c.requires.above
+    (omega (arith, c.requires.within, length-map c.args.node.now.entries.items (item_of {D = g.row.D})))
+    c.child_of-page.ensures.page in
+    let live =
+    lives c.args.m_max m m1 page c.args.node.now.level id removed row c.args.place held
+    (held_now c.args.kept.now) entries es reference l in
+    let below : c.args.settled.now ≡ true
+    → node_in g.row.D (m1 reference) ≡ Some (content_of c.args.lower.now) = λ yes.
+    subst (λ k. node_in g.row.D (m1 k) ≡ Some (content_of c.args.lower.now))
+    (sym (c.child_of-page.ensures.page no_item)) (is yes no_item) in
+    stayed_ok c.args.m_max m m1 (pages c.write_back.new.cache) page c.args.node.now.level id removed row
+    c.args.place held (held_now c.args.kept.now) (held_now c.args.kept.now) entries es reference l
+    c.write_back.result (IsPageMap c.write_back.new.cache)
+    (map (item_of {D = g.row.D}) c.write_back.new.node.entries.items) (c.write_back.ensures.sound h live)
+    (c.write_back.ensures.others h live)
+    (omega (arith, c.if-len-least_entries.false, c.len.ensures.value, c.least_entries.ensures.value))
+    c.args.lower.now.level c.requires.cut.level_is (c.write_back.ensures.there h live (λ yes. below yes))
+    c.write_back.ensures.entries refl
 
 pub returns-clause-faults : goal.returns-clause-faults
 returns-clause-faults g c = λ h m page id removed row held took is.
@@ -53,6 +76,10 @@ returns-clause-faults g c = λ h m page id removed row held took is.
     let reference = c.child_of-page.result.page in
     let entries = map (item_of {D = g.row.D}) c.args.node.now.entries.items in
     let es = c.args.lower.now.entries.items in
-    let l = lower c.args.m_max m m1 page c.args.node.now.level id removed row c.args.place held (held_now c.args.kept.now) entries es reference took c.requires.above
-    (omega (arith, c.requires.within, length-map c.args.node.now.entries.items (item_of {D = g.row.D}))) c.child_of-page.ensures.page in
-    c.write_back.ensures.faults h (lives c.args.m_max m m1 page c.args.node.now.level id removed row c.args.place held (held_now c.args.kept.now) entries es reference l)
+    let l = lower c.args.m_max m m1 page c.args.node.now.level id removed row c.args.place held
+    (held_now c.args.kept.now) entries es reference took c.requires.above
+    (omega (arith, c.requires.within, length-map c.args.node.now.entries.items (item_of {D = g.row.D})))
+    c.child_of-page.ensures.page in
+    c.write_back.ensures.faults h
+    (lives c.args.m_max m m1 page c.args.node.now.level id removed row c.args.place held
+    (held_now c.args.kept.now) entries es reference l)

@@ -15,19 +15,33 @@ use Rattle.condense.proofs.put.write_back.Goals as goal
 
 pub returns-clause-cut : goal.returns-clause-cut
 returns-clause-cut g c =
-    let new = above_none c.args.node.now.level c.args.node.now.entries.items c.deref_mut.result.now c.args.place (record { bounds = c.least-bounds.result; beside = None }) c.index-deref_mut-place.result
-    c.requires.within c.deref_mut.ensures.value (All-mapped c.args.node.now.level c.args.node.now.entries.items c.requires.spellable.refers) tt _ (λ x is. absurd (cc)) refl in
-    cut_boxed c.args.node.now.level c.args.node.now.entries.items _ c.args.place c.least-bounds.result c.requires.spellable (new.items ∙ append-nil (set_box (map item_of c.args.node.now.entries.items) c.args.place c.least-bounds.result))
+    let new =
+    above_none c.args.node.now.level c.args.node.now.entries.items c.deref_mut.result.now c.args.place
+    (record { bounds = c.least-bounds.result; beside = None }) c.index-deref_mut-place.result
+    c.requires.within c.deref_mut.ensures.value
+    (All-mapped c.args.node.now.level c.args.node.now.entries.items c.requires.spellable.refers) tt _
+    (λ x is. absurd (cc)) refl in
+    cut_boxed c.args.node.now.level c.args.node.now.entries.items _ c.args.place c.least-bounds.result
+    c.requires.spellable
+    (new.items
+    ∙ append-nil (set_box (map item_of c.args.node.now.entries.items) c.args.place c.least-bounds.result))
 
 pub returns-clause-others : goal.returns-clause-others
 returns-clause-others g c = λ h live. c.settle.ensures.others h.honest live
 
 pub returns-clause-entries : goal.returns-clause-entries
 returns-clause-entries g c =
-    let new = above_none c.args.node.now.level c.args.node.now.entries.items c.deref_mut.result.now c.args.place (record { bounds = c.least-bounds.result; beside = None }) c.index-deref_mut-place.result
-    c.requires.within c.deref_mut.ensures.value (All-mapped c.args.node.now.level c.args.node.now.entries.items c.requires.spellable.refers) tt _ (λ x is. absurd (cc)) refl in
-    let box = c.least-bounds.ensures ∙ ap (λ (es : List (Entry g.row.D)). least_box g.row.D (map item_of es)) c.as_slice.ensures.value in
-    new.items ∙ append-nil (set_box (map item_of c.args.node.now.entries.items) c.args.place c.least-bounds.result) ∙ ap (set_box (map item_of c.args.node.now.entries.items) c.args.place) box
+    let new =
+    above_none c.args.node.now.level c.args.node.now.entries.items c.deref_mut.result.now c.args.place
+    (record { bounds = c.least-bounds.result; beside = None }) c.index-deref_mut-place.result
+    c.requires.within c.deref_mut.ensures.value
+    (All-mapped c.args.node.now.level c.args.node.now.entries.items c.requires.spellable.refers) tt _
+    (λ x is. absurd (cc)) refl in
+    let box = c.least-bounds.ensures
+    ∙ ap (λ (es : List (Entry g.row.D)). least_box g.row.D (map item_of es)) c.as_slice.ensures.value in
+    new.items
+    ∙ append-nil (set_box (map item_of c.args.node.now.entries.items) c.args.place c.least-bounds.result)
+    ∙ ap (set_box (map item_of c.args.node.now.entries.items) c.args.place) box
 
 pub returns-clause-there : goal.returns-clause-there
 returns-clause-there g c = λ h live is. c.in_ok-settle.ensures.written h.honest live is
@@ -37,6 +51,11 @@ returns-clause-settled g c = λ yes.
     let e = get_or c.deref.result.now c.args.place c.index-deref-place.result in
     let b : Bounds = c.least-bounds.result in
     let entries = c.args.node.now.entries.items in
-    let both = (Decides-and _ _ (signed_items e.bounds.low b.low) (signed_items e.bounds.high b.high)).0 (sym c.eq.ensures ∙ yes) in
+    let both =
+    (Decides-and _ _ (signed_items e.bounds.low b.low) (signed_items e.bounds.high b.high)).0
+    (sym c.eq.ensures ∙ yes) in
     ap (λ (es : List (Entry g.row.D)). record { level = c.args.node.now.level; entries = map item_of es })
-    (ap (refill (length entries) entries) (set_same entries c.deref.result.now c.deref_mut.result.now c.args.place c.index-deref-place.result c.index-deref_mut-place.result b c.requires.within c.deref.ensures.0 c.deref_mut.ensures.value (same_box e.bounds b both.0 both.1)) ∙ refilled entries)
+    (ap (refill (length entries) entries)
+    (set_same entries c.deref.result.now c.deref_mut.result.now c.args.place c.index-deref-place.result
+    c.index-deref_mut-place.result b c.requires.within c.deref.ensures.0 c.deref_mut.ensures.value
+    (same_box e.bounds b both.0 both.1)) ∙ refilled entries)

@@ -24,8 +24,15 @@ pub settle-requires : goal.settle-requires
 settle-requires g c =
     let spells : IsSpellable (content_of c.args.node.now) = record {
       few = c.requires.cut.few;
-      some = λ high. omega (arith, c.lacks_entries.ensures.no c.if-lacks_entries.false high, length-map c.args.node.now.entries.items (item_of {D = g.row.D}));
-      refers = subst (λ l. All (λ (item : Item). IsOfLevel l item.reference item.tag) (map (item_of {D = g.row.D}) c.args.node.now.entries.items)) (sym c.requires.cut.level_is) c.requires.cut.refers;
+      some = λ high. omega (
+        arith,
+        c.lacks_entries.ensures.no c.if-lacks_entries.false high,
+        length-map c.args.node.now.entries.items (item_of {D = g.row.D}),
+      );
+      refers =
+          subst (λ l. All (λ (item : Item). IsOfLevel l item.reference item.tag)
+          (map (item_of {D = g.row.D}) c.args.node.now.entries.items)) (sym c.requires.cut.level_is)
+          c.requires.cut.refers;
     } in
     search (rules, spells)
 
@@ -34,12 +41,22 @@ returns-then-lacks_entries-clause-faults g c = λ h m t elsewhere id removed too
     let s = cut_shaped g.row.D c.args.m_max id removed t took.taken.out shape boxes took.taken.takes_out in
     let lacks = c.lacks_entries.ensures.yes c.if-lacks_entries.true in
     let some = s.tree.some (omega (arith, lacks.0, c.requires.cut.level_is, took.can.at.level)) in
-    absurd (omega (arith, some, lacks.1, ap length took.taken.entries, length-map c.args.node.now.entries.items (item_of {D = g.row.D}), length-items took.taken.out.row))
+    absurd (omega (
+      arith,
+      some,
+      lacks.1,
+      ap length took.taken.entries,
+      length-map c.args.node.now.entries.items (item_of {D = g.row.D}),
+      length-items took.taken.out.row,
+    ))
 
 pub returns-in_err-settle-clause-faults : goal.returns-in_err-settle-clause-faults
 returns-in_err-settle-clause-faults g c = λ h m t elsewhere id removed took is shape boxes.
-    let live = root_stays_live g.row.D c.args.m_max m (pages c.args.cache.now) c.args.root t elsewhere id removed (held_now c.args.kept.now) (map (item_of {D = g.row.D}) c.args.node.now.entries.items) took in
-    at_fault c.from_residual.result c.in_err-settle.field-0.0 (IsNoDamage c.settle.new.cache) c.from_residual.ensures.1 (inl (c.in_err-settle.ensures.faults h.honest live))
+    let live =
+    root_stays_live g.row.D c.args.m_max m (pages c.args.cache.now) c.args.root t elsewhere id removed
+    (held_now c.args.kept.now) (map (item_of {D = g.row.D}) c.args.node.now.entries.items) took in
+    at_fault c.from_residual.result c.in_err-settle.field-0.0 (IsNoDamage c.settle.new.cache)
+    c.from_residual.ensures.1 (inl (c.in_err-settle.ensures.faults h.honest live))
 
 pub returns-in_err-filled-clause-faults : goal.returns-in_err-filled-clause-faults
 returns-in_err-filled-clause-faults g c = λ h m t elsewhere id removed took is shape boxes.
@@ -49,10 +66,14 @@ returns-in_err-filled-clause-faults g c = λ h m t elsewhere id removed took is 
     let items = map (item_of {D = D}) c.args.node.now.entries.items in
     let held = held_now c.args.kept.now in
     let live = root_stays_live D c.args.m_max m m1 c.args.root t elsewhere id removed held items took in
-    let can = can_fill D c.args.m_max m m1 c.args.root t elsewhere id removed held items took m2 c.args.node.now.level c.requires.cut.level_is (c.in_ok-settle.ensures.written h.honest live is) (c.in_ok-settle.ensures.others h.honest live) in
+    let can =
+    can_fill D c.args.m_max m m1 c.args.root t elsewhere id removed held items took m2
+    c.args.node.now.level c.requires.cut.level_is (c.in_ok-settle.ensures.written h.honest live is)
+    (c.in_ok-settle.ensures.others h.honest live) in
     let sound = c.in_ok-settle.ensures.sound h live in
     let s = cut_shaped D c.args.m_max id removed t took.taken.out shape boxes took.taken.takes_out in
-    at_fault c.from_residual-in_err-filled.result c.in_err-filled.field-0.0 (IsNoDamage c.insert_kept.new.cache) c.from_residual-in_err-filled.ensures.1
+    at_fault c.from_residual-in_err-filled.result c.in_err-filled.field-0.0
+    (IsNoDamage c.insert_kept.new.cache) c.from_residual-in_err-filled.ensures.1
     (c.in_err-filled.ensures.faults sound (cut_root took) took.taken.out.kept elsewhere can s)
 
 pub returns-clause-removed : goal.returns-clause-removed
@@ -63,13 +84,19 @@ returns-clause-removed g c = λ h m t elsewhere id removed took is.
     let items = map (item_of {D = D}) c.args.node.now.entries.items in
     let held = held_now c.args.kept.now in
     let live = root_stays_live D c.args.m_max m m1 c.args.root t elsewhere id removed held items took in
-    let can = can_fill D c.args.m_max m m1 c.args.root t elsewhere id removed held items took m2 c.args.node.now.level c.requires.cut.level_is (c.in_ok-settle.ensures.written h.honest live is) (c.in_ok-settle.ensures.others h.honest live) in
+    let can =
+    can_fill D c.args.m_max m m1 c.args.root t elsewhere id removed held items took m2
+    c.args.node.now.level c.requires.cut.level_is (c.in_ok-settle.ensures.written h.honest live is)
+    (c.in_ok-settle.ensures.others h.honest live) in
     let sound = c.in_ok-settle.ensures.sound h live in
     let filled = c.in_ok-filled.ensures.filled sound (cut_root took) took.taken.out.kept elsewhere can in
-    map_ok c.give_way.result (IsPageMap c.give_way.new.cache) (GivesWayTo D (pages c.insert_kept.new.cache) (pages c.give_way.new.cache) filled.1.new)
+    map_ok c.give_way.result (IsPageMap c.give_way.new.cache)
+    (GivesWayTo D (pages c.insert_kept.new.cache) (pages c.give_way.new.cache) filled.1.new)
     (RemovesTo D c.args.m_max m (pages c.give_way.new.cache) elsewhere id removed t)
     (c.give_way.ensures.lowered filled.0 filled.1.new filled.1.at filled.1.stands)
-    (λ after gives. removes_to D c.args.m_max m m1 c.args.root t elsewhere id removed held items took m2 c.args.node.now.level c.requires.cut.level_is (c.in_ok-settle.ensures.written h.honest live is) (c.in_ok-settle.ensures.others h.honest live)
+    (λ after gives. removes_to D c.args.m_max m m1 c.args.root t elsewhere id removed held items took m2
+    c.args.node.now.level c.requires.cut.level_is (c.in_ok-settle.ensures.written h.honest live is)
+    (c.in_ok-settle.ensures.others h.honest live)
     (pages c.insert_kept.new.cache) (pages c.give_way.new.cache) c.in_ok-filled.filled after filled.1 gives)
 
 pub returns-clause-faults : goal.returns-clause-faults
@@ -80,25 +107,35 @@ returns-clause-faults g c = λ h m t elsewhere id removed took is shape boxes.
     let items = map (item_of {D = D}) c.args.node.now.entries.items in
     let held = held_now c.args.kept.now in
     let live = root_stays_live D c.args.m_max m m1 c.args.root t elsewhere id removed held items took in
-    let can = can_fill D c.args.m_max m m1 c.args.root t elsewhere id removed held items took m2 c.args.node.now.level c.requires.cut.level_is (c.in_ok-settle.ensures.written h.honest live is) (c.in_ok-settle.ensures.others h.honest live) in
+    let can =
+    can_fill D c.args.m_max m m1 c.args.root t elsewhere id removed held items took m2
+    c.args.node.now.level c.requires.cut.level_is (c.in_ok-settle.ensures.written h.honest live is)
+    (c.in_ok-settle.ensures.others h.honest live) in
     let sound = c.in_ok-settle.ensures.sound h live in
     let filled = c.in_ok-filled.ensures.filled sound (cut_root took) took.taken.out.kept elsewhere can in
-    no_damage c.give_way.result (IsNoDamage c.give_way.new.cache) (c.give_way.ensures.faults filled.0 filled.1.new filled.1.at filled.1.stands) (λ f is. inl is)
+    no_damage c.give_way.result (IsNoDamage c.give_way.new.cache)
+    (c.give_way.ensures.faults filled.0 filled.1.new filled.1.at filled.1.stands) (λ f is. inl is)
 
 pub returns-in_err-settle-clause-other_faults : goal.returns-in_err-settle-clause-other_faults
 returns-in_err-settle-clause-other_faults g c =
-    at_fault c.from_residual.result c.in_err-settle.field-0.0 IsChangeFault c.from_residual.ensures.1 (one_more _ _ _ c.in_err-settle.ensures.other_faults)
+    at_fault c.from_residual.result c.in_err-settle.field-0.0 IsChangeFault c.from_residual.ensures.1
+    (one_more _ _ _ c.in_err-settle.ensures.other_faults)
 
 pub returns-in_err-filled-clause-changes : goal.returns-in_err-filled-clause-changes
 returns-in_err-filled-clause-changes g c =
-    changes_and_refuses c.args.cache.now c.settle.new.cache c.insert_kept.new.cache c.in_err-filled.field-0.0 c.from_residual-in_err-filled.result c.from_residual-in_err-filled.ensures.1
+    changes_and_refuses c.args.cache.now c.settle.new.cache c.insert_kept.new.cache c.in_err-filled.field-0.0
+    c.from_residual-in_err-filled.result c.from_residual-in_err-filled.ensures.1
     c.in_ok-settle.ensures.changes c.in_err-filled.ensures.changes
 
 pub returns-clause-changes : goal.returns-clause-changes
 returns-clause-changes g c =
-    let so_far = changes_in_turn c.args.cache.now c.settle.new.cache c.insert_kept.new.cache None c.in_ok-settle.ensures.changes c.in_ok-filled.ensures.changes in
-    changes_in_turn c.args.cache.now c.insert_kept.new.cache c.give_way.new.cache (fault_in c.give_way.result) so_far c.give_way.ensures.changes
+    let so_far =
+    changes_in_turn c.args.cache.now c.settle.new.cache c.insert_kept.new.cache None
+    c.in_ok-settle.ensures.changes c.in_ok-filled.ensures.changes in
+    changes_in_turn c.args.cache.now c.insert_kept.new.cache c.give_way.new.cache
+    (fault_in c.give_way.result) so_far c.give_way.ensures.changes
 
 pub returns-clause-other_faults : goal.returns-clause-other_faults
 returns-clause-other_faults g c =
-    map_err c.give_way.result (λ f. IsOfDevice f ⊎ IsDamage f) IsChangeFault c.give_way.ensures.other_faults (λ f is. one_more _ _ _ is)
+    map_err c.give_way.result (λ f. IsOfDevice f ⊎ IsDamage f) IsChangeFault c.give_way.ensures.other_faults
+    (λ f is. one_more _ _ _ is)

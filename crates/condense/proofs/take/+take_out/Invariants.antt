@@ -19,8 +19,11 @@ abbrev pub invariant-children : goal.invariant-children
 invariant-children g l =
     AsksUntil l.fn.cache l.cache None
     × (l.kept.orphans.items ≡ l.fn.kept.orphans.items)
-    × (IsPageMap l.fn.cache → (row : Row) → Stands g.row.D (pages l.fn.cache) (tree_at l.fn.at row) → LeadsTo g.row.D l.fn.id (l.fn.bounds, l.fn.tag) row → LeadsTo g.row.D l.fn.id (l.fn.bounds, l.fn.tag) (row_drop l.place row))
+    × (IsPageMap l.fn.cache → (row : Row) → Stands g.row.D (pages l.fn.cache) (tree_at l.fn.at row)
+    → LeadsTo g.row.D l.fn.id (l.fn.bounds, l.fn.tag) row
+    → LeadsTo g.row.D l.fn.id (l.fn.bounds, l.fn.tag) (row_drop l.place row))
     × (l.node.level ≡ l.fn.at.level)
     × IsSpellable (content_of l.node)
-    × (IsHonest l.fn.cache → IsLive l.fn.cache l.fn.at.page → node_in g.row.D (pages l.fn.cache l.fn.at.page) ≡ Some (content_of l.node))
+    × (IsHonest l.fn.cache → IsLive l.fn.cache l.fn.at.page
+    → node_in g.row.D (pages l.fn.cache l.fn.at.page) ≡ Some (content_of l.node))
     × (l.node ≡ l.initial.node)

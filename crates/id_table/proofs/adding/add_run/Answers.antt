@@ -1,5 +1,7 @@
--- The goals of `add_run` that are proved by hand: where the chain of the objects begins, and what is put there.
-use Rattle.std.proofs.Common.{◌≡◌, ◌∙◌, ◌<◌, ◌≤◌, ◌⊎◌, ℕ, None, Some, ap, arith, inl, inr, length, subst, sym, take}
+-- The goals of `add_run` that are proved by hand: where the chain of the objects begins, and what is put
+-- there.
+use Rattle.std.proofs.Common.{◌≡◌, ◌∙◌, ◌<◌, ◌≤◌, ◌⊎◌, ℕ, None, Some, ap, arith, inl, inr, length, subst, sym}
+use Rattle.std.proofs.Common.{take}
 use Rattle.page_file.specs.Fault.{IsDamage, IsOfDevice}
 use Rattle.page_cache.specs.Cache.{Grows, pages}
 use Rattle.page_cache.specs.Calls.{asks_in_turn}
@@ -19,25 +21,32 @@ use Rattle.id_table.proofs.adding.add_run.Goals as goal
 
 pub returns-in_err-room-clause-alters : goal.returns-in_err-room-clause-alters
 returns-in_err-room-clause-alters g c =
-    asks_and_breaks c.args.cache.now c.read_link.new.cache c.has_room.new.cache c.in_err-room.field-0.0 c.from_residual-in_err-room.result c.from_residual-in_err-room.ensures.1
+    asks_and_breaks c.args.cache.now c.read_link.new.cache c.has_room.new.cache c.in_err-room.field-0.0
+    c.from_residual-in_err-room.result c.from_residual-in_err-room.ensures.1
     c.in_ok-first.ensures.asks c.in_err-room.ensures.asks
 
 pub returns-in_err-room-clause-faults : goal.returns-in_err-room-clause-faults
 returns-in_err-room-clause-faults g c = λ map t at stands.
     let class = c.class_of-class.result in
-    let s = starts g.row.D c.args.directory class c.in_ok-first.first c.args.cache.now c.read_link.new.cache c.in_ok-first.ensures.asks c.in_ok-first.ensures.link map.honest c.class_of-class.ensures.bound t at stands in
-    refused_before c.from_residual-in_err-room.result c.in_err-room.field-0.0 (IsNoDamage c.has_room.new.cache) c.from_residual-in_err-room.ensures.1
+    let s = starts g.row.D c.args.directory class c.in_ok-first.first c.args.cache.now c.read_link.new.cache
+    c.in_ok-first.ensures.asks c.in_ok-first.ensures.link map.honest c.class_of-class.ensures.bound t at
+    stands in
+    refused_before c.from_residual-in_err-room.result c.in_err-room.field-0.0
+    (IsNoDamage c.has_room.new.cache) c.from_residual-in_err-room.ensures.1
     (inl (c.in_err-room.ensures.there s.honest (chain_at t class) s.begins_now))
 
 pub returns-then-room-clause-alters : goal.returns-then-room-clause-alters
 returns-then-room-clause-alters g c =
-    alters_after c.args.cache.now c.has_room.new.cache c.put_in.new.cache c.put_in.result c.midway.result c.midway.ensures
-    (asks_in_turn c.args.cache.now c.read_link.new.cache c.has_room.new.cache None c.in_ok-first.ensures.asks c.in_ok-room.ensures.asks) c.put_in.ensures.changes
+    alters_after c.args.cache.now c.has_room.new.cache c.put_in.new.cache c.put_in.result c.midway.result
+    c.midway.ensures
+    (asks_in_turn c.args.cache.now c.read_link.new.cache c.has_room.new.cache None c.in_ok-first.ensures.asks
+    c.in_ok-room.ensures.asks) c.put_in.ensures.changes
 
 pub returns-then-room-clause-count : goal.returns-then-room-clause-count
 returns-then-room-clause-count g c =
     let run : ℕ → Type 0 = IsRun c.class_of-class.result c.args.objects.now in
-    broken_if c.put_in.result c.midway.result run run (λ n. (0 < n) × (n ≤ length c.args.objects.now)) c.midway.ensures c.put_in.ensures.run c.put_in.ensures.run (λ n r again. (r.some, r.few))
+    broken_if c.put_in.result c.midway.result run run (λ n. (0 < n) × (n ≤ length c.args.objects.now))
+    c.midway.ensures c.put_in.ensures.run c.put_in.ensures.run (λ n r again. (r.some, r.few))
 
 pub returns-then-room-clause-whole : goal.returns-then-room-clause-whole
 returns-then-room-clause-whole g c =
@@ -50,17 +59,24 @@ returns-then-room-clause-whole g c =
       c.in_ok-room.ensures.asks.map.free_count,
       c.put_in.ensures.grows,
     ) in
-    broken_if c.put_in.result c.midway.result run run (λ n. Grows 0 c.args.cache.now c.put_in.new.cache ⊎ IsWholeRun c.args.objects.now n) c.midway.ensures
+    broken_if c.put_in.result c.midway.result run run
+    (λ n. Grows 0 c.args.cache.now c.put_in.new.cache ⊎ IsWholeRun c.args.objects.now n) c.midway.ensures
     c.put_in.ensures.run c.put_in.ensures.run (λ n r again. inl none)
 
 pub returns-then-room-clause-sound : goal.returns-then-room-clause-sound
 returns-then-room-clause-sound g c = λ map t at stands.
     let class = c.class_of-class.result in
     let first = c.in_ok-first.first in
-    let s = starts g.row.D c.args.directory class first c.args.cache.now c.read_link.new.cache c.in_ok-first.ensures.asks c.in_ok-first.ensures.link map.honest c.class_of-class.ensures.bound t at stands in
+    let s = starts g.row.D c.args.directory class first c.args.cache.now c.read_link.new.cache
+    c.in_ok-first.ensures.asks c.in_ok-first.ensures.link map.honest c.class_of-class.ensures.bound t at
+    stands in
     let some = c.in_ok-room.ensures.some c.if-room.true in
-    let asks = asks_in_turn c.args.cache.now c.read_link.new.cache c.has_room.new.cache None c.in_ok-first.ensures.asks c.in_ok-room.ensures.asks in
-    c.put_in.ensures.sound (asks.map.sound.0 map) (first_is_live g.row.D first (chain_at t class) c.args.cache.now c.has_room.new.cache asks map.honest s.begins some)
+    let asks =
+    asks_in_turn c.args.cache.now c.read_link.new.cache c.has_room.new.cache None
+    c.in_ok-first.ensures.asks c.in_ok-room.ensures.asks in
+    c.put_in.ensures.sound (asks.map.sound.0 map)
+    (first_is_live g.row.D first (chain_at t class) c.args.cache.now c.has_room.new.cache asks map.honest
+    s.begins some)
 
 pub returns-then-room-clause-added : goal.returns-then-room-clause-added
 returns-then-room-clause-added g c = λ map t at stands fresh.
@@ -69,46 +85,70 @@ returns-then-room-clause-added g c = λ map t at stands fresh.
     let objects = c.args.objects.now in
     let class = c.class_of-class.result in
     let first = c.in_ok-first.first in
-    let s = starts g.row.D c.args.directory class first c.args.cache.now c.read_link.new.cache c.in_ok-first.ensures.asks c.in_ok-first.ensures.link map.honest c.class_of-class.ensures.bound t at stands in
+    let s = starts g.row.D c.args.directory class first c.args.cache.now c.read_link.new.cache
+    c.in_ok-first.ensures.asks c.in_ok-first.ensures.link map.honest c.class_of-class.ensures.bound t at
+    stands in
     let some = c.in_ok-room.ensures.some c.if-room.true in
     let b = begins_at g.row.D m first (chain_at t class) s.begins some in
-    let asks = asks_in_turn c.args.cache.now c.read_link.new.cache c.has_room.new.cache None c.in_ok-first.ensures.asks c.in_ok-room.ensures.asks in
-    let there = ap (bucket_in g.row.D) (c.in_ok-first.ensures.asks.map.pages_stay map.honest first) ∙ b.there in
+    let asks =
+    asks_in_turn c.args.cache.now c.read_link.new.cache c.has_room.new.cache None
+    c.in_ok-first.ensures.asks c.in_ok-room.ensures.asks in
+    let there = ap (bucket_in g.row.D) (c.in_ok-first.ensures.asks.map.pages_stay map.honest first)
+    ∙ b.there in
     let few = c.in_ok-room.ensures.room s.honest b.content there c.if-room.true in
-    let live = first_is_live g.row.D first (chain_at t class) c.args.cache.now c.has_room.new.cache asks map.honest s.begins some in
+    let live =
+    first_is_live g.row.D first (chain_at t class) c.args.cache.now c.has_room.new.cache asks map.honest
+    s.begins some in
     let honest = asks.gate.honest.0 map.honest in
-    broken_if c.put_in.result c.midway.result (IsRun class objects) (λ n. bucket_in g.row.D (now first) ≡ Some (with_more b.content (take n objects))) (λ n. Fills g.row.D m now t (take n objects)) c.midway.ensures
-    c.put_in.ensures.run (c.put_in.ensures.written honest b.content (ap (bucket_in g.row.D) (asks.map.pages_stay map.honest first) ∙ b.there) few)
-    (λ n run written. fills_in_place g.row.D m now t class (take n objects) first b.content stands c.class_of-class.ensures.bound (first_new n objects (objects_of t) fresh) run.placed s.link b.there written
+    broken_if c.put_in.result c.midway.result (IsRun class objects)
+    (λ n. bucket_in g.row.D (now first) ≡ Some (with_more b.content (take n objects)))
+    (λ n. Fills g.row.D m now t (take n objects)) c.midway.ensures
+    c.put_in.ensures.run
+    (c.put_in.ensures.written honest b.content
+    (ap (bucket_in g.row.D) (asks.map.pages_stay map.honest first) ∙ b.there) few)
+    (λ n run written. fills_in_place g.row.D m now t class (take n objects) first b.content stands
+    c.class_of-class.ensures.bound (first_new n objects (objects_of t) fresh) run.placed s.link b.there
+    written
     (λ k other. c.put_in.ensures.others honest live k other ∙ asks.map.pages_stay map.honest k) some)
 
 pub returns-then-room-clause-faults : goal.returns-then-room-clause-faults
 returns-then-room-clause-faults g c = λ map t at stands.
     let class = c.class_of-class.result in
     let first = c.in_ok-first.first in
-    let s = starts g.row.D c.args.directory class first c.args.cache.now c.read_link.new.cache c.in_ok-first.ensures.asks c.in_ok-first.ensures.link map.honest c.class_of-class.ensures.bound t at stands in
+    let s = starts g.row.D c.args.directory class first c.args.cache.now c.read_link.new.cache
+    c.in_ok-first.ensures.asks c.in_ok-first.ensures.link map.honest c.class_of-class.ensures.bound t at
+    stands in
     let some = c.in_ok-room.ensures.some c.if-room.true in
-    let asks = asks_in_turn c.args.cache.now c.read_link.new.cache c.has_room.new.cache None c.in_ok-first.ensures.asks c.in_ok-room.ensures.asks in
+    let asks =
+    asks_in_turn c.args.cache.now c.read_link.new.cache c.has_room.new.cache None
+    c.in_ok-first.ensures.asks c.in_ok-room.ensures.asks in
     let b = begins_at g.row.D (pages c.args.cache.now) first (chain_at t class) s.begins some in
-    let there = ap (bucket_in g.row.D) (c.in_ok-first.ensures.asks.map.pages_stay map.honest first) ∙ b.there in
+    let there = ap (bucket_in g.row.D) (c.in_ok-first.ensures.asks.map.pages_stay map.honest first)
+    ∙ b.there in
     let few = c.in_ok-room.ensures.room s.honest b.content there c.if-room.true in
     broken_err c.put_in.result c.midway.result (IsNoDamage c.put_in.new.cache) c.midway.ensures
-    (if_err c.put_in.result IsOfDevice (IsNoDamage c.put_in.new.cache) (λ f is. inl is) (c.put_in.ensures.faults (asks.gate.honest.0 map.honest) b.content (ap (bucket_in g.row.D) (asks.map.pages_stay map.honest first) ∙ b.there) few))
+    (if_err c.put_in.result IsOfDevice (IsNoDamage c.put_in.new.cache) (λ f is. inl is)
+    (c.put_in.ensures.faults (asks.gate.honest.0 map.honest) b.content
+    (ap (bucket_in g.row.D) (asks.map.pages_stay map.honest first) ∙ b.there) few))
 
 pub returns-clause-alters : goal.returns-clause-alters
 returns-clause-alters g c =
-    alters_after c.args.cache.now c.has_room.new.cache c.put_alone.new.cache c.put_alone.result c.midway-2.result c.midway-2.ensures
-    (asks_in_turn c.args.cache.now c.read_link.new.cache c.has_room.new.cache None c.in_ok-first.ensures.asks c.in_ok-room.ensures.asks) c.put_alone.ensures.changes
+    alters_after c.args.cache.now c.has_room.new.cache c.put_alone.new.cache c.put_alone.result
+    c.midway-2.result c.midway-2.ensures
+    (asks_in_turn c.args.cache.now c.read_link.new.cache c.has_room.new.cache None c.in_ok-first.ensures.asks
+    c.in_ok-room.ensures.asks) c.put_alone.ensures.changes
 
 pub returns-clause-count : goal.returns-clause-count
 returns-clause-count g c =
     let run : ℕ → Type 0 = IsRun c.class_of-class.result c.args.objects.now in
-    broken_if c.put_alone.result c.midway-2.result run run (λ n. (0 < n) × (n ≤ length c.args.objects.now)) c.midway-2.ensures c.put_alone.ensures.run c.put_alone.ensures.run (λ n r again. (r.some, r.few))
+    broken_if c.put_alone.result c.midway-2.result run run (λ n. (0 < n) × (n ≤ length c.args.objects.now))
+    c.midway-2.ensures c.put_alone.ensures.run c.put_alone.ensures.run (λ n r again. (r.some, r.few))
 
 pub returns-clause-whole : goal.returns-clause-whole
 returns-clause-whole g c =
     let whole : ℕ → Type 0 = IsWholeRun c.args.objects.now in
-    broken_if c.put_alone.result c.midway-2.result whole whole (λ n. Grows 0 c.args.cache.now c.put_alone.new.cache ⊎ whole n) c.midway-2.ensures
+    broken_if c.put_alone.result c.midway-2.result whole whole
+    (λ n. Grows 0 c.args.cache.now c.put_alone.new.cache ⊎ whole n) c.midway-2.ensures
     c.put_alone.ensures.whole c.put_alone.ensures.whole (λ n w again. inr w)
 
 pub returns-clause-added : goal.returns-clause-added
@@ -119,28 +159,46 @@ returns-clause-added g c = λ map t at stands fresh.
     let objects = c.args.objects.now in
     let class = c.class_of-class.result in
     let first = c.in_ok-first.first in
-    let s = starts g.row.D c.args.directory class first c.args.cache.now c.read_link.new.cache c.in_ok-first.ensures.asks c.in_ok-first.ensures.link map.honest c.class_of-class.ensures.bound t at stands in
+    let s = starts g.row.D c.args.directory class first c.args.cache.now c.read_link.new.cache
+    c.in_ok-first.ensures.asks c.in_ok-first.ensures.link map.honest c.class_of-class.ensures.bound t at
+    stands in
     let full = c.in_ok-room.ensures.full s.honest (chain_at t class) s.begins_now c.if-room.false in
-    let asks = asks_in_turn c.args.cache.now c.read_link.new.cache c.has_room.new.cache None c.in_ok-first.ensures.asks c.in_ok-room.ensures.asks in
+    let asks =
+    asks_in_turn c.args.cache.now c.read_link.new.cache c.has_room.new.cache None
+    c.in_ok-first.ensures.asks c.in_ok-room.ensures.asks in
     let there = asks.map.pages_stay map.honest c.args.directory ∙ ap m (sym at) ∙ stands.there in
-    broken_if c.put_alone.result c.midway-2.result (IsRun class objects) (λ n. PutsBefore g.row.D mid now c.args.directory class first (take n objects) stands.directory) (λ n. Fills g.row.D m now t (take n objects)) c.midway-2.ensures
+    broken_if c.put_alone.result c.midway-2.result (IsRun class objects)
+    (λ n. PutsBefore g.row.D mid now c.args.directory class first (take n objects) stands.directory)
+    (λ n. Fills g.row.D m now t (take n objects)) c.midway-2.ensures
     c.put_alone.ensures.run (c.put_alone.ensures.put (asks.map.sound.0 map) stands.directory there)
-    (λ n run put. fills_before g.row.D m now t class (take n objects) first stands c.class_of-class.ensures.bound (first_new n objects (objects_of t) fresh) run.placed s.link
-    (subst (λ d. PutsBefore g.row.D m now d class first (take n objects) stands.directory) (sym at) (puts_from g.row.D m mid now c.args.directory class first (take n objects) stands.directory (asks.map.pages_stay map.honest) put)) full)
+    (λ n run put. fills_before g.row.D m now t class (take n objects) first stands
+    c.class_of-class.ensures.bound (first_new n objects (objects_of t) fresh) run.placed s.link
+    (subst (λ d. PutsBefore g.row.D m now d class first (take n objects) stands.directory) (sym at)
+    (puts_from g.row.D m mid now c.args.directory class first (take n objects) stands.directory
+    (asks.map.pages_stay map.honest) put)) full)
 
 pub returns-clause-sound : goal.returns-clause-sound
 returns-clause-sound g c = λ map t at stands.
-    let asks = asks_in_turn c.args.cache.now c.read_link.new.cache c.has_room.new.cache None c.in_ok-first.ensures.asks c.in_ok-room.ensures.asks in
-    let there = asks.map.pages_stay map.honest c.args.directory ∙ ap (pages c.args.cache.now) (sym at) ∙ stands.there in
-    c.put_alone.ensures.sound (asks.map.sound.0 map) (is_there (pages c.has_room.new.cache c.args.directory) stands.directory there)
+    let asks =
+    asks_in_turn c.args.cache.now c.read_link.new.cache c.has_room.new.cache None
+    c.in_ok-first.ensures.asks c.in_ok-room.ensures.asks in
+    let there = asks.map.pages_stay map.honest c.args.directory ∙ ap (pages c.args.cache.now) (sym at)
+    ∙ stands.there in
+    c.put_alone.ensures.sound (asks.map.sound.0 map)
+    (is_there (pages c.has_room.new.cache c.args.directory) stands.directory there)
 
 pub returns-clause-faults : goal.returns-clause-faults
 returns-clause-faults g c = λ map t at stands.
-    let asks = asks_in_turn c.args.cache.now c.read_link.new.cache c.has_room.new.cache None c.in_ok-first.ensures.asks c.in_ok-room.ensures.asks in
-    let there = asks.map.pages_stay map.honest c.args.directory ∙ ap (pages c.args.cache.now) (sym at) ∙ stands.there in
+    let asks =
+    asks_in_turn c.args.cache.now c.read_link.new.cache c.has_room.new.cache None
+    c.in_ok-first.ensures.asks c.in_ok-room.ensures.asks in
+    let there = asks.map.pages_stay map.honest c.args.directory ∙ ap (pages c.args.cache.now) (sym at)
+    ∙ stands.there in
     broken_err c.put_alone.result c.midway-2.result (IsNoDamage c.put_alone.new.cache) c.midway-2.ensures
-    (c.put_alone.ensures.faults (asks.map.sound.0 map) (is_there (pages c.has_room.new.cache c.args.directory) stands.directory there))
+    (c.put_alone.ensures.faults (asks.map.sound.0 map)
+    (is_there (pages c.has_room.new.cache c.args.directory) stands.directory there))
 
 pub returns-clause-other_faults : goal.returns-clause-other_faults
 returns-clause-other_faults g c =
-    broken_err c.put_alone.result c.midway-2.result (λ f. IsNoDamage c.put_alone.new.cache f ⊎ IsDamage f) c.midway-2.ensures c.put_alone.ensures.other_faults
+    broken_err c.put_alone.result c.midway-2.result (λ f. IsNoDamage c.put_alone.new.cache f ⊎ IsDamage f)
+    c.midway-2.ensures c.put_alone.ensures.other_faults

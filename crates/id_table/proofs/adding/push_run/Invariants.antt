@@ -12,5 +12,6 @@ invariant-loop-object g l = record {
   counted : l.count ≡ l.object-index;
   room : l.count ≡ 0 → number_at 2 2 l.page < 100;
   placed : AreOfClass l.class (take l.count l.objects);
-  pushed : (c : BucketContent) → bucket_at g.row.D l.initial.page ≡ Some c → bucket_at g.row.D l.page ≡ Some (with_more c (take l.count l.objects));
+  pushed : (c : BucketContent) → bucket_at g.row.D l.initial.page ≡ Some c
+      → bucket_at g.row.D l.page ≡ Some (with_more c (take l.count l.objects));
 }

@@ -44,11 +44,13 @@ returns-clause-put g c = λ map page there.
       number = n;
       low = omega (arith, c.in_ok-number.ensures.number);
       fresh = fresh.0;
-      bucket = ap (bucket_in g.row.D) (stays_d n (λ e. differ (sym e))) ∙ c.in_ok-write_bucket.ensures.written map1.honest live_n;
+      bucket = ap (bucket_in g.row.D) (stays_d n (λ e. differ (sym e)))
+          ∙ c.in_ok-write_bucket.ensures.written map1.honest live_n;
       after = w.0;
       there = w.1;
       link = w.2;
-      others = λ k off_n off_d. stays_d k off_d ∙ c.write_bucket.ensures.others map1.honest live_n k off_n ∙ fresh.2 k off_n;
+      others = λ k off_n off_d. stays_d k off_d ∙ c.write_bucket.ensures.others map1.honest live_n k off_n
+          ∙ fresh.2 k off_n;
     })
     (c.write_link.ensures.written map2.honest page (same_d ∙ fresh.2 d differ ∙ there))
 
@@ -65,19 +67,26 @@ returns-clause-faults g c = λ map live.
     let map2 = c.write_bucket.ensures.sound map1 live_n in
     let same_d = c.write_bucket.ensures.others map1.honest live_n d differ in
     let live_d2 = subst IsSome (sym same_d) live_d1 in
-    if_err c.write_link.result IsOfDevice (IsNoDamage c.write_link.new.cache) (λ f is. inl is) (c.write_link.ensures.faults map2.honest live_d2)
+    if_err c.write_link.result IsOfDevice (IsNoDamage c.write_link.new.cache) (λ f is. inl is)
+    (c.write_link.ensures.faults map2.honest live_d2)
 
 pub returns-in_err-number-clause-faults : goal.returns-in_err-number-clause-faults
 returns-in_err-number-clause-faults g c = λ map live.
-    at_error c.from_residual.result c.in_err-number.field-0.0 (IsNoDamage c.allocate.new.self) c.from_residual.ensures.1
-    (⊎_elim (λ device. inl device) (λ none. inr (none, c.in_err-number.ensures.full (cc none))) (c.in_err-number.ensures.faults map))
+    at_error c.from_residual.result c.in_err-number.field-0.0 (IsNoDamage c.allocate.new.self)
+    c.from_residual.ensures.1
+    (⊎_elim (λ device. inl device) (λ none. inr (none, c.in_err-number.ensures.full (cc none)))
+    (c.in_err-number.ensures.faults map))
 
 pub returns-in_err-write_bucket-clause-changes : goal.returns-in_err-write_bucket-clause-changes
 returns-in_err-write_bucket-clause-changes g c =
-    changes_and_refuses c.args.cache.now c.allocate.new.self c.write_bucket.new.cache c.in_err-write_bucket.field-0.0 c.from_residual-in_err-write_bucket.result
-    c.from_residual-in_err-write_bucket.ensures.1 c.in_ok-number.ensures.changes c.in_err-write_bucket.ensures.changes
+    changes_and_refuses c.args.cache.now c.allocate.new.self c.write_bucket.new.cache
+    c.in_err-write_bucket.field-0.0 c.from_residual-in_err-write_bucket.result
+    c.from_residual-in_err-write_bucket.ensures.1 c.in_ok-number.ensures.changes
+    c.in_err-write_bucket.ensures.changes
 
 pub returns-clause-changes : goal.returns-clause-changes
 returns-clause-changes g c =
-    changes_in_turn c.args.cache.now c.write_bucket.new.cache c.write_link.new.cache (fault_in c.write_link.result)
-    (changes_in_turn c.args.cache.now c.allocate.new.self c.write_bucket.new.cache None c.in_ok-number.ensures.changes c.in_ok-write_bucket.ensures.changes) c.write_link.ensures.changes
+    changes_in_turn c.args.cache.now c.write_bucket.new.cache c.write_link.new.cache
+    (fault_in c.write_link.result)
+    (changes_in_turn c.args.cache.now c.allocate.new.self c.write_bucket.new.cache None
+    c.in_ok-number.ensures.changes c.in_ok-write_bucket.ensures.changes) c.write_link.ensures.changes

@@ -6,4 +6,5 @@ use Rattle.id_table.proofs.bucket.kept_on.Given as goal
 
 -- none of the objects so far has the identifier
 abbrev pub invariant-loop-place : goal.invariant-loop-place
-invariant-loop-place g l = (c : BucketContent) → bucket_at g.row.D l.page ≡ Some c → kept_in l.id c.entries ≡ kept_in l.id (drop l.place c.entries)
+invariant-loop-place g l = (c : BucketContent) → bucket_at g.row.D l.page ≡ Some c
+    → kept_in l.id c.entries ≡ kept_in l.id (drop l.place c.entries)

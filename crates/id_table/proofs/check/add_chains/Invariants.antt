@@ -5,4 +5,7 @@ use Rattle.id_table.proofs.check.add_chains.Given as goal
 
 -- the chains so far are checked
 abbrev pub invariant-loop-class : goal.invariant-loop-class
-invariant-loop-class g l = AllChained g.row.D l.directory l.fn.cache l.cache l.class l.fn.pairs.items l.pairs.items l.fn.visits.pages.items l.visits.pages.items (length l.fn.visits.marks.items) (length l.visits.marks.items)
+invariant-loop-class g l =
+    AllChained g.row.D l.directory l.fn.cache l.cache l.class l.fn.pairs.items l.pairs.items
+    l.fn.visits.pages.items l.visits.pages.items (length l.fn.visits.marks.items)
+    (length l.visits.marks.items)

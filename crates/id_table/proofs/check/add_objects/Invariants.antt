@@ -8,5 +8,6 @@ use Rattle.id_table.proofs.check.add_objects.Given as goal
 abbrev pub invariant-loop-place : goal.invariant-loop-place
 invariant-loop-place g l = record {
   ordered : (k : ℕ) → k < l.place → HasOrderedBox g.row.D (object_at g.row.D l.page k);
-  added : AddsObjects l.fn.class (objects_at g.row.D l.page l.place) l.fn.pairs.items l.pairs.items l.fn.seen l.seen;
+  added : AddsObjects l.fn.class (objects_at g.row.D l.page l.place) l.fn.pairs.items l.pairs.items l.fn.seen
+      l.seen;
 }

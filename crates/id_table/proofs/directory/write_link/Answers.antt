@@ -9,6 +9,10 @@ use Rattle.id_table.proofs.directory.write_link.Goals as goal
 pub returns-clause-written : goal.returns-clause-written
 returns-clause-written g c = λ h page there.
     let old = c.args.cache.now in
-    ok_of c.edit.result (c.edit.ensures.edited h page (a_live_page_is_given old c.args.directory page there)) (λ answer did.
-    let set = subst (λ (p : List ℕ). SetsLink c.args.class c.args.first p did.0) did.3.shows (subst (λ (p : List ℕ). SetsLink c.args.class c.args.first did.3.shown.now p) did.3.leaves did.3.met) in
+    ok_of c.edit.result (c.edit.ensures.edited h page (a_live_page_is_given old c.args.directory page there))
+    (λ answer did.
+    let set =
+    subst (λ (p : List ℕ). SetsLink c.args.class c.args.first p did.0) did.3.shows
+    (subst (λ (p : List ℕ). SetsLink c.args.class c.args.first did.3.shown.now p) did.3.leaves
+    did.3.met) in
     (did.0, did.2 (is_there _ page there), set))

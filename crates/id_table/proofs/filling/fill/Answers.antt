@@ -1,5 +1,6 @@
 -- The goals of `fill` that are proved by hand.
-use Rattle.std.proofs.Common.{◌≡◌, ◌∙◌, ◌⊎◌, ◌-◌, ℕ, List, drop, ◌<◌, ◌≤◌, Some, false, arith, length, length-drop, ltb, subst, sym, take}
+use Rattle.std.proofs.Common.{◌≡◌, ◌∙◌, ◌⊎◌, ◌-◌, ℕ, List, drop, ◌<◌, ◌≤◌, Some, false, arith, length}
+use Rattle.std.proofs.Common.{length-drop, ltb, subst, sym, take}
 use Rattle.bucket_page.specs.Layout.{Entry}
 use Rattle.std.proofs.lemmas.List.{take_rest}
 use Rattle.std.proofs.lemmas.Bool.Decides.{nat_tests}
@@ -11,12 +12,15 @@ use Rattle.node_page.specs.Faults.{IsNoDamage}
 use Rattle.id_table.specs.Changes.{AreNew, Fills}
 use Rattle.id_table.specs.Pages.{IsWholeRun}
 use Rattle.id_table.specs.Table.{objects_of}
-use Rattle.id_table.proofs.FillLemmas.{all_filled, filling_begins, fills_on, next_is_low, next_of_some, run_takes}
+use Rattle.id_table.proofs.FillLemmas.{all_filled, filling_begins, fills_on, next_is_low, next_of_some}
+use Rattle.id_table.proofs.FillLemmas.{run_takes}
 use Rattle.id_table.proofs.filling.fill.Goals as goal
 
 pub loop-filled-init : goal.loop-filled-init
 loop-filled-init g c = record {
-  filling = filling_begins g.row.D c.args.directory c.args.cache.now c.args.objects.now (no_call_changes c.args.cache.now);
+  filling =
+      filling_begins g.row.D c.args.directory c.args.cache.now c.args.objects.now
+      (no_call_changes c.args.cache.now);
   within = omega arith;
   grows = omega arith;
   takes = λ _. omega arith;
@@ -29,16 +33,24 @@ loop-filled-preserved g c =
     let objects = c.args.objects.now in
     let filled = c.loop-filled.filled in
     let count = c.in-Ok.count in
-    let rest : take (length objects - filled) (drop filled objects) ≡ drop filled objects = take_rest objects filled in
-    let few : count ≤ length (drop filled objects) = subst (λ (es : List Entry). count ≤ length es) rest c.in-Ok.ensures.count.1 in
+    let rest : take (length objects - filled) (drop filled objects) ≡ drop filled objects =
+    take_rest objects filled in
+    let few : count ≤ length (drop filled objects) =
+    subst (λ (es : List Entry). count ≤ length es) rest c.in-Ok.ensures.count.1 in
     record {
-      filling = fills_on so_far.filling count c.add_run.new.cache c.in-Ok.ensures.alters.changes c.in-Ok.ensures.sound (λ map t at stands new.
-          subst (λ (es : List Entry). Fills g.row.D (pages c.loop-filled.cache) (pages c.add_run.new.cache) t (take count es)) rest
-          (c.in-Ok.ensures.added map t at stands (subst (λ (es : List Entry). AreNew (objects_of t) es) (sym rest) new)));
+      filling =
+          fills_on so_far.filling count c.add_run.new.cache c.in-Ok.ensures.alters.changes
+          c.in-Ok.ensures.sound (λ map t at stands new.
+          subst (λ (es : List Entry). Fills g.row.D (pages c.loop-filled.cache) (pages c.add_run.new.cache) t
+          (take count es)) rest
+          (c.in-Ok.ensures.added map t at stands
+          (subst (λ (es : List Entry). AreNew (objects_of t) es) (sym rest) new)));
       within = omega (arith, so_far.within, few, length-drop filled objects);
       grows = omega (arith, so_far.grows, c.in-Ok.ensures.grows, c.in-Ok.ensures.count.0);
-      takes = λ sorted. run_takes c.args.cache.now c.loop-filled.cache c.add_run.new.cache objects filled count sorted (omega (arith, c.loop-filled-test.true)) (so_far.takes sorted) c.in-Ok.ensures.grows
-          (subst (λ (es : List Entry). Grows 0 c.loop-filled.cache c.add_run.new.cache ⊎ IsWholeRun es count) rest c.in-Ok.ensures.whole);
+      takes = λ sorted. run_takes c.args.cache.now c.loop-filled.cache c.add_run.new.cache objects filled
+          count sorted (omega (arith, c.loop-filled-test.true)) (so_far.takes sorted) c.in-Ok.ensures.grows
+          (subst (λ (es : List Entry). Grows 0 c.loop-filled.cache c.add_run.new.cache ⊎ IsWholeRun es count)
+          rest c.in-Ok.ensures.whole);
       kept = λ none. absurd (omega (arith, none, c.in-Ok.ensures.count.0));
     }
 
@@ -49,11 +61,17 @@ pub returns-in-Err-clause-alters : goal.returns-in-Err-clause-alters
 returns-in-Err-clause-alters g c =
     let filling = c.loop-filled.invariant.filling in
     record {
-      changes = subst (λ (f : Fault). ChangesUntil c.args.cache.now c.add_run.new.cache (Some f)) (sym c.broken_after.ensures.cause)
-          (changes_in_turn c.args.cache.now c.loop-filled.cache c.add_run.new.cache (Some c.in-Err.broken.cause) filling.changes c.in-Err.ensures.alters.changes);
+      changes =
+          subst (λ (f : Fault). ChangesUntil c.args.cache.now c.add_run.new.cache (Some f))
+          (sym c.broken_after.ensures.cause)
+          (changes_in_turn c.args.cache.now c.loop-filled.cache c.add_run.new.cache
+          (Some c.in-Err.broken.cause) filling.changes c.in-Err.ensures.alters.changes);
       untouched = λ untouched.
           let before = c.broken_after.ensures.untouched untouched in
-          the_map_is_kept_in_turn c.args.cache.now c.loop-filled.cache c.add_run.new.cache filling.changes.gate.honest.0 (c.loop-filled.invariant.kept (none_filled c.loop-filled.filled before.0)) (c.in-Err.ensures.alters.untouched before.1);
+          the_map_is_kept_in_turn c.args.cache.now c.loop-filled.cache c.add_run.new.cache
+          filling.changes.gate.honest.0
+          (c.loop-filled.invariant.kept (none_filled c.loop-filled.filled before.0))
+          (c.in-Err.ensures.alters.untouched before.1);
     }
 
 pub returns-in-Err-clause-sound : goal.returns-in-Err-clause-sound
@@ -64,23 +82,38 @@ returns-in-Err-clause-sound g c = λ map t at stands new.
 pub returns-in-Err-clause-faults : goal.returns-in-Err-clause-faults
 returns-in-Err-clause-faults g c = λ map t at stands new.
     let f = c.loop-filled.invariant.filling.left map t at stands new in
-    subst (λ (f : Fault). IsNoDamage c.add_run.new.cache f) (sym c.broken_after.ensures.cause) (c.in-Err.ensures.faults f.map_is f.table (f.page ∙ at) f.stands)
+    subst (λ (f : Fault). IsNoDamage c.add_run.new.cache f) (sym c.broken_after.ensures.cause)
+    (c.in-Err.ensures.faults f.map_is f.table (f.page ∙ at) f.stands)
 
 pub returns-in-Err-clause-grows_in_order : goal.returns-in-Err-clause-grows_in_order
 returns-in-Err-clause-grows_in_order g c = λ sorted.
     let objects = c.args.objects.now in
     let filled = c.loop-filled.filled in
-    let some : 0 < length (drop filled objects) = omega (arith, c.loop-filled-test.true, length-drop filled objects) in
-    omega (arith, c.loop-filled.invariant.takes sorted, c.in-Err.ensures.grows, c.loop-filled.invariant.within, (next_of_some (drop filled objects) some).1)
+    let some : 0 < length (drop filled objects) =
+    omega (arith, c.loop-filled-test.true, length-drop filled objects) in
+    omega (
+      arith,
+      c.loop-filled.invariant.takes sorted,
+      c.in-Err.ensures.grows,
+      c.loop-filled.invariant.within,
+      (next_of_some (drop filled objects) some).1,
+    )
 
 pub returns-clause-grows_in_order : goal.returns-clause-grows_in_order
 returns-clause-grows_in_order g c = λ sorted.
-    omega (arith, c.loop-filled.invariant.takes sorted, c.loop-filled.invariant.within, next_is_low (drop c.loop-filled.filled c.args.objects.now))
+    omega (
+      arith,
+      c.loop-filled.invariant.takes sorted,
+      c.loop-filled.invariant.within,
+      next_is_low (drop c.loop-filled.filled c.args.objects.now),
+    )
 
 pub returns-clause-filled : goal.returns-clause-filled
 returns-clause-filled g c = λ map t at stands new.
     let all : length c.args.objects.now ≤ c.loop-filled.filled = omega (arith, c.loop-filled-test.false) in
-    all_filled g.row.D c.args.directory c.args.cache.now c.loop-filled.cache c.args.objects.now c.loop-filled.filled all c.loop-filled.invariant.filling map t at stands new
+    all_filled g.row.D c.args.directory c.args.cache.now c.loop-filled.cache c.args.objects.now
+    c.loop-filled.filled all c.loop-filled.invariant.filling map t at stands new
 
 pub returns-clause-sound : goal.returns-clause-sound
-returns-clause-sound g c = λ map t at stands new. (c.loop-filled.invariant.filling.left map t at stands new).map_is
+returns-clause-sound g c =
+    λ map t at stands new. (c.loop-filled.invariant.filling.left map t at stands new).map_is

@@ -11,7 +11,8 @@ invariant-loop-filled g l = record {
   filling : Filling g.row.D l.fn.directory l.fn.cache l.cache l.objects l.filled;
   within : l.filled ≤ length l.objects;
   grows : Grows l.filled l.fn.cache l.cache;
-  takes : AreInOrder l.objects → Grows (l.filled / 100 + next_class (drop l.filled l.objects)) l.fn.cache l.cache;
+  takes : AreInOrder l.objects
+      → Grows (l.filled / 100 + next_class (drop l.filled l.objects)) l.fn.cache l.cache;
   kept : l.filled ≡ 0 → KeepsMap l.fn.cache l.cache;
 }
 

@@ -16,9 +16,11 @@ returns-clause-sound g c = λ map t at stands.
     let m = pages c.args.cache.now in
     let asks = c.in_ok-bytes.ensures.asks in
     let there = ap m (sym at) ∙ stands.there in
-    let bytes = c.in_ok-bytes.ensures.bytes map.honest (is_there (m c.args.directory) stands.directory there) in
+    let bytes =
+    c.in_ok-bytes.ensures.bytes map.honest (is_there (m c.args.directory) stands.directory there) in
     let same = asks.map.pages_stay map.honest in
-    c.free_pages.ensures.sound (asks.map.sound.0 map) t at (stands_same g.row.D m (pages c.copy_page.new.cache) t same stands) (same c.args.directory ∙ bytes)
+    c.free_pages.ensures.sound (asks.map.sound.0 map) t at
+    (stands_same g.row.D m (pages c.copy_page.new.cache) t same stands) (same c.args.directory ∙ bytes)
 
 pub returns-clause-freed : goal.returns-clause-freed
 returns-clause-freed g c = λ map t at stands.
@@ -27,18 +29,23 @@ returns-clause-freed g c = λ map t at stands.
     let now = pages c.free_pages.new.cache in
     let asks = c.in_ok-bytes.ensures.asks in
     let there = ap m (sym at) ∙ stands.there in
-    let bytes = c.in_ok-bytes.ensures.bytes map.honest (is_there (m c.args.directory) stands.directory there) in
+    let bytes =
+    c.in_ok-bytes.ensures.bytes map.honest (is_there (m c.args.directory) stands.directory there) in
     let same = asks.map.pages_stay map.honest in
     broken_ok c.free_pages.result c.midway.result (Moves m now (part_of t) no_page) c.midway.ensures
-    (on_ok c.free_pages.result (λ frees. moves_from m mid now (part_of t) no_page same (frees_moves mid now (part_of t) frees))
-    (c.free_pages.ensures.freed (asks.map.sound.0 map) t at (stands_same g.row.D m mid t same stands) (same c.args.directory ∙ bytes)))
+    (on_ok c.free_pages.result
+    (λ frees. moves_from m mid now (part_of t) no_page same (frees_moves mid now (part_of t) frees))
+    (c.free_pages.ensures.freed (asks.map.sound.0 map) t at (stands_same g.row.D m mid t same stands)
+    (same c.args.directory ∙ bytes)))
 
 pub returns-clause-faults : goal.returns-clause-faults
 returns-clause-faults g c = λ map t at stands.
     let m = pages c.args.cache.now in
     let asks = c.in_ok-bytes.ensures.asks in
     let there = ap m (sym at) ∙ stands.there in
-    let bytes = c.in_ok-bytes.ensures.bytes map.honest (is_there (m c.args.directory) stands.directory there) in
+    let bytes =
+    c.in_ok-bytes.ensures.bytes map.honest (is_there (m c.args.directory) stands.directory there) in
     let same = asks.map.pages_stay map.honest in
     broken_err c.free_pages.result c.midway.result IsOfDevice c.midway.ensures
-    (c.free_pages.ensures.faults (asks.map.sound.0 map) t at (stands_same g.row.D m (pages c.copy_page.new.cache) t same stands) (same c.args.directory ∙ bytes))
+    (c.free_pages.ensures.faults (asks.map.sound.0 map) t at
+    (stands_same g.row.D m (pages c.copy_page.new.cache) t same stands) (same c.args.directory ∙ bytes))

@@ -5,22 +5,29 @@ use Rattle.page_cache.specs.Cache.{pages}
 use Rattle.page_cache.specs.Calls.{no_call_changes}
 use Rattle.node_page.proofs.NodeLemmas.{at_error}
 use Rattle.id_table.proofs.BucketLemmas.{page_of_bucket}
-use Rattle.id_table.proofs.FreeLemmas.{all_freed, bucket_left, freeing_begins, frees_on, never_so_long, there_left}
+use Rattle.id_table.proofs.FreeLemmas.{all_freed, bucket_left, freeing_begins, frees_on, never_so_long}
+use Rattle.id_table.proofs.FreeLemmas.{there_left}
 use Rattle.id_table.proofs.freeing.free_chain.Goals as goal
 
 pub loop-freed-init : goal.loop-freed-init
 loop-freed-init g c = freeing_begins g.row.D c.args.first c.args.cache.now (no_call_changes c.args.cache.now)
 
 pub returns-then-number-eq0-clause-freed : goal.returns-then-number-eq0-clause-freed
-returns-then-number-eq0-clause-freed g c = λ map chain stands once. all_freed c.loop-freed.invariant c.if-number-eq0.true map chain stands once
+returns-then-number-eq0-clause-freed g c =
+    λ map chain stands once. all_freed c.loop-freed.invariant c.if-number-eq0.true map chain stands once
 
 pub loop-freed-preserved : goal.loop-freed-preserved
 loop-freed-preserved g c =
-    frees_on c.loop-freed.invariant c.in_ok-number.number c.free_bucket.new.cache c.if-number-eq0.false c.in_ok-number.ensures.changes c.in_ok-number.ensures.next c.in_ok-number.ensures.grows
-    c.in_ok-number.ensures.following c.in_ok-number.ensures.gone c.in_ok-number.ensures.others c.in_ok-number.ensures.sound
+    frees_on c.loop-freed.invariant c.in_ok-number.number c.free_bucket.new.cache c.if-number-eq0.false
+    c.in_ok-number.ensures.changes c.in_ok-number.ensures.next c.in_ok-number.ensures.grows
+    c.in_ok-number.ensures.following c.in_ok-number.ensures.gone c.in_ok-number.ensures.others
+    c.in_ok-number.ensures.sound
 
 pub returns-clause-faults : goal.returns-clause-faults
-returns-clause-faults g c = λ map chain stands once short. absurd (never_so_long c.loop-freed.invariant (omega (arith, c.loop-freed-test.false, c.next_number-freed-end.ensures)) map chain stands once short)
+returns-clause-faults g c =
+    λ map chain stands once short. absurd
+    (never_so_long c.loop-freed.invariant
+    (omega (arith, c.loop-freed-test.false, c.next_number-freed-end.ensures)) map chain stands once short)
 
 pub returns-in_err-number-clause-sound : goal.returns-in_err-number-clause-sound
 returns-in_err-number-clause-sound g c = λ map chain stands once.
@@ -28,7 +35,8 @@ returns-in_err-number-clause-sound g c = λ map chain stands once.
     let some = c.if-number-eq0.false in
     let b = bucket_left so_far some map chain stands once in
     c.in_err-number.ensures.sound (so_far.left map chain stands once).map
-    (page_of_bucket g.row.D (pages c.loop-freed.cache c.loop-freed.number) b.content (there_left so_far some map chain stands once))
+    (page_of_bucket g.row.D (pages c.loop-freed.cache c.loop-freed.number) b.content
+    (there_left so_far some map chain stands once))
 
 pub returns-in_err-number-clause-faults : goal.returns-in_err-number-clause-faults
 returns-in_err-number-clause-faults g c = λ map chain stands once short.
@@ -36,4 +44,5 @@ returns-in_err-number-clause-faults g c = λ map chain stands once short.
     let some = c.if-number-eq0.false in
     let b = bucket_left so_far some map chain stands once in
     at_error c.from_residual.result c.in_err-number.field-0.0 IsOfDevice c.from_residual.ensures.1
-    (c.in_err-number.ensures.faults (so_far.left map chain stands once).map b.content (there_left so_far some map chain stands once) b.low)
+    (c.in_err-number.ensures.faults (so_far.left map chain stands once).map b.content
+    (there_left so_far some map chain stands once) b.low)

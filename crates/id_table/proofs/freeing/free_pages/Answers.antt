@@ -4,36 +4,47 @@ use Rattle.page_file.specs.Fault.{IsOfDevice}
 use Rattle.page_cache.specs.Cache.{pages}
 use Rattle.node_page.proofs.NodeLemmas.{at_error}
 use Rattle.id_table.specs.Table.{ChainStands, chain_at}
-use Rattle.id_table.proofs.FreeLemmas.{all_are_freed, all_begins, chain_left, chain_once, chain_short_now, frees_all_on}
+use Rattle.id_table.proofs.FreeLemmas.{all_are_freed, all_begins, chain_left, chain_once, chain_short_now}
+use Rattle.id_table.proofs.FreeLemmas.{frees_all_on}
 use Rattle.page_cache.specs.Calls.{changes_and_refuses}
 use Rattle.id_table.proofs.freeing.free_pages.Goals as goal
 
 pub loop-class-init : goal.loop-class-init
 loop-class-init g c =
-    all_begins g.row.D c.args.directory c.args.cache.now c.free.new.self c.args.bytes.now c.in_ok-free.ensures.changes c.in_ok-free.ensures.next c.in_ok-free.ensures.grows
-    (λ map live. c.in_ok-free.ensures.freed map.honest live) (λ map live. c.in_ok-free.ensures.others map.honest live) c.in_ok-free.ensures.sound
+    all_begins g.row.D c.args.directory c.args.cache.now c.free.new.self c.args.bytes.now
+    c.in_ok-free.ensures.changes c.in_ok-free.ensures.next c.in_ok-free.ensures.grows
+    (λ map live. c.in_ok-free.ensures.freed map.honest live)
+    (λ map live. c.in_ok-free.ensures.others map.honest live) c.in_ok-free.ensures.sound
 
 pub returns-in_err-free_chain-clause-sound : goal.returns-in_err-free_chain-clause-sound
 returns-in_err-free_chain-clause-sound g c = λ map t at stands there.
     let so_far = c.loop-class.invariant in
     let small : c.loop-class.class < 1000 = omega (arith, c.loop-class-test.true) in
     let chain = chain_at t c.loop-class.class in
-    let begins = subst (λ n. ChainStands g.row.D (pages c.loop-class.cache) n chain) (sym c.link_of.ensures) (chain_left so_far small map t at stands there) in
-    c.in_err-free_chain.ensures.sound (so_far.left map t at stands there).map chain begins (chain_once so_far small t stands)
+    let begins =
+    subst (λ n. ChainStands g.row.D (pages c.loop-class.cache) n chain) (sym c.link_of.ensures)
+    (chain_left so_far small map t at stands there) in
+    c.in_err-free_chain.ensures.sound (so_far.left map t at stands there).map chain begins
+    (chain_once so_far small t stands)
 
 pub returns-in_err-free_chain-clause-faults : goal.returns-in_err-free_chain-clause-faults
 returns-in_err-free_chain-clause-faults g c = λ map t at stands there.
     let so_far = c.loop-class.invariant in
     let small : c.loop-class.class < 1000 = omega (arith, c.loop-class-test.true) in
     let chain = chain_at t c.loop-class.class in
-    let begins = subst (λ n. ChainStands g.row.D (pages c.loop-class.cache) n chain) (sym c.link_of.ensures) (chain_left so_far small map t at stands there) in
-    at_error c.from_residual-in_err-free_chain.result c.in_err-free_chain.field-0.0 IsOfDevice c.from_residual-in_err-free_chain.ensures.1
-    (c.in_err-free_chain.ensures.faults (so_far.left map t at stands there).map chain begins (chain_once so_far small t stands) (chain_short_now so_far small t stands))
+    let begins =
+    subst (λ n. ChainStands g.row.D (pages c.loop-class.cache) n chain) (sym c.link_of.ensures)
+    (chain_left so_far small map t at stands there) in
+    at_error c.from_residual-in_err-free_chain.result c.in_err-free_chain.field-0.0 IsOfDevice
+    c.from_residual-in_err-free_chain.ensures.1
+    (c.in_err-free_chain.ensures.faults (so_far.left map t at stands there).map chain begins
+    (chain_once so_far small t stands) (chain_short_now so_far small t stands))
 
 pub loop-class-preserved : goal.loop-class-preserved
 loop-class-preserved g c =
     let small : c.loop-class.class < 1000 = omega (arith, c.loop-class-test.true) in
-    frees_all_on c.loop-class.invariant small c.link_of.result c.free_chain.new.cache c.link_of.ensures c.in_ok-free_chain.ensures.changes c.in_ok-free_chain.ensures.next c.in_ok-free_chain.ensures.grows
+    frees_all_on c.loop-class.invariant small c.link_of.result c.free_chain.new.cache c.link_of.ensures
+    c.in_ok-free_chain.ensures.changes c.in_ok-free_chain.ensures.next c.in_ok-free_chain.ensures.grows
     c.in_ok-free_chain.ensures.sound c.in_ok-free_chain.ensures.freed
 
 pub returns-clause-sound : goal.returns-clause-sound
@@ -42,9 +53,12 @@ returns-clause-sound g c = λ map t at stands there. (c.loop-class.invariant.lef
 pub returns-clause-freed : goal.returns-clause-freed
 returns-clause-freed g c = λ map t at stands there.
     let all : c.loop-class.class ≡ 1000 = omega (arith, c.loop-class-test.false) in
-    all_are_freed g.row.D c.args.directory c.args.cache.now c.loop-class.cache c.args.bytes.now c.loop-class.class all c.loop-class.invariant map t at stands there
+    all_are_freed g.row.D c.args.directory c.args.cache.now c.loop-class.cache c.args.bytes.now
+    c.loop-class.class all c.loop-class.invariant map t at stands there
 
 pub returns-in_err-free_chain-clause-changes : goal.returns-in_err-free_chain-clause-changes
 returns-in_err-free_chain-clause-changes g c =
-    changes_and_refuses c.args.cache.now c.loop-class.cache c.free_chain.new.cache c.in_err-free_chain.field-0.0 c.from_residual-in_err-free_chain.result c.from_residual-in_err-free_chain.ensures.1
+    changes_and_refuses c.args.cache.now c.loop-class.cache c.free_chain.new.cache
+    c.in_err-free_chain.field-0.0 c.from_residual-in_err-free_chain.result
+    c.from_residual-in_err-free_chain.ensures.1
     c.loop-class.invariant.changes c.in_err-free_chain.ensures.changes

@@ -11,12 +11,18 @@ returns-clause-made g c = λ sound.
     let given = c.in_ok-directory.ensures.fresh sound in
     let now = c.allocate.ensures.sound sound in
     let live = is_there (pages c.allocate.new.self c.in_ok-directory.directory) _ given.1 in
-    made g.row.D (pages c.args.cache.now) (pages c.allocate.new.self) (pages c.put.new.self) c.in_ok-directory.directory _ (omega (arith, c.in_ok-directory.ensures.number)) given.0 given.2 (c.put.ensures.others now.honest live) (c.in_ok-put.ensures.written now.honest live) c.write_directory.ensures
+    made g.row.D (pages c.args.cache.now) (pages c.allocate.new.self) (pages c.put.new.self)
+    c.in_ok-directory.directory _ (omega (arith, c.in_ok-directory.ensures.number)) given.0 given.2
+    (c.put.ensures.others now.honest live) (c.in_ok-put.ensures.written now.honest live)
+    c.write_directory.ensures
 
 pub returns-in_err-put-clause-changes : goal.returns-in_err-put-clause-changes
 returns-in_err-put-clause-changes g c =
-    changes_and_refuses c.args.cache.now c.allocate.new.self c.put.new.self c.in_err-put.field-0.0 c.from_residual-in_err-put.result c.from_residual-in_err-put.ensures.1
+    changes_and_refuses c.args.cache.now c.allocate.new.self c.put.new.self c.in_err-put.field-0.0
+    c.from_residual-in_err-put.result c.from_residual-in_err-put.ensures.1
     c.in_ok-directory.ensures.changes c.in_err-put.ensures.changes
 
 pub returns-clause-changes : goal.returns-clause-changes
-returns-clause-changes g c = changes_in_turn c.args.cache.now c.allocate.new.self c.put.new.self None c.in_ok-directory.ensures.changes c.in_ok-put.ensures.changes
+returns-clause-changes g c =
+    changes_in_turn c.args.cache.now c.allocate.new.self c.put.new.self None
+    c.in_ok-directory.ensures.changes c.in_ok-put.ensures.changes

@@ -27,7 +27,9 @@ returns-in-Some-clause-less g c = λ map differ links there content is.
       link = u.link;
       others = λ k off_first off_d. u.others k off_first off_d ∙ others k off_first;
     }))
-    (c.unlink.ensures.unlinked (c.in_ok-emptied.ensures.sound map live) (c.in_ok-emptied.ensures.live map.honest live) differ links (others c.args.directory differ ∙ there) content only.0 only.1)
+    (c.unlink.ensures.unlinked (c.in_ok-emptied.ensures.sound map live)
+    (c.in_ok-emptied.ensures.live map.honest live) differ links (others c.args.directory differ ∙ there)
+    content only.0 only.1)
 
 pub returns-in-None-clause-less : goal.returns-in-None-clause-less
 returns-in-None-clause-less g c = λ map differ links there content is.

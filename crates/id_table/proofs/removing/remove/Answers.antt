@@ -23,57 +23,96 @@ use Rattle.id_table.proofs.removing.remove.Goals as goal
 pub returns-in_err-holder-clause-faults : goal.returns-in_err-holder-clause-faults
 returns-in_err-holder-clause-faults g c = λ map t at stands has.
     let small : class_of c.args.id < 1000 = omega arith in
-    let s = starts g.row.D c.args.directory (class_of c.args.id) c.in_ok-first.first c.args.cache.now c.read_link.new.cache c.in_ok-first.ensures.asks
-    (λ honest p there spelled. c.in_ok-first.ensures.link honest p there spelled ∙ ap (λ k. link_at k p) c.class_of-class.ensures.value) map.honest small t at stands in
+    let s = starts g.row.D c.args.directory (class_of c.args.id) c.in_ok-first.first c.args.cache.now
+    c.read_link.new.cache c.in_ok-first.ensures.asks
+    (λ honest p there spelled. c.in_ok-first.ensures.link honest p there spelled
+    ∙ ap (λ k. link_at k p) c.class_of-class.ensures.value) map.honest small t at stands in
     let chain = chain_at t (class_of c.args.id) in
-    refused_before c.from_residual-in_err-holder.result c.in_err-holder.field-0.0 IsOfDevice c.from_residual-in_err-holder.ensures.1
-    (c.in_err-holder.ensures.there s.honest chain s.begins_now (omega (arith, chain_is_short g.row.D c.args.cache.now t (class_of c.args.id) small stands, c.in_ok-first.ensures.asks.map.next)) (in_chain g.row.D (pages c.args.cache.now) t c.args.id stands has))
+    refused_before c.from_residual-in_err-holder.result c.in_err-holder.field-0.0 IsOfDevice
+    c.from_residual-in_err-holder.ensures.1
+    (c.in_err-holder.ensures.there s.honest chain s.begins_now
+    (omega (
+      arith,
+      chain_is_short g.row.D c.args.cache.now t (class_of c.args.id) small stands,
+      c.in_ok-first.ensures.asks.map.next,
+    ))
+    (in_chain g.row.D (pages c.args.cache.now) t c.args.id stands has))
 
 pub returns-in_err-last-clause-faults : goal.returns-in_err-last-clause-faults
 returns-in_err-last-clause-faults g c = λ map t at stands has.
-    let r = reached g.row.D c.args.directory c.args.id c.in_ok-first.first c.in_ok-holder.holder c.in_ok-holder.place c.args.cache.now c.read_link.new.cache c.place_in.new.cache c.place_in.new.cache c.in_ok-first.ensures.asks
-    (λ honest p there spelled. c.in_ok-first.ensures.link honest p there spelled ∙ ap (λ k. link_at k p) c.class_of-class.ensures.value)
-    c.in_ok-holder.ensures.asks c.in_ok-holder.ensures.found (no_call_asks c.place_in.new.cache) map t at stands in
-    refused_before c.from_residual-in_err-last.result c.in_err-last.field-0.0 IsOfDevice c.from_residual-in_err-last.ensures.1 (c.in_err-last.ensures.there r.honest r.begin.content r.reads)
+    let r = reached g.row.D c.args.directory c.args.id c.in_ok-first.first c.in_ok-holder.holder
+    c.in_ok-holder.place c.args.cache.now c.read_link.new.cache c.place_in.new.cache c.place_in.new.cache
+    c.in_ok-first.ensures.asks
+    (λ honest p there spelled. c.in_ok-first.ensures.link honest p there spelled
+    ∙ ap (λ k. link_at k p) c.class_of-class.ensures.value)
+    c.in_ok-holder.ensures.asks c.in_ok-holder.ensures.found (no_call_asks c.place_in.new.cache) map t at
+    stands in
+    refused_before c.from_residual-in_err-last.result c.in_err-last.field-0.0 IsOfDevice
+    c.from_residual-in_err-last.ensures.1 (c.in_err-last.ensures.there r.honest r.begin.content r.reads)
 
 pub returns-in_err-put_at-clause-alters : goal.returns-in_err-put_at-clause-alters
 returns-in_err-put_at-clause-alters g c =
-    let asked = asks_in_turn c.args.cache.now c.place_in.new.cache c.last_in.new.cache None (asks_in_turn c.args.cache.now c.read_link.new.cache c.place_in.new.cache None c.in_ok-first.ensures.asks c.in_ok-holder.ensures.asks) c.in_ok-last.ensures.asks in
-    asks_and_is_refused c.args.cache.now c.last_in.new.cache c.put_at.new.cache c.in_err-put_at.field-0.0 c.from_residual-in_err-put_at.result c.from_residual-in_err-put_at.ensures.1 asked c.in_err-put_at.ensures.changes c.in_err-put_at.ensures.refused
+    let asked =
+    asks_in_turn c.args.cache.now c.place_in.new.cache c.last_in.new.cache None
+    (asks_in_turn c.args.cache.now c.read_link.new.cache c.place_in.new.cache None
+    c.in_ok-first.ensures.asks c.in_ok-holder.ensures.asks) c.in_ok-last.ensures.asks in
+    asks_and_is_refused c.args.cache.now c.last_in.new.cache c.put_at.new.cache c.in_err-put_at.field-0.0
+    c.from_residual-in_err-put_at.result c.from_residual-in_err-put_at.ensures.1 asked
+    c.in_err-put_at.ensures.changes c.in_err-put_at.ensures.refused
 
 pub returns-in_err-put_at-clause-sound : goal.returns-in_err-put_at-clause-sound
 returns-in_err-put_at-clause-sound g c = λ map t at stands.
-    let r = reached g.row.D c.args.directory c.args.id c.in_ok-first.first c.in_ok-holder.holder c.in_ok-holder.place c.args.cache.now c.read_link.new.cache c.place_in.new.cache c.last_in.new.cache c.in_ok-first.ensures.asks
-    (λ honest p there spelled. c.in_ok-first.ensures.link honest p there spelled ∙ ap (λ k. link_at k p) c.class_of-class.ensures.value)
+    let r = reached g.row.D c.args.directory c.args.id c.in_ok-first.first c.in_ok-holder.holder
+    c.in_ok-holder.place c.args.cache.now c.read_link.new.cache c.place_in.new.cache c.last_in.new.cache
+    c.in_ok-first.ensures.asks
+    (λ honest p there spelled. c.in_ok-first.ensures.link honest p there spelled
+    ∙ ap (λ k. link_at k p) c.class_of-class.ensures.value)
     c.in_ok-holder.ensures.asks c.in_ok-holder.ensures.found c.in_ok-last.ensures.asks map t at stands in
     c.in_err-put_at.ensures.sound r.map_is r.holder_live
 
 pub returns-in_err-put_at-clause-faults : goal.returns-in_err-put_at-clause-faults
 returns-in_err-put_at-clause-faults g c = λ map t at stands has.
-    let r = reached g.row.D c.args.directory c.args.id c.in_ok-first.first c.in_ok-holder.holder c.in_ok-holder.place c.args.cache.now c.read_link.new.cache c.place_in.new.cache c.last_in.new.cache c.in_ok-first.ensures.asks
-    (λ honest p there spelled. c.in_ok-first.ensures.link honest p there spelled ∙ ap (λ k. link_at k p) c.class_of-class.ensures.value)
+    let r = reached g.row.D c.args.directory c.args.id c.in_ok-first.first c.in_ok-holder.holder
+    c.in_ok-holder.place c.args.cache.now c.read_link.new.cache c.place_in.new.cache c.last_in.new.cache
+    c.in_ok-first.ensures.asks
+    (λ honest p there spelled. c.in_ok-first.ensures.link honest p there spelled
+    ∙ ap (λ k. link_at k p) c.class_of-class.ensures.value)
     c.in_ok-holder.ensures.asks c.in_ok-holder.ensures.found c.in_ok-last.ensures.asks map t at stands in
-    refused_before c.from_residual-in_err-put_at.result c.in_err-put_at.field-0.0 IsOfDevice c.from_residual-in_err-put_at.ensures.1 (c.in_err-put_at.ensures.faults r.map_is.honest r.holder_live)
+    refused_before c.from_residual-in_err-put_at.result c.in_err-put_at.field-0.0 IsOfDevice
+    c.from_residual-in_err-put_at.ensures.1 (c.in_err-put_at.ensures.faults r.map_is.honest r.holder_live)
 
 pub returns-clause-alters : goal.returns-clause-alters
 returns-clause-alters g c =
-    let asked = asks_in_turn c.args.cache.now c.place_in.new.cache c.last_in.new.cache None (asks_in_turn c.args.cache.now c.read_link.new.cache c.place_in.new.cache None c.in_ok-first.ensures.asks c.in_ok-holder.ensures.asks) c.in_ok-last.ensures.asks in
-    alters_further c.args.cache.now c.put_at.new.cache c.drop_last.new.cache c.drop_last.result c.midway.result c.midway.ensures
-    (changes_in_turn c.args.cache.now c.last_in.new.cache c.put_at.new.cache None (asks_changes c.args.cache.now c.last_in.new.cache None asked) c.in_ok-put_at.ensures.changes)
+    let asked =
+    asks_in_turn c.args.cache.now c.place_in.new.cache c.last_in.new.cache None
+    (asks_in_turn c.args.cache.now c.read_link.new.cache c.place_in.new.cache None
+    c.in_ok-first.ensures.asks c.in_ok-holder.ensures.asks) c.in_ok-last.ensures.asks in
+    alters_further c.args.cache.now c.put_at.new.cache c.drop_last.new.cache c.drop_last.result
+    c.midway.result c.midway.ensures
+    (changes_in_turn c.args.cache.now c.last_in.new.cache c.put_at.new.cache None
+    (asks_changes c.args.cache.now c.last_in.new.cache None asked) c.in_ok-put_at.ensures.changes)
     c.drop_last.ensures.changes
 
 pub returns-clause-sound : goal.returns-clause-sound
 returns-clause-sound g c = λ map t at stands.
-    let r = reached g.row.D c.args.directory c.args.id c.in_ok-first.first c.in_ok-holder.holder c.in_ok-holder.place c.args.cache.now c.read_link.new.cache c.place_in.new.cache c.last_in.new.cache c.in_ok-first.ensures.asks
-    (λ honest p there spelled. c.in_ok-first.ensures.link honest p there spelled ∙ ap (λ k. link_at k p) c.class_of-class.ensures.value)
+    let r = reached g.row.D c.args.directory c.args.id c.in_ok-first.first c.in_ok-holder.holder
+    c.in_ok-holder.place c.args.cache.now c.read_link.new.cache c.place_in.new.cache c.last_in.new.cache
+    c.in_ok-first.ensures.asks
+    (λ honest p there spelled. c.in_ok-first.ensures.link honest p there spelled
+    ∙ ap (λ k. link_at k p) c.class_of-class.ensures.value)
     c.in_ok-holder.ensures.asks c.in_ok-holder.ensures.found c.in_ok-last.ensures.asks map t at stands in
     let others = c.in_ok-put_at.ensures.others r.map_is.honest r.holder_live in
     let mid = pages c.put_at.new.cache in
-    let puts : PutsAt g.row.D (pages c.args.cache.now) mid c.in_ok-holder.holder c.in_ok-holder.place c.in_ok-last.last = record {
+    let puts : PutsAt g.row.D (pages c.args.cache.now) mid c.in_ok-holder.holder c.in_ok-holder.place
+    c.in_ok-last.last = record {
       others = λ k off. others k off ∙ r.stay k;
-      written = λ k is within. c.in_ok-put_at.ensures.written r.map_is.honest k (ap (bucket_in g.row.D) (r.stay c.in_ok-holder.holder) ∙ is) within;
+      written =
+          λ k is within. c.in_ok-put_at.ensures.written r.map_is.honest k
+          (ap (bucket_in g.row.D) (r.stay c.in_ok-holder.holder) ∙ is) within;
     } in
-    let f = first_now g.row.D (pages c.args.cache.now) mid t c.args.id c.in_ok-first.first c.in_ok-holder.holder c.in_ok-holder.place r.begin.content c.in_ok-last.last stands r.link r.found r.begin.there puts in
+    let f = first_now g.row.D (pages c.args.cache.now) mid t c.args.id c.in_ok-first.first
+    c.in_ok-holder.holder c.in_ok-holder.place r.begin.content c.in_ok-last.last stands r.link r.found
+    r.begin.there puts in
     let sound = c.in_ok-put_at.ensures.sound r.map_is r.holder_live in
     let live = page_of_bucket g.row.D (mid c.in_ok-first.first) f.0 f.1 in
     let links = others c.args.directory r.holder_apart_is ∙ r.links in
@@ -81,47 +120,70 @@ returns-clause-sound g c = λ map t at stands.
 
 pub returns-clause-removed : goal.returns-clause-removed
 returns-clause-removed g c = λ map t at stands has.
-    let r = reached g.row.D c.args.directory c.args.id c.in_ok-first.first c.in_ok-holder.holder c.in_ok-holder.place c.args.cache.now c.read_link.new.cache c.place_in.new.cache c.last_in.new.cache c.in_ok-first.ensures.asks
-    (λ honest p there spelled. c.in_ok-first.ensures.link honest p there spelled ∙ ap (λ k. link_at k p) c.class_of-class.ensures.value)
+    let r = reached g.row.D c.args.directory c.args.id c.in_ok-first.first c.in_ok-holder.holder
+    c.in_ok-holder.place c.args.cache.now c.read_link.new.cache c.place_in.new.cache c.last_in.new.cache
+    c.in_ok-first.ensures.asks
+    (λ honest p there spelled. c.in_ok-first.ensures.link honest p there spelled
+    ∙ ap (λ k. link_at k p) c.class_of-class.ensures.value)
     c.in_ok-holder.ensures.asks c.in_ok-holder.ensures.found c.in_ok-last.ensures.asks map t at stands in
     let others = c.in_ok-put_at.ensures.others r.map_is.honest r.holder_live in
     let mid = pages c.put_at.new.cache in
-    let puts : PutsAt g.row.D (pages c.args.cache.now) mid c.in_ok-holder.holder c.in_ok-holder.place c.in_ok-last.last = record {
+    let puts : PutsAt g.row.D (pages c.args.cache.now) mid c.in_ok-holder.holder c.in_ok-holder.place
+    c.in_ok-last.last = record {
       others = λ k off. others k off ∙ r.stay k;
-      written = λ k is within. c.in_ok-put_at.ensures.written r.map_is.honest k (ap (bucket_in g.row.D) (r.stay c.in_ok-holder.holder) ∙ is) within;
+      written =
+          λ k is within. c.in_ok-put_at.ensures.written r.map_is.honest k
+          (ap (bucket_in g.row.D) (r.stay c.in_ok-holder.holder) ∙ is) within;
     } in
-    let f = first_now g.row.D (pages c.args.cache.now) mid t c.args.id c.in_ok-first.first c.in_ok-holder.holder c.in_ok-holder.place r.begin.content c.in_ok-last.last stands r.link r.found r.begin.there puts in
+    let f = first_now g.row.D (pages c.args.cache.now) mid t c.args.id c.in_ok-first.first
+    c.in_ok-holder.holder c.in_ok-holder.place r.begin.content c.in_ok-last.last stands r.link r.found
+    r.begin.there puts in
     let sound = c.in_ok-put_at.ensures.sound r.map_is r.holder_live in
     let live = page_of_bucket g.row.D (mid c.in_ok-first.first) f.0 f.1 in
     let links = others c.args.directory r.holder_apart_is ∙ r.links in
     let now = pages c.drop_last.new.cache in
     let first = c.in_ok-first.first in
-    broken_ok c.drop_last.result c.midway.result (Removes g.row.D (pages c.args.cache.now) now t c.args.id) c.midway.ensures
+    broken_ok c.drop_last.result c.midway.result (Removes g.row.D (pages c.args.cache.now) now t c.args.id)
+    c.midway.ensures
     (on_ok c.drop_last.result
-    (λ shrinks. removes_from g.row.D (pages c.args.cache.now) mid t c.args.id first c.in_ok-holder.holder c.in_ok-holder.place r.begin.content c.in_ok-last.last stands r.link r.found r.begin.there puts now
+    (λ shrinks. removes_from g.row.D (pages c.args.cache.now) mid t c.args.id first c.in_ok-holder.holder
+    c.in_ok-holder.place r.begin.content c.in_ok-last.last stands r.link r.found r.begin.there puts now
     (c.in_ok-last.ensures.last r.honest r.begin.content some_object r.reads) f.0 f.1
     (subst (λ d. Shrinks g.row.D mid now d (class_of c.args.id) first f.0 stands.directory) (sym at)
-    (subst (λ k. Shrinks g.row.D mid now c.args.directory k first f.0 stands.directory) c.class_of-class.ensures.value shrinks)))
+    (subst (λ k. Shrinks g.row.D mid now c.args.directory k first f.0 stands.directory)
+    c.class_of-class.ensures.value shrinks)))
     (c.drop_last.ensures.less sound r.apart stands.directory links f.0 f.1))
 
 pub returns-clause-faults : goal.returns-clause-faults
 returns-clause-faults g c = λ map t at stands has.
-    let r = reached g.row.D c.args.directory c.args.id c.in_ok-first.first c.in_ok-holder.holder c.in_ok-holder.place c.args.cache.now c.read_link.new.cache c.place_in.new.cache c.last_in.new.cache c.in_ok-first.ensures.asks
-    (λ honest p there spelled. c.in_ok-first.ensures.link honest p there spelled ∙ ap (λ k. link_at k p) c.class_of-class.ensures.value)
+    let r = reached g.row.D c.args.directory c.args.id c.in_ok-first.first c.in_ok-holder.holder
+    c.in_ok-holder.place c.args.cache.now c.read_link.new.cache c.place_in.new.cache c.last_in.new.cache
+    c.in_ok-first.ensures.asks
+    (λ honest p there spelled. c.in_ok-first.ensures.link honest p there spelled
+    ∙ ap (λ k. link_at k p) c.class_of-class.ensures.value)
     c.in_ok-holder.ensures.asks c.in_ok-holder.ensures.found c.in_ok-last.ensures.asks map t at stands in
     let others = c.in_ok-put_at.ensures.others r.map_is.honest r.holder_live in
     let mid = pages c.put_at.new.cache in
-    let puts : PutsAt g.row.D (pages c.args.cache.now) mid c.in_ok-holder.holder c.in_ok-holder.place c.in_ok-last.last = record {
+    let puts : PutsAt g.row.D (pages c.args.cache.now) mid c.in_ok-holder.holder c.in_ok-holder.place
+    c.in_ok-last.last = record {
       others = λ k off. others k off ∙ r.stay k;
-      written = λ k is within. c.in_ok-put_at.ensures.written r.map_is.honest k (ap (bucket_in g.row.D) (r.stay c.in_ok-holder.holder) ∙ is) within;
+      written =
+          λ k is within. c.in_ok-put_at.ensures.written r.map_is.honest k
+          (ap (bucket_in g.row.D) (r.stay c.in_ok-holder.holder) ∙ is) within;
     } in
-    let f = first_now g.row.D (pages c.args.cache.now) mid t c.args.id c.in_ok-first.first c.in_ok-holder.holder c.in_ok-holder.place r.begin.content c.in_ok-last.last stands r.link r.found r.begin.there puts in
+    let f = first_now g.row.D (pages c.args.cache.now) mid t c.args.id c.in_ok-first.first
+    c.in_ok-holder.holder c.in_ok-holder.place r.begin.content c.in_ok-last.last stands r.link r.found
+    r.begin.there puts in
     let sound = c.in_ok-put_at.ensures.sound r.map_is r.holder_live in
     let live = page_of_bucket g.row.D (mid c.in_ok-first.first) f.0 f.1 in
     let links = others c.args.directory r.holder_apart_is ∙ r.links in
-    broken_err c.drop_last.result c.midway.result IsOfDevice c.midway.ensures (c.drop_last.ensures.faults sound live (is_there (mid c.args.directory) stands.directory links) r.apart (λ two. omega (arith, two, r.begin.low)))
+    broken_err c.drop_last.result c.midway.result IsOfDevice c.midway.ensures
+    (c.drop_last.ensures.faults sound live (is_there (mid c.args.directory) stands.directory links)
+    r.apart (λ two. omega (arith, two, r.begin.low)))
 
 pub returns-in_err-last-clause-alters : goal.returns-in_err-last-clause-alters
 returns-in_err-last-clause-alters g c =
-    asks_and_breaks c.args.cache.now c.place_in.new.cache c.last_in.new.cache c.in_err-last.field-0.0 c.from_residual-in_err-last.result c.from_residual-in_err-last.ensures.1
-    (asks_in_turn c.args.cache.now c.read_link.new.cache c.place_in.new.cache None c.in_ok-first.ensures.asks c.in_ok-holder.ensures.asks) c.in_err-last.ensures.asks
+    asks_and_breaks c.args.cache.now c.place_in.new.cache c.last_in.new.cache c.in_err-last.field-0.0
+    c.from_residual-in_err-last.result c.from_residual-in_err-last.ensures.1
+    (asks_in_turn c.args.cache.now c.read_link.new.cache c.place_in.new.cache None c.in_ok-first.ensures.asks
+    c.in_ok-holder.ensures.asks) c.in_err-last.ensures.asks

@@ -8,32 +8,48 @@ use Rattle.id_table.proofs.GetLemmas.{ends_with, ends_without, goes_on, here_is,
 use Rattle.id_table.proofs.search.get.Goals as goal
 
 pub returns-then-number-eq0-clause-found : goal.returns-then-number-eq0-clause-found
-returns-then-number-eq0-clause-found g c = λ h t at stands. ends_without c.loop-walked.invariant c.if-number-eq0.true h t at stands
+returns-then-number-eq0-clause-found g c =
+    λ h t at stands. ends_without c.loop-walked.invariant c.if-number-eq0.true h t at stands
 
 pub returns-in_err-kept-clause-stands : goal.returns-in_err-kept-clause-stands
 returns-in_err-kept-clause-stands g c = λ h t at stands.
     let so_far = c.loop-walked.invariant in
-    at_error c.from_residual-in_err-kept.result c.in_err-kept.field-0.0 IsOfDevice c.from_residual-in_err-kept.ensures.1
-    (c.in_err-kept.ensures.there (so_far.asks.gate.honest.0 h) (here_is so_far c.if-number-eq0.false h t at stands).content (there_now so_far c.if-number-eq0.false h t at stands))
+    at_error c.from_residual-in_err-kept.result c.in_err-kept.field-0.0 IsOfDevice
+    c.from_residual-in_err-kept.ensures.1
+    (c.in_err-kept.ensures.there (so_far.asks.gate.honest.0 h)
+    (here_is so_far c.if-number-eq0.false h t at stands).content
+    (there_now so_far c.if-number-eq0.false h t at stands))
 
 pub returns-in_err-kept-clause-asks : goal.returns-in_err-kept-clause-asks
 returns-in_err-kept-clause-asks g c =
-    asks_and_refuses c.args.cache.now c.loop-walked.cache c.look.new.cache c.in_err-kept.field-0.0 c.from_residual-in_err-kept.result c.from_residual-in_err-kept.ensures.1
+    asks_and_refuses c.args.cache.now c.loop-walked.cache c.look.new.cache c.in_err-kept.field-0.0
+    c.from_residual-in_err-kept.result c.from_residual-in_err-kept.ensures.1
     c.loop-walked.invariant.asks c.in_err-kept.ensures.asks
 
 pub returns-then-is_some-clause-asks : goal.returns-then-is_some-clause-asks
-returns-then-is_some-clause-asks g c = asks_in_turn c.args.cache.now c.loop-walked.cache c.look.new.cache None c.loop-walked.invariant.asks c.in_ok-kept.ensures.asks
+returns-then-is_some-clause-asks g c =
+    asks_in_turn c.args.cache.now c.loop-walked.cache c.look.new.cache None c.loop-walked.invariant.asks
+    c.in_ok-kept.ensures.asks
 
 pub returns-then-is_some-clause-found : goal.returns-then-is_some-clause-found
 returns-then-is_some-clause-found g c = λ h t at stands.
-    ends_with c.loop-walked.invariant c.in_ok-kept.kept c.if-number-eq0.false (sym c.is_some.ensures ∙ c.if-is_some.true) (λ honest content is. (c.in_ok-kept.ensures.found honest content is).0) h t at stands
+    ends_with c.loop-walked.invariant c.in_ok-kept.kept c.if-number-eq0.false
+    (sym c.is_some.ensures ∙ c.if-is_some.true)
+    (λ honest content is. (c.in_ok-kept.ensures.found honest content is).0) h t at stands
 
 pub loop-walked-preserved : goal.loop-walked-preserved
 loop-walked-preserved g c =
-    goes_on c.loop-walked.invariant c.in_ok-kept.kept c.in_ok-kept.next c.look.new.cache c.if-number-eq0.false (sym c.is_some.ensures ∙ c.if-is_some.false)
+    goes_on c.loop-walked.invariant c.in_ok-kept.kept c.in_ok-kept.next c.look.new.cache
+    c.if-number-eq0.false (sym c.is_some.ensures ∙ c.if-is_some.false)
     c.in_ok-kept.ensures.asks c.in_ok-kept.ensures.found
 
 pub returns-clause-stands : goal.returns-clause-stands
 returns-clause-stands g c = λ h t at stands.
-    let many : next_of c.args.cache.now ≤ c.loop-walked.walked = omega (arith, c.loop-walked-test.false, c.next_number-walked-end.ensures, c.read_link.ensures.asks.map.next) in
+    let many : next_of c.args.cache.now ≤ c.loop-walked.walked =
+    omega (
+      arith,
+      c.loop-walked-test.false,
+      c.next_number-walked-end.ensures,
+      c.read_link.ensures.asks.map.next,
+    ) in
     absurd (never_as_long c.loop-walked.invariant many h t at stands)

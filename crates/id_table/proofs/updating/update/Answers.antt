@@ -22,33 +22,57 @@ use Rattle.id_table.proofs.updating.update.Goals as goal
 pub returns-in_err-holder-clause-faults : goal.returns-in_err-holder-clause-faults
 returns-in_err-holder-clause-faults g c = λ map t at stands has.
     let small : class_of c.args.id < 1000 = omega arith in
-    let s = starts g.row.D c.args.directory (class_of c.args.id) c.in_ok-first.first c.args.cache.now c.read_link.new.cache c.in_ok-first.ensures.asks
-    (λ honest p there spelled. c.in_ok-first.ensures.link honest p there spelled ∙ ap (λ k. link_at k p) c.class_of-class.ensures.value) map.honest small t at stands in
+    let s = starts g.row.D c.args.directory (class_of c.args.id) c.in_ok-first.first c.args.cache.now
+    c.read_link.new.cache c.in_ok-first.ensures.asks
+    (λ honest p there spelled. c.in_ok-first.ensures.link honest p there spelled
+    ∙ ap (λ k. link_at k p) c.class_of-class.ensures.value) map.honest small t at stands in
     let chain = chain_at t (class_of c.args.id) in
-    at_error c.from_residual-in_err-holder.result c.in_err-holder.field-0.0 IsOfDevice c.from_residual-in_err-holder.ensures.1
-    (c.in_err-holder.ensures.there s.honest chain s.begins_now (omega (arith, chain_is_short g.row.D c.args.cache.now t (class_of c.args.id) small stands, c.in_ok-first.ensures.asks.map.next)) (in_chain g.row.D (pages c.args.cache.now) t c.args.id stands has))
+    at_error c.from_residual-in_err-holder.result c.in_err-holder.field-0.0 IsOfDevice
+    c.from_residual-in_err-holder.ensures.1
+    (c.in_err-holder.ensures.there s.honest chain s.begins_now
+    (omega (
+      arith,
+      chain_is_short g.row.D c.args.cache.now t (class_of c.args.id) small stands,
+      c.in_ok-first.ensures.asks.map.next,
+    ))
+    (in_chain g.row.D (pages c.args.cache.now) t c.args.id stands has))
 
 pub returns-clause-changes : goal.returns-clause-changes
 returns-clause-changes g c =
-    changes_in_turn c.args.cache.now c.place_in.new.cache c.move_at.new.cache (fault_in c.move_at.result) (asks_changes c.args.cache.now c.place_in.new.cache None (asks_in_turn c.args.cache.now c.read_link.new.cache c.place_in.new.cache None c.in_ok-first.ensures.asks c.in_ok-holder.ensures.asks)) c.move_at.ensures.changes
+    changes_in_turn c.args.cache.now c.place_in.new.cache c.move_at.new.cache (fault_in c.move_at.result)
+    (asks_changes c.args.cache.now c.place_in.new.cache None
+    (asks_in_turn c.args.cache.now c.read_link.new.cache c.place_in.new.cache None
+    c.in_ok-first.ensures.asks c.in_ok-holder.ensures.asks)) c.move_at.ensures.changes
 
 pub returns-clause-refused : goal.returns-clause-refused
 returns-clause-refused g c =
-    let asked = asks_in_turn c.args.cache.now c.read_link.new.cache c.place_in.new.cache None c.in_ok-first.ensures.asks c.in_ok-holder.ensures.asks in
-    on_err c.move_at.result (the_map_is_kept_in_turn c.args.cache.now c.place_in.new.cache c.move_at.new.cache asked.gate.honest.0 asked.map) c.move_at.ensures.refused
+    let asked =
+    asks_in_turn c.args.cache.now c.read_link.new.cache c.place_in.new.cache None
+    c.in_ok-first.ensures.asks c.in_ok-holder.ensures.asks in
+    on_err c.move_at.result
+    (the_map_is_kept_in_turn c.args.cache.now c.place_in.new.cache c.move_at.new.cache
+    asked.gate.honest.0 asked.map) c.move_at.ensures.refused
 
 pub returns-clause-sound : goal.returns-clause-sound
 returns-clause-sound g c = λ map t at stands.
-    let r = reached g.row.D c.args.directory c.args.id c.in_ok-first.first c.in_ok-holder.holder c.in_ok-holder.place c.args.cache.now c.read_link.new.cache c.place_in.new.cache c.place_in.new.cache c.in_ok-first.ensures.asks
-    (λ honest p there spelled. c.in_ok-first.ensures.link honest p there spelled ∙ ap (λ k. link_at k p) c.class_of-class.ensures.value)
-    c.in_ok-holder.ensures.asks c.in_ok-holder.ensures.found (no_call_asks c.place_in.new.cache) map t at stands in
+    let r = reached g.row.D c.args.directory c.args.id c.in_ok-first.first c.in_ok-holder.holder
+    c.in_ok-holder.place c.args.cache.now c.read_link.new.cache c.place_in.new.cache c.place_in.new.cache
+    c.in_ok-first.ensures.asks
+    (λ honest p there spelled. c.in_ok-first.ensures.link honest p there spelled
+    ∙ ap (λ k. link_at k p) c.class_of-class.ensures.value)
+    c.in_ok-holder.ensures.asks c.in_ok-holder.ensures.found (no_call_asks c.place_in.new.cache) map t at
+    stands in
     c.move_at.ensures.sound r.map_is r.holder_live
 
 pub returns-clause-updated : goal.returns-clause-updated
 returns-clause-updated g c = λ map t at stands kept has.
-    let r = reached g.row.D c.args.directory c.args.id c.in_ok-first.first c.in_ok-holder.holder c.in_ok-holder.place c.args.cache.now c.read_link.new.cache c.place_in.new.cache c.place_in.new.cache c.in_ok-first.ensures.asks
-    (λ honest p there spelled. c.in_ok-first.ensures.link honest p there spelled ∙ ap (λ k. link_at k p) c.class_of-class.ensures.value)
-    c.in_ok-holder.ensures.asks c.in_ok-holder.ensures.found (no_call_asks c.place_in.new.cache) map t at stands in
+    let r = reached g.row.D c.args.directory c.args.id c.in_ok-first.first c.in_ok-holder.holder
+    c.in_ok-holder.place c.args.cache.now c.read_link.new.cache c.place_in.new.cache c.place_in.new.cache
+    c.in_ok-first.ensures.asks
+    (λ honest p there spelled. c.in_ok-first.ensures.link honest p there spelled
+    ∙ ap (λ k. link_at k p) c.class_of-class.ensures.value)
+    c.in_ok-holder.ensures.asks c.in_ok-holder.ensures.found (no_call_asks c.place_in.new.cache) map t at
+    stands in
     let others = c.move_at.ensures.others r.map_is.honest r.holder_live in
     let place = c.in_ok-holder.place in
     let holder = c.in_ok-holder.holder in
@@ -56,21 +80,32 @@ returns-clause-updated g c = λ map t at stands kept has.
     let box = c.args.bounds.now in
     let small : class_of c.args.id < 1000 = omega arith in
     on_ok c.move_at.result
-    (λ written. sets_box g.row.D old t c.args.id holder place stands r.found (pages c.move_at.new.cache) (with_box kept box) (record {
+    (λ written. sets_box g.row.D old t c.args.id holder place stands r.found (pages c.move_at.new.cache)
+    (with_box kept box) (record {
       others = λ k off. others k off ∙ r.stay k;
       written = λ k is within.
           let same : r.held.content ≡ k = cc (is, r.held.there) in
           let object : get_or k.entries place some_object ≡ (c.args.id, kept)
-          = ap (λ (es : List Entry). get_or es place some_object) (holder_entries g.row.D old c.args.id (chain_at t (class_of c.args.id)) (link_at (class_of c.args.id) stands.directory) holder place (stands.chains (class_of c.args.id) small) r.found k is)
+          = ap (λ (es : List Entry). get_or es place some_object)
+          (holder_entries g.row.D old c.args.id (chain_at t (class_of c.args.id))
+          (link_at (class_of c.args.id) stands.directory) holder place
+          (stands.chains (class_of c.args.id) small) r.found k is)
           ∙ kept_there g.row.D old t c.args.id holder place stands r.found kept has in
-          written ∙ ap (λ (k : BucketContent). Some (replaced k place (moved (get_or k.entries place some_object) box))) same
+          written ∙ ap
+          (λ (k : BucketContent). Some
+          (replaced k place (moved (get_or k.entries place some_object) box))) same
           ∙ ap (λ (o : Entry). Some (replaced k place (moved o box))) object;
     }))
-    (c.move_at.ensures.written r.map_is.honest r.held.content some_object (ap (bucket_in g.row.D) (r.stay holder) ∙ r.held.there) r.held.within)
+    (c.move_at.ensures.written r.map_is.honest r.held.content some_object
+    (ap (bucket_in g.row.D) (r.stay holder) ∙ r.held.there) r.held.within)
 
 pub returns-clause-faults : goal.returns-clause-faults
 returns-clause-faults g c = λ map t at stands has.
-    let r = reached g.row.D c.args.directory c.args.id c.in_ok-first.first c.in_ok-holder.holder c.in_ok-holder.place c.args.cache.now c.read_link.new.cache c.place_in.new.cache c.place_in.new.cache c.in_ok-first.ensures.asks
-    (λ honest p there spelled. c.in_ok-first.ensures.link honest p there spelled ∙ ap (λ k. link_at k p) c.class_of-class.ensures.value)
-    c.in_ok-holder.ensures.asks c.in_ok-holder.ensures.found (no_call_asks c.place_in.new.cache) map t at stands in
+    let r = reached g.row.D c.args.directory c.args.id c.in_ok-first.first c.in_ok-holder.holder
+    c.in_ok-holder.place c.args.cache.now c.read_link.new.cache c.place_in.new.cache c.place_in.new.cache
+    c.in_ok-first.ensures.asks
+    (λ honest p there spelled. c.in_ok-first.ensures.link honest p there spelled
+    ∙ ap (λ k. link_at k p) c.class_of-class.ensures.value)
+    c.in_ok-holder.ensures.asks c.in_ok-holder.ensures.found (no_call_asks c.place_in.new.cache) map t at
+    stands in
     c.move_at.ensures.faults r.map_is.honest r.holder_live

@@ -8,4 +8,5 @@ pub returns : goal.returns
 returns g c = λ d a b h left says.
     let i = inner_of d in
     let s = i.standing h in
-    well_formed i.stage i.kept i.slots.homes.items (base_of i) (journal_of i) a b s.kept_there s.homes_below s.reads (s.stops a b left) says
+    well_formed i.stage i.kept i.slots.homes.items (base_of i) (journal_of i) a b s.kept_there s.homes_below
+    s.reads (s.stops a b left) says

@@ -12,6 +12,9 @@ pub returns : goal.returns
 returns g c = λ d pair opened hd h more x.
     let p = g.P.DevicePair in
     let i = inner_of d in
-    let all : (a b : Blocks) → p.may_leave pair a b → BeginsOne (commits_of i) (recovered a b) = λ a b left. begins i (recovered a b) hd (a, b, more a b left, refl) in
-    opening_keeps p.moment p.left_since (p.may_leave pair) (commits_of i) (recovered (p.base pair) (p.journal pair)) pair opened all
+    let all : (a b : Blocks) → p.may_leave pair a b
+    → BeginsOne (commits_of i) (recovered a b) =
+    λ a b left. begins i (recovered a b) hd (a, b, more a b left, refl) in
+    opening_keeps p.moment p.left_since (p.may_leave pair) (commits_of i)
+    (recovered (p.base pair) (p.journal pair)) pair opened all
     (all (p.base pair) (p.journal pair) (g.met.P.DevicePair.shown_counts pair h)) x

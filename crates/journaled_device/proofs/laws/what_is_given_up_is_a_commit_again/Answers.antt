@@ -7,4 +7,5 @@ use Rattle.journaled_device.proofs.laws.what_is_given_up_is_a_commit_again.Goals
 pub returns : goal.returns
 returns g c = λ d opened h is.
     let i = inner_of d in
-    begins i (shown_of (inner_of opened)) h (base_of i, journal_of i, g.met.P.DevicePair.shown_counts (pair_of d) h, is)
+    begins i (shown_of (inner_of opened)) h
+    (base_of i, journal_of i, g.met.P.DevicePair.shown_counts (pair_of d) h, is)

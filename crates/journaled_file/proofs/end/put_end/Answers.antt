@@ -12,5 +12,6 @@ returns-clause-end g c = λ h _.
     let h3 = c.write_journal.ensures.honest.0 h2 in
     let before = p.journal c.sync_base.new.self in
     ap (block_at 1) (c.sync_journal.ensures.journal h3 ∙ c.in_ok-write_journal.ensures.written h2)
-    ∙ block_at-written 1 c.in_ok-page.page before (omega (arith, c.if-journal_blocks-lt2-2.false, c.journal_blocks-2.ensures.is))
+    ∙ block_at-written 1 c.in_ok-page.page before
+    (omega (arith, c.if-journal_blocks-lt2-2.false, c.journal_blocks-2.ensures.is))
     ∙ c.in_ok-page.ensures.is h

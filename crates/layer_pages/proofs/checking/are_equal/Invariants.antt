@@ -6,4 +6,5 @@ use Rattle.layer_pages.proofs.checking.are_equal.Given as goal
 
 -- the lists are the same so far, and their boxes are boxes
 abbrev pub invariant-loop-place : goal.invariant-loop-place
-invariant-loop-place g l = (take l.place l.held ≡ take l.place l.listed) × All (λ object. IsBox g.row.D (bounds_of object.1)) (take l.place l.held)
+invariant-loop-place g l = (take l.place l.held ≡ take l.place l.listed)
+    × All (λ object. IsBox g.row.D (bounds_of object.1)) (take l.place l.held)

@@ -13,7 +13,9 @@ returns-in-Ok-clause-sound g c = λ sound l most objects is.
     let m = pages c.args.cache.now in
     let at = root_of g.row.D most m c.args.root c.args.directory l objects is in
     let freed = c.in_ok-free_tree.ensures.freed sound l.tree at is.tree.stands in
-    c.in-Ok.ensures.sound (c.free_tree.ensures.sound sound l.tree at is.tree.stands) l.ids is.directory_is (ids_still g.row.D most m c.args.root c.args.directory l objects is (pages c.free_tree.new.cache) no_page freed)
+    c.in-Ok.ensures.sound (c.free_tree.ensures.sound sound l.tree at is.tree.stands) l.ids is.directory_is
+    (ids_still g.row.D most m c.args.root c.args.directory l objects is (pages c.free_tree.new.cache)
+    no_page freed)
 
 pub returns-in-Ok-clause-freed : goal.returns-in-Ok-clause-freed
 returns-in-Ok-clause-freed g c = λ sound l most objects is.
@@ -22,15 +24,19 @@ returns-in-Ok-clause-freed g c = λ sound l most objects is.
     let at = root_of g.row.D most m c.args.root c.args.directory l objects is in
     let freed = c.in_ok-free_tree.ensures.freed sound l.tree at is.tree.stands in
     let stand = ids_still g.row.D most m c.args.root c.args.directory l objects is mid no_page freed in
-    layer_freed g.row.D most m mid (pages c.free_all.new.cache) c.args.root c.args.directory l objects is freed
-    (c.in-Ok.ensures.freed (c.free_tree.ensures.sound sound l.tree at is.tree.stands) l.ids is.directory_is stand)
+    layer_freed g.row.D most m mid (pages c.free_all.new.cache) c.args.root c.args.directory l objects is
+    freed
+    (c.in-Ok.ensures.freed (c.free_tree.ensures.sound sound l.tree at is.tree.stands) l.ids is.directory_is
+    stand)
 
 pub returns-in-Err-clause-sound : goal.returns-in-Err-clause-sound
 returns-in-Err-clause-sound g c = λ sound l most objects is.
     let m = pages c.args.cache.now in
     let at = root_of g.row.D most m c.args.root c.args.directory l objects is in
     let freed = c.in_ok-free_tree.ensures.freed sound l.tree at is.tree.stands in
-    c.in-Err.ensures.sound (c.free_tree.ensures.sound sound l.tree at is.tree.stands) l.ids is.directory_is (ids_still g.row.D most m c.args.root c.args.directory l objects is (pages c.free_tree.new.cache) no_page freed)
+    c.in-Err.ensures.sound (c.free_tree.ensures.sound sound l.tree at is.tree.stands) l.ids is.directory_is
+    (ids_still g.row.D most m c.args.root c.args.directory l objects is (pages c.free_tree.new.cache)
+    no_page freed)
 
 pub returns-in-Err-clause-faults : goal.returns-in-Err-clause-faults
 returns-in-Err-clause-faults g c = λ sound l most objects is.
@@ -38,4 +44,6 @@ returns-in-Err-clause-faults g c = λ sound l most objects is.
     let at = root_of g.row.D most m c.args.root c.args.directory l objects is in
     let freed = c.in_ok-free_tree.ensures.freed sound l.tree at is.tree.stands in
     subst (λ (b : Broken). IsOfDevice b.cause) (sym c.midway.ensures)
-    (c.in-Err.ensures.faults (c.free_tree.ensures.sound sound l.tree at is.tree.stands) l.ids is.directory_is (ids_still g.row.D most m c.args.root c.args.directory l objects is (pages c.free_tree.new.cache) no_page freed))
+    (c.in-Err.ensures.faults (c.free_tree.ensures.sound sound l.tree at is.tree.stands) l.ids is.directory_is
+    (ids_still g.row.D most m c.args.root c.args.directory l objects is (pages c.free_tree.new.cache)
+    no_page freed))

@@ -12,7 +12,8 @@ use Rattle.node_page.specs.Faults.{IsChangeFault, IsNoDamage}
 use Rattle.reinsert.proofs.BrokenLemmas.{at_broken}
 use Rattle.layer_pages.specs.Changes.{BecomesLayer, HasInserted}
 use Rattle.layer_pages.specs.Layers.{IsLayerAt, part_of_layer}
-use Rattle.layer_pages.proofs.MadeLemmas.{absent_meanwhile, branch, can_insert, entry_has_shape, ids_meanwhile, layer_inserted}
+use Rattle.layer_pages.proofs.MadeLemmas.{absent_meanwhile, branch, can_insert, entry_has_shape}
+use Rattle.layer_pages.proofs.MadeLemmas.{ids_meanwhile, layer_inserted}
 use Rattle.layer_pages.proofs.inserting.insert.Goals as goal
 
 pub returns-in_err-after-clause-faults : goal.returns-in_err-after-clause-faults
@@ -21,15 +22,22 @@ returns-in_err-after-clause-faults g c = λ sound l objects at.
     let m = pages c.args.cache.now in
     let id = c.args.object.now.reference in
     let kept : Object = (c.args.object.now.bounds, c.args.object.now.tag) in
-    let is = subst (λ (most : ℕ). IsLayerAt D most m c.args.root c.args.directory l objects) (sym c.from.ensures) at in
-    at_broken c.from_residual.result c.in_err-after.field-0.0 (λ (b : Broken). IsNoDamage c.insert_with.new.cache b.cause) c.from_residual.ensures.1
-    (c.in_err-after.ensures.faults sound l.tree (branch D c.from.result m c.args.root c.args.directory l objects is id kept) (part_of l.ids)
-    (can_insert D c.from.result m c.args.root c.args.directory l objects is id kept) (loose D c.from.result l.tree is.tree.shape) is.boxes
-    (entry_has_shape D c.from.result m c.args.root c.args.directory l objects is id kept c.low.ensures.is_box))
+    let is =
+    subst (λ (most : ℕ). IsLayerAt D most m c.args.root c.args.directory l objects) (sym c.from.ensures)
+    at in
+    at_broken c.from_residual.result c.in_err-after.field-0.0
+    (λ (b : Broken). IsNoDamage c.insert_with.new.cache b.cause) c.from_residual.ensures.1
+    (c.in_err-after.ensures.faults sound l.tree
+    (branch D c.from.result m c.args.root c.args.directory l objects is id kept) (part_of l.ids)
+    (can_insert D c.from.result m c.args.root c.args.directory l objects is id kept)
+    (loose D c.from.result l.tree is.tree.shape) is.boxes
+    (entry_has_shape D c.from.result m c.args.root c.args.directory l objects is id kept
+    c.low.ensures.is_box))
 
 pub returns-in-Ok-clause-alters : goal.returns-in-Ok-clause-alters
 returns-in-Ok-clause-alters g c = made_alters c.args.cache.now c.add.new.cache c.in_ok-after.after
-    (changes_in_turn c.args.cache.now c.insert_with.new.cache c.add.new.cache None c.in_ok-after.ensures.alters.changes c.in-Ok.ensures.alters.changes)
+    (changes_in_turn c.args.cache.now c.insert_with.new.cache c.add.new.cache None
+    c.in_ok-after.ensures.alters.changes c.in-Ok.ensures.alters.changes)
 
 pub returns-in-Ok-clause-sound : goal.returns-in-Ok-clause-sound
 returns-in-Ok-clause-sound g c = λ sound l objects at.
@@ -37,10 +45,16 @@ returns-in-Ok-clause-sound g c = λ sound l objects at.
     let m = pages c.args.cache.now in
     let id = c.args.object.now.reference in
     let kept : Object = (c.args.object.now.bounds, c.args.object.now.tag) in
-    let is = subst (λ (most : ℕ). IsLayerAt D most m c.args.root c.args.directory l objects) (sym c.from.ensures) at in
-    let to = c.in_ok-after.ensures.inserted sound l.tree (branch D c.from.result m c.args.root c.args.directory l objects is id kept) (part_of l.ids)
+    let is =
+    subst (λ (most : ℕ). IsLayerAt D most m c.args.root c.args.directory l objects) (sym c.from.ensures)
+    at in
+    let to =
+    c.in_ok-after.ensures.inserted sound l.tree
+    (branch D c.from.result m c.args.root c.args.directory l objects is id kept) (part_of l.ids)
     (can_insert D c.from.result m c.args.root c.args.directory l objects is id kept) in
-    c.in-Ok.ensures.sound to.0 l.ids is.directory_is (ids_meanwhile D c.from.result m c.args.root c.args.directory l objects is id kept (pages c.insert_with.new.cache) c.in_ok-after.after to.1)
+    c.in-Ok.ensures.sound to.0 l.ids is.directory_is
+    (ids_meanwhile D c.from.result m c.args.root c.args.directory l objects is id kept
+    (pages c.insert_with.new.cache) c.in_ok-after.after to.1)
 
 pub returns-in-Ok-clause-inserted : goal.returns-in-Ok-clause-inserted
 returns-in-Ok-clause-inserted g c = λ sound l objects at absent.
@@ -49,19 +63,30 @@ returns-in-Ok-clause-inserted g c = λ sound l objects at absent.
     let mid = pages c.insert_with.new.cache in
     let id = c.args.object.now.reference in
     let kept : Object = (c.args.object.now.bounds, c.args.object.now.tag) in
-    let is = subst (λ (most : ℕ). IsLayerAt D most m c.args.root c.args.directory l objects) (sym c.from.ensures) at in
-    let to = c.in_ok-after.ensures.inserted sound l.tree (branch D c.from.result m c.args.root c.args.directory l objects is id kept) (part_of l.ids)
+    let is =
+    subst (λ (most : ℕ). IsLayerAt D most m c.args.root c.args.directory l objects) (sym c.from.ensures)
+    at in
+    let to =
+    c.in_ok-after.ensures.inserted sound l.tree
+    (branch D c.from.result m c.args.root c.args.directory l objects is id kept) (part_of l.ids)
     (can_insert D c.from.result m c.args.root c.args.directory l objects is id kept) in
-    let stand = ids_meanwhile D c.from.result m c.args.root c.args.directory l objects is id kept mid c.in_ok-after.after to.1 in
-    let none = absent_meanwhile D c.from.result m c.args.root c.args.directory l objects is id kept mid c.in_ok-after.after to.1 absent in
+    let stand =
+    ids_meanwhile D c.from.result m c.args.root c.args.directory l objects is id kept mid
+    c.in_ok-after.after to.1 in
+    let none =
+    absent_meanwhile D c.from.result m c.args.root c.args.directory l objects is id kept mid
+    c.in_ok-after.after to.1 absent in
     let added = c.in-Ok.ensures.added to.0 l.ids is.directory_is stand none in
-    subst (λ (most : ℕ). BecomesLayer D most m (pages c.add.new.cache) (part_of_layer l) c.in_ok-after.after c.args.directory (map.insert objects id kept) (HasInserted D most l id kept)) c.from.ensures
-    (layer_inserted D c.from.result m c.args.root c.args.directory l objects is id kept mid c.in_ok-after.after to.1 (pages c.add.new.cache) added
+    subst (λ (most : ℕ). BecomesLayer D most m (pages c.add.new.cache) (part_of_layer l) c.in_ok-after.after
+    c.args.directory (map.insert objects id kept) (HasInserted D most l id kept)) c.from.ensures
+    (layer_inserted D c.from.result m c.args.root c.args.directory l objects is id kept mid
+    c.in_ok-after.after to.1 (pages c.add.new.cache) added
     (omega (arith, c.requires.most.0, c.from.ensures)) c.low.ensures.is_box absent)
 
 pub returns-in-Err-clause-alters : goal.returns-in-Err-clause-alters
 returns-in-Err-clause-alters g c =
-    alters_and_breaks c.args.cache.now c.insert_with.new.cache c.add.new.cache c.in_ok-after.after c.in-Err.broken _ c.midway.ensures c.in_ok-after.ensures.alters c.in-Err.ensures.alters
+    alters_and_breaks c.args.cache.now c.insert_with.new.cache c.add.new.cache c.in_ok-after.after
+    c.in-Err.broken _ c.midway.ensures c.in_ok-after.ensures.alters c.in-Err.ensures.alters
 
 pub returns-in-Err-clause-faults : goal.returns-in-Err-clause-faults
 returns-in-Err-clause-faults g c = λ sound l objects at.
@@ -69,13 +94,21 @@ returns-in-Err-clause-faults g c = λ sound l objects at.
     let m = pages c.args.cache.now in
     let id = c.args.object.now.reference in
     let kept : Object = (c.args.object.now.bounds, c.args.object.now.tag) in
-    let is = subst (λ (most : ℕ). IsLayerAt D most m c.args.root c.args.directory l objects) (sym c.from.ensures) at in
-    let to = c.in_ok-after.ensures.inserted sound l.tree (branch D c.from.result m c.args.root c.args.directory l objects is id kept) (part_of l.ids)
+    let is =
+    subst (λ (most : ℕ). IsLayerAt D most m c.args.root c.args.directory l objects) (sym c.from.ensures)
+    at in
+    let to =
+    c.in_ok-after.ensures.inserted sound l.tree
+    (branch D c.from.result m c.args.root c.args.directory l objects is id kept) (part_of l.ids)
     (can_insert D c.from.result m c.args.root c.args.directory l objects is id kept) in
-    let stand = ids_meanwhile D c.from.result m c.args.root c.args.directory l objects is id kept (pages c.insert_with.new.cache) c.in_ok-after.after to.1 in
+    let stand =
+    ids_meanwhile D c.from.result m c.args.root c.args.directory l objects is id kept
+    (pages c.insert_with.new.cache) c.in_ok-after.after to.1 in
     subst (λ (b : Broken). IsNoDamage c.add.new.cache b.cause) (sym c.midway.ensures)
     (c.in-Err.ensures.faults to.0 l.ids is.directory_is stand)
 
 pub returns-in-Err-clause-other_faults : goal.returns-in-Err-clause-other_faults
 returns-in-Err-clause-other_faults g c =
-    subst (λ (b : Broken). IsChangeFault b.cause) (sym c.midway.ensures) (⊎_elim (λ quiet. ⊎_elim inl (λ full. inr (inl full.0)) quiet) (λ damaged. inr (inr damaged)) c.in-Err.ensures.other_faults)
+    subst (λ (b : Broken). IsChangeFault b.cause) (sym c.midway.ensures)
+    (⊎_elim (λ quiet. ⊎_elim inl (λ full. inr (inl full.0)) quiet) (λ damaged. inr (inr damaged))
+    c.in-Err.ensures.other_faults)

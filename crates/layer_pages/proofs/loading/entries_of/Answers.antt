@@ -1,5 +1,6 @@
 -- One entry more.
-use Rattle.std.proofs.Common.{◌≡◌, ◌∙◌, ℕ, ◌+◌, ◌<◌, List, [], ◌∷◌, ◌++◌, All, length, map, take, sym, ap, subst}
+use Rattle.std.proofs.Common.{◌≡◌, ◌∙◌, ℕ, ◌+◌, ◌<◌, List, [], ◌∷◌, ◌++◌, All, length, map, take, sym, ap}
+use Rattle.std.proofs.Common.{subst}
 use Rattle.std.proofs.lemmas.List.{map-append, take_more}
 use Rattle.std.proofs.lemmas.List.Elements.{All-push}
 use Rattle.box_math.specs.Bounds.{IsBox}
@@ -19,7 +20,12 @@ loop-object-preserved g c =
     let below : here < length objects = c.loop-object-test.true in
     let seen : items_of c.push.new.self.items ≡ items_of c.loop-object.entries.items ++ item_of entry ∷ [] =
     ap items_of c.in_ok-push.ensures.items ∙ map-append item_of c.loop-object.entries.items (entry ∷ []) in
-    let longer : take (here + 1) objects ≡ take here objects ++ x ∷ [] = take_more objects here x below ∙ ap (λ (o : ℕ × Object). take here objects ++ o ∷ []) (sym c.object-item.is) in (
-      seen ∙ ap (λ (is : List Item). is ++ item_of entry ∷ []) c.loop-object.invariant.0 ∙ sym (map-append item_of_object (take here objects) (x ∷ [])) ∙ ap (map item_of_object) (sym longer),
-      subst (λ (is : List Item). All P is) (sym seen) (All-push P (items_of c.loop-object.entries.items) (item_of entry) c.loop-object.invariant.1 c.low.ensures.is_box),
+    let longer : take (here + 1) objects ≡ take here objects ++ x ∷ [] = take_more objects here x below
+    ∙ ap (λ (o : ℕ × Object). take here objects ++ o ∷ []) (sym c.object-item.is) in (
+      seen ∙ ap (λ (is : List Item). is ++ item_of entry ∷ []) c.loop-object.invariant.0
+          ∙ sym (map-append item_of_object (take here objects) (x ∷ []))
+          ∙ ap (map item_of_object) (sym longer),
+      subst (λ (is : List Item). All P is) (sym seen)
+          (All-push P (items_of c.loop-object.entries.items) (item_of entry) c.loop-object.invariant.1
+          c.low.ensures.is_box),
     )

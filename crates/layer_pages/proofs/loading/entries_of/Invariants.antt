@@ -7,4 +7,5 @@ use Rattle.layer_pages.proofs.loading.entries_of.Given as goal
 
 -- the objects so far are entries, each with a box
 abbrev pub invariant-loop-object : goal.invariant-loop-object
-invariant-loop-object g l = (items_of l.entries.items ≡ map item_of_object (take l.object-index l.objects)) × All (λ item. IsBox g.row.D item.bounds) (items_of l.entries.items)
+invariant-loop-object g l = (items_of l.entries.items ≡ map item_of_object (take l.object-index l.objects))
+    × All (λ item. IsBox g.row.D item.bounds) (items_of l.entries.items)

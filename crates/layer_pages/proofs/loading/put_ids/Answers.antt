@@ -3,7 +3,8 @@ use Rattle.std.proofs.Common.{ℕ, List, None, length, inl, sym, subst, arith, r
 use Rattle.std.specs.FinMap as map
 use Rattle.std.specs.FinMap.{entries}
 use Rattle.std.specs.Prelude.{IsPermutation}
-use Rattle.std.proofs.lemmas.List.Sorted.{IsNonDecreasingBy-from_sort_by_key, IsPermutation-sym, IsPermutation-trans, length_permutation}
+use Rattle.std.proofs.lemmas.List.Sorted.{IsNonDecreasingBy-from_sort_by_key, IsPermutation-sym}
+use Rattle.std.proofs.lemmas.List.Sorted.{IsPermutation-trans, length_permutation}
 use Rattle.bucket_page.specs.Layout.{Entry}
 use Rattle.page_cache.specs.Cache.{Grows, pages}
 use Rattle.page_cache.specs.Calls.{changes_in_turn}
@@ -18,19 +19,25 @@ use Rattle.layer_pages.proofs.LayerLemmas.{root_of}
 use Rattle.layer_pages.proofs.LoadLemmas.{all_new, table_left, tree_still}
 use Rattle.layer_pages.proofs.loading.put_ids.Goals as goal
 
-still_all : (old sorted : List Entry) (all : Objects) → IsPermutation old sorted → IsPermutation old (entries all) → IsPermutation sorted (entries all)
-still_all old sorted all moved same = IsPermutation-trans sorted old (entries all) (IsPermutation-sym old sorted moved) same
+still_all : (old sorted : List Entry) (all : Objects) → IsPermutation old sorted
+    → IsPermutation old (entries all) → IsPermutation sorted (entries all)
+still_all old sorted all moved same =
+    IsPermutation-trans sorted old (entries all) (IsPermutation-sym old sorted moved) same
 
 pub returns-in_err-fill-clause-faults : goal.returns-in_err-fill-clause-faults
 returns-in_err-fill-clause-faults g c = λ sound l most all is same.
     let sorted = c.sort_unstable_by_key.new.self in
-    let fresh = all_new g.row.D most (pages c.args.cache.now) c.args.root c.args.directory l is sorted all (still_all _ sorted all c.sort_unstable_by_key.ensures.permutation same) in
-    at_broken c.from_residual.result c.in_err-fill.field-0.0 (λ (b : Broken). IsNoDamage c.fill.new.cache b.cause) c.from_residual.ensures.1
+    let fresh =
+    all_new g.row.D most (pages c.args.cache.now) c.args.root c.args.directory l is sorted all
+    (still_all _ sorted all c.sort_unstable_by_key.ensures.permutation same) in
+    at_broken c.from_residual.result c.in_err-fill.field-0.0
+    (λ (b : Broken). IsNoDamage c.fill.new.cache b.cause) c.from_residual.ensures.1
     (c.in_err-fill.ensures.faults sound l.ids is.directory_is is.ids fresh)
 
 pub returns-in-Ok-clause-alters : goal.returns-in-Ok-clause-alters
 returns-in-Ok-clause-alters g c = made_alters c.args.cache.now c.free_tree.new.cache tt
-    (changes_in_turn c.args.cache.now c.fill.new.cache c.free_tree.new.cache None c.in_ok-fill.ensures.alters.changes c.in-Ok.ensures.alters.changes)
+    (changes_in_turn c.args.cache.now c.fill.new.cache c.free_tree.new.cache None
+    c.in_ok-fill.ensures.alters.changes c.in-Ok.ensures.alters.changes)
 
 pub returns-in-Ok-clause-sound : goal.returns-in-Ok-clause-sound
 returns-in-Ok-clause-sound g c = λ sound l most all is same.
@@ -39,8 +46,10 @@ returns-in-Ok-clause-sound g c = λ sound l most all is same.
     let still = still_all _ sorted all c.sort_unstable_by_key.ensures.permutation same in
     let fresh = all_new g.row.D most m c.args.root c.args.directory l is sorted all still in
     let filled = c.in_ok-fill.ensures.filled sound l.ids is.directory_is is.ids fresh in
-    c.free_tree.ensures.sound (c.fill.ensures.sound sound l.ids is.directory_is is.ids fresh) l.tree (root_of g.row.D most m c.args.root c.args.directory l map.empty is)
-    (tree_still g.row.D most m c.args.root c.args.directory l is sorted all still (pages c.fill.new.cache) filled)
+    c.free_tree.ensures.sound (c.fill.ensures.sound sound l.ids is.directory_is is.ids fresh) l.tree
+    (root_of g.row.D most m c.args.root c.args.directory l map.empty is)
+    (tree_still g.row.D most m c.args.root c.args.directory l is sorted all still (pages c.fill.new.cache)
+    filled)
 
 pub returns-in-Ok-clause-put : goal.returns-in-Ok-clause-put
 returns-in-Ok-clause-put g c = λ sound l most all is same.
@@ -50,12 +59,16 @@ returns-in-Ok-clause-put g c = λ sound l most all is same.
     let still = still_all _ sorted all c.sort_unstable_by_key.ensures.permutation same in
     let fresh = all_new g.row.D most m c.args.root c.args.directory l is sorted all still in
     let filled = c.in_ok-fill.ensures.filled sound l.ids is.directory_is is.ids fresh in
-    table_left g.row.D most m c.args.root c.args.directory l is sorted all still mid filled (pages c.free_tree.new.cache)
-    (c.in-Ok.ensures.freed (c.fill.ensures.sound sound l.ids is.directory_is is.ids fresh) l.tree (root_of g.row.D most m c.args.root c.args.directory l map.empty is)
+    table_left g.row.D most m c.args.root c.args.directory l is sorted all still mid filled
+    (pages c.free_tree.new.cache)
+    (c.in-Ok.ensures.freed (c.fill.ensures.sound sound l.ids is.directory_is is.ids fresh) l.tree
+    (root_of g.row.D most m c.args.root c.args.directory l map.empty is)
     (tree_still g.row.D most m c.args.root c.args.directory l is sorted all still mid filled))
 
 pub returns-in-Err-clause-alters : goal.returns-in-Err-clause-alters
-returns-in-Err-clause-alters g c = alters_and_breaks c.args.cache.now c.fill.new.cache c.free_tree.new.cache c.in_ok-fill.field-0 c.in-Err.broken _ c.midway.ensures c.in_ok-fill.ensures.alters c.in-Err.ensures.alters
+returns-in-Err-clause-alters g c =
+    alters_and_breaks c.args.cache.now c.fill.new.cache c.free_tree.new.cache c.in_ok-fill.field-0
+    c.in-Err.broken _ c.midway.ensures c.in_ok-fill.ensures.alters c.in-Err.ensures.alters
 
 pub returns-in-Err-clause-faults : goal.returns-in-Err-clause-faults
 returns-in-Err-clause-faults g c = λ sound l most all is same.
@@ -66,26 +79,47 @@ returns-in-Err-clause-faults g c = λ sound l most all is same.
     let filled = c.in_ok-fill.ensures.filled sound l.ids is.directory_is is.ids fresh in
     subst (λ (b : Broken). IsNoDamage c.free_tree.new.cache b.cause) (sym c.midway.ensures)
     (inl
-    (c.in-Err.ensures.faults (c.fill.ensures.sound sound l.ids is.directory_is is.ids fresh) l.tree (root_of g.row.D most m c.args.root c.args.directory l map.empty is)
-    (tree_still g.row.D most m c.args.root c.args.directory l is sorted all still (pages c.fill.new.cache) filled) c.requires.root.page.0))
+    (c.in-Err.ensures.faults (c.fill.ensures.sound sound l.ids is.directory_is is.ids fresh) l.tree
+    (root_of g.row.D most m c.args.root c.args.directory l map.empty is)
+    (tree_still g.row.D most m c.args.root c.args.directory l is sorted all still (pages c.fill.new.cache)
+    filled) c.requires.root.page.0))
 
 pub returns-in_err-fill-clause-grows : goal.returns-in_err-fill-clause-grows
 returns-in_err-fill-clause-grows g c =
     let class : Entry → ℕ = λ o. class_of o.0 in
-    let filled : Grows (most_filled_pages (length c.sort_unstable_by_key.new.self)) c.args.cache.now c.fill.new.cache =
-    c.fill.ensures.grows_in_order (IsNonDecreasingBy-from_sort_by_key class _ c.sort_unstable_by_key.ensures.sorted (λ a r q k. search rules)) in
+    let filled : Grows (most_filled_pages (length c.sort_unstable_by_key.new.self)) c.args.cache.now
+    c.fill.new.cache =
+    c.fill.ensures.grows_in_order
+    (IsNonDecreasingBy-from_sort_by_key class _ c.sort_unstable_by_key.ensures.sorted
+    (λ a r q k. search rules)) in
     omega (arith, filled, length_permutation _ _ c.sort_unstable_by_key.ensures.permutation)
 
 pub returns-in-Ok-clause-grows : goal.returns-in-Ok-clause-grows
 returns-in-Ok-clause-grows g c =
     let class : Entry → ℕ = λ o. class_of o.0 in
-    let filled : Grows (most_filled_pages (length c.sort_unstable_by_key.new.self)) c.args.cache.now c.fill.new.cache =
-    c.fill.ensures.grows_in_order (IsNonDecreasingBy-from_sort_by_key class _ c.sort_unstable_by_key.ensures.sorted (λ a r q k. search rules)) in
-    omega (arith, filled, length_permutation _ _ c.sort_unstable_by_key.ensures.permutation, c.free_tree.ensures.grows)
+    let filled : Grows (most_filled_pages (length c.sort_unstable_by_key.new.self)) c.args.cache.now
+    c.fill.new.cache =
+    c.fill.ensures.grows_in_order
+    (IsNonDecreasingBy-from_sort_by_key class _ c.sort_unstable_by_key.ensures.sorted
+    (λ a r q k. search rules)) in
+    omega (
+      arith,
+      filled,
+      length_permutation _ _ c.sort_unstable_by_key.ensures.permutation,
+      c.free_tree.ensures.grows,
+    )
 
 pub returns-in-Err-clause-grows : goal.returns-in-Err-clause-grows
 returns-in-Err-clause-grows g c =
     let class : Entry → ℕ = λ o. class_of o.0 in
-    let filled : Grows (most_filled_pages (length c.sort_unstable_by_key.new.self)) c.args.cache.now c.fill.new.cache =
-    c.fill.ensures.grows_in_order (IsNonDecreasingBy-from_sort_by_key class _ c.sort_unstable_by_key.ensures.sorted (λ a r q k. search rules)) in
-    omega (arith, filled, length_permutation _ _ c.sort_unstable_by_key.ensures.permutation, c.free_tree.ensures.grows)
+    let filled : Grows (most_filled_pages (length c.sort_unstable_by_key.new.self)) c.args.cache.now
+    c.fill.new.cache =
+    c.fill.ensures.grows_in_order
+    (IsNonDecreasingBy-from_sort_by_key class _ c.sort_unstable_by_key.ensures.sorted
+    (λ a r q k. search rules)) in
+    omega (
+      arith,
+      filled,
+      length_permutation _ _ c.sort_unstable_by_key.ensures.permutation,
+      c.free_tree.ensures.grows,
+    )

@@ -16,39 +16,57 @@ use Rattle.reinsert.proofs.BrokenLemmas.{at_broken}
 use Rattle.condense.proofs.RemoveLemmas.{refused_so}
 use Rattle.layer_pages.specs.Changes.{BecomesLayer, HasRemoved}
 use Rattle.layer_pages.specs.Layers.{IsLayerAt, part_of_layer}
-use Rattle.layer_pages.proofs.RemovedLemmas.{can_remove, ids_between, in_a_leaf, in_no_leaf, in_table, layer_removed}
+use Rattle.layer_pages.proofs.RemovedLemmas.{can_remove, ids_between, in_a_leaf, in_no_leaf, in_table}
+use Rattle.layer_pages.proofs.RemovedLemmas.{layer_removed}
 use Rattle.layer_pages.proofs.removing.remove.Goals as goal
 
 pub returns-in_err-after-clause-absent : goal.returns-in_err-after-clause-absent
 returns-in_err-after-clause-absent g c = λ sound l objects at absent.
     let D = g.row.D in
     let m = pages c.args.cache.now in
-    let is = subst (λ (most : ℕ). IsLayerAt D most m c.args.root c.args.directory l objects) (sym c.from.ensures) at in
-    refused_so c.from_residual.result c.in_err-after.field-0.0 (λ (b : Broken). (b.touched ≡ false) × (IsOfDevice b.cause ⊎ (b.cause ≡ fault.Damaged c.args.root.page))) c.from_residual.ensures.1
-    (c.in_err-after.ensures.absent sound l.tree (part_of l.ids) (can_remove D c.from.result m c.args.root c.args.directory l objects is)
-    (in_no_leaf D c.from.result m c.args.root c.args.directory l objects is c.args.id (c.args.bounds.now, c.args.tag) absent))
+    let is =
+    subst (λ (most : ℕ). IsLayerAt D most m c.args.root c.args.directory l objects) (sym c.from.ensures)
+    at in
+    refused_so c.from_residual.result c.in_err-after.field-0.0
+    (λ (b : Broken). (b.touched ≡ false)
+    × (IsOfDevice b.cause ⊎ (b.cause ≡ fault.Damaged c.args.root.page))) c.from_residual.ensures.1
+    (c.in_err-after.ensures.absent sound l.tree (part_of l.ids)
+    (can_remove D c.from.result m c.args.root c.args.directory l objects is)
+    (in_no_leaf D c.from.result m c.args.root c.args.directory l objects is c.args.id
+    (c.args.bounds.now, c.args.tag) absent))
 
 pub returns-in_err-after-clause-faults : goal.returns-in_err-after-clause-faults
 returns-in_err-after-clause-faults g c = λ sound l objects at there.
     let D = g.row.D in
     let m = pages c.args.cache.now in
-    let is = subst (λ (most : ℕ). IsLayerAt D most m c.args.root c.args.directory l objects) (sym c.from.ensures) at in
-    at_broken c.from_residual.result c.in_err-after.field-0.0 (λ (b : Broken). IsNoDamage c.remove_with.new.cache b.cause) c.from_residual.ensures.1
-    (c.in_err-after.ensures.faults sound l.tree (part_of l.ids) (can_remove D c.from.result m c.args.root c.args.directory l objects is) is.tree.shape is.boxes
-    (in_a_leaf D c.from.result m c.args.root c.args.directory l objects is c.args.id (c.args.bounds.now, c.args.tag) there))
+    let is =
+    subst (λ (most : ℕ). IsLayerAt D most m c.args.root c.args.directory l objects) (sym c.from.ensures)
+    at in
+    at_broken c.from_residual.result c.in_err-after.field-0.0
+    (λ (b : Broken). IsNoDamage c.remove_with.new.cache b.cause) c.from_residual.ensures.1
+    (c.in_err-after.ensures.faults sound l.tree (part_of l.ids)
+    (can_remove D c.from.result m c.args.root c.args.directory l objects is) is.tree.shape is.boxes
+    (in_a_leaf D c.from.result m c.args.root c.args.directory l objects is c.args.id
+    (c.args.bounds.now, c.args.tag) there))
 
 pub returns-in-Ok-clause-alters : goal.returns-in-Ok-clause-alters
 returns-in-Ok-clause-alters g c = made_alters c.args.cache.now c.remove.new.cache c.in_ok-after.after
-    (changes_in_turn c.args.cache.now c.remove_with.new.cache c.remove.new.cache None c.in_ok-after.ensures.alters.changes c.in-Ok.ensures.alters.changes)
+    (changes_in_turn c.args.cache.now c.remove_with.new.cache c.remove.new.cache None
+    c.in_ok-after.ensures.alters.changes c.in-Ok.ensures.alters.changes)
 
 pub returns-in-Ok-clause-sound : goal.returns-in-Ok-clause-sound
 returns-in-Ok-clause-sound g c = λ sound l objects at.
     let D = g.row.D in
     let m = pages c.args.cache.now in
-    let is = subst (λ (most : ℕ). IsLayerAt D most m c.args.root c.args.directory l objects) (sym c.from.ensures) at in
-    let to = c.in_ok-after.ensures.removed sound l.tree (part_of l.ids) (can_remove D c.from.result m c.args.root c.args.directory l objects is) in
+    let is =
+    subst (λ (most : ℕ). IsLayerAt D most m c.args.root c.args.directory l objects) (sym c.from.ensures)
+    at in
+    let to =
+    c.in_ok-after.ensures.removed sound l.tree (part_of l.ids)
+    (can_remove D c.from.result m c.args.root c.args.directory l objects is) in
     c.in-Ok.ensures.sound to.0 l.ids is.directory_is
-    (ids_between D c.from.result m c.args.root c.args.directory l objects is c.args.id (c.args.bounds.now, c.args.tag) (pages c.remove_with.new.cache) c.in_ok-after.after to.1)
+    (ids_between D c.from.result m c.args.root c.args.directory l objects is c.args.id
+    (c.args.bounds.now, c.args.tag) (pages c.remove_with.new.cache) c.in_ok-after.after to.1)
 
 pub returns-in-Ok-clause-removed : goal.returns-in-Ok-clause-removed
 returns-in-Ok-clause-removed g c = λ sound l objects at there.
@@ -57,32 +75,53 @@ returns-in-Ok-clause-removed g c = λ sound l objects at there.
     let mid = pages c.remove_with.new.cache in
     let id = c.args.id in
     let kept : Object = (c.args.bounds.now, c.args.tag) in
-    let is = subst (λ (most : ℕ). IsLayerAt D most m c.args.root c.args.directory l objects) (sym c.from.ensures) at in
-    let to = c.in_ok-after.ensures.removed sound l.tree (part_of l.ids) (can_remove D c.from.result m c.args.root c.args.directory l objects is) in
-    let stand = ids_between D c.from.result m c.args.root c.args.directory l objects is id kept mid c.in_ok-after.after to.1 in
-    let removed = c.in-Ok.ensures.removed to.0 l.ids is.directory_is stand (in_table D c.from.result m c.args.root c.args.directory l objects is id kept there) in
-    subst (λ (most : ℕ). BecomesLayer D most m (pages c.remove.new.cache) (part_of_layer l) c.in_ok-after.after c.args.directory (map.remove objects id) (HasRemoved D most l id kept)) c.from.ensures
-    (layer_removed D c.from.result m c.args.root c.args.directory l objects is id kept mid c.in_ok-after.after to.1 (pages c.remove.new.cache) removed (omega (arith, c.requires.most.0, c.from.ensures)) there)
+    let is =
+    subst (λ (most : ℕ). IsLayerAt D most m c.args.root c.args.directory l objects) (sym c.from.ensures)
+    at in
+    let to =
+    c.in_ok-after.ensures.removed sound l.tree (part_of l.ids)
+    (can_remove D c.from.result m c.args.root c.args.directory l objects is) in
+    let stand =
+    ids_between D c.from.result m c.args.root c.args.directory l objects is id kept mid
+    c.in_ok-after.after to.1 in
+    let removed =
+    c.in-Ok.ensures.removed to.0 l.ids is.directory_is stand
+    (in_table D c.from.result m c.args.root c.args.directory l objects is id kept there) in
+    subst (λ (most : ℕ). BecomesLayer D most m (pages c.remove.new.cache) (part_of_layer l)
+    c.in_ok-after.after c.args.directory (map.remove objects id) (HasRemoved D most l id kept))
+    c.from.ensures
+    (layer_removed D c.from.result m c.args.root c.args.directory l objects is id kept mid
+    c.in_ok-after.after to.1 (pages c.remove.new.cache) removed
+    (omega (arith, c.requires.most.0, c.from.ensures)) there)
 
 pub returns-in-Ok-clause-absent : goal.returns-in-Ok-clause-absent
 returns-in-Ok-clause-absent g c = λ sound l objects at absent.
     let D = g.row.D in
     let m = pages c.args.cache.now in
-    let is = subst (λ (most : ℕ). IsLayerAt D most m c.args.root c.args.directory l objects) (sym c.from.ensures) at in
-    absurd (c.in_ok-after.ensures.absent sound l.tree (part_of l.ids) (can_remove D c.from.result m c.args.root c.args.directory l objects is)
-    (in_no_leaf D c.from.result m c.args.root c.args.directory l objects is c.args.id (c.args.bounds.now, c.args.tag) absent))
+    let is =
+    subst (λ (most : ℕ). IsLayerAt D most m c.args.root c.args.directory l objects) (sym c.from.ensures)
+    at in
+    absurd (c.in_ok-after.ensures.absent sound l.tree (part_of l.ids)
+    (can_remove D c.from.result m c.args.root c.args.directory l objects is)
+    (in_no_leaf D c.from.result m c.args.root c.args.directory l objects is c.args.id
+    (c.args.bounds.now, c.args.tag) absent))
 
 pub returns-in-Err-clause-alters : goal.returns-in-Err-clause-alters
 returns-in-Err-clause-alters g c =
-    alters_and_breaks c.args.cache.now c.remove_with.new.cache c.remove.new.cache c.in_ok-after.after c.in-Err.broken _ c.midway.ensures c.in_ok-after.ensures.alters c.in-Err.ensures.alters
+    alters_and_breaks c.args.cache.now c.remove_with.new.cache c.remove.new.cache c.in_ok-after.after
+    c.in-Err.broken _ c.midway.ensures c.in_ok-after.ensures.alters c.in-Err.ensures.alters
 
 pub returns-in-Err-clause-absent : goal.returns-in-Err-clause-absent
 returns-in-Err-clause-absent g c = λ sound l objects at absent.
     let D = g.row.D in
     let m = pages c.args.cache.now in
-    let is = subst (λ (most : ℕ). IsLayerAt D most m c.args.root c.args.directory l objects) (sym c.from.ensures) at in
-    absurd (c.in_ok-after.ensures.absent sound l.tree (part_of l.ids) (can_remove D c.from.result m c.args.root c.args.directory l objects is)
-    (in_no_leaf D c.from.result m c.args.root c.args.directory l objects is c.args.id (c.args.bounds.now, c.args.tag) absent))
+    let is =
+    subst (λ (most : ℕ). IsLayerAt D most m c.args.root c.args.directory l objects) (sym c.from.ensures)
+    at in
+    absurd (c.in_ok-after.ensures.absent sound l.tree (part_of l.ids)
+    (can_remove D c.from.result m c.args.root c.args.directory l objects is)
+    (in_no_leaf D c.from.result m c.args.root c.args.directory l objects is c.args.id
+    (c.args.bounds.now, c.args.tag) absent))
 
 pub returns-in-Err-clause-faults : goal.returns-in-Err-clause-faults
 returns-in-Err-clause-faults g c = λ sound l objects at there.
@@ -90,12 +129,21 @@ returns-in-Err-clause-faults g c = λ sound l objects at there.
     let m = pages c.args.cache.now in
     let id = c.args.id in
     let kept : Object = (c.args.bounds.now, c.args.tag) in
-    let is = subst (λ (most : ℕ). IsLayerAt D most m c.args.root c.args.directory l objects) (sym c.from.ensures) at in
-    let to = c.in_ok-after.ensures.removed sound l.tree (part_of l.ids) (can_remove D c.from.result m c.args.root c.args.directory l objects is) in
-    let stand = ids_between D c.from.result m c.args.root c.args.directory l objects is id kept (pages c.remove_with.new.cache) c.in_ok-after.after to.1 in
+    let is =
+    subst (λ (most : ℕ). IsLayerAt D most m c.args.root c.args.directory l objects) (sym c.from.ensures)
+    at in
+    let to =
+    c.in_ok-after.ensures.removed sound l.tree (part_of l.ids)
+    (can_remove D c.from.result m c.args.root c.args.directory l objects is) in
+    let stand =
+    ids_between D c.from.result m c.args.root c.args.directory l objects is id kept
+    (pages c.remove_with.new.cache) c.in_ok-after.after to.1 in
     subst (λ (b : Broken). IsNoDamage c.remove.new.cache b.cause) (sym c.midway.ensures)
     (inl
-    (c.in-Err.ensures.faults to.0 l.ids is.directory_is stand (in_table D c.from.result m c.args.root c.args.directory l objects is id kept there)))
+    (c.in-Err.ensures.faults to.0 l.ids is.directory_is stand
+    (in_table D c.from.result m c.args.root c.args.directory l objects is id kept there)))
 
 pub returns-in-Err-clause-other_faults : goal.returns-in-Err-clause-other_faults
-returns-in-Err-clause-other_faults g c = subst (λ (b : Broken). IsChangeFault b.cause) (sym c.midway.ensures) (one_more _ _ _ c.in-Err.ensures.other_faults)
+returns-in-Err-clause-other_faults g c =
+    subst (λ (b : Broken). IsChangeFault b.cause) (sym c.midway.ensures)
+    (one_more _ _ _ c.in-Err.ensures.other_faults)

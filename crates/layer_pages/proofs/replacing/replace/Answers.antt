@@ -19,113 +19,205 @@ use Rattle.layer_pages.specs.Changes.{BecomesLayer, HasReplaced}
 use Rattle.layer_pages.specs.Layers.{IsLayerAt, part_of_layer}
 use Rattle.layer_pages.proofs.MadeLemmas.{entry_has_shape}
 use Rattle.layer_pages.proofs.RemovedLemmas.{can_remove, in_a_leaf, in_no_leaf, in_table, kept_in_table}
-use Rattle.layer_pages.proofs.ReplacedLemmas.{can_insert_between, ids_unchanged, layer_replaced, shape_between}
+use Rattle.layer_pages.proofs.ReplacedLemmas.{can_insert_between, ids_unchanged, layer_replaced}
+use Rattle.layer_pages.proofs.ReplacedLemmas.{shape_between}
 use Rattle.layer_pages.proofs.replacing.replace.Goals as goal
 
 pub returns-in_err-between-clause-absent : goal.returns-in_err-between-clause-absent
 returns-in_err-between-clause-absent g c = λ sound l objects at absent.
     let D = g.row.D in
     let m = pages c.args.cache.now in
-    let is = subst (λ (most : ℕ). IsLayerAt D most m c.args.root c.args.directory l objects) (sym c.from-most.ensures) at in
-    refused_so c.from_residual.result c.in_err-between.field-0.0 (λ (b : Broken). (b.touched ≡ false) × (IsOfDevice b.cause ⊎ (b.cause ≡ fault.Damaged c.args.root.page))) c.from_residual.ensures.1
-    (c.in_err-between.ensures.absent sound l.tree (part_of l.ids) (can_remove D c.from-most.result m c.args.root c.args.directory l objects is)
-    (in_no_leaf D c.from-most.result m c.args.root c.args.directory l objects is c.args.id (c.args.old.now, c.args.tag) absent))
+    let is =
+    subst (λ (most : ℕ). IsLayerAt D most m c.args.root c.args.directory l objects)
+    (sym c.from-most.ensures) at in
+    refused_so c.from_residual.result c.in_err-between.field-0.0
+    (λ (b : Broken). (b.touched ≡ false)
+    × (IsOfDevice b.cause ⊎ (b.cause ≡ fault.Damaged c.args.root.page))) c.from_residual.ensures.1
+    (c.in_err-between.ensures.absent sound l.tree (part_of l.ids)
+    (can_remove D c.from-most.result m c.args.root c.args.directory l objects is)
+    (in_no_leaf D c.from-most.result m c.args.root c.args.directory l objects is c.args.id
+    (c.args.old.now, c.args.tag) absent))
 
 pub returns-in_err-between-clause-faults : goal.returns-in_err-between-clause-faults
 returns-in_err-between-clause-faults g c = λ sound l objects at there.
     let D = g.row.D in
     let m = pages c.args.cache.now in
-    let is = subst (λ (most : ℕ). IsLayerAt D most m c.args.root c.args.directory l objects) (sym c.from-most.ensures) at in
-    at_broken c.from_residual.result c.in_err-between.field-0.0 (λ (b : Broken). IsNoDamage c.remove_with.new.cache b.cause) c.from_residual.ensures.1
-    (c.in_err-between.ensures.faults sound l.tree (part_of l.ids) (can_remove D c.from-most.result m c.args.root c.args.directory l objects is) is.tree.shape is.boxes
-    (in_a_leaf D c.from-most.result m c.args.root c.args.directory l objects is c.args.id (c.args.old.now, c.args.tag) there))
+    let is =
+    subst (λ (most : ℕ). IsLayerAt D most m c.args.root c.args.directory l objects)
+    (sym c.from-most.ensures) at in
+    at_broken c.from_residual.result c.in_err-between.field-0.0
+    (λ (b : Broken). IsNoDamage c.remove_with.new.cache b.cause) c.from_residual.ensures.1
+    (c.in_err-between.ensures.faults sound l.tree (part_of l.ids)
+    (can_remove D c.from-most.result m c.args.root c.args.directory l objects is) is.tree.shape is.boxes
+    (in_a_leaf D c.from-most.result m c.args.root c.args.directory l objects is c.args.id
+    (c.args.old.now, c.args.tag) there))
 
 pub returns-in-Err-clause-alters : goal.returns-in-Err-clause-alters
 returns-in-Err-clause-alters g c =
-    alters_and_breaks c.args.cache.now c.remove_with.new.cache c.insert_with.new.cache c.in_ok-between.between c.in-Err.broken _ c.midway.ensures c.in_ok-between.ensures.alters c.in-Err.ensures.alters
+    alters_and_breaks c.args.cache.now c.remove_with.new.cache c.insert_with.new.cache
+    c.in_ok-between.between c.in-Err.broken _ c.midway.ensures c.in_ok-between.ensures.alters
+    c.in-Err.ensures.alters
 
 pub returns-in-Err-clause-absent : goal.returns-in-Err-clause-absent
 returns-in-Err-clause-absent g c = λ sound l objects at absent.
     let D = g.row.D in
     let m = pages c.args.cache.now in
-    let is = subst (λ (most : ℕ). IsLayerAt D most m c.args.root c.args.directory l objects) (sym c.from-most.ensures) at in
-    absurd (c.in_ok-between.ensures.absent sound l.tree (part_of l.ids) (can_remove D c.from-most.result m c.args.root c.args.directory l objects is)
-    (in_no_leaf D c.from-most.result m c.args.root c.args.directory l objects is c.args.id (c.args.old.now, c.args.tag) absent))
+    let is =
+    subst (λ (most : ℕ). IsLayerAt D most m c.args.root c.args.directory l objects)
+    (sym c.from-most.ensures) at in
+    absurd (c.in_ok-between.ensures.absent sound l.tree (part_of l.ids)
+    (can_remove D c.from-most.result m c.args.root c.args.directory l objects is)
+    (in_no_leaf D c.from-most.result m c.args.root c.args.directory l objects is c.args.id
+    (c.args.old.now, c.args.tag) absent))
 
 pub returns-in-Err-clause-faults : goal.returns-in-Err-clause-faults
 returns-in-Err-clause-faults g c = λ sound l objects at there.
     let D = g.row.D in
     let m = pages c.args.cache.now in
-    let is = subst (λ (most : ℕ). IsLayerAt D most m c.args.root c.args.directory l objects) (sym c.from-most.ensures) at in
+    let is =
+    subst (λ (most : ℕ). IsLayerAt D most m c.args.root c.args.directory l objects)
+    (sym c.from-most.ensures) at in
     let four : 4 ≤ c.from-most.result = omega (arith, c.requires.most.0, c.from-most.ensures) in
-    let to = c.in_ok-between.ensures.removed sound l.tree (part_of l.ids) (can_remove D c.from-most.result m c.args.root c.args.directory l objects is) in
-    let shape = shape_between D c.from-most.result m c.args.root c.args.directory l objects is four c.args.id (c.args.old.now, c.args.tag) (c.args.new.now, c.args.tag) (pages c.remove_with.new.cache) c.in_ok-between.between to.1 in
+    let to =
+    c.in_ok-between.ensures.removed sound l.tree (part_of l.ids)
+    (can_remove D c.from-most.result m c.args.root c.args.directory l objects is) in
+    let shape =
+    shape_between D c.from-most.result m c.args.root c.args.directory l objects is four c.args.id
+    (c.args.old.now, c.args.tag) (c.args.new.now, c.args.tag) (pages c.remove_with.new.cache)
+    c.in_ok-between.between to.1 in
     subst (λ (b : Broken). IsNoDamage c.insert_with.new.cache b.cause) (sym c.midway.ensures)
-    (c.in-Err.ensures.faults to.0 to.1.new (object (c.args.new.now, c.args.tag) c.args.id) (part_of l.ids) (can_insert_between D c.from-most.result m c.args.root c.args.directory l objects is four c.args.id (c.args.old.now, c.args.tag) (c.args.new.now, c.args.tag) (pages c.remove_with.new.cache) c.in_ok-between.between to.1) (loose D c.from-most.result to.1.new shape.0) shape.1
-    (entry_has_shape D c.from-most.result m c.args.root c.args.directory l objects is c.args.id (c.args.new.now, c.args.tag) c.low.ensures.is_box))
+    (c.in-Err.ensures.faults to.0 to.1.new (object (c.args.new.now, c.args.tag) c.args.id) (part_of l.ids)
+    (can_insert_between D c.from-most.result m c.args.root c.args.directory l objects is four c.args.id
+    (c.args.old.now, c.args.tag) (c.args.new.now, c.args.tag) (pages c.remove_with.new.cache)
+    c.in_ok-between.between to.1) (loose D c.from-most.result to.1.new shape.0) shape.1
+    (entry_has_shape D c.from-most.result m c.args.root c.args.directory l objects is c.args.id
+    (c.args.new.now, c.args.tag) c.low.ensures.is_box))
 
 pub returns-in-Err-clause-other_faults : goal.returns-in-Err-clause-other_faults
-returns-in-Err-clause-other_faults g c = subst (λ (b : Broken). IsChangeFault b.cause) (sym c.midway.ensures) c.in-Err.ensures.other_faults
+returns-in-Err-clause-other_faults g c =
+    subst (λ (b : Broken). IsChangeFault b.cause) (sym c.midway.ensures) c.in-Err.ensures.other_faults
 
 pub returns-in-Ok-update-clause-alters : goal.returns-in-Ok-update-clause-alters
 returns-in-Ok-update-clause-alters g c = made_alters c.args.cache.now c.update.new.cache c.in-Ok.after
-    (changes_in_turn c.args.cache.now c.insert_with.new.cache c.update.new.cache None (changes_in_turn c.args.cache.now c.remove_with.new.cache c.insert_with.new.cache None c.in_ok-between.ensures.alters.changes c.in-Ok.ensures.alters.changes) c.in-Ok-update.ensures.changes)
+    (changes_in_turn c.args.cache.now c.insert_with.new.cache c.update.new.cache None
+    (changes_in_turn c.args.cache.now c.remove_with.new.cache c.insert_with.new.cache None
+    c.in_ok-between.ensures.alters.changes c.in-Ok.ensures.alters.changes) c.in-Ok-update.ensures.changes)
 
 pub returns-in-Ok-update-clause-sound : goal.returns-in-Ok-update-clause-sound
 returns-in-Ok-update-clause-sound g c = λ sound l objects at there.
     let D = g.row.D in
     let m = pages c.args.cache.now in
-    let is = subst (λ (most : ℕ). IsLayerAt D most m c.args.root c.args.directory l objects) (sym c.from-most.ensures) at in
+    let is =
+    subst (λ (most : ℕ). IsLayerAt D most m c.args.root c.args.directory l objects)
+    (sym c.from-most.ensures) at in
     let four : 4 ≤ c.from-most.result = omega (arith, c.requires.most.0, c.from-most.ensures) in
-    let to = c.in_ok-between.ensures.removed sound l.tree (part_of l.ids) (can_remove D c.from-most.result m c.args.root c.args.directory l objects is) in
-    let into = c.in-Ok.ensures.inserted to.0 to.1.new (object (c.args.new.now, c.args.tag) c.args.id) (part_of l.ids) (can_insert_between D c.from-most.result m c.args.root c.args.directory l objects is four c.args.id (c.args.old.now, c.args.tag) (c.args.new.now, c.args.tag) (pages c.remove_with.new.cache) c.in_ok-between.between to.1) in
-    let stand = ids_unchanged D c.from-most.result m c.args.root c.args.directory l objects is four c.args.id (c.args.old.now, c.args.tag) (c.args.new.now, c.args.tag) (pages c.remove_with.new.cache) c.in_ok-between.between to.1 (pages c.insert_with.new.cache) c.in-Ok.after into.1 in
+    let to =
+    c.in_ok-between.ensures.removed sound l.tree (part_of l.ids)
+    (can_remove D c.from-most.result m c.args.root c.args.directory l objects is) in
+    let into =
+    c.in-Ok.ensures.inserted to.0 to.1.new (object (c.args.new.now, c.args.tag) c.args.id)
+    (part_of l.ids)
+    (can_insert_between D c.from-most.result m c.args.root c.args.directory l objects is four c.args.id
+    (c.args.old.now, c.args.tag) (c.args.new.now, c.args.tag) (pages c.remove_with.new.cache)
+    c.in_ok-between.between to.1) in
+    let stand =
+    ids_unchanged D c.from-most.result m c.args.root c.args.directory l objects is four c.args.id
+    (c.args.old.now, c.args.tag) (c.args.new.now, c.args.tag) (pages c.remove_with.new.cache)
+    c.in_ok-between.between to.1 (pages c.insert_with.new.cache) c.in-Ok.after into.1 in
     c.in-Ok-update.ensures.sound into.0 l.ids is.directory_is stand
 
 pub returns-in-Ok-update-clause-replaced : goal.returns-in-Ok-update-clause-replaced
 returns-in-Ok-update-clause-replaced g c = λ sound l objects at there.
     let D = g.row.D in
     let m = pages c.args.cache.now in
-    let is = subst (λ (most : ℕ). IsLayerAt D most m c.args.root c.args.directory l objects) (sym c.from-most.ensures) at in
+    let is =
+    subst (λ (most : ℕ). IsLayerAt D most m c.args.root c.args.directory l objects)
+    (sym c.from-most.ensures) at in
     let four : 4 ≤ c.from-most.result = omega (arith, c.requires.most.0, c.from-most.ensures) in
-    let to = c.in_ok-between.ensures.removed sound l.tree (part_of l.ids) (can_remove D c.from-most.result m c.args.root c.args.directory l objects is) in
-    let into = c.in-Ok.ensures.inserted to.0 to.1.new (object (c.args.new.now, c.args.tag) c.args.id) (part_of l.ids) (can_insert_between D c.from-most.result m c.args.root c.args.directory l objects is four c.args.id (c.args.old.now, c.args.tag) (c.args.new.now, c.args.tag) (pages c.remove_with.new.cache) c.in_ok-between.between to.1) in
-    let stand = ids_unchanged D c.from-most.result m c.args.root c.args.directory l objects is four c.args.id (c.args.old.now, c.args.tag) (c.args.new.now, c.args.tag) (pages c.remove_with.new.cache) c.in_ok-between.between to.1 (pages c.insert_with.new.cache) c.in-Ok.after into.1 in
-    let set = c.in-Ok-update.ensures.updated into.0 l.ids is.directory_is stand (c.args.old.now, c.args.tag) (kept_in_table D c.from-most.result m c.args.root c.args.directory l objects is c.args.id (c.args.old.now, c.args.tag) there) in
-    subst (λ (most : ℕ). BecomesLayer D most m (pages c.update.new.cache) (part_of_layer l) c.in-Ok.after c.args.directory (map.insert objects c.args.id (c.args.new.now, c.args.tag)) (HasReplaced D most l c.args.id (c.args.old.now, c.args.tag) (c.args.new.now, c.args.tag))) c.from-most.ensures
-    (layer_replaced D c.from-most.result m c.args.root c.args.directory l objects is four c.args.id (c.args.old.now, c.args.tag) (c.args.new.now, c.args.tag) (pages c.remove_with.new.cache) c.in_ok-between.between to.1 (pages c.insert_with.new.cache) c.in-Ok.after into.1 (pages c.update.new.cache) set c.low.ensures.is_box there)
+    let to =
+    c.in_ok-between.ensures.removed sound l.tree (part_of l.ids)
+    (can_remove D c.from-most.result m c.args.root c.args.directory l objects is) in
+    let into =
+    c.in-Ok.ensures.inserted to.0 to.1.new (object (c.args.new.now, c.args.tag) c.args.id)
+    (part_of l.ids)
+    (can_insert_between D c.from-most.result m c.args.root c.args.directory l objects is four c.args.id
+    (c.args.old.now, c.args.tag) (c.args.new.now, c.args.tag) (pages c.remove_with.new.cache)
+    c.in_ok-between.between to.1) in
+    let stand =
+    ids_unchanged D c.from-most.result m c.args.root c.args.directory l objects is four c.args.id
+    (c.args.old.now, c.args.tag) (c.args.new.now, c.args.tag) (pages c.remove_with.new.cache)
+    c.in_ok-between.between to.1 (pages c.insert_with.new.cache) c.in-Ok.after into.1 in
+    let set =
+    c.in-Ok-update.ensures.updated into.0 l.ids is.directory_is stand (c.args.old.now, c.args.tag)
+    (kept_in_table D c.from-most.result m c.args.root c.args.directory l objects is c.args.id
+    (c.args.old.now, c.args.tag) there) in
+    subst (λ (most : ℕ). BecomesLayer D most m (pages c.update.new.cache) (part_of_layer l) c.in-Ok.after
+    c.args.directory (map.insert objects c.args.id (c.args.new.now, c.args.tag))
+    (HasReplaced D most l c.args.id (c.args.old.now, c.args.tag) (c.args.new.now, c.args.tag)))
+    c.from-most.ensures
+    (layer_replaced D c.from-most.result m c.args.root c.args.directory l objects is four c.args.id
+    (c.args.old.now, c.args.tag) (c.args.new.now, c.args.tag) (pages c.remove_with.new.cache)
+    c.in_ok-between.between to.1 (pages c.insert_with.new.cache) c.in-Ok.after into.1
+    (pages c.update.new.cache) set c.low.ensures.is_box there)
 
 pub returns-in-Ok-update-clause-absent : goal.returns-in-Ok-update-clause-absent
 returns-in-Ok-update-clause-absent g c = λ sound l objects at absent.
     let D = g.row.D in
     let m = pages c.args.cache.now in
-    let is = subst (λ (most : ℕ). IsLayerAt D most m c.args.root c.args.directory l objects) (sym c.from-most.ensures) at in
-    absurd (c.in_ok-between.ensures.absent sound l.tree (part_of l.ids) (can_remove D c.from-most.result m c.args.root c.args.directory l objects is)
-    (in_no_leaf D c.from-most.result m c.args.root c.args.directory l objects is c.args.id (c.args.old.now, c.args.tag) absent))
+    let is =
+    subst (λ (most : ℕ). IsLayerAt D most m c.args.root c.args.directory l objects)
+    (sym c.from-most.ensures) at in
+    absurd (c.in_ok-between.ensures.absent sound l.tree (part_of l.ids)
+    (can_remove D c.from-most.result m c.args.root c.args.directory l objects is)
+    (in_no_leaf D c.from-most.result m c.args.root c.args.directory l objects is c.args.id
+    (c.args.old.now, c.args.tag) absent))
 
 pub returns-in-Err-update-clause-alters : goal.returns-in-Err-update-clause-alters
 returns-in-Err-update-clause-alters g c =
-    changes_and_breaks c.args.cache.now c.insert_with.new.cache c.update.new.cache c.in-Err-update.fault _ c.midway-in-Err-update.ensures (changes_in_turn c.args.cache.now c.remove_with.new.cache c.insert_with.new.cache None c.in_ok-between.ensures.alters.changes c.in-Ok.ensures.alters.changes) c.in-Err-update.ensures.changes
+    changes_and_breaks c.args.cache.now c.insert_with.new.cache c.update.new.cache c.in-Err-update.fault _
+    c.midway-in-Err-update.ensures
+    (changes_in_turn c.args.cache.now c.remove_with.new.cache c.insert_with.new.cache None
+    c.in_ok-between.ensures.alters.changes c.in-Ok.ensures.alters.changes) c.in-Err-update.ensures.changes
 
 pub returns-in-Err-update-clause-absent : goal.returns-in-Err-update-clause-absent
 returns-in-Err-update-clause-absent g c = λ sound l objects at absent.
     let D = g.row.D in
     let m = pages c.args.cache.now in
-    let is = subst (λ (most : ℕ). IsLayerAt D most m c.args.root c.args.directory l objects) (sym c.from-most.ensures) at in
-    absurd (c.in_ok-between.ensures.absent sound l.tree (part_of l.ids) (can_remove D c.from-most.result m c.args.root c.args.directory l objects is)
-    (in_no_leaf D c.from-most.result m c.args.root c.args.directory l objects is c.args.id (c.args.old.now, c.args.tag) absent))
+    let is =
+    subst (λ (most : ℕ). IsLayerAt D most m c.args.root c.args.directory l objects)
+    (sym c.from-most.ensures) at in
+    absurd (c.in_ok-between.ensures.absent sound l.tree (part_of l.ids)
+    (can_remove D c.from-most.result m c.args.root c.args.directory l objects is)
+    (in_no_leaf D c.from-most.result m c.args.root c.args.directory l objects is c.args.id
+    (c.args.old.now, c.args.tag) absent))
 
 pub returns-in-Err-update-clause-faults : goal.returns-in-Err-update-clause-faults
 returns-in-Err-update-clause-faults g c = λ sound l objects at there.
     let D = g.row.D in
     let m = pages c.args.cache.now in
-    let is = subst (λ (most : ℕ). IsLayerAt D most m c.args.root c.args.directory l objects) (sym c.from-most.ensures) at in
+    let is =
+    subst (λ (most : ℕ). IsLayerAt D most m c.args.root c.args.directory l objects)
+    (sym c.from-most.ensures) at in
     let four : 4 ≤ c.from-most.result = omega (arith, c.requires.most.0, c.from-most.ensures) in
-    let to = c.in_ok-between.ensures.removed sound l.tree (part_of l.ids) (can_remove D c.from-most.result m c.args.root c.args.directory l objects is) in
-    let into = c.in-Ok.ensures.inserted to.0 to.1.new (object (c.args.new.now, c.args.tag) c.args.id) (part_of l.ids) (can_insert_between D c.from-most.result m c.args.root c.args.directory l objects is four c.args.id (c.args.old.now, c.args.tag) (c.args.new.now, c.args.tag) (pages c.remove_with.new.cache) c.in_ok-between.between to.1) in
-    let stand = ids_unchanged D c.from-most.result m c.args.root c.args.directory l objects is four c.args.id (c.args.old.now, c.args.tag) (c.args.new.now, c.args.tag) (pages c.remove_with.new.cache) c.in_ok-between.between to.1 (pages c.insert_with.new.cache) c.in-Ok.after into.1 in
+    let to =
+    c.in_ok-between.ensures.removed sound l.tree (part_of l.ids)
+    (can_remove D c.from-most.result m c.args.root c.args.directory l objects is) in
+    let into =
+    c.in-Ok.ensures.inserted to.0 to.1.new (object (c.args.new.now, c.args.tag) c.args.id)
+    (part_of l.ids)
+    (can_insert_between D c.from-most.result m c.args.root c.args.directory l objects is four c.args.id
+    (c.args.old.now, c.args.tag) (c.args.new.now, c.args.tag) (pages c.remove_with.new.cache)
+    c.in_ok-between.between to.1) in
+    let stand =
+    ids_unchanged D c.from-most.result m c.args.root c.args.directory l objects is four c.args.id
+    (c.args.old.now, c.args.tag) (c.args.new.now, c.args.tag) (pages c.remove_with.new.cache)
+    c.in_ok-between.between to.1 (pages c.insert_with.new.cache) c.in-Ok.after into.1 in
     subst (λ (b : Broken). IsNoDamage c.update.new.cache b.cause) (sym c.midway-in-Err-update.ensures)
-    (inl (c.in-Err-update.ensures.faults into.0 l.ids is.directory_is stand (in_table D c.from-most.result m c.args.root c.args.directory l objects is c.args.id (c.args.old.now, c.args.tag) there)))
+    (inl (c.in-Err-update.ensures.faults into.0 l.ids is.directory_is stand
+    (in_table D c.from-most.result m c.args.root c.args.directory l objects is c.args.id
+    (c.args.old.now, c.args.tag) there)))
 
 pub returns-in-Err-update-clause-other_faults : goal.returns-in-Err-update-clause-other_faults
-returns-in-Err-update-clause-other_faults g c = subst (λ (b : Broken). IsChangeFault b.cause) (sym c.midway-in-Err-update.ensures) (one_more _ _ _ c.in-Err-update.ensures.other_faults)
+returns-in-Err-update-clause-other_faults g c =
+    subst (λ (b : Broken). IsChangeFault b.cause) (sym c.midway-in-Err-update.ensures)
+    (one_more _ _ _ c.in-Err-update.ensures.other_faults)

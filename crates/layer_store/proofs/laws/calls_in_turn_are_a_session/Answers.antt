@@ -4,7 +4,9 @@ use Rattle.layer_store.proofs.CallLemmas.{calls_are_a_session, calls_once_checke
 use Rattle.layer_store.proofs.laws.calls_in_turn_are_a_session.Goals as goal
 
 pub returns-clause-session : goal.returns-clause-session
-returns-clause-session g c = λ old new rs xs calls. calls_are_a_session (λ store honest b left. g.met.D.BlockDevice.only_now (device_in store) b honest left) old new rs xs calls
+returns-clause-session g c =
+    λ old new rs xs calls. calls_are_a_session
+    (λ store honest b left. g.met.D.BlockDevice.only_now (device_in store) b honest left) old new rs xs calls
 
 pub returns-clause-checked : goal.returns-clause-checked
 returns-clause-checked g c = λ old new rs xs calls honest. calls_once_checked old new rs xs honest calls

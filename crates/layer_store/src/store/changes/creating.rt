@@ -17,8 +17,8 @@ use plain_table::Refusal;
 use std::alloc::Allocator;
 
 impl<D: BlockDevice, A: Allocator + Copy> Store<D, A> {
-    /// Makes an empty layer of that name with 2 or 3 axes, whose nodes may have 4 to 100 entries. Its tree is an empty
-    /// leaf.
+    /// Makes an empty layer of that name with 2 or 3 axes, whose nodes may have 4 to 100 entries. Its tree is
+    /// an empty leaf.
     ///
     /// Refused, in this order, by BadName, BadDims, BadFanout, LayerExists and TooManyLayers.
     pub fn create(&mut self, layer: &[u8], dims: u64, fanout: u64) -> Result<(), Refusal>

@@ -19,16 +19,19 @@ use plain_table::{RawBox, Refusal};
 use std::alloc::Allocator;
 
 impl<D: BlockDevice, A: Allocator + Copy> Store<D, A> {
-    /// Puts objects, each an identifier with a box and a tag, into a layer that has none, all at once: its tree is packed from them in the order in which they
-    /// are given. A load of no objects changes nothing.
+    /// Puts objects, each an identifier with a box and a tag, into a layer that has none, all at once: its
+    /// tree is packed from them in the order in which they are given. A load of no objects changes nothing.
     ///
-    /// Refused, in this order, by BadName, NoLayer, WrongDims, BadBox, NotEmpty, DuplicateInLoad and TooManyObjects.
+    /// Refused, in this order, by BadName, NoLayer, WrongDims, BadBox, NotEmpty, DuplicateInLoad and
+    /// TooManyObjects.
     pub fn load(&mut self, layer: &[u8], objects: &[(u64, RawBox, u32)]) -> Result<(), Refusal>
         ensures changes { Changes self.old self.new (Load layer.now objects.now) result }
-        ensures tree { (t : Table) → IsInState self.old (Alive t) → changes t (Load layer.now objects.now) ≡ true →
+        ensures tree { (t : Table) → IsInState self.old (Alive t) →
+            changes t (Load layer.now objects.now) ≡ true →
             OnOk result (ChangesTree (layers_in self.old) (layers_in self.new) layer.now
             (HasFilled (layer_at t layer.now) (map given_object objects.now))) }
-        ensures same { (t : Table) → IsInState self.old (Alive t) → changes t (Load layer.now objects.now) ≡ false →
+        ensures same { (t : Table) → IsInState self.old (Alive t) →
+            changes t (Load layer.now objects.now) ≡ false →
             KeepsPagesAndRecords (layers_in self.old) (layers_in self.new) }
     {
         if self.failed {

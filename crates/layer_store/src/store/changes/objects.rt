@@ -35,16 +35,18 @@ impl<D: BlockDevice, A: Allocator + Copy> Store<D, A> {
         tell(&mut self.failed, made)
     }
 
-    /// Gives the object with that identifier that box: by a lawful removal from the layer's tree, and then a lawful
-    /// insertion into it. It keeps its tag. A move to the box that the object has changes nothing.
+    /// Gives the object with that identifier that box: by a lawful removal from the layer's tree, and then a
+    /// lawful insertion into it. It keeps its tag. A move to the box that the object has changes nothing.
     ///
     /// Refused, in this order, by BadName, NoLayer, WrongDims, BadBox and NoObject.
     pub fn move_object(&mut self, layer: &[u8], id: u64, bounds: RawBox) -> Result<(), Refusal>
         ensures changes { Changes self.old self.new (Move layer.now id bounds) result }
-        ensures tree { (t : Table) → IsInState self.old (Alive t) → changes t (Move layer.now id bounds) ≡ true →
+        ensures tree { (t : Table) → IsInState self.old (Alive t) →
+            changes t (Move layer.now id bounds) ≡ true →
             OnOk result (ChangesTree (layers_in self.old) (layers_in self.new) layer.now
             (HasMoved (layer_at t layer.now) id (given_bounds bounds))) }
-        ensures same { (t : Table) → IsInState self.old (Alive t) → changes t (Move layer.now id bounds) ≡ false →
+        ensures same { (t : Table) → IsInState self.old (Alive t) →
+            changes t (Move layer.now id bounds) ≡ false →
             KeepsPagesAndRecords (layers_in self.old) (layers_in self.new) }
     {
         if self.failed {

@@ -6,4 +6,5 @@ use Rattle.plain_table.specs.Table.{most_objects}
 use Rattle.live_layers.proofs.catalog.have_room.Given as goal
 
 abbrev pub invariant-loop-record : goal.invariant-loop-record
-invariant-loop-record l = (l.total ≡ objects_named (map record_of (take l.record-index l.records))) × (l.total ≤ most_objects)
+invariant-loop-record l = (l.total ≡ objects_named (map record_of (take l.record-index l.records)))
+    × (l.total ≤ most_objects)

@@ -4,4 +4,5 @@ use Rattle.plain_table.specs.Loads.{are_ordered, given_object}
 use Rattle.live_layers.proofs.objects.objects_in_space.Given as goal
 
 abbrev pub invariant-loop-object : goal.invariant-loop-object
-invariant-loop-object g l = (l.boxed.items ≡ map given_object (take l.object-index l.objects)) × (are_ordered (take l.object-index l.objects) ≡ true)
+invariant-loop-object g l = (l.boxed.items ≡ map given_object (take l.object-index l.objects))
+    × (are_ordered (take l.object-index l.objects) ≡ true)

@@ -8,11 +8,17 @@ use Rattle.live_layers.proofs.RepeatLemmas.{least_is, reordered}
 use Rattle.live_layers.proofs.repeats.repeated.Goals as goal
 
 pub first_twice-requires : goal.first_twice-requires
-first_twice-requires g c = subst IsNonDecreasing (sym c.as_slice.ensures.value) (IsNonDecreasingBy-from_sort (λ x. x) c.sort_unstable.new.self.items c.sort_unstable.ensures.sorted)
+first_twice-requires g c =
+    subst IsNonDecreasing (sym c.as_slice.ensures.value)
+    (IsNonDecreasingBy-from_sort (λ x. x) c.sort_unstable.new.self.items c.sort_unstable.ensures.sorted)
 
 pub returns : goal.returns
 returns g c =
     let ids = c.in_ok-ids.ids.items in
-    let least = subst (λ (xs : List ℕ). IsLeastTwice xs c.first_twice.result) c.as_slice.ensures.value c.first_twice.ensures in
+    let least =
+    subst (λ (xs : List ℕ). IsLeastTwice xs c.first_twice.result) c.as_slice.ensures.value
+    c.first_twice.ensures in
     subst (λ (xs : List ℕ). c.first_twice.result ≡ least_repeated xs) c.in_ok-ids.ensures
-    (least_is ids c.first_twice.result (reordered ids c.sort_unstable.new.self.items c.first_twice.result c.sort_unstable.ensures.permutation least))
+    (least_is ids c.first_twice.result
+    (reordered ids c.sort_unstable.new.self.items c.first_twice.result
+    c.sort_unstable.ensures.permutation least))

@@ -7,4 +7,5 @@ use Rattle.catalog_page.specs.declared.layer_record.LayerRecord.{LayerRecord}
 use Rattle.live_layers.proofs.search.search.Given as goal
 
 abbrev pub invariant-loop-place : goal.invariant-loop-place
-invariant-loop-place l = (k : ℕ) (d : LayerRecord) → k < l.place → slice_cmp nat_cmp l.name (slice_index_or l.records k d).name.items ≡ Greater
+invariant-loop-place l = (k : ℕ) (d : LayerRecord) → k < l.place
+    → slice_cmp nat_cmp l.name (slice_index_or l.records k d).name.items ≡ Greater

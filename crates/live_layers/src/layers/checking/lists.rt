@@ -27,7 +27,8 @@ pub fn list_layers<B: BlockDevice, A: Allocator + Copy>(
 ) -> Result<(), Fault>
     requires { AreLayers (each record_of records.now) }
     ensures asks { Asks cache.old cache.new result }
-    ensures layers { IsPageMap cache.old → OnOk result (AddsLayers (pages cache.old) (each record_of records.now)
+    ensures layers { IsPageMap cache.old →
+        OnOk result (AddsLayers (pages cache.old) (each record_of records.now)
         found.old.items found.new.items) }
     ensures stands { IsHonest cache.old → (hs : List Reading) → each row_of hs ≡ each record_of records.now →
         LayersStand (pages cache.old) hs → IfErr result IsOfDevice }

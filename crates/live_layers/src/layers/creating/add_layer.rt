@@ -72,7 +72,8 @@ fn make_pages<B: BlockDevice, A: Allocator + Copy>(
     ensures places { IfOk result (λ made. CanBeRoot made.0 × (3 ≤ made.1) × (made.1 < next_of cache.new)) }
     ensures sound { IsPageMap cache.old → IsPageMap cache.new }
     ensures made { IsPageMap cache.old → (most : ℕ) → IfOk result (λ made.
-        BecomesLayer dims most (pages cache.old) (pages cache.new) no_page made.0 made.1 map.empty IsEmptyLeaf) }
+        BecomesLayer dims most (pages cache.old) (pages cache.new) no_page made.0 made.1 map.empty
+        IsEmptyLeaf) }
     ensures grows { Grows 2 cache.old cache.new }
     ensures faults { IsPageMap cache.old → IfErr result (λ b. IsNoDamage cache.new b.cause) }
 {

@@ -19,8 +19,8 @@ use reinsert::Waiting;
 use std::alloc::Allocator;
 
 impl<B: BlockDevice, A: Allocator + Copy> Layers<B, A> {
-    // Adds an object that the layer at a place does not have. The memory of what waits in the insertion is taken before
-    // the gate is opened.
+    // Adds an object that the layer at a place does not have. The memory of what waits in the insertion is
+    // taken before the gate is opened.
     pub(crate) fn add_object<const D: usize>(
         &mut self,
         place: usize,
@@ -34,10 +34,12 @@ impl<B: BlockDevice, A: Allocator + Copy> Layers<B, A> {
         requires room { self.old.object_count < most_objects }
         ensures added { (t : Table) (name : List ℕ) → IsSound self.old t → Finds t name place →
             (layer_at t name).dims ≡ D → map.contains_key (layer_at t name).objects id ≡ false →
-            OnOk result (IsSound self.new (map.insert t name (with_object (layer_at t name) id (bounds.now, tag)))) }
+            OnOk result (IsSound self.new
+            (map.insert t name (with_object (layer_at t name) id (bounds.now, tag)))) }
         ensures tree { (t : Table) (name : List ℕ) → IsSound self.old t → Finds t name place →
             (layer_at t name).dims ≡ D → map.contains_key (layer_at t name).objects id ≡ false →
-            OnOk result (ChangesTree self.old self.new name (HasGained (layer_at t name) id (bounds.now, tag))) }
+            OnOk result (ChangesTree self.old self.new name
+            (HasGained (layer_at t name) id (bounds.now, tag))) }
         ensures faults { (t : Table) (name : List ℕ) → IsSound self.old t → Finds t name place →
             (layer_at t name).dims ≡ D → IfErr result (λ b. IsOfDevice b.cause) }
         ensures begins { BeginsChange self.old self.new result }

@@ -32,8 +32,10 @@ impl<B: BlockDevice, A: Allocator + Copy> Layers<B, A> {
         requires dims { IsDims D }
         ensures allowed { (t : Table) (name : List ℕ) (box : GivenBox) → IsSound self.old t →
             IsLocated self.old t name located.now → dims_of box ≡ D →
-            given_bounds box ≡ record { low = low.entry; high = high.entry } → IsAllowedOr (Rose self.old self.new)
-            (first_refusal (object_refusals (layer_at t name) id box (nat_le most_objects (object_count t)))) result }
+            given_bounds box ≡ record { low = low.entry; high = high.entry } →
+            IsAllowedOr (Rose self.old self.new)
+            (first_refusal (object_refusals (layer_at t name) id box (nat_le most_objects (object_count t))))
+            result }
         ensures bounds { IfOk result (λ b. b ≡ record { low = low.entry; high = high.entry }) }
         ensures room { IfOk result (λ b. self.new.object_count < most_objects) }
         ensures keeps { KeepsInQuestion self.old self.new result }

@@ -37,7 +37,8 @@ impl<B: BlockDevice, A: Allocator + Copy> Layers<B, A> {
             IsChange self.old self.new t (Insert name id box tag) result }
         ensures tree { (t : Table) (name : List ℕ) (box : GivenBox) → IsSound self.old t →
             ReachesBox t name place box D (record { low = low.entry; high = high.entry }) →
-            OnOk result (ChangesTree self.old self.new name (HasGained (layer_at t name) id (given_bounds box, tag))) }
+            OnOk result (ChangesTree self.old self.new name
+            (HasGained (layer_at t name) id (given_bounds box, tag))) }
         ensures keeps { KeepsInChange self.old self.new result }
     {
         let located = self.locate(place);

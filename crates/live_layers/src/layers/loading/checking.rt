@@ -17,8 +17,8 @@ use plain_table::{MOST_OBJECTS, Refusal};
 use std::alloc::Allocator;
 
 impl<B: BlockDevice, A: Allocator + Copy> Layers<B, A> {
-    // Whether objects of the layer's axes may be put into the layer at a place. Refused, in this order, by NotEmpty,
-    // DuplicateInLoad and TooManyObjects.
+    // Whether objects of the layer's axes may be put into the layer at a place. Refused, in this order, by
+    // NotEmpty, DuplicateInLoad and TooManyObjects.
     pub(crate) fn check_load<const D: usize>(
         &self,
         place: usize,

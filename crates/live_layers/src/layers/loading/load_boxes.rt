@@ -29,7 +29,8 @@ impl<B: BlockDevice, A: Allocator + Copy> Layers<B, A> {
         requires dims { IsDims D }
         requires within { place < length (records_in self.old) }
         ensures change { (t : Table) (name : List ℕ) (given : GivenObjects) → IsSound self.old t →
-            ReachesObjects t name place given D objects.old → IsChange self.old self.new t (Load name given) result }
+            ReachesObjects t name place given D objects.old →
+            IsChange self.old self.new t (Load name given) result }
         ensures tree { (t : Table) (name : List ℕ) (given : GivenObjects) → IsSound self.old t →
             ReachesObjects t name place given D objects.old → changes t (Load name given) ≡ true →
             OnOk result (ChangesTree self.old self.new name (HasFilled (layer_at t name) objects.old)) }

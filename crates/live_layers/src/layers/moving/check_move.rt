@@ -31,10 +31,13 @@ impl<B: BlockDevice, A: Allocator + Copy> Layers<B, A> {
         requires dims { IsDims D }
         ensures allowed { (t : Table) (name : List ℕ) (box : GivenBox) → IsSound self.old t →
             IsLocated self.old t name located.now → dims_of box ≡ D →
-            given_bounds box ≡ record { low = low.entry; high = high.entry } → IsAllowedOr (Rose self.old self.new)
-            (first_refusal (box_refusals (layer_at t name).dims box (missing_refusals (layer_at t name) id))) result }
+            given_bounds box ≡ record { low = low.entry; high = high.entry } →
+            IsAllowedOr (Rose self.old self.new)
+            (first_refusal (box_refusals (layer_at t name).dims box (missing_refusals (layer_at t name) id)))
+            result }
         ensures axes { IfOk result (λ _. located.now.dims ≡ D) }
-        ensures has { (t : Table) (name : List ℕ) → IsSound self.old t → IsLocated self.old t name located.now →
+        ensures has { (t : Table) (name : List ℕ) → IsSound self.old t →
+            IsLocated self.old t name located.now →
             IfOk result (λ both. map.get (layer_at t name).objects id ≡ Some both.0) }
         ensures gets { IfOk result (λ both. both.1 ≡ record { low = low.entry; high = high.entry }) }
         ensures keeps { KeepsInQuestion self.old self.new result }

@@ -41,7 +41,8 @@ impl<B: BlockDevice, A: Allocator + Copy> Layers<B, A> {
         ensures tree { (t : Table) (name : List ℕ) (box : GivenBox) → IsSound self.old t →
             ReachesBox t name place box D (record { low = low.entry; high = high.entry }) →
             changes t (Move name id box) ≡ true →
-            OnOk result (ChangesTree self.old self.new name (HasMoved (layer_at t name) id (given_bounds box))) }
+            OnOk result (ChangesTree self.old self.new name
+            (HasMoved (layer_at t name) id (given_bounds box))) }
         ensures same { (t : Table) (name : List ℕ) (box : GivenBox) → IsSound self.old t →
             ReachesBox t name place box D (record { low = low.entry; high = high.entry }) →
             changes t (Move name id box) ≡ false → KeepsPagesAndRecords self.old self.new }

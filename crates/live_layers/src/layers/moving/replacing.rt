@@ -20,8 +20,8 @@ use reinsert::Waiting;
 use std::alloc::Allocator;
 
 impl<B: BlockDevice, A: Allocator + Copy> Layers<B, A> {
-    // Gives an object, which the layer at a place has with the box `known` and that tag, another box. The memory of what
-    // is inserted again, and of what waits in that, is taken before the gate is opened.
+    // Gives an object, which the layer at a place has with the box `known` and that tag, another box. The
+    // memory of what is inserted again, and of what waits in that, is taken before the gate is opened.
     pub(crate) fn replace_box<const D: usize>(
         &mut self,
         place: usize,
@@ -36,7 +36,8 @@ impl<B: BlockDevice, A: Allocator + Copy> Layers<B, A> {
         requires within { place < length (records_in self.old) }
         ensures replaced { (t : Table) (name : List ℕ) → IsSound self.old t → Finds t name place →
             (layer_at t name).dims ≡ D → map.get (layer_at t name).objects id ≡ Some (known.now, tag) →
-            OnOk result (IsSound self.new (map.insert t name (with_object (layer_at t name) id (bounds.now, tag)))) }
+            OnOk result (IsSound self.new
+            (map.insert t name (with_object (layer_at t name) id (bounds.now, tag)))) }
         ensures tree { (t : Table) (name : List ℕ) → IsSound self.old t → Finds t name place →
             (layer_at t name).dims ≡ D → map.get (layer_at t name).objects id ≡ Some (known.now, tag) →
             OnOk result (ChangesTree self.old self.new name (HasMoved (layer_at t name) id bounds.now)) }

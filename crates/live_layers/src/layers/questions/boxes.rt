@@ -28,7 +28,8 @@ impl<B: BlockDevice, A: Allocator + Copy> Layers<B, A> {
     ) -> Result<(BBox<D>, u32), Refusal>
         requires dims { IsDims D }
         requires axes { located.now.dims ≡ D }
-        ensures replied { (t : Table) (name : List ℕ) → IsSound self.old t → IsLocated self.old t name located.now →
+        ensures replied { (t : Table) (name : List ℕ) → IsSound self.old t →
+            IsLocated self.old t name located.now →
             IsReply (Rose self.old self.new) (first_refusal (missing_refusals (layer_at t name) id))
             (Boxes (object_row (layer_at t name) id ∷ [])) (kept_answer id result) }
         ensures keeps { KeepsInQuestion self.old self.new result }

@@ -26,8 +26,8 @@ use plain_table::{Refusal, is_count};
 use std::alloc::Allocator;
 
 impl<B: BlockDevice, A: Allocator + Copy> Layers<B, A> {
-    // The objects of the layer that stands there that are nearest to a point of D axes. Refused, in this order, by
-    // WrongDims and BadCount.
+    // The objects of the layer that stands there that are nearest to a point of D axes. Refused, in this
+    // order, by WrongDims and BadCount.
     pub(crate) fn nearest_to<const D: usize>(
         &mut self,
         located: &Located,
@@ -35,12 +35,16 @@ impl<B: BlockDevice, A: Allocator + Copy> Layers<B, A> {
         point: &[i32; D],
     ) -> Result<Vec<(u64, u128), A>, Refusal>
         requires { IsDims D }
-        ensures replied { (t : Table) (name : List ℕ) → IsSound self.old t → IsLocated self.old t name located.now →
-            IsReply (Rose self.old self.new) (first_refusal ((not (D == (layer_at t name).dims), refusal.WrongDims)
+        ensures replied { (t : Table) (name : List ℕ) → IsSound self.old t →
+            IsLocated self.old t name located.now →
+            IsReply (Rose self.old self.new)
+            (first_refusal ((not (D == (layer_at t name).dims), refusal.WrongDims)
             ∷ (not (is_count k), refusal.BadCount) ∷ []))
-            (Distances (take k (by_distance (layer_at t name).dims point.now (entries (layer_at t name).objects))))
+            (Distances (take k (by_distance (layer_at t name).dims point.now
+            (entries (layer_at t name).objects))))
             (distances_answer result) }
-        ensures looks { (t : Table) (name : List ℕ) → IsSound self.old t → IsLocated self.old t name located.now →
+        ensures looks { (t : Table) (name : List ℕ) → IsSound self.old t →
+            IsLocated self.old t name located.now →
             OnOk result (LooksAtTree self.old self.new name (admitted (is_searched D k point.now
             (take k (by_distance (layer_at t name).dims point.now (entries (layer_at t name).objects)))))) }
         ensures keeps { KeepsInQuestion self.old self.new result }

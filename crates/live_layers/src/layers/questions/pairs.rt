@@ -20,7 +20,8 @@ use spatial_join::join;
 use std::alloc::Allocator;
 
 impl<B: BlockDevice, A: Allocator + Copy> Layers<B, A> {
-    // The pairs of objects of the layers that stand there, both of D axes, whose boxes have at most this squared distance.
+    // The pairs of objects of the layers that stand there, both of D axes, whose boxes have at most this
+    // squared distance.
     pub(crate) fn pairs_in<const D: usize>(
         &mut self,
         left: &Located,
@@ -35,7 +36,8 @@ impl<B: BlockDevice, A: Allocator + Copy> Layers<B, A> {
             IfOk result (λ pairs. pairs.items ≡ join_rows (layer_at t first) (layer_at t second) within) }
         ensures looks { (t : Table) (first second : List ℕ) → IsSound self.old t →
             IsLocated self.old t first left.now → IsLocated self.old t second right.now →
-            OnOk result (LooksAtTrees self.old self.new first second (λ s o. 2 * admitted_pairs D within s o)) }
+            OnOk result (LooksAtTrees self.old self.new first second
+            (λ s o. 2 * admitted_pairs D within s o)) }
         ensures fault { (t : Table) (first second : List ℕ) → IsSound self.old t →
             IsLocated self.old t first left.now → IsLocated self.old t second right.now →
             IfErr result (IsFault (Rose self.old self.new)) }

@@ -35,8 +35,8 @@ use range_query::{around, inside, point, window};
 use std::alloc::{AllocError, Allocator};
 
 impl<B: BlockDevice, A: Allocator + Copy> Layers<B, A> {
-    // The objects that a query seeks in the layer that stands there, which has two axes. Refused, in this order, by
-    // WrongDims and BadBox.
+    // The objects that a query seeks in the layer that stands there, which has two axes. Refused, in this
+    // order, by WrongDims and BadBox.
     pub(crate) fn range_in_plane(
         &mut self,
         located: &Located,
@@ -44,11 +44,14 @@ impl<B: BlockDevice, A: Allocator + Copy> Layers<B, A> {
         tag: Option<u32>,
     ) -> Result<Vec<(u64, AnyBox, u32), A>, Refusal>
         requires { located.now.dims ≡ 2 }
-        ensures replied { (t : Table) (name : List ℕ) → IsSound self.old t → IsLocated self.old t name located.now →
+        ensures replied { (t : Table) (name : List ℕ) → IsSound self.old t →
+            IsLocated self.old t name located.now →
             IsReply (Rose self.old self.new) (first_refusal (query_refusals (layer_at t name).dims query))
             (Boxes (range_rows (layer_at t name) query tag)) (boxes_answer result) }
-        ensures looks { (t : Table) (name : List ℕ) → IsSound self.old t → IsLocated self.old t name located.now →
-            OnOk result (LooksAtTree self.old self.new name (admitted (is_admitted (layer_at t name).dims query))) }
+        ensures looks { (t : Table) (name : List ℕ) → IsSound self.old t →
+            IsLocated self.old t name located.now →
+            OnOk result (LooksAtTree self.old self.new name
+            (admitted (is_admitted (layer_at t name).dims query))) }
         ensures keeps { KeepsInQuestion self.old self.new result }
     {
         let asked = query.two_axes()?;
@@ -64,11 +67,14 @@ impl<B: BlockDevice, A: Allocator + Copy> Layers<B, A> {
         tag: Option<u32>,
     ) -> Result<Vec<(u64, AnyBox, u32), A>, Refusal>
         requires { located.now.dims ≡ 3 }
-        ensures replied { (t : Table) (name : List ℕ) → IsSound self.old t → IsLocated self.old t name located.now →
+        ensures replied { (t : Table) (name : List ℕ) → IsSound self.old t →
+            IsLocated self.old t name located.now →
             IsReply (Rose self.old self.new) (first_refusal (query_refusals (layer_at t name).dims query))
             (Boxes (range_rows (layer_at t name) query tag)) (boxes_answer result) }
-        ensures looks { (t : Table) (name : List ℕ) → IsSound self.old t → IsLocated self.old t name located.now →
-            OnOk result (LooksAtTree self.old self.new name (admitted (is_admitted (layer_at t name).dims query))) }
+        ensures looks { (t : Table) (name : List ℕ) → IsSound self.old t →
+            IsLocated self.old t name located.now →
+            OnOk result (LooksAtTree self.old self.new name
+            (admitted (is_admitted (layer_at t name).dims query))) }
         ensures keeps { KeepsInQuestion self.old self.new result }
     {
         let asked = query.three_axes()?;
@@ -85,13 +91,16 @@ impl<B: BlockDevice, A: Allocator + Copy> Layers<B, A> {
     ) -> Result<Vec<(u64, (BBox<D>, u32)), A>, Refusal>
         requires dims { IsDims D }
         requires axes { located.now.dims ≡ D }
-        ensures rows { (t : Table) (name : List ℕ) → IsSound self.old t → IsLocated self.old t name located.now →
+        ensures rows { (t : Table) (name : List ℕ) → IsSound self.old t →
+            IsLocated self.old t name located.now →
             IfOk result (λ rows. rows.items
             ≡ filter (λ row. seeks query.now (bounds_of row.1) && has_tag tag row.1)
             (entries (layer_at t name).objects)) }
-        ensures looks { (t : Table) (name : List ℕ) → IsSound self.old t → IsLocated self.old t name located.now →
+        ensures looks { (t : Table) (name : List ℕ) → IsSound self.old t →
+            IsLocated self.old t name located.now →
             OnOk result (LooksAtTree self.old self.new name (admitted (admits query.now))) }
-        ensures fault { (t : Table) (name : List ℕ) → IsSound self.old t → IsLocated self.old t name located.now →
+        ensures fault { (t : Table) (name : List ℕ) → IsSound self.old t →
+            IsLocated self.old t name located.now →
             IfErr result (IsFault (Rose self.old self.new)) }
         ensures keeps { KeepsInQuestion self.old self.new result }
     {

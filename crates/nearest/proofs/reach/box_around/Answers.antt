@@ -16,9 +16,13 @@ unwrap-requires g c =
 pub returns : goal.returns
 returns g c = λ b box near.
     let i = c.loop-axis.invariant in
-    let made : c.unwrap.result ≡ record { low = c.loop-axis.low; high = c.loop-axis.high } = subst (λ o. IfSome o (λ (w : Bounds). w ≡ record { low = c.loop-axis.low; high = c.loop-axis.high })) c.unwrap.ensures c.try_new.ensures.value in
+    let made : c.unwrap.result ≡ record { low = c.loop-axis.low; high = c.loop-axis.high } =
+    subst (λ o. IfSome o (λ (w : Bounds). w ≡ record { low = c.loop-axis.low; high = c.loop-axis.high }))
+    c.unwrap.ensures c.try_new.ensures.value in
     near_meets g.row.D c.args.point.now c.args.side c.unwrap.result b
     (λ k lt. i.fits k (omega (arith, lt, c.loop-axis-test.false)))
-    (λ k lt. ap (λ (w : Bounds). on_axis w.low k) made ∙ i.lows.below k (omega (arith, lt, c.loop-axis-test.false)))
-    (λ k lt. ap (λ (w : Bounds). on_axis w.high k) made ∙ i.highs.below k (omega (arith, lt, c.loop-axis-test.false)))
+    (λ k lt. ap (λ (w : Bounds). on_axis w.low k) made
+    ∙ i.lows.below k (omega (arith, lt, c.loop-axis-test.false)))
+    (λ k lt. ap (λ (w : Bounds). on_axis w.high k) made
+    ∙ i.highs.below k (omega (arith, lt, c.loop-axis-test.false)))
     box near

@@ -18,13 +18,24 @@ returns-clause-children g c = λ h content there level.
     let far : Bounds → ℕ = λ b. point_dist2_of g.row.D b c.args.point.now in
     let live = page_of_node g.row.D (m c.args.node.page) content there in
     let read = c.in_ok-view.ensures.node h live in
-    let same = ap (λ (x : NodeContent). x.entries) (same_content g.row.D m c.args.node.page (content_in c.in_ok-view.view) content read there) in
-    let all = take_all c.loop-place.place (content_in c.in_ok-view.view).entries (omega (arith, c.loop-place-test.false, c.len-place-end.ensures.count)) in
-    c.loop-place.invariant ∙ ap (λ (items : List Item). c.args.fresh.now.items ++ map (candidate_at far c.args.node.level) items) (all ∙ same)
+    let same =
+    ap (λ (x : NodeContent). x.entries)
+    (same_content g.row.D m c.args.node.page (content_in c.in_ok-view.view) content read there) in
+    let all =
+    take_all c.loop-place.place (content_in c.in_ok-view.view).entries
+    (omega (arith, c.loop-place-test.false, c.len-place-end.ensures.count)) in
+    c.loop-place.invariant
+    ∙ ap (λ (items : List Item). c.args.fresh.now.items
+    ++ map (candidate_at far c.args.node.level) items) (all ∙ same)
 
 pub returns-clause-work : goal.returns-clause-work
 returns-clause-work g c =
     let far : Bounds → ℕ = λ b. point_dist2_of g.row.D b c.args.point.now in
-    let all = take_all c.loop-place.place (content_in c.in_ok-view.view).entries (omega (arith, c.loop-place-test.false, c.len-place-end.ensures.count)) in
-    less_work far c.args.node.level (content_in c.in_ok-view.view).entries c.args.fresh.now.items c.loop-place.fresh.items c.requires.above
-    (c.loop-place.invariant ∙ ap (λ (items : List Item). c.args.fresh.now.items ++ map (candidate_at far c.args.node.level) items) all) c.in_ok-view.ensures.spellable.few
+    let all =
+    take_all c.loop-place.place (content_in c.in_ok-view.view).entries
+    (omega (arith, c.loop-place-test.false, c.len-place-end.ensures.count)) in
+    less_work far c.args.node.level (content_in c.in_ok-view.view).entries c.args.fresh.now.items
+    c.loop-place.fresh.items c.requires.above
+    (c.loop-place.invariant
+    ∙ ap (λ (items : List Item). c.args.fresh.now.items
+    ++ map (candidate_at far c.args.node.level) items) all) c.in_ok-view.ensures.spellable.few

@@ -7,4 +7,6 @@ use Rattle.nearest.proofs.search.look_at_children.Given as goal
 
 -- the children so far were appended
 abbrev pub invariant-loop-place : goal.invariant-loop-place
-invariant-loop-place g l = l.fresh.items ≡ l.fn.fresh.items ++ map (candidate_at (λ b. point_dist2_of g.row.D b l.fn.point) l.fn.node.level) (take l.place (content_in l.view).entries)
+invariant-loop-place g l = l.fresh.items ≡ l.fn.fresh.items
+    ++ map (candidate_at (λ b. point_dist2_of g.row.D b l.fn.point) l.fn.node.level)
+    (take l.place (content_in l.view).entries)

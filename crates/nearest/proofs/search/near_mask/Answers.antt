@@ -12,7 +12,12 @@ use Rattle.nearest.proofs.search.near_mask.Goals as goal
 
 pub returns-then-not-is_full : goal.returns-then-not-is_full
 returns-then-not-is_full g c = λ place item there unset.
-    let within : place < 128 = omega (arith, slice_get_within (content_in c.args.view.now).entries place item there, c.requires.small) in
+    let within : place < 128 =
+    omega (
+      arith,
+      slice_get_within (content_in c.args.view.now).entries place item there,
+      c.requires.small,
+    ) in
     absurd (false≢true (sym unset ∙ ap (λ (n : ℕ). n == 1) (bit_at_ones 128 place within)))
 
 pub returns : goal.returns
@@ -20,5 +25,6 @@ returns g c = λ place item there unset.
     let items = (content_in c.args.view.now).entries in
     let here : get_or items place no_item ≡ item = get_or_from_slice_get items place item no_item there in
     let box : IsBox g.row.D item.bounds = subst (λ (x : Item). IsBox g.row.D x.bounds) here
-    (All-get_or (λ (x : Item). IsBox g.row.D x.bounds) items place no_item (slice_get_within items place item there) c.requires.boxes) in
+    (All-get_or (λ (x : Item). IsBox g.row.D x.bounds) items place no_item
+    (slice_get_within items place item there) c.requires.boxes) in
     c.reach.ensures item.bounds box (sym (c.mask.ensures.met place item there) ∙ unset)

@@ -6,7 +6,8 @@ use Rattle.nearest.proofs.search.nearest.Given as goal
 
 -- the k best of what was seen are kept, and what waits makes all
 abbrev pub invariant-loop-first : goal.invariant-loop-first
-invariant-loop-first g l = Searching g.row.D l.k l.fn.root l.point l.fn.cache l.cache l.queue l.fresh.items l.best
+invariant-loop-first g l =
+    Searching g.row.D l.k l.fn.root l.point l.fn.cache l.cache l.queue l.fresh.items l.best
 
 -- what is taken makes room for less work
 abbrev pub decreases-loop-first : goal.decreases-loop-first

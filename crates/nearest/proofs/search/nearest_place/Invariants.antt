@@ -7,5 +7,6 @@ use Rattle.nearest.proofs.search.nearest_place.Given as goal
 abbrev pub invariant-loop-other : goal.invariant-loop-other
 invariant-loop-other l = record {
   within : l.place < length l.candidates;
-  nearest : (i : ℕ) (d : Candidate) → i < l.other → (get_or l.candidates l.place d).distance ≤ (get_or l.candidates i d).distance;
+  nearest : (i : ℕ) (d : Candidate) → i < l.other
+      → (get_or l.candidates l.place d).distance ≤ (get_or l.candidates i d).distance;
 }

@@ -10,5 +10,8 @@ pub returns-then-are_nearer-clause-none : goal.returns-then-are_nearer-clause-no
 returns-then-are_nearer-clause-none g c =
     let past = c.are_nearer.ensures.0 c.if-are_nearer.true in
     let first = c.in_ok-first.first in
-    All-permutation (λ x. Past x.distance c.args.k c.args.best.now) (first ∷ c.pop.new.self) c.args.queue.now (IsPermutation-sym c.args.queue.now (first ∷ c.pop.new.self) c.in_ok-first.ensures.some)
-    (All-cons (λ x. Past x.distance c.args.k c.args.best.now) first c.pop.new.self past (λ i e lt. past_le first.distance (get_or c.pop.new.self i e).distance c.args.k c.args.best.now (c.in_ok-first.ensures.first i e lt) past))
+    All-permutation (λ x. Past x.distance c.args.k c.args.best.now) (first ∷ c.pop.new.self) c.args.queue.now
+    (IsPermutation-sym c.args.queue.now (first ∷ c.pop.new.self) c.in_ok-first.ensures.some)
+    (All-cons (λ x. Past x.distance c.args.k c.args.best.now) first c.pop.new.self past
+    (λ i e lt. past_le first.distance (get_or c.pop.new.self i e).distance c.args.k c.args.best.now
+    (c.in_ok-first.ensures.first i e lt) past))

@@ -10,7 +10,8 @@ use Rattle.node_page.specs.Standing.{PageMap}
 use Rattle.node_page.specs.Views.{content_in}
 use Rattle.node_page.proofs.StandingLemmas.{page_of_node, same_content}
 use Rattle.node_page.proofs.adding.least_with.Goals as goal
-use Rattle.node_page.proofs.adding.least_with.Goals.{then-len-eq0-via-then-len-eq0, then-len-eq0-via-else-len-eq0+then-len-most}
+use Rattle.node_page.proofs.adding.least_with.Goals.{then-len-eq0-via-then-len-eq0}
+use Rattle.node_page.proofs.adding.least_with.Goals.{then-len-eq0-via-else-len-eq0+then-len-most}
 
 -- ---- the node has no entry, or the most
 
@@ -18,11 +19,16 @@ pub returns-then-len-eq0-clause-room : goal.returns-then-len-eq0-clause-room
 returns-then-len-eq0-clause-room g c = λ h content there.
     let m : PageMap = pages c.args.cache.now in
     let live = page_of_node g.row.D (m c.args.page) content there in
-    let same = ap (λ (x : NodeContent). length x.entries) (same_content g.row.D m c.args.page (content_in c.in_ok-node.node) content (c.in_ok-node.ensures.node h live) there) in (
+    let same =
+    ap (λ (x : NodeContent). length x.entries)
+    (same_content g.row.D m c.args.page (content_in c.in_ok-node.node) content
+    (c.in_ok-node.ensures.node h live) there) in (
       λ never. absurd (cc),
       λ both. elim c.then-len-eq0.branch [
-        | then-len-eq0-via-then-len-eq0 w ↦ absurd (omega (arith, w.if-len-eq0, c.len.ensures.count, same, both.0))
-        | then-len-eq0-via-else-len-eq0+then-len-most w ↦ absurd (omega (arith, w.if-len-most, w.len-else-len-eq0.ensures.count, same, both.1))
+        | then-len-eq0-via-then-len-eq0 w ↦ absurd
+            (omega (arith, w.if-len-eq0, c.len.ensures.count, same, both.0))
+        | then-len-eq0-via-else-len-eq0+then-len-most w ↦ absurd
+            (omega (arith, w.if-len-most, w.len-else-len-eq0.ensures.count, same, both.1))
       ],
     )
 
@@ -30,7 +36,9 @@ pub returns-then-len-eq0-clause-level : goal.returns-then-len-eq0-clause-level
 returns-then-len-eq0-clause-level g c = λ h content there.
     let m : PageMap = pages c.args.cache.now in
     let live = page_of_node g.row.D (m c.args.page) content there in
-    sym (ap (λ (x : NodeContent). x.level) (same_content g.row.D m c.args.page (content_in c.in_ok-node.node) content (c.in_ok-node.ensures.node h live) there)) ∙ c.in_ok-node.ensures.level
+    sym (ap (λ (x : NodeContent). x.level)
+    (same_content g.row.D m c.args.page (content_in c.in_ok-node.node) content
+    (c.in_ok-node.ensures.node h live) there)) ∙ c.in_ok-node.ensures.level
 
 -- ---- it has room
 
@@ -38,8 +46,14 @@ pub returns-clause-room : goal.returns-clause-room
 returns-clause-room g c = λ h content there.
     let m : PageMap = pages c.args.cache.now in
     let live = page_of_node g.row.D (m c.args.page) content there in
-    let same = ap (λ (x : NodeContent). length x.entries) (same_content g.row.D m c.args.page (content_in c.in_ok-node.node) content (c.in_ok-node.ensures.node h live) there) in (
-      λ is. (omega (arith, c.if-len-eq0.false, c.len.ensures.count, same), omega (arith, c.if-len-most.false, c.len-else-len-eq0.ensures.count, same)),
+    let same =
+    ap (λ (x : NodeContent). length x.entries)
+    (same_content g.row.D m c.args.page (content_in c.in_ok-node.node) content
+    (c.in_ok-node.ensures.node h live) there) in (
+      λ is. (
+        omega (arith, c.if-len-eq0.false, c.len.ensures.count, same),
+        omega (arith, c.if-len-most.false, c.len-else-len-eq0.ensures.count, same),
+      ),
       λ both. refl,
     )
 
@@ -47,7 +61,9 @@ pub returns-clause-level : goal.returns-clause-level
 returns-clause-level g c = λ h content there.
     let m : PageMap = pages c.args.cache.now in
     let live = page_of_node g.row.D (m c.args.page) content there in
-    sym (ap (λ (x : NodeContent). x.level) (same_content g.row.D m c.args.page (content_in c.in_ok-node.node) content (c.in_ok-node.ensures.node h live) there)) ∙ c.in_ok-node.ensures.level
+    sym (ap (λ (x : NodeContent). x.level)
+    (same_content g.row.D m c.args.page (content_in c.in_ok-node.node) content
+    (c.in_ok-node.ensures.node h live) there)) ∙ c.in_ok-node.ensures.level
 
 pub returns-clause-least : goal.returns-clause-least
 returns-clause-least g c = λ h content there.
@@ -57,6 +73,8 @@ returns-clause-least g c = λ h content there.
     let view = content_in c.in_ok-node.node in
     let live = page_of_node D (m c.args.page) content there in
     let some : 0 < length view.entries = omega (arith, c.if-len-eq0.false, c.len.ensures.count) in
-    let bounds = c.join.ensures.value ∙ ap (λ (b : Bounds). join_of D b c.args.entry.now.bounds) c.least.ensures ∙ sym (least_box-more D view.entries item some) in
+    let bounds = c.join.ensures.value
+    ∙ ap (λ (b : Bounds). join_of D b c.args.entry.now.bounds) c.least.ensures
+    ∙ sym (least_box-more D view.entries item some) in
     subst (λ (x : NodeContent). c.join.result ≡ least_box D (pushed x item).entries)
     (same_content D m c.args.page view content (c.in_ok-node.ensures.node h live) there) bounds

@@ -11,10 +11,24 @@ pub returns : goal.returns
 returns g c =
     let same = same_box c.args.bounds.now c.least.result c.eq.result c.eq.ensures in
     let entries : List (Entry g.row.D) = c.args.node.now.entries.items in
-    let is : c.least.result ≡ least_box g.row.D (map item_of entries) = c.least.ensures ∙ ap (λ (es : List (Entry g.row.D)). least_box g.row.D (map item_of es)) c.as_slice.ensures.value in (
+    let is : c.least.result ≡ least_box g.row.D (map item_of entries) = c.least.ensures
+    ∙ ap (λ (es : List (Entry g.row.D)). least_box g.row.D (map item_of es)) c.as_slice.ensures.value in (
       λ equal. (
-        omega (arith, length-map entries item_of, c.max.ensures, c.from-most.ensures, c.len-count.ensures.value, c.if-count-max.false),
-        omega (arith, length-map entries item_of, c.from-most.ensures, c.len-count.ensures.value, c.if-count-most.false),
+        omega (
+          arith,
+          length-map entries item_of,
+          c.max.ensures,
+          c.from-most.ensures,
+          c.len-count.ensures.value,
+          c.if-count-max.false,
+        ),
+        omega (
+          arith,
+          length-map entries item_of,
+          c.from-most.ensures,
+          c.len-count.ensures.value,
+          c.if-count-most.false,
+        ),
         same.0 equal ∙ is,
       ),
       λ all. same.1 (all.2 ∙ sym is),

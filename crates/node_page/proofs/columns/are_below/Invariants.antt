@@ -4,4 +4,5 @@ use Rattle.block_bytes.specs.Numbers.{signed_at}
 use Rattle.node_page.proofs.columns.are_below.Given as goal
 
 abbrev pub invariant-loop-place : goal.invariant-loop-place
-invariant-loop-place l = IsTrue l.good ↔ ((k : ℕ) → k < l.place → signed_at (l.first + 4 * k) l.page <ℤ signed_at (l.first + 400 + 4 * k) l.page)
+invariant-loop-place l = IsTrue l.good
+    ↔ ((k : ℕ) → k < l.place → signed_at (l.first + 4 * k) l.page <ℤ signed_at (l.first + 400 + 4 * k) l.page)

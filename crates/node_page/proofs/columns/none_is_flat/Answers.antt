@@ -5,7 +5,8 @@ use Rattle.node_page.proofs.columns.none_is_flat.Goals as goal
 pub returns-then-not-are_below : goal.returns-then-not-are_below
 returns-then-not-are_below g c = (
   λ never. absurd (cc),
-  λ each. let found = c.are_below.ensures.1 (λ place lt. each c.loop-axis.axis place c.loop-axis-test.true lt) in absurd (cc),
+  λ each. let found =
+      c.are_below.ensures.1 (λ place lt. each c.loop-axis.axis place c.loop-axis-test.true lt) in absurd (cc),
 )
 
 pub returns : goal.returns

@@ -6,4 +6,5 @@ use Rattle.node_page.proofs.laws.a_node_comes_back.Goals as goal
 
 pub returns : goal.returns
 returns g c =
-    comes_back c.decode.result (content_of c.args.node.now) (node_at g.row.D c.encode.new.page) c.encode.ensures.spelled c.decode.ensures.spelled c.decode.ensures.none
+    comes_back c.decode.result (content_of c.args.node.now) (node_at g.row.D c.encode.new.page)
+    c.encode.ensures.spelled c.decode.ensures.spelled c.decode.ensures.none

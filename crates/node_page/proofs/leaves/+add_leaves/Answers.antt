@@ -11,53 +11,89 @@ use Rattle.node_page.specs.Checked.{ComesTo}
 use Rattle.node_page.specs.Lists.{lists_of}
 use Rattle.node_page.specs.Standing.{PageMap}
 use Rattle.node_page.proofs.DamageLemmas.{comes_below_so, comes_on, damaged_read, entry_names}
-use Rattle.node_page.proofs.LeafLemmas.{below_here, child_page, child_tag, entries_there, found_all, found_none, leaf_found, one_more_read}
+use Rattle.node_page.proofs.LeafLemmas.{below_here, child_page, child_tag, entries_there, found_all}
+use Rattle.node_page.proofs.LeafLemmas.{found_none, leaf_found, one_more_read}
 use Rattle.node_page.proofs.NodeLemmas.{at_error, if_error, on_ok}
 use Rattle.node_page.proofs.leaves.+add_leaves.Goals as goal
 
 pub returns-then-root-eq0-clause-found : goal.returns-then-root-eq0-clause-found
 returns-then-root-eq0-clause-found g t c = λ h.
     on_ok c.add_leaf.result
-    (λ added. leaf_found g.row.D (given c.args.cache.now) c.args.root.page c.args.root.level (content_of c.in_ok-node.node) (lists_of c.args.lists.now) (lists_of c.add_leaf.new.lists) (looks_of c.args.cache.now) _
-    c.if-root-eq0.true c.in_ok-node.ensures.level (c.in_ok-node.ensures.given_node h) added c.in_ok-node.ensures.looks)
+    (λ added. leaf_found g.row.D (given c.args.cache.now) c.args.root.page c.args.root.level
+    (content_of c.in_ok-node.node) (lists_of c.args.lists.now) (lists_of c.add_leaf.new.lists)
+    (looks_of c.args.cache.now) _
+    c.if-root-eq0.true c.in_ok-node.ensures.level (c.in_ok-node.ensures.given_node h) added
+    c.in_ok-node.ensures.looks)
     c.add_leaf.ensures.lists
 
 pub overflow_cast-below : goal.overflow_cast-below
-overflow_cast-below g t c = omega (arith, child_page c.in_ok-node.node.level c.in_ok-node.node.entries.items c.as_slice-entry-items.result.now c.loop-entry.entry-index c.entry-item.result c.in_ok-node.ensures.spellable.refers c.as_slice-entry-items.ensures.value (omega (arith, c.loop-entry-test.true)) c.entry-item.is (omega (arith, c.in_ok-node.ensures.level, c.if-root-eq0.false)))
+overflow_cast-below g t c =
+    omega (
+      arith,
+      child_page c.in_ok-node.node.level c.in_ok-node.node.entries.items c.as_slice-entry-items.result.now
+          c.loop-entry.entry-index c.entry-item.result c.in_ok-node.ensures.spellable.refers
+          c.as_slice-entry-items.ensures.value (omega (arith, c.loop-entry-test.true)) c.entry-item.is
+          (omega (arith, c.in_ok-node.ensures.level, c.if-root-eq0.false)),
+    )
 
 pub returns-in_err-add_leaves-clause-asks : goal.returns-in_err-add_leaves-clause-asks
-returns-in_err-add_leaves-clause-asks g t c = asks_and_refuses c.args.cache.now c.loop-entry.cache c.add_leaves.new.cache c.in_err-add_leaves.field-0.0 c.from_residual-in_err-add_leaves.result c.from_residual-in_err-add_leaves.ensures.1 c.loop-entry.invariant.asks c.in_err-add_leaves.ensures.asks
+returns-in_err-add_leaves-clause-asks g t c =
+    asks_and_refuses c.args.cache.now c.loop-entry.cache c.add_leaves.new.cache c.in_err-add_leaves.field-0.0
+    c.from_residual-in_err-add_leaves.result c.from_residual-in_err-add_leaves.ensures.1
+    c.loop-entry.invariant.asks c.in_err-add_leaves.ensures.asks
 
 pub returns-in_err-add_leaves-clause-stands : goal.returns-in_err-add_leaves-clause-stands
 returns-in_err-add_leaves-clause-stands g t c = λ h row at.
     let m : PageMap = given c.args.cache.now in
-    let same = entries_there g.row.D m c.args.root.page c.args.root.level row (content_of c.in_ok-node.node) at (c.in_ok-node.ensures.given_node h) ∙ ap (map item_of) (sym c.as_slice-entry-items.ensures.value) in
-    let b = below_here c.loop-entry.invariant c.entry-item.result (omega (arith, c.loop-entry-test.true)) c.entry-item.is (omega (arith, c.if-root-eq0.false)) h row same at.below in
-    at_error c.from_residual-in_err-add_leaves.result c.in_err-add_leaves.field-0.0 IsOfDevice c.from_residual-in_err-add_leaves.ensures.1
+    let same =
+    entries_there g.row.D m c.args.root.page c.args.root.level row (content_of c.in_ok-node.node) at
+    (c.in_ok-node.ensures.given_node h) ∙ ap (map item_of) (sym c.as_slice-entry-items.ensures.value) in
+    let b = below_here c.loop-entry.invariant c.entry-item.result (omega (arith, c.loop-entry-test.true))
+    c.entry-item.is (omega (arith, c.if-root-eq0.false)) h row same at.below in
+    at_error c.from_residual-in_err-add_leaves.result c.in_err-add_leaves.field-0.0 IsOfDevice
+    c.from_residual-in_err-add_leaves.ensures.1
     (c.in_err-add_leaves.ensures.stands (c.loop-entry.invariant.asks.gate.honest.0 h) b.0 b.1)
 
 pub loop-entry-init : goal.loop-entry-init
 loop-entry-init g t c = record {
   asks = c.in_ok-node.ensures.asks;
-  found = λ h. found_none g.row.D (given c.args.cache.now) c.args.root.level (map item_of c.as_slice-entry-items.result.now) (lists_of c.args.lists.now) (looks_of c.args.cache.now) _ (omega (arith, c.if-root-eq0.false)) c.in_ok-node.ensures.looks;
+  found = λ h. found_none g.row.D (given c.args.cache.now) c.args.root.level
+      (map item_of c.as_slice-entry-items.result.now) (lists_of c.args.lists.now) (looks_of c.args.cache.now)
+      _ (omega (arith, c.if-root-eq0.false)) c.in_ok-node.ensures.looks;
 }
 
 pub loop-entry-preserved : goal.loop-entry-preserved
-loop-entry-preserved g t c = one_more_read c.loop-entry.invariant c.entry-item.result (omega (arith, c.loop-entry-test.true)) c.entry-item.is (omega (arith, c.if-root-eq0.false))
-    (child_tag c.in_ok-node.node.level c.in_ok-node.node.entries.items c.as_slice-entry-items.result.now c.loop-entry.entry-index c.entry-item.result c.in_ok-node.ensures.spellable.refers c.as_slice-entry-items.ensures.value (omega (arith, c.loop-entry-test.true)) c.entry-item.is (omega (arith, c.in_ok-node.ensures.level, c.if-root-eq0.false)))
+loop-entry-preserved g t c =
+    one_more_read c.loop-entry.invariant c.entry-item.result (omega (arith, c.loop-entry-test.true))
+    c.entry-item.is (omega (arith, c.if-root-eq0.false))
+    (child_tag c.in_ok-node.node.level c.in_ok-node.node.entries.items c.as_slice-entry-items.result.now
+    c.loop-entry.entry-index c.entry-item.result c.in_ok-node.ensures.spellable.refers
+    c.as_slice-entry-items.ensures.value (omega (arith, c.loop-entry-test.true)) c.entry-item.is
+    (omega (arith, c.in_ok-node.ensures.level, c.if-root-eq0.false)))
     c.add_leaves.new.cache (lists_of c.add_leaves.new.lists) c.in_ok-add_leaves.ensures.asks
     (λ h. c.in_ok-add_leaves.ensures.found h)
 
 pub returns-clause-found : goal.returns-clause-found
 returns-clause-found g t c = λ h.
-    found_all g.row.D (given c.args.cache.now) c.args.root.level (map item_of c.as_slice-entry-items.result.now) (lists_of c.args.lists.now) (looks_of c.args.cache.now) c.args.root.page c.loop-entry.entry-index
-    (content_of c.in_ok-node.node) (lists_of c.loop-entry.lists) (looks_of c.loop-entry.cache) (omega (arith, c.loop-entry-test.false, length-map c.as_slice-entry-items.result.now item_of)) (c.in_ok-node.ensures.given_node h)
-    c.in_ok-node.ensures.level (ap (map item_of) (sym c.as_slice-entry-items.ensures.value)) (c.loop-entry.invariant.found h)
+    found_all g.row.D (given c.args.cache.now) c.args.root.level
+    (map item_of c.as_slice-entry-items.result.now) (lists_of c.args.lists.now)
+    (looks_of c.args.cache.now) c.args.root.page c.loop-entry.entry-index
+    (content_of c.in_ok-node.node) (lists_of c.loop-entry.lists) (looks_of c.loop-entry.cache)
+    (omega (arith, c.loop-entry-test.false, length-map c.as_slice-entry-items.result.now item_of))
+    (c.in_ok-node.ensures.given_node h)
+    c.in_ok-node.ensures.level (ap (map item_of) (sym c.as_slice-entry-items.ensures.value))
+    (c.loop-entry.invariant.found h)
 
 pub returns-in_err-node-clause-damage : goal.returns-in_err-node-clause-damage
 returns-in_err-node-clause-damage g t c = λ h.
-    at_error c.from_residual.result c.in_err-node.field-0.0 (λ f. (n : ℕ) → f ≡ fault.Damaged n → ComesTo g.row.D (given c.args.cache.now) c.args.root.page n) c.from_residual.ensures.1
-    (λ n damaged. ([], damaged_read c.in_err-node.field-0.0 c.args.root.page n (c.in_err-node.ensures.faults h) damaged))
+    at_error c.from_residual.result c.in_err-node.field-0.0
+    (λ f. (n : ℕ) → f ≡ fault.Damaged n → ComesTo g.row.D (given c.args.cache.now) c.args.root.page n)
+    c.from_residual.ensures.1
+    (λ n damaged. (
+      [],
+      damaged_read c.in_err-node.field-0.0 c.args.root.page n (c.in_err-node.ensures.faults h)
+          damaged,
+    ))
 
 pub returns-then-root-eq0-clause-damage : goal.returns-then-root-eq0-clause-damage
 returns-then-root-eq0-clause-damage g t c = λ h.
@@ -75,10 +111,18 @@ returns-in_err-add_leaves-clause-damage g t c = λ h.
     let entry = c.entry-item.result in
     let items = map item_of c.as_slice-entry-items.result.now in
     let same = ap (map item_of) (sym c.as_slice-entry-items.ensures.value) in
-    let within : c.loop-entry.entry-index < length items = omega (arith, length-map c.as_slice-entry-items.result.now item_of, c.loop-entry-test.true) in
-    let here = entry_item c.as_slice-entry-items.result.now c.loop-entry.entry-index entry (omega (arith, c.loop-entry-test.true)) c.entry-item.is in
-    let names = entry_names content items c.loop-entry.entry-index (item_of entry) same (omega (arith, c.in_ok-node.ensures.level, c.if-root-eq0.false)) within here in
+    let within : c.loop-entry.entry-index < length items =
+    omega (arith, length-map c.as_slice-entry-items.result.now item_of, c.loop-entry-test.true) in
+    let here =
+    entry_item c.as_slice-entry-items.result.now c.loop-entry.entry-index entry
+    (omega (arith, c.loop-entry-test.true)) c.entry-item.is in
+    let names =
+    entry_names content items c.loop-entry.entry-index (item_of entry) same
+    (omega (arith, c.in_ok-node.ensures.level, c.if-root-eq0.false)) within here in
     let asks = c.loop-entry.invariant.asks in
-    at_error c.from_residual-in_err-add_leaves.result c.in_err-add_leaves.field-0.0 (λ f. (n : ℕ) → f ≡ fault.Damaged n → ComesTo g.row.D m c.args.root.page n) c.from_residual-in_err-add_leaves.ensures.1
+    at_error c.from_residual-in_err-add_leaves.result c.in_err-add_leaves.field-0.0
+    (λ f. (n : ℕ) → f ≡ fault.Damaged n → ComesTo g.row.D m c.args.root.page n)
+    c.from_residual-in_err-add_leaves.ensures.1
     (λ n damaged. comes_on g.row.D m c.args.root.page content n (c.in_ok-node.ensures.given_node h)
-    (comes_below_so g.row.D m now content n (λ k. asks.map.given_stay h k) (entry.reference, names, c.in_err-add_leaves.ensures.damage (asks.gate.honest.0 h) n damaged)))
+    (comes_below_so g.row.D m now content n (λ k. asks.map.given_stay h k)
+    (entry.reference, names, c.in_err-add_leaves.ensures.damage (asks.gate.honest.0 h) n damaged)))

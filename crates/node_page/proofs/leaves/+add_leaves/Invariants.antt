@@ -9,4 +9,6 @@ decreases-add_leaves g l = l.root.level
 
 -- the leaves below the entries so far are read
 abbrev pub invariant-loop-entry : goal.invariant-loop-entry
-invariant-loop-entry g l = Progress g.row.D l.fn.cache l.cache l.fn.root.level l.entry-items l.entry-index (lists_of l.fn.lists) (lists_of l.lists)
+invariant-loop-entry g l =
+    Progress g.row.D l.fn.cache l.cache l.fn.root.level l.entry-items l.entry-index (lists_of l.fn.lists)
+    (lists_of l.lists)

@@ -1,5 +1,6 @@
 -- The mask of all places.
-use Rattle.std.proofs.Common.{◌≡◌, ◌-◌, ◌≤◌, ◌+◌, ◌*◌, ◌/◌, ◌%◌, ◌^◌, ℕ, Bool, bit_and, sym, ap, ap₂, ◌∙◌, arith, pow_mono}
+use Rattle.std.proofs.Common.{◌≡◌, ◌-◌, ◌≤◌, ◌+◌, ◌*◌, ◌/◌, ◌%◌, ◌^◌, ℕ, Bool, bit_and, sym, ap, ap₂, ◌∙◌}
+use Rattle.std.proofs.Common.{arith, pow_mono}
 use Rattle.box_math.specs.Bounds.{meets_test}
 use Rattle.box_math.specs.Masks.{has_bit, mask_from}
 use Rattle.box_math.proofs.MaskLemmas.{bit_of_mask, eight_fit, eight_more, no_mask}
@@ -12,7 +13,11 @@ loop-at-init g c =
     let t : ℕ → Bool = λ k. meets_test g.row.D (item_at g.row.D c.args.page.now k).bounds c.args.window.now in
     let top = (c.args.count + 8 - 1) / 8 * 8 in
     let none : top - top ≡ 0 = omega arith in
-    record { within = omega arith; whole = omega arith; mask = sym (ap (mask_from t top) none ∙ no_mask t top) }
+    record {
+      within = omega arith;
+      whole = omega arith;
+      mask = sym (ap (mask_from t top) none ∙ no_mask t top);
+    }
 
 pub overflow_mul-mask : goal.overflow_mul-mask
 overflow_mul-mask g c =
@@ -27,7 +32,10 @@ overflow_add-mask g c =
     let top = (c.args.count + 8 - 1) / 8 * 8 in
     let small = mask_fits t c.loop-at.at (top - c.loop-at.at) (omega arith) in
     let byte = eight_fit t (c.loop-at.at - 8) in
-    record { fits = omega (arith, small, byte, c.loop-at.invariant.mask, c.from.ensures, c.block_mask.ensures) }
+    record {
+      fits =
+          omega (arith, small, byte, c.loop-at.invariant.mask, c.from.ensures, c.block_mask.ensures);
+    }
 
 pub loop-at-preserved : goal.loop-at-preserved
 loop-at-preserved g c =
@@ -51,8 +59,12 @@ returns g c =
     let t : ℕ → Bool = λ k. meets_test g.row.D (item_at g.row.D c.args.page.now k).bounds c.args.window.now in
     let top = (c.args.count + 8 - 1) / 8 * 8 in
     let none : c.loop-at.at ≡ 0 = omega arith in
-    let whole : c.loop-at.mask ≡ mask_from t 0 top = c.loop-at.invariant.mask ∙ ap (λ a. mask_from t a (top - a)) none ∙ ap (mask_from t 0) (let e : top - 0 ≡ top = omega arith in e) in
+    let whole : c.loop-at.mask ≡ mask_from t 0 top = c.loop-at.invariant.mask
+    ∙ ap (λ a. mask_from t a (top - a)) none
+    ∙ ap (mask_from t 0) (let e : top - 0 ≡ top = omega arith in e) in
     let power : 2 ^ c.args.count ≤ 2 ^ 104 = pow_mono {i = c.args.count} {j = 104} (omega arith) in
-    let cut : 1 * 2 ^ c.args.count % 340282366920938463463374607431768211456 - 1 ≡ 2 ^ c.args.count - 1 = omega (arith, power) in
+    let cut : 1 * 2 ^ c.args.count % 340282366920938463463374607431768211456 - 1 ≡ 2 ^ c.args.count - 1 =
+    omega (arith, power) in
     λ k. ap (λ n. has_bit (bit_and c.loop-at.mask n) k) cut
-    ∙ first_bits c.loop-at.mask top c.args.count k t (omega arith) (λ j. ap (λ m. has_bit m j) whole ∙ bit_of_mask t top j)
+    ∙ first_bits c.loop-at.mask top c.args.count k t (omega arith)
+    (λ j. ap (λ m. has_bit m j) whole ∙ bit_of_mask t top j)

@@ -9,7 +9,8 @@ abbrev pub invariant-loop-at : goal.invariant-loop-at
 invariant-loop-at g l = record {
   within : l.at ≤ l.initial.at;
   whole : l.at % 8 ≡ 0;
-  mask : l.mask ≡ mask_from (λ k. meets_test g.row.D (item_at g.row.D l.page k).bounds l.window) l.at (l.initial.at - l.at);
+  mask : l.mask ≡ mask_from (λ k. meets_test g.row.D (item_at g.row.D l.page k).bounds l.window) l.at
+      (l.initial.at - l.at);
 }
 
 abbrev pub decreases-loop-at : goal.decreases-loop-at

@@ -6,5 +6,6 @@ use Rattle.node_page.proofs.masks.next_set.Goals as goal
 
 pub returns-clause-unset : goal.returns-clause-unset
 returns-clause-unset c = λ k up below.
-    let small : c.args.mask / 2 ^ c.args.from < 2 ^ 128 = omega (arith, div-le_self c.args.mask (2 ^ c.args.from)) in
+    let small : c.args.mask / 2 ^ c.args.from < 2 ^ 128 =
+    omega (arith, div-le_self c.args.mask (2 ^ c.args.from)) in
     unset_before c.args.mask c.args.from k small up below

@@ -12,27 +12,37 @@ use Rattle.node_page.proofs.nodes.read_node.Goals as goal
 pub returns-in_err-page-clause-there : goal.returns-in_err-page-clause-there
 returns-in_err-page-clause-there g c = λ h content there level.
     let n = c.args.page in
-    let given = a_live_page_was_given_out c.args.cache.now n (page_of_node g.row.D (pages c.args.cache.now n) content there) in
-    at_error c.from_residual.result c.in_err-page.field-0.0 IsOfDevice c.from_residual.ensures.1 (c.in_err-page.ensures.faults h given.0 given.1)
+    let given =
+    a_live_page_was_given_out c.args.cache.now n
+    (page_of_node g.row.D (pages c.args.cache.now n) content there) in
+    at_error c.from_residual.result c.in_err-page.field-0.0 IsOfDevice c.from_residual.ensures.1
+    (c.in_err-page.ensures.faults h given.0 given.1)
 
 pub returns-in_err-page-clause-faults : goal.returns-in_err-page-clause-faults
 returns-in_err-page-clause-faults g c = λ h.
     let n = c.args.page in
-    at_error c.from_residual.result c.in_err-page.field-0.0 (λ f. IsOfDevice f ⊎ (f ≡ fault.Damaged n)) c.from_residual.ensures.1
-    (page_refused n (next_of c.args.cache.now) c.in_err-page.field-0.0 (c.in_err-page.ensures.faults h) (λ outside. let is = c.in_err-page.ensures.outside outside in cc))
+    at_error c.from_residual.result c.in_err-page.field-0.0 (λ f. IsOfDevice f ⊎ (f ≡ fault.Damaged n))
+    c.from_residual.ensures.1
+    (page_refused n (next_of c.args.cache.now) c.in_err-page.field-0.0 (c.in_err-page.ensures.faults h)
+    (λ outside. let is = c.in_err-page.ensures.outside outside in cc))
 
 pub returns-in-Some-clause-node : goal.returns-in-Some-clause-node
-returns-in-Some-clause-node g c = λ h live. node_of_page g.row.D (pages c.args.cache.now c.args.page) _ _ (c.in_ok-page.ensures.bytes h live) c.in-Some.ensures.spelled
+returns-in-Some-clause-node g c =
+    λ h live. node_of_page g.row.D (pages c.args.cache.now c.args.page) _ _
+    (c.in_ok-page.ensures.bytes h live) c.in-Some.ensures.spelled
 
 pub returns-in-None-clause-there : goal.returns-in-None-clause-there
 returns-in-None-clause-there g c = λ h content there level.
     let live = page_of_node g.row.D (pages c.args.cache.now c.args.page) content there in
-    let spelled = sym (node_of_page g.row.D (pages c.args.cache.now c.args.page) _ _ (c.in_ok-page.ensures.bytes h live) refl) ∙ there in
+    let spelled =
+    sym (node_of_page g.row.D (pages c.args.cache.now c.args.page) _ _
+    (c.in_ok-page.ensures.bytes h live) refl) ∙ there in
     absurd (c.in-None.ensures.none content spelled level)
 
 pub returns-in_err-page-clause-outside : goal.returns-in_err-page-clause-outside
 returns-in_err-page-clause-outside g c = λ outside.
-    is_refusal c.from_residual.result c.in_err-page.field-0.0 (fault.Damaged c.args.page) c.from_residual.ensures.1 (let is = c.in_err-page.ensures.outside outside in cc)
+    is_refusal c.from_residual.result c.in_err-page.field-0.0 (fault.Damaged c.args.page)
+    c.from_residual.ensures.1 (let is = c.in_err-page.ensures.outside outside in cc)
 
 pub returns-in-Some-clause-outside : goal.returns-in-Some-clause-outside
 returns-in-Some-clause-outside g c = λ outside. let is = c.in_ok-page.ensures.outside outside in absurd (cc)
@@ -40,9 +50,12 @@ returns-in-Some-clause-outside g c = λ outside. let is = c.in_ok-page.ensures.o
 pub returns-in_err-page-clause-given_there : goal.returns-in_err-page-clause-given_there
 returns-in_err-page-clause-given_there g c = λ h content there level.
     let given = node_was_given_out g.row.D c.args.cache.now c.args.page content there in
-    at_error c.from_residual.result c.in_err-page.field-0.0 IsOfDevice c.from_residual.ensures.1 (c.in_err-page.ensures.faults h given.0 given.1)
+    at_error c.from_residual.result c.in_err-page.field-0.0 IsOfDevice c.from_residual.ensures.1
+    (c.in_err-page.ensures.faults h given.0 given.1)
 
 pub returns-in-None-clause-given_there : goal.returns-in-None-clause-given_there
 returns-in-None-clause-given_there g c = λ h content there level.
-    let spelled = sym (node_of_page g.row.D (given c.args.cache.now c.args.page) _ _ (c.in_ok-page.ensures.given_bytes h) refl) ∙ there in
+    let spelled =
+    sym (node_of_page g.row.D (given c.args.cache.now c.args.page) _ _
+    (c.in_ok-page.ensures.given_bytes h) refl) ∙ there in
     absurd (c.in-None.ensures.none content spelled level)

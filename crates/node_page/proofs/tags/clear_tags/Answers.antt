@@ -6,7 +6,8 @@ use Rattle.node_page.specs.Layout.{tag_place}
 use Rattle.node_page.proofs.tags.clear_tags.Goals as goal
 
 pub loop-place-init : goal.loop-place-init
-loop-place-init g c = record { cleared = λ k lt. absurd (omega (arith, lt)); size = search rules; others = λ n at within. refl }
+loop-place-init g c =
+    record { cleared = λ k lt. absurd (omega (arith, lt)); size = search rules; others = λ n at within. refl }
 
 pub loop-place-preserved : goal.loop-place-preserved
 loop-place-preserved g c =
@@ -17,15 +18,21 @@ loop-place-preserved g c =
     let size = inv.size in
     record {
       cleared = below_more (λ k. number_at 4 (tag_place D k) c.write_u32.new.block ≡ 0) place
-          (λ k lt. ap (number_at 4 (tag_place D k)) c.write_u32.ensures ∙ number_at-put_other 4 (tag_place D k) 4 (tag_place D place) 0 old (omega arith) (inl (omega arith)) ∙ inv.cleared k lt)
-          (ap (number_at 4 (tag_place D place)) c.write_u32.ensures ∙ number_at-put 4 (tag_place D place) 0 old (omega arith) (omega arith));
+          (λ k lt. ap (number_at 4 (tag_place D k)) c.write_u32.ensures
+          ∙ number_at-put_other 4 (tag_place D k) 4 (tag_place D place) 0 old (omega arith)
+          (inl (omega arith)) ∙ inv.cleared k lt)
+          (ap (number_at 4 (tag_place D place)) c.write_u32.ensures
+          ∙ number_at-put 4 (tag_place D place) 0 old (omega arith) (omega arith));
       size = c.write_u32.array_long;
       others = λ n at before.
-          ap (number_at n at) c.write_u32.ensures ∙ number_at-put_other n at 4 (tag_place D place) 0 old (omega arith) (inl (omega arith)) ∙ inv.others n at before;
+          ap (number_at n at) c.write_u32.ensures
+          ∙ number_at-put_other n at 4 (tag_place D place) 0 old (omega arith) (inl (omega arith))
+          ∙ inv.others n at before;
     }
 
 pub returns-clause-cleared : goal.returns-clause-cleared
-returns-clause-cleared g c = λ place lt. c.loop-place.invariant.cleared place (omega (arith, lt, c.loop-place-test.false))
+returns-clause-cleared g c =
+    λ place lt. c.loop-place.invariant.cleared place (omega (arith, lt, c.loop-place-test.false))
 
 pub returns-clause-others : goal.returns-clause-others
 returns-clause-others g c = c.loop-place.invariant.others

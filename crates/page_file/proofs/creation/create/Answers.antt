@@ -18,9 +18,11 @@ returns-clause-stops g c = λ h.
     let there = c.lay_out.ensures.honest.0 h in
     let P : Blocks → Type 0 = λ b. IsRefused b ⊎ (SameButGate b (d.shown new) × IsNewFile b) in
     leaves_then d.moment d.left_since d.recovery old mid new P
-    (leaves_weaker d.moment d.left_since d.recovery old mid IsRefused P (λ b refused. inl refused) (c.lay_out.ensures.stops h))
+    (leaves_weaker d.moment d.left_since d.recovery old mid IsRefused P (λ b refused. inl refused)
+    (c.lay_out.ensures.stops h))
     (leaves_weaker d.moment d.left_since d.recovery mid new (GateAside (d.may_leave mid)) P
     (λ b from.
     let aside : SameButGate b (d.shown mid) = from.2 ∙ ap (drop 1) (laid.durable h from.0 from.1) in
-    ⊎_elim (λ refused. inl refused) (λ made. inr (aside ∙ sym (c.write_gate.ensures.same there), made)) (new_aside (d.shown mid) b (laid.header h) (laid.catalog h) aside))
+    ⊎_elim (λ refused. inl refused) (λ made. inr (aside ∙ sym (c.write_gate.ensures.same there), made))
+    (new_aside (d.shown mid) b (laid.header h) (laid.catalog h) aside))
     (c.write_gate.ensures.stops there))

@@ -9,7 +9,9 @@ unfolding header_block
 returns-clause-is c = search rules
 
 pub returns-clause-reads : goal.returns-clause-reads
-returns-clause-reads c = subst (IsHeader c.args.header.now) (sym (returns-clause-is c)) (header_reads c.args.header.now (omega arith) (omega arith) (omega arith))
+returns-clause-reads c =
+    subst (IsHeader c.args.header.now) (sym (returns-clause-is c))
+    (header_reads c.args.header.now (omega arith) (omega arith) (omega arith))
 
 pub returns-clause-version : goal.returns-clause-version
 returns-clause-version c = ap version_of (returns-clause-is c) ∙ version_written c.args.header.now

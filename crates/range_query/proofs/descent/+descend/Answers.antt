@@ -8,34 +8,52 @@ use Rattle.tree_node.specs.Searches.{counted}
 use Rattle.node_page.specs.Standing.{PageMap}
 use Rattle.node_page.proofs.NodeLemmas.{at_error, on_ok}
 use Rattle.range_query.specs.Queries.{is_admitted, is_sought}
-use Rattle.range_query.proofs.DescentLemmas.{all_found, all_looked, children_found, children_looked, children_named, children_of, children_stand, leaf_found, leaf_looked, stands_here, went_into}
+use Rattle.range_query.proofs.DescentLemmas.{all_found, all_looked, children_found, children_looked}
+use Rattle.range_query.proofs.DescentLemmas.{children_named, children_of, children_stand, leaf_found}
+use Rattle.range_query.proofs.DescentLemmas.{leaf_looked, stands_here, went_into}
 use Rattle.range_query.proofs.descent.+descend.Goals as goal
 
 pub returns-then-root-eq0-clause-rows : goal.returns-then-root-eq0-clause-rows
 returns-then-root-eq0-clause-rows g t c = λ h row at.
-    let leaf = leaf_found g.row.D (pages c.args.cache.now) c.args.root.level (is_admitted c.args.query.now) (is_sought c.args.query.now) c.args.tag row c.if-root-eq0.true at.below in
-    on_ok c.add_sought.result (λ added. added ∙ ap (λ (xs : List (ℕ × Object)). c.args.rows.now.items ++ xs) leaf) (c.add_sought.ensures.rows h _ at.node c.if-root-eq0.true)
+    let leaf =
+    leaf_found g.row.D (pages c.args.cache.now) c.args.root.level (is_admitted c.args.query.now)
+    (is_sought c.args.query.now) c.args.tag row c.if-root-eq0.true at.below in
+    on_ok c.add_sought.result
+    (λ added. added ∙ ap (λ (xs : List (ℕ × Object)). c.args.rows.now.items ++ xs) leaf)
+    (c.add_sought.ensures.rows h _ at.node c.if-root-eq0.true)
 
 pub returns-then-root-eq0-clause-looks : goal.returns-then-root-eq0-clause-looks
 returns-then-root-eq0-clause-looks g t c = λ h row at.
-    let none = leaf_looked g.row.D (pages c.args.cache.now) c.args.root.level (is_admitted c.args.query.now) row c.if-root-eq0.true at.below in
+    let none =
+    leaf_looked g.row.D (pages c.args.cache.now) c.args.root.level (is_admitted c.args.query.now) row
+    c.if-root-eq0.true at.below in
     on_ok c.add_sought.result (λ looked. looked ∙ (omega (arith, none))) c.add_sought.ensures.looks
 
 pub returns-in_err-descend-clause-asks : goal.returns-in_err-descend-clause-asks
-returns-in_err-descend-clause-asks g t c = asks_and_refuses c.args.cache.now c.loop-page.cache c.descend.new.cache c.in_err-descend.field-0.0 c.from_residual-in_err-descend.result c.from_residual-in_err-descend.ensures.1 c.loop-page.invariant.asks c.in_err-descend.ensures.asks
+returns-in_err-descend-clause-asks g t c =
+    asks_and_refuses c.args.cache.now c.loop-page.cache c.descend.new.cache c.in_err-descend.field-0.0
+    c.from_residual-in_err-descend.result c.from_residual-in_err-descend.ensures.1 c.loop-page.invariant.asks
+    c.in_err-descend.ensures.asks
 
 pub returns-in_err-descend-clause-stands : goal.returns-in_err-descend-clause-stands
 returns-in_err-descend-clause-stands g t c = λ h row at.
     let m : PageMap = pages c.args.cache.now in
     let guard = is_admitted c.args.query.now in
     let above : 0 < c.args.root.level = omega (arith, c.if-root-eq0.false) in
-    let named = children_named g.row.D m c.args.root.level guard row above at.below ∙ sym (c.in_ok-children.ensures.children h _ at.node refl) ∙ sym c.as_slice-page-items.ensures.value in
-    let here = stands_here c.loop-page.invariant _ (omega (arith, c.loop-page-test.true)) refl h (children_of guard row) named (children_stand g.row.D m c.args.root.level guard row at.below) in
-    at_error c.from_residual-in_err-descend.result c.in_err-descend.field-0.0 IsOfDevice c.from_residual-in_err-descend.ensures.1
+    let named = children_named g.row.D m c.args.root.level guard row above at.below
+    ∙ sym (c.in_ok-children.ensures.children h _ at.node refl)
+    ∙ sym c.as_slice-page-items.ensures.value in
+    let here =
+    stands_here c.loop-page.invariant _ (omega (arith, c.loop-page-test.true)) refl h
+    (children_of guard row) named (children_stand g.row.D m c.args.root.level guard row at.below) in
+    at_error c.from_residual-in_err-descend.result c.in_err-descend.field-0.0 IsOfDevice
+    c.from_residual-in_err-descend.ensures.1
     (c.in_err-descend.ensures.stands (c.loop-page.invariant.asks.gate.honest.0 h) here.0 here.1)
 
 pub loop-page-preserved : goal.loop-page-preserved
-loop-page-preserved g t c = went_into c.loop-page.invariant _ (omega (arith, c.loop-page-test.true)) refl c.descend.new.cache c.descend.new.rows.items c.in_ok-descend.ensures.asks
+loop-page-preserved g t c =
+    went_into c.loop-page.invariant _ (omega (arith, c.loop-page-test.true)) refl c.descend.new.cache
+    c.descend.new.rows.items c.in_ok-descend.ensures.asks
     (λ h row at. c.in_ok-descend.ensures.rows h row at)
     (λ h row at. c.in_ok-descend.ensures.looks h row at)
 
@@ -45,15 +63,22 @@ returns-clause-rows g t c = λ h row at.
     let guard = is_admitted c.args.query.now in
     let test = is_sought c.args.query.now in
     let above : 0 < c.args.root.level = omega (arith, c.if-root-eq0.false) in
-    let named = children_named g.row.D m c.args.root.level guard row above at.below ∙ sym (c.in_ok-children.ensures.children h _ at.node refl) ∙ sym c.as_slice-page-items.ensures.value in
-    all_found c.loop-page.invariant (omega (arith, c.loop-page-test.false)) h (children_of guard row) named (children_stand g.row.D m c.args.root.level guard row at.below)
-    ∙ ap (λ (xs : List (ℕ × Object)). c.args.rows.now.items ++ xs) (children_found g.row.D m c.args.root.level guard test c.args.tag row above at.below)
+    let named = children_named g.row.D m c.args.root.level guard row above at.below
+    ∙ sym (c.in_ok-children.ensures.children h _ at.node refl)
+    ∙ sym c.as_slice-page-items.ensures.value in
+    all_found c.loop-page.invariant (omega (arith, c.loop-page-test.false)) h (children_of guard row) named
+    (children_stand g.row.D m c.args.root.level guard row at.below)
+    ∙ ap (λ (xs : List (ℕ × Object)). c.args.rows.now.items ++ xs)
+    (children_found g.row.D m c.args.root.level guard test c.args.tag row above at.below)
 
 pub returns-clause-looks : goal.returns-clause-looks
 returns-clause-looks g t c = λ h row at.
     let m : PageMap = pages c.args.cache.now in
     let guard = is_admitted c.args.query.now in
     let above : 0 < c.args.root.level = omega (arith, c.if-root-eq0.false) in
-    let named = children_named g.row.D m c.args.root.level guard row above at.below ∙ sym (c.in_ok-children.ensures.children h _ at.node refl) ∙ sym c.as_slice-page-items.ensures.value in
-    all_looked c.loop-page.invariant (omega (arith, c.loop-page-test.false)) h (children_of guard row) named (children_stand g.row.D m c.args.root.level guard row at.below)
+    let named = children_named g.row.D m c.args.root.level guard row above at.below
+    ∙ sym (c.in_ok-children.ensures.children h _ at.node refl)
+    ∙ sym c.as_slice-page-items.ensures.value in
+    all_looked c.loop-page.invariant (omega (arith, c.loop-page-test.false)) h (children_of guard row) named
+    (children_stand g.row.D m c.args.root.level guard row at.below)
     ∙ ap (λ (n : ℕ). counted (looks_of c.args.cache.now) (1 + n)) (children_looked guard row)

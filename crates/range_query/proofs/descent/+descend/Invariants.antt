@@ -9,4 +9,6 @@ decreases-descend g l = l.root.level
 
 -- what is sought below the children so far is found
 abbrev pub invariant-loop-page : goal.invariant-loop-page
-invariant-loop-page g l = Progress g.row.D (is_admitted l.fn.query) (is_sought l.fn.query) l.fn.tag l.fn.cache l.cache l.fn.root.level l.page-items l.page-index l.fn.rows.items l.rows.items
+invariant-loop-page g l =
+    Progress g.row.D (is_admitted l.fn.query) (is_sought l.fn.query) l.fn.tag l.fn.cache l.cache
+    l.fn.root.level l.page-items l.page-index l.fn.rows.items l.rows.items

@@ -8,7 +8,9 @@ use Rattle.range_query.proofs.descent.add_sought.Given as goal
 
 -- the objects so far that are sought are appended
 abbrev pub invariant-entries : goal.invariant-entries
-invariant-entries g l = Taken object_of (wanted (is_sought l.fn.query) l.fn.tag) (content_in l.leaf).entries l.place l.fn.rows.items l.rows.items
+invariant-entries g l =
+    Taken object_of (wanted (is_sought l.fn.query) l.fn.tag) (content_in l.leaf).entries l.place
+    l.fn.rows.items l.rows.items
 
 abbrev pub decreases-entries : goal.decreases-entries
 decreases-entries g l = 256 - l.place

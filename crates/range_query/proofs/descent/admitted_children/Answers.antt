@@ -12,22 +12,35 @@ use Rattle.range_query.proofs.descent.admitted_children.Goals as goal
 
 pub entries-init : goal.entries-init
 entries-init g c = (
-  admitted_to c.args.query.now c.reach.result c.mask-mask.result 0 c.next_set-place.result c.reach.ensures c.in_ok-node.ensures.boxes c.mask-mask.ensures.met c.next_set-place.ensures.within c.next_set-place.ensures.unset
-      (subst (λ xs. Taken reference_of (λ (item : Item). is_admitted c.args.query.now item.bounds) (content_in c.in_ok-node.node).entries 0 [] xs) (sym c.new-children.ensures) (none_taken reference_of (λ (item : Item). is_admitted c.args.query.now item.bounds) (content_in c.in_ok-node.node).entries [])),
+  admitted_to c.args.query.now c.reach.result c.mask-mask.result 0 c.next_set-place.result c.reach.ensures
+      c.in_ok-node.ensures.boxes c.mask-mask.ensures.met c.next_set-place.ensures.within
+      c.next_set-place.ensures.unset
+      (subst (λ xs. Taken reference_of (λ (item : Item). is_admitted c.args.query.now item.bounds)
+      (content_in c.in_ok-node.node).entries 0 [] xs) (sym c.new-children.ensures)
+      (none_taken reference_of (λ (item : Item). is_admitted c.args.query.now item.bounds)
+      (content_in c.in_ok-node.node).entries [])),
   omega (arith, ap length c.new-children.ensures),
 )
 
 pub entries-preserved-then-not-admits : goal.entries-preserved-then-not-admits
 entries-preserved-then-not-admits g c = (
-  admitted_to c.args.query.now c.reach.result c.mask-mask.result (c.entries.place + 1) c.next_set-place-in-entries.result c.reach.ensures c.in_ok-node.ensures.boxes c.mask-mask.ensures.met c.next_set-place-in-entries.ensures.within c.next_set-place-in-entries.ensures.unset
-      (one_passed c.entries.invariant.0 (item_of c.entry-entry.result) (omega (arith, c.entries-test.true, c.len-count.ensures.count)) c.entry-entry.ensures (sym c.admits.ensures ∙ c.if-not-admits.true)),
+  admitted_to c.args.query.now c.reach.result c.mask-mask.result (c.entries.place + 1)
+      c.next_set-place-in-entries.result c.reach.ensures c.in_ok-node.ensures.boxes c.mask-mask.ensures.met
+      c.next_set-place-in-entries.ensures.within c.next_set-place-in-entries.ensures.unset
+      (one_passed c.entries.invariant.0 (item_of c.entry-entry.result)
+      (omega (arith, c.entries-test.true, c.len-count.ensures.count)) c.entry-entry.ensures
+      (sym c.admits.ensures ∙ c.if-not-admits.true)),
   omega (arith, c.entries.invariant.1, c.next_set-place-in-entries.ensures.within),
 )
 
 pub entries-preserved : goal.entries-preserved
 entries-preserved g c = (
-  admitted_to c.args.query.now c.reach.result c.mask-mask.result (c.entries.place + 1) c.next_set-place-in-entries.result c.reach.ensures c.in_ok-node.ensures.boxes c.mask-mask.ensures.met c.next_set-place-in-entries.ensures.within c.next_set-place-in-entries.ensures.unset
-      (one_taken c.entries.invariant.0 (item_of c.entry-entry.result) (omega (arith, c.entries-test.true, c.len-count.ensures.count)) c.entry-entry.ensures (sym c.admits.ensures ∙ c.if-not-admits.false) c.push.new.self.items c.push.ensures.items),
+  admitted_to c.args.query.now c.reach.result c.mask-mask.result (c.entries.place + 1)
+      c.next_set-place-in-entries.result c.reach.ensures c.in_ok-node.ensures.boxes c.mask-mask.ensures.met
+      c.next_set-place-in-entries.ensures.within c.next_set-place-in-entries.ensures.unset
+      (one_taken c.entries.invariant.0 (item_of c.entry-entry.result)
+      (omega (arith, c.entries-test.true, c.len-count.ensures.count)) c.entry-entry.ensures
+      (sym c.admits.ensures ∙ c.if-not-admits.false) c.push.new.self.items c.push.ensures.items),
   omega (arith, c.entries.invariant.1, c.push.ensures.len, c.next_set-place-in-entries.ensures.within),
 )
 
@@ -35,6 +48,10 @@ pub returns-clause-children : goal.returns-clause-children
 returns-clause-children g c = λ h content there level.
     let m : PageMap = pages c.args.cache.now in
     let live = page_of_node g.row.D (m c.args.root.page) content there in
-    let same = ap (λ x. x.entries) (same_content g.row.D m c.args.root.page (content_in c.in_ok-node.node) content (c.in_ok-node.ensures.node h live) there) in
-    subst (λ items. c.entries.children.items ≡ map reference_of (passing_entries (is_admitted c.args.query.now) items)) same
+    let same =
+    ap (λ x. x.entries)
+    (same_content g.row.D m c.args.root.page (content_in c.in_ok-node.node) content
+    (c.in_ok-node.ensures.node h live) there) in
+    subst (λ items. c.entries.children.items ≡ map reference_of
+    (passing_entries (is_admitted c.args.query.now) items)) same
     (all_taken c.entries.invariant.0 (omega (arith, c.entries-test.false, c.len-count.ensures.count)))

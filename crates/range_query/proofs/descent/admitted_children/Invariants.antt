@@ -8,7 +8,9 @@ use Rattle.range_query.proofs.descent.admitted_children.Given as goal
 
 -- the pages of the entries so far that are admitted are taken, and they are no more than these
 abbrev pub invariant-entries : goal.invariant-entries
-invariant-entries g l = Taken reference_of (λ item. is_admitted l.fn.query item.bounds) (content_in l.node).entries l.place [] l.children.items × (length l.children.items ≤ l.place)
+invariant-entries g l =
+    Taken reference_of (λ item. is_admitted l.fn.query item.bounds) (content_in l.node).entries l.place []
+    l.children.items × (length l.children.items ≤ l.place)
 
 abbrev pub decreases-entries : goal.decreases-entries
 decreases-entries g l = 256 - l.place

@@ -14,11 +14,19 @@ pub returns-clause-rows : goal.returns-clause-rows
 returns-clause-rows g c = λ h t most is.
     let m = pages c.args.cache.now in
     let at = tree_at g.row.D most m c.args.root t is in
-    let all = nothing_missed g.row.D most (is_admitted c.args.query.now) (is_sought c.args.query.now) m c.args.root.page c.args.root.level t.row (sought_is_admitted c.args.query.now) is.shape.below at in
-    let found : c.descend.new.rows.items ≡ having c.args.tag (passing_objects (is_sought c.args.query.now) t.row) =
-    c.in_ok-descend.ensures.rows h t.row at ∙ ap (λ (xs : List (ℕ × Object)). xs ++ having c.args.tag (objects_reached (is_admitted c.args.query.now) (is_sought c.args.query.now) t.row)) c.new-rows.ensures.items ∙ ap (having c.args.tag) all in
+    let all =
+    nothing_missed g.row.D most (is_admitted c.args.query.now) (is_sought c.args.query.now) m
+    c.args.root.page c.args.root.level t.row (sought_is_admitted c.args.query.now) is.shape.below at in
+    let found : c.descend.new.rows.items ≡ having c.args.tag
+    (passing_objects (is_sought c.args.query.now) t.row) =
+    c.in_ok-descend.ensures.rows h t.row at
+    ∙ ap (λ (xs : List (ℕ × Object)). xs
+    ++ having c.args.tag
+    (objects_reached (is_admitted c.args.query.now) (is_sought c.args.query.now) t.row))
+    c.new-rows.ensures.items ∙ ap (having c.args.tag) all in
     record {
-      all = subst (λ (xs : List (ℕ × Object)). IsPermutation xs c.sort_by_id.new.rows.items) found c.sort_by_id.ensures.all;
+      all = subst (λ (xs : List (ℕ × Object)). IsPermutation xs c.sort_by_id.new.rows.items) found
+          c.sort_by_id.ensures.all;
       order = c.sort_by_id.ensures.order;
     }
 
@@ -26,5 +34,8 @@ pub returns-clause-looks : goal.returns-clause-looks
 returns-clause-looks g c = λ h t most is.
     let m = pages c.args.cache.now in
     let at = tree_at g.row.D most m c.args.root t is in
-    let nodes = admitted_are_reached g.row.D most t (is_admitted c.args.query.now) (loose g.row.D most t is.shape) (admitted_guards c.args.query.now) in
-    c.in_ok-descend.ensures.looks h t.row at ∙ ap (λ (n : ℕ). counted (looks_of c.args.cache.now) n) (sym nodes)
+    let nodes =
+    admitted_are_reached g.row.D most t (is_admitted c.args.query.now) (loose g.row.D most t is.shape)
+    (admitted_guards c.args.query.now) in
+    c.in_ok-descend.ensures.looks h t.row at
+    ∙ ap (λ (n : ℕ). counted (looks_of c.args.cache.now) n) (sym nodes)

@@ -13,16 +13,21 @@ use Rattle.reinsert.proofs.grow.grow.Goals as goal
 
 pub returns-in_err-page-clause-faults : goal.returns-in_err-page-clause-faults
 returns-in_err-page-clause-faults g c = λ h low.
-    at_error c.from_residual.result c.in_err-page.field-0.0 (IsNoDamage c.allocate.new.self) c.from_residual.ensures.1
+    at_error c.from_residual.result c.in_err-page.field-0.0 (IsNoDamage c.allocate.new.self)
+    c.from_residual.ensures.1
     (with_full _ _ _ (c.in_err-page.ensures.faults h) (λ is. c.in_err-page.ensures.full (ap Err is)))
 
 pub returns-in_err-write_node-clause-changes : goal.returns-in_err-write_node-clause-changes
 returns-in_err-write_node-clause-changes g c =
-    changes_and_refuses c.args.cache.now c.allocate.new.self c.write_node.new.cache c.in_err-write_node.field-0.0 c.from_residual-in_err-write_node.result c.from_residual-in_err-write_node.ensures.1
+    changes_and_refuses c.args.cache.now c.allocate.new.self c.write_node.new.cache
+    c.in_err-write_node.field-0.0 c.from_residual-in_err-write_node.result
+    c.from_residual-in_err-write_node.ensures.1
     c.in_ok-page.ensures.changes c.in_err-write_node.ensures.changes
 
 pub returns-clause-changes : goal.returns-clause-changes
-returns-clause-changes g c = changes_in_turn c.args.cache.now c.allocate.new.self c.write_node.new.cache None c.in_ok-page.ensures.changes c.in_ok-write_node.ensures.changes
+returns-clause-changes g c =
+    changes_in_turn c.args.cache.now c.allocate.new.self c.write_node.new.cache None
+    c.in_ok-page.ensures.changes c.in_ok-write_node.ensures.changes
 
 pub returns-clause-grown : goal.returns-clause-grown
 returns-clause-grown g c = λ h.
@@ -31,7 +36,9 @@ returns-clause-grown g c = λ h.
     let m1 : PageMap = pages c.allocate.new.self in
     let a : Entry D = record { bounds = c.args.bounds; reference = c.from.result; tag = 0 } in
     let b : Entry D = c.args.beside in
-    let items : c.push-2.new.self.items ≡ a ∷ b ∷ [] = c.push-2.ensures.items ∙ ap (λ (xs : List (Entry D)). xs ++ b ∷ []) (c.push.ensures.items ∙ ap (λ (xs : List (Entry D)). xs ++ a ∷ []) c.new-entries.ensures) in
+    let items : c.push-2.new.self.items ≡ a ∷ b ∷ [] = c.push-2.ensures.items
+    ∙ ap (λ (xs : List (Entry D)). xs ++ b ∷ [])
+    (c.push.ensures.items ∙ ap (λ (xs : List (Entry D)). xs ++ a ∷ []) c.new-entries.ensures) in
     let fresh = c.in_ok-page.ensures.fresh h in
     let map1 = c.allocate.ensures.sound h in
     let live1 = is_some_from (m1 n) _ fresh.1 in (
@@ -39,14 +46,24 @@ returns-clause-grown g c = λ h.
       record {
         free = fresh.0;
         there = c.in_ok-write_node.ensures.written map1.honest live1
-            ∙ ap (λ (xs : List (Entry D)). let x : NodeContent = record { level = c.args.root.level + 1; entries = map item_of xs } in Some x) items
-            ∙ ap (λ r. let x : NodeContent = record { level = c.args.root.level + 1; entries = record { bounds = c.args.bounds; reference = r; tag = 0 } ∷ item_of b ∷ [] } in Some x) c.from.ensures;
+            ∙ ap (λ (xs : List (Entry D)). let x : NodeContent =
+            record { level = c.args.root.level + 1; entries = map item_of xs } in Some x) items
+            ∙ ap (λ r. let x : NodeContent =
+            record {
+              level = c.args.root.level + 1;
+              entries = record { bounds = c.args.bounds; reference = r; tag = 0 } ∷ item_of b ∷ [];
+            } in
+            Some x) c.from.ensures;
         others = λ k differs. c.write_node.ensures.others map1.honest live1 k differs ∙ fresh.2 k differs;
       },
     )
 
 pub returns-in_err-page-clause-other_faults : goal.returns-in_err-page-clause-other_faults
-returns-in_err-page-clause-other_faults g c = at_error c.from_residual.result c.in_err-page.field-0.0 IsChangeFault c.from_residual.ensures.1 c.in_err-page.ensures.other_faults
+returns-in_err-page-clause-other_faults g c =
+    at_error c.from_residual.result c.in_err-page.field-0.0 IsChangeFault c.from_residual.ensures.1
+    c.in_err-page.ensures.other_faults
 
 pub returns-in_err-write_node-clause-other_faults : goal.returns-in_err-write_node-clause-other_faults
-returns-in_err-write_node-clause-other_faults g c = at_error c.from_residual-in_err-write_node.result c.in_err-write_node.field-0.0 IsChangeFault c.from_residual-in_err-write_node.ensures.1 (one_more _ _ _ c.in_err-write_node.ensures.other_faults)
+returns-in_err-write_node-clause-other_faults g c =
+    at_error c.from_residual-in_err-write_node.result c.in_err-write_node.field-0.0 IsChangeFault
+    c.from_residual-in_err-write_node.ensures.1 (one_more _ _ _ c.in_err-write_node.ensures.other_faults)

@@ -21,7 +21,9 @@ returns-then-root-ge40-clause-faults g c = λ h t branch elsewhere can shape box
     let D = g.row.D in
     let m : PageMap = pages c.args.cache.now in
     let first : Wait D = record { entry = c.args.entry.now; level = c.args.level } in
-    let low = low_root c.args.m_max elsewhere m c.args.root [] first none_called (at_first t branch c.args.level) (begun D m c.args.root first t branch elsewhere can)
+    let low =
+    low_root c.args.m_max elsewhere m c.args.root [] first none_called (at_first t branch c.args.level)
+    (begun D m c.args.root first t branch elsewhere can)
     (first_has_shape D c.args.m_max c.args.level t branch can.fits shape boxes entry) c.requires.root.1 in
     absurd (omega (arith, low, c.if-root-ge40.true))
 
@@ -32,10 +34,16 @@ returns-in_err-now-clause-faults g c = λ h t branch elsewhere can shape boxes e
     let first : Wait D = record { entry = c.args.entry.now; level = c.args.level } in
     let s : State = at_first t branch c.args.level in
     let at = begun D m c.args.root first t branch elsewhere can in
-    let at1 = subst (λ (ws : List (Wait D)). IsAt D m c.args.root (ws ++ first ∷ []) none_called elsewhere s) (sym c.begin.ensures.waits) at in
-    let at2 = subst (λ (cs : List Bool). IsAt D m c.args.root (c.begin.new.self.waits.items ++ first ∷ []) cs elsewhere s) (sym c.begin.ensures.called) at1 in
-    at_broken c.from_residual.result c.in_err-now.field-0.0 (λ (b : Broken). IsNoDamage c.place_one.new.cache b.cause) c.from_residual.ensures.1
-    (c.in_err-now.ensures.faults h s elsewhere at2 (first_has_shape D c.args.m_max c.args.level t branch can.fits shape boxes entry))
+    let at1 =
+    subst (λ (ws : List (Wait D)). IsAt D m c.args.root (ws ++ first ∷ []) none_called elsewhere s)
+    (sym c.begin.ensures.waits) at in
+    let at2 =
+    subst (λ (cs : List Bool). IsAt D m c.args.root (c.begin.new.self.waits.items ++ first ∷ []) cs
+    elsewhere s) (sym c.begin.ensures.called) at1 in
+    at_broken c.from_residual.result c.in_err-now.field-0.0
+    (λ (b : Broken). IsNoDamage c.place_one.new.cache b.cause) c.from_residual.ensures.1
+    (c.in_err-now.ensures.faults h s elsewhere at2
+    (first_has_shape D c.args.m_max c.args.level t branch can.fits shape boxes entry))
 
 pub placing-init : goal.placing-init
 placing-init g c = (
@@ -49,15 +57,23 @@ placing-init g c = (
       let first : Wait D = record { entry = c.args.entry.now; level = c.args.level } in
       let s : State = at_first t branch c.args.level in
       let at = begun D m c.args.root first t branch elsewhere can in
-      let at1 = subst (λ (ws : List (Wait D)). IsAt D m c.args.root (ws ++ first ∷ []) none_called elsewhere s) (sym c.begin.ensures.waits) at in
-      let at2 = subst (λ (cs : List Bool). IsAt D m c.args.root (c.begin.new.self.waits.items ++ first ∷ []) cs elsewhere s) (sym c.begin.ensures.called) at1 in
-      let step = c.in_ok-now.ensures.placed h s elsewhere at2 in
-      (step.0, reached_first D c.args.m_max elsewhere m (pages c.place_one.new.cache) s c.in_ok-now.now c.place_one.new.waiting.waits.items c.place_one.new.waiting.called step.1),
+      let at1 =
+      subst (λ (ws : List (Wait D)). IsAt D m c.args.root (ws ++ first ∷ []) none_called elsewhere s)
+      (sym c.begin.ensures.waits) at in
+      let at2 =
+      subst (λ (cs : List Bool). IsAt D m c.args.root (c.begin.new.self.waits.items ++ first ∷ []) cs
+      elsewhere s) (sym c.begin.ensures.called) at1 in
+      let step = c.in_ok-now.ensures.placed h s elsewhere at2 in (
+        step.0,
+        reached_first D c.args.m_max elsewhere m (pages c.place_one.new.cache) s c.in_ok-now.now
+            c.place_one.new.waiting.waits.items c.place_one.new.waiting.called step.1,
+      ),
 )
 
 pub returns-in-Err-clause-alters : goal.returns-in-Err-clause-alters
 returns-in-Err-clause-alters g c =
-    changes_and_breaks c.args.cache.now c.placing.cache c.place_one-in-Some.new.cache c.in-Err.broken.cause (Err (record { cause = c.in-Err.broken.cause; touched = true })) refl
+    changes_and_breaks c.args.cache.now c.placing.cache c.place_one-in-Some.new.cache c.in-Err.broken.cause
+    (Err (record { cause = c.in-Err.broken.cause; touched = true })) refl
     c.placing.invariant.0 c.in-Err.ensures.alters.changes
 
 pub returns-in-Err-clause-faults : goal.returns-in-Err-clause-faults
@@ -65,41 +81,72 @@ returns-in-Err-clause-faults g c = λ h t branch elsewhere can shape boxes entry
     let D = g.row.D in
     let m1 : PageMap = pages c.placing.cache in
     let r = c.placing.invariant.4 h t branch elsewhere can in
-    let at1 = subst (λ (ws : List (Wait D)). IsAt D m1 c.placing.now ws c.placing.waiting.called elsewhere r.1.last) c.in-Some.ensures.some r.1.isat in
-    let at2 = subst (λ (cs : List Bool). IsAt D m1 c.placing.now (c.next.new.self.waits.items ++ c.in-Some.wait ∷ []) cs elsewhere r.1.last) (sym c.next.ensures.called) at1 in
-    let last = placings_keep_shape D c.args.m_max elsewhere r.1.count (at_first t branch c.args.level) r.1.last r.1.run (omega (arith, c.requires.most))
+    let at1 =
+    subst (λ (ws : List (Wait D)). IsAt D m1 c.placing.now ws c.placing.waiting.called elsewhere
+    r.1.last) c.in-Some.ensures.some r.1.isat in
+    let at2 =
+    subst (λ (cs : List Bool). IsAt D m1 c.placing.now
+    (c.next.new.self.waits.items ++ c.in-Some.wait ∷ []) cs elsewhere r.1.last)
+    (sym c.next.ensures.called) at1 in
+    let last =
+    placings_keep_shape D c.args.m_max elsewhere r.1.count (at_first t branch c.args.level) r.1.last
+    r.1.run (omega (arith, c.requires.most))
     (first_has_shape D c.args.m_max c.args.level t branch can.fits shape boxes entry) in
     c.in-Err.ensures.faults r.0 r.1.last elsewhere at2 last
 
 pub placing-preserved : goal.placing-preserved
 placing-preserved g c = (
-  changes_in_turn c.args.cache.now c.placing.cache c.place_one-in-Some.new.cache None c.placing.invariant.0 c.in-Ok.ensures.alters.changes,
-  record { rises = omega (arith, c.placing.invariant.1.rises, c.in-Ok.ensures.root.rises); low = c.in-Ok.ensures.root.low; page = c.in-Ok.ensures.root.page },
+  changes_in_turn c.args.cache.now c.placing.cache c.place_one-in-Some.new.cache None c.placing.invariant.0
+      c.in-Ok.ensures.alters.changes,
+  record {
+    rises = omega (arith, c.placing.invariant.1.rises, c.in-Ok.ensures.root.rises);
+    low = c.in-Ok.ensures.root.low;
+    page = c.in-Ok.ensures.root.page;
+  },
   omega (arith, c.placing.invariant.2, c.in-Some.ensures.measure, c.in-Ok.ensures.measure),
-  omega (arith, c.placing.invariant.2, c.placing.invariant.3, c.in-Some.ensures.measure, c.in-Ok.ensures.measure, c.in-Ok.ensures.grows),
+  omega (
+    arith,
+    c.placing.invariant.2,
+    c.placing.invariant.3,
+    c.in-Some.ensures.measure,
+    c.in-Ok.ensures.measure,
+    c.in-Ok.ensures.grows,
+  ),
   λ h t branch elsewhere can.
       let D = g.row.D in
       let m : PageMap = pages c.args.cache.now in
       let m1 : PageMap = pages c.placing.cache in
       let s : State = at_first t branch c.args.level in
       let r = c.placing.invariant.4 h t branch elsewhere can in
-      let at1 = subst (λ (ws : List (Wait D)). IsAt D m1 c.placing.now ws c.placing.waiting.called elsewhere r.1.last) c.in-Some.ensures.some r.1.isat in
-      let at2 = subst (λ (cs : List Bool). IsAt D m1 c.placing.now (c.next.new.self.waits.items ++ c.in-Some.wait ∷ []) cs elsewhere r.1.last) (sym c.next.ensures.called) at1 in
+      let at1 =
+      subst (λ (ws : List (Wait D)). IsAt D m1 c.placing.now ws c.placing.waiting.called elsewhere
+      r.1.last) c.in-Some.ensures.some r.1.isat in
+      let at2 =
+      subst (λ (cs : List Bool). IsAt D m1 c.placing.now
+      (c.next.new.self.waits.items ++ c.in-Some.wait ∷ []) cs elsewhere r.1.last)
+      (sym c.next.ensures.called) at1 in
       let step = c.in-Ok.ensures.placed r.0 r.1.last elsewhere at2 in (
         step.0,
-        reached_more D c.args.m_max elsewhere m m1 (pages c.place_one-in-Some.new.cache) s c.placing.now c.in-Ok.after c.placing.waiting.waits.items c.place_one-in-Some.new.waiting.waits.items
+        reached_more D c.args.m_max elsewhere m m1 (pages c.place_one-in-Some.new.cache) s c.placing.now
+            c.in-Ok.after c.placing.waiting.waits.items c.place_one-in-Some.new.waiting.waits.items
             c.placing.waiting.called c.place_one-in-Some.new.waiting.called r.1 step.1,
       ),
 )
 
 pub returns-clause-inserted : goal.returns-clause-inserted
 returns-clause-inserted g c = λ h t branch elsewhere can.
-    let r = c.placing.invariant.4 h t branch elsewhere can in
-    (r.0, inserted_end g.row.D c.args.m_max c.args.level elsewhere (pages c.args.cache.now) (pages c.placing.cache) t branch c.placing.now c.placing.waiting.waits.items c.placing.waiting.called r.1 (c.in_default.ensures.none refl))
+    let r = c.placing.invariant.4 h t branch elsewhere can in (
+      r.0,
+      inserted_end g.row.D c.args.m_max c.args.level elsewhere (pages c.args.cache.now)
+          (pages c.placing.cache) t branch c.placing.now c.placing.waiting.waits.items c.placing.waiting.called
+          r.1 (c.in_default.ensures.none refl),
+    )
 
 pub returns-in_err-now-clause-other_faults : goal.returns-in_err-now-clause-other_faults
 returns-in_err-now-clause-other_faults g c =
-    at_broken c.from_residual.result c.in_err-now.field-0.0 (λ (b : Broken). IsChangeFault b.cause) c.from_residual.ensures.1 c.in_err-now.ensures.other_faults
+    at_broken c.from_residual.result c.in_err-now.field-0.0 (λ (b : Broken). IsChangeFault b.cause)
+    c.from_residual.ensures.1 c.in_err-now.ensures.other_faults
 
 pub returns-then-root-ge40-clause-alters : goal.returns-then-root-ge40-clause-alters
-returns-then-root-ge40-clause-alters g c = nothing_altered c.args.cache.now c.args.root.page c.from.result c.from.ensures
+returns-then-root-ge40-clause-alters g c =
+    nothing_altered c.args.cache.now c.args.root.page c.from.result c.from.ensures

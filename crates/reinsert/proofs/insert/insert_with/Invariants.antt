@@ -17,8 +17,11 @@ invariant-placing g l =
     × IsRootFrom l.fn.root l.now
     × (measure_of l.waiting ≤ 1230)
     × Grows (most_placing_pages * (1231 - measure_of l.waiting)) l.fn.cache l.cache
-    × (IsPageMap l.fn.cache → (t : Tree) (branch : Branch) (elsewhere : ℕ → ℕ) → CanInsert g.row.D (pages l.fn.cache) l.fn.root (item_of l.fn.entry) l.fn.level t branch elsewhere
-    → IsPageMap l.cache × Reached g.row.D l.fn.m_max elsewhere (pages l.fn.cache) (pages l.cache) (at_first t branch l.fn.level) l.now l.waiting.waits.items l.waiting.called)
+    × (IsPageMap l.fn.cache → (t : Tree) (branch : Branch) (elsewhere : ℕ → ℕ)
+    → CanInsert g.row.D (pages l.fn.cache) l.fn.root (item_of l.fn.entry) l.fn.level t branch elsewhere
+    → IsPageMap l.cache
+    × Reached g.row.D l.fn.m_max elsewhere (pages l.fn.cache) (pages l.cache) (at_first t branch l.fn.level)
+    l.now l.waiting.waits.items l.waiting.called)
 
 abbrev pub decreases-placing : goal.decreases-placing
 decreases-placing g l = measure_of l.waiting

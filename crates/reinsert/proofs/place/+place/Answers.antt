@@ -1,5 +1,6 @@
 -- The goals of `place` that are proved by hand.
-use Rattle.std.proofs.Common.{rules, ◌≡◌, ◌∙◌, ◌+◌, ◌-◌, ◌<◌, [], ◌∷◌, ◌++◌, IfSome, None, Ok, Result, Some, inl, refl, sym, ap, subst, arith}
+use Rattle.std.proofs.Common.{rules, ◌≡◌, ◌∙◌, ◌+◌, ◌-◌, ◌<◌, [], ◌∷◌, ◌++◌, IfSome, None, Ok, Result, Some}
+use Rattle.std.proofs.Common.{inl, refl, sym, ap, subst, arith}
 use Rattle.page_cache.specs.Cache.{IsPageMap, pages}
 use Rattle.page_cache.specs.Calls.{asks_changes, changes_in_turn}
 use Rattle.page_cache.specs.Laws.{the_map_is_kept_in_turn}
@@ -22,45 +23,77 @@ use Rattle.reinsert.proofs.place.+place.Goals as goal
 
 pub put_here-requires : goal.put_here-requires
 put_here-requires g t c =
-    let refers : IsOfLevel c.args.at.level c.args.entry.now.reference c.args.entry.now.tag = subst (λ l. IsOfLevel l c.args.entry.now.reference c.args.entry.now.tag) (sym c.if-at-target.true) c.requires.refers in
-    (search rules, (search rules, (search rules, (c.requires.dims, (c.requires.open, (c.requires.most, ((omega (arith, c.requires.levels), omega (arith, c.requires.levels)), refers)))))))
+    let refers : IsOfLevel c.args.at.level c.args.entry.now.reference c.args.entry.now.tag =
+    subst (λ l. IsOfLevel l c.args.entry.now.reference c.args.entry.now.tag) (sym c.if-at-target.true)
+    c.requires.refers in (
+      search rules,
+      (
+        search rules,
+        (
+          search rules,
+          (
+            c.requires.dims,
+            (
+              c.requires.open,
+              (c.requires.most, ((omega (arith, c.requires.levels), omega (arith, c.requires.levels)), refers)),
+            ),
+          ),
+        ),
+      ),
+    )
 
 pub returns-then-at-target-clause-placed : goal.returns-then-at-target-clause-placed
 returns-then-at-target-clause-placed g t c = λ h row branch item can.
     let m : PageMap = pages c.args.cache.now in
     let m' : PageMap = pages c.put_here.new.cache in
-    here_ok c.put_here.result (IsPageMap c.put_here.new.cache) c.args.m_max c.args.top c.args.at.level c.args.target c.args.waiting.now.called branch row m m m' c.args.at.page c.args.waiting.now.waits.items _ _
+    here_ok c.put_here.result (IsPageMap c.put_here.new.cache) c.args.m_max c.args.top c.args.at.level
+    c.args.target c.args.waiting.now.called branch row m m m' c.args.at.page
+    c.args.waiting.now.waits.items _ _
     (λ n. refl) can c.if-at-target.true
-    (λ branches are settle. c.put_here.ensures.settled h (row_items row) branches can.there (are ∙ ap (λ (x : Item). row_items row ++ x ∷ []) item) settle)
+    (λ branches are settle. c.put_here.ensures.settled h (row_items row) branches can.there
+    (are ∙ ap (λ (x : Item). row_items row ++ x ∷ []) item) settle)
 
 pub returns-then-at-target-clause-faults : goal.returns-then-at-target-clause-faults
-returns-then-at-target-clause-faults g t c = λ h row branch item can few. c.put_here.ensures.faults h (row_items row) can.there (few_items g.row.D c.args.m_max row few)
+returns-then-at-target-clause-faults g t c =
+    λ h row branch item can few. c.put_here.ensures.faults h (row_items row) can.there
+    (few_items g.row.D c.args.m_max row few)
 
 -- ---- the way down is refused, or the placing below it
 
 pub returns-in_err-way-clause-faults : goal.returns-in_err-way-clause-faults
 returns-in_err-way-clause-faults g t c = λ h row branch item can few.
-    at_broken c.from_residual.result (before c.in_err-way.field-0.0) (λ (b : Broken). IsNoDamage c.way_down.new.cache b.cause) c.from_residual.ensures.1
-    (inl (c.in_err-way.ensures.faults h.honest (record { level = c.args.at.level; entries = row_items row }) can.there refl (few_items g.row.D c.args.m_max row few)))
+    at_broken c.from_residual.result (before c.in_err-way.field-0.0)
+    (λ (b : Broken). IsNoDamage c.way_down.new.cache b.cause) c.from_residual.ensures.1
+    (inl (c.in_err-way.ensures.faults h.honest (record { level = c.args.at.level; entries = row_items row })
+    can.there refl (few_items g.row.D c.args.m_max row few)))
 
 pub returns-in_err-way-clause-alters : goal.returns-in_err-way-clause-alters
 returns-in_err-way-clause-alters g t c =
-    alters_so c.args.cache.now c.way_down.new.cache (before c.in_err-way.field-0.0) c.from_residual.result c.from_residual.ensures.1
-    (asks_changes c.args.cache.now c.way_down.new.cache (Some c.in_err-way.field-0.0) c.in_err-way.ensures.asks) (λ untouched. c.in_err-way.ensures.asks.map)
+    alters_so c.args.cache.now c.way_down.new.cache (before c.in_err-way.field-0.0) c.from_residual.result
+    c.from_residual.ensures.1
+    (asks_changes c.args.cache.now c.way_down.new.cache (Some c.in_err-way.field-0.0)
+    c.in_err-way.ensures.asks) (λ untouched. c.in_err-way.ensures.asks.map)
 
 pub returns-in_err-way-clause-other_faults : goal.returns-in_err-way-clause-other_faults
 returns-in_err-way-clause-other_faults g t c =
-    at_broken c.from_residual.result (before c.in_err-way.field-0.0) (λ (b : Broken). IsChangeFault b.cause) c.from_residual.ensures.1 (one_more _ _ _ c.in_err-way.ensures.other_faults)
+    at_broken c.from_residual.result (before c.in_err-way.field-0.0) (λ (b : Broken). IsChangeFault b.cause)
+    c.from_residual.ensures.1 (one_more _ _ _ c.in_err-way.ensures.other_faults)
 
 pub returns-in_err-lower-clause-faults : goal.returns-in_err-lower-clause-faults
 returns-in_err-lower-clause-faults g t c = λ h row branch item can few.
     let m : PageMap = pages c.args.cache.now in
     let m0 : PageMap = pages c.way_down.new.cache in
     let way = c.in_ok-way.way in
-    let is = c.in_ok-way.ensures.way h.honest (record { level = c.args.at.level; entries = row_items row }) can.there refl in
-    let low = few_can c.args.m_max c.args.at.level c.args.target way.place way.page branch row m m0 c.args.at.page (row_items row)
-    (c.in_ok-way.ensures.asks.map.pages_stay h.honest) can (omega (arith, c.requires.levels, c.if-at-target.false)) refl is.chosen.within is.page few in
-    at_broken c.from_residual-in_err-lower.result c.in_err-lower.field-0.0 (λ (b : Broken). IsNoDamage c.place.new.cache b.cause) c.from_residual-in_err-lower.ensures.1
+    let is =
+    c.in_ok-way.ensures.way h.honest (record { level = c.args.at.level; entries = row_items row })
+    can.there refl in
+    let low =
+    few_can c.args.m_max c.args.at.level c.args.target way.place way.page branch row m m0 c.args.at.page
+    (row_items row)
+    (c.in_ok-way.ensures.asks.map.pages_stay h.honest) can
+    (omega (arith, c.requires.levels, c.if-at-target.false)) refl is.chosen.within is.page few in
+    at_broken c.from_residual-in_err-lower.result c.in_err-lower.field-0.0
+    (λ (b : Broken). IsNoDamage c.place.new.cache b.cause) c.from_residual-in_err-lower.ensures.1
     (c.in_err-lower.ensures.faults (c.in_ok-way.ensures.asks.map.sound.0 h) low.0 branch item low.1 low.2)
 
 pub returns-in_err-lower-clause-alters : goal.returns-in_err-lower-clause-alters
@@ -71,12 +104,16 @@ returns-in_err-lower-clause-alters g t c =
     let broken = c.in_err-lower.field-0.0 in
     let asks = c.in_ok-way.ensures.asks in
     alters_so old new broken c.from_residual-in_err-lower.result c.from_residual-in_err-lower.ensures.1
-    (changes_in_turn old mid new (Some broken.cause) (asks_changes old mid None asks) c.in_err-lower.ensures.alters.changes)
-    (λ untouched. the_map_is_kept_in_turn old mid new asks.gate.honest.0 asks.map (c.in_err-lower.ensures.alters.untouched untouched))
+    (changes_in_turn old mid new (Some broken.cause) (asks_changes old mid None asks)
+    c.in_err-lower.ensures.alters.changes)
+    (λ untouched. the_map_is_kept_in_turn old mid new asks.gate.honest.0 asks.map
+    (c.in_err-lower.ensures.alters.untouched untouched))
 
 pub returns-in_err-lower-clause-other_faults : goal.returns-in_err-lower-clause-other_faults
 returns-in_err-lower-clause-other_faults g t c =
-    at_broken c.from_residual-in_err-lower.result c.in_err-lower.field-0.0 (λ (b : Broken). IsChangeFault b.cause) c.from_residual-in_err-lower.ensures.1 c.in_err-lower.ensures.other_faults
+    at_broken c.from_residual-in_err-lower.result c.in_err-lower.field-0.0
+    (λ (b : Broken). IsChangeFault b.cause) c.from_residual-in_err-lower.ensures.1
+    c.in_err-lower.ensures.other_faults
 
 -- ---- the call below
 
@@ -95,7 +132,13 @@ place-requires g t c κs within =
               search rules,
               (
                 search rules,
-                (search rules, (c.requires.dims, (gate, (c.requires.most, (omega (arith, above, c.requires.levels), c.requires.refers))))),
+                (
+                  search rules,
+                  (
+                    c.requires.dims,
+                    (gate, (c.requires.most, (omega (arith, above, c.requires.levels), c.requires.refers))),
+                  ),
+                ),
               ),
             ),
           ),
@@ -119,15 +162,23 @@ returns-then-keeps_entries-clause-placed g t c = λ h row branch item can.
     let waits = c.place.new.waiting.waits.items in
     let settled : Settled D = record { bounds = way.least; beside = None } in
     let done : Result (Settled D) Broken = Ok settled in
-    let is = c.in_ok-way.ensures.way h.honest (record { level = level; entries = row_items row }) can.there refl in
+    let is =
+    c.in_ok-way.ensures.way h.honest (record { level = level; entries = row_items row }) can.there refl in
     let kept = c.keeps_entries.ensures c.if-keeps_entries.true in
-    let chosen = subst (λ (x : Item). IsChosenChild D level (row_items row) x.bounds way.place) (sym item) is.chosen in
-    over_ok done (IsPageMap c.place.new.cache) (IsPageMap c.place.new.cache) c.args.m_max c.args.top level c.args.target way.place way.page c.args.waiting.now.called called branch row m m0 m1 m1 page lower
-    c.args.waiting.now.waits.items waits waits called (row_items row) (c.in_ok-way.ensures.asks.map.pages_stay h.honest) can (omega (arith, c.requires.levels, c.if-at-target.false)) refl chosen is.page
-    (λ below could. c.in_ok-lower.ensures.placed (c.in_ok-way.ensures.asks.map.sound.0 h) below branch item could)
+    let chosen =
+    subst (λ (x : Item). IsChosenChild D level (row_items row) x.bounds way.place) (sym item) is.chosen in
+    over_ok done (IsPageMap c.place.new.cache) (IsPageMap c.place.new.cache) c.args.m_max c.args.top level
+    c.args.target way.place way.page c.args.waiting.now.called called branch row m m0 m1 m1 page lower
+    c.args.waiting.now.waits.items waits waits called (row_items row)
+    (c.in_ok-way.ensures.asks.map.pages_stay h.honest) can
+    (omega (arith, c.requires.levels, c.if-at-target.false)) refl chosen is.page
+    (λ below could. c.in_ok-lower.ensures.placed (c.in_ok-way.ensures.asks.map.sound.0 h) below branch item
+    could)
     (λ sound branches are settle there. (
       sound,
-      items_settled c.args.m_max c.args.top level called branches (row_items row) m1 m1 page settled waits waits called (are ∙ items_kept (row_items row) way.place lower kept.0 (kept.1 ∙ is.bounds)) settle is.few is.least refl refl refl there (λ k differs. refl),
+      items_settled c.args.m_max c.args.top level called branches (row_items row) m1 m1 page settled waits
+          waits called (are ∙ items_kept (row_items row) way.place lower kept.0 (kept.1 ∙ is.bounds)) settle
+          is.few is.least refl refl refl there (λ k differs. refl),
     ))
 
 pub returns-then-keeps_entries-clause-alters : goal.returns-then-keeps_entries-clause-alters
@@ -135,21 +186,33 @@ returns-then-keeps_entries-clause-alters g t c =
     let old = c.args.cache.now in
     let mid = c.way_down.new.cache in
     let low = c.place.new.cache in
-    made_alters old low _ (changes_in_turn old mid low None (asks_changes old mid None c.in_ok-way.ensures.asks) c.in_ok-lower.ensures.alters.changes)
+    made_alters old low _
+    (changes_in_turn old mid low None (asks_changes old mid None c.in_ok-way.ensures.asks)
+    c.in_ok-lower.ensures.alters.changes)
 
 -- ---- the node is settled
 
 pub put_above-requires : goal.put_above-requires
 put_above-requires g t c =
-    let up : c.args.at.level - 1 + 1 ≡ c.args.at.level = omega (arith, c.requires.levels, c.if-at-target.false) in
-    let beside : IfSome c.in_ok-lower.lower.beside (λ (e : Entry g.row.D). IsOfLevel c.args.at.level e.reference e.tag) =
-    subst (λ l. IfSome c.in_ok-lower.lower.beside (λ (e : Entry g.row.D). IsOfLevel l e.reference e.tag)) up c.in_ok-lower.ensures.beside in (
+    let up : c.args.at.level - 1 + 1 ≡ c.args.at.level =
+    omega (arith, c.requires.levels, c.if-at-target.false) in
+    let beside : IfSome c.in_ok-lower.lower.beside
+    (λ (e : Entry g.row.D). IsOfLevel c.args.at.level e.reference e.tag) =
+    subst (λ l. IfSome c.in_ok-lower.lower.beside (λ (e : Entry g.row.D). IsOfLevel l e.reference e.tag)) up
+    c.in_ok-lower.ensures.beside in (
       search rules,
       (
         search rules,
         (
           c.requires.dims,
-          (c.in_ok-lower.ensures.alters.changes.gate.gate ∙ c.in_ok-way.ensures.asks.gate.gate ∙ c.requires.open, (c.requires.most, ((omega (arith, c.requires.levels), omega (arith, c.requires.levels)), beside))),
+          (
+            c.in_ok-lower.ensures.alters.changes.gate.gate ∙ c.in_ok-way.ensures.asks.gate.gate
+                ∙ c.requires.open,
+            (
+              c.requires.most,
+              ((omega (arith, c.requires.levels), omega (arith, c.requires.levels)), beside),
+            ),
+          ),
         ),
       ),
     )
@@ -163,13 +226,20 @@ returns-clause-placed g t c = λ h row branch item can.
     let m' : PageMap = pages c.put_above.new.cache in
     let level = c.args.at.level in
     let way = c.in_ok-way.way in
-    let is = c.in_ok-way.ensures.way h.honest (record { level = level; entries = row_items row }) can.there refl in
-    let chosen = subst (λ (x : Item). IsChosenChild D level (row_items row) x.bounds way.place) (sym item) is.chosen in
-    over_ok c.put_above.result (IsPageMap c.put_above.new.cache) (IsPageMap c.place.new.cache) c.args.m_max c.args.top level c.args.target way.place way.page c.args.waiting.now.called c.place.new.waiting.called branch row m m0 m1 m'
-    c.args.at.page c.in_ok-lower.lower c.args.waiting.now.waits.items c.place.new.waiting.waits.items _ _ (row_items row) (c.in_ok-way.ensures.asks.map.pages_stay h.honest) can
+    let is =
+    c.in_ok-way.ensures.way h.honest (record { level = level; entries = row_items row }) can.there refl in
+    let chosen =
+    subst (λ (x : Item). IsChosenChild D level (row_items row) x.bounds way.place) (sym item) is.chosen in
+    over_ok c.put_above.result (IsPageMap c.put_above.new.cache) (IsPageMap c.place.new.cache) c.args.m_max
+    c.args.top level c.args.target way.place way.page c.args.waiting.now.called
+    c.place.new.waiting.called branch row m m0 m1 m'
+    c.args.at.page c.in_ok-lower.lower c.args.waiting.now.waits.items c.place.new.waiting.waits.items _ _
+    (row_items row) (c.in_ok-way.ensures.asks.map.pages_stay h.honest) can
     (omega (arith, c.requires.levels, c.if-at-target.false)) refl chosen is.page
-    (λ below could. c.in_ok-lower.ensures.placed (c.in_ok-way.ensures.asks.map.sound.0 h) below branch item could)
-    (λ sound branches are settle there. c.put_above.ensures.settled sound (row_items row) branches there are settle)
+    (λ below could. c.in_ok-lower.ensures.placed (c.in_ok-way.ensures.asks.map.sound.0 h) below branch item
+    could)
+    (λ sound branches are settle there. c.put_above.ensures.settled sound (row_items row) branches there are
+    settle)
 
 pub returns-clause-faults : goal.returns-clause-faults
 returns-clause-faults g t c = λ h row branch item can few.
@@ -178,11 +248,19 @@ returns-clause-faults g t c = λ h row branch item can few.
     let m1 : PageMap = pages c.place.new.cache in
     let level = c.args.at.level in
     let way = c.in_ok-way.way in
-    let is = c.in_ok-way.ensures.way h.honest (record { level = level; entries = row_items row }) can.there refl in
-    let there = there_after (IsPageMap c.place.new.cache) c.args.m_max c.args.top level c.args.target way.place way.page c.args.waiting.now.called c.place.new.waiting.called branch row m m0 m1 c.args.at.page c.in_ok-lower.lower
-    c.args.waiting.now.waits.items c.place.new.waiting.waits.items (row_items row) (c.in_ok-way.ensures.asks.map.pages_stay h.honest) can (omega (arith, c.requires.levels, c.if-at-target.false)) refl is.chosen.within is.page
-    (λ below could. c.in_ok-lower.ensures.placed (c.in_ok-way.ensures.asks.map.sound.0 h) below branch item could) in
-    c.put_above.ensures.faults there.0 (row_items row) there.1 is.chosen.within (few_items g.row.D c.args.m_max row few)
+    let is =
+    c.in_ok-way.ensures.way h.honest (record { level = level; entries = row_items row }) can.there refl in
+    let there =
+    there_after (IsPageMap c.place.new.cache) c.args.m_max c.args.top level c.args.target way.place
+    way.page c.args.waiting.now.called c.place.new.waiting.called branch row m m0 m1 c.args.at.page
+    c.in_ok-lower.lower
+    c.args.waiting.now.waits.items c.place.new.waiting.waits.items (row_items row)
+    (c.in_ok-way.ensures.asks.map.pages_stay h.honest) can
+    (omega (arith, c.requires.levels, c.if-at-target.false)) refl is.chosen.within is.page
+    (λ below could. c.in_ok-lower.ensures.placed (c.in_ok-way.ensures.asks.map.sound.0 h) below branch item
+    could) in
+    c.put_above.ensures.faults there.0 (row_items row) there.1 is.chosen.within
+    (few_items g.row.D c.args.m_max row few)
 
 pub returns-clause-alters : goal.returns-clause-alters
 returns-clause-alters g t c =
@@ -190,4 +268,5 @@ returns-clause-alters g t c =
     let mid = c.way_down.new.cache in
     let low = c.place.new.cache in
     changes_and_alters old low c.put_above.new.cache c.put_above.result
-    (changes_in_turn old mid low None (asks_changes old mid None c.in_ok-way.ensures.asks) c.in_ok-lower.ensures.alters.changes) c.put_above.ensures.alters c.put_above.ensures.touched
+    (changes_in_turn old mid low None (asks_changes old mid None c.in_ok-way.ensures.asks)
+    c.in_ok-lower.ensures.alters.changes) c.put_above.ensures.alters c.put_above.ensures.touched

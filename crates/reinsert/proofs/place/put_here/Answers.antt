@@ -1,5 +1,6 @@
 -- The goals of `put_here` that are proved by hand.
-use Rattle.std.proofs.Common.{rules, ◌≡◌, ◌∙◌, ◌+◌, ◌++◌, [], ◌∷◌, List, map, sym, ap, subst, refl, arith, All, Err, Ok, Result, IfOk, IfSome, IsSome, None, Some, inl}
+use Rattle.std.proofs.Common.{rules, ◌≡◌, ◌∙◌, ◌+◌, ◌++◌, [], ◌∷◌, List, map, sym, ap, subst, refl, arith}
+use Rattle.std.proofs.Common.{All, Err, Ok, Result, IfOk, IfSome, IsSome, None, Some, inl}
 use Rattle.std.proofs.lemmas.List.{length-append, map-append}
 use Rattle.std.proofs.lemmas.List.Elements.{All-append}
 use Rattle.box_math.specs.Bounds.{Bounds}
@@ -37,10 +38,15 @@ returns-in-Some-clause-settled g c = λ h items branches there are can.
     let settled : Settled D = record { bounds = c.in-Some.bounds; beside = None } in
     let some : IsSome c.in_ok-bounds.field-0 = subst IsSome (sym c.in-Some.is) refl in
     let room = (c.in_ok-bounds.ensures.room h.honest node there refl).0 some in
-    let added = subst (λ o. IfSome o (λ (b : Bounds). (node_in D (m' page) ≡ Some (pushed node (item_of c.args.entry.now))) × (b ≡ least_box D after))) c.in-Some.is (c.in_ok-bounds.ensures.added h.honest node there) in (
+    let added =
+    subst (λ o. IfSome o
+    (λ (b : Bounds). (node_in D (m' page) ≡ Some (pushed node (item_of c.args.entry.now)))
+    × (b ≡ least_box D after))) c.in-Some.is (c.in_ok-bounds.ensures.added h.honest node there) in (
       c.in_ok-bounds.ensures.sound h can.live,
-      items_settled c.args.m_max c.args.top level c.args.waiting.now.called branches after m m' page settled c.args.waiting.now.waits.items c.args.waiting.now.waits.items c.args.waiting.now.called
-          are can (omega (arith, length-append items (item_of c.args.entry.now ∷ []), room.1)) added.1 refl refl refl added.0 (c.in_ok-bounds.ensures.others h.honest can.live),
+      items_settled c.args.m_max c.args.top level c.args.waiting.now.called branches after m m' page settled
+          c.args.waiting.now.waits.items c.args.waiting.now.waits.items c.args.waiting.now.called
+          are can (omega (arith, length-append items (item_of c.args.entry.now ∷ []), room.1)) added.1 refl
+          refl refl added.0 (c.in_ok-bounds.ensures.others h.honest can.live),
     )
 
 -- ---- it is read
@@ -51,27 +57,42 @@ returns-in_err-read_fitting-clause-alters g c =
     let mid = c.add_entry.new.cache in
     let new = c.read_fitting.new.cache in
     let fault = c.in_err-read_fitting.field-0.0 in
-    let asked : AsksUntil old mid None = at_none c.in_ok-bounds.field-0 _ c.in_ok-bounds.ensures.full c.in_default.not-Some in
+    let asked : AsksUntil old mid None =
+    at_none c.in_ok-bounds.field-0 _ c.in_ok-bounds.ensures.full c.in_default.not-Some in
     let asks = asks_in_turn old mid new (Some fault) asked c.in_err-read_fitting.ensures.asks in
-    alters_so old new (before fault) c.from_residual-in_err-read_fitting.result c.from_residual-in_err-read_fitting.ensures.1 (asks_changes old new (Some fault) asks) (λ untouched. asks.map)
+    alters_so old new (before fault) c.from_residual-in_err-read_fitting.result
+    c.from_residual-in_err-read_fitting.ensures.1 (asks_changes old new (Some fault) asks)
+    (λ untouched. asks.map)
 
 pub returns-in_err-read_fitting-clause-faults : goal.returns-in_err-read_fitting-clause-faults
 returns-in_err-read_fitting-clause-faults g c = λ h items there few.
-    let asked : AsksUntil c.args.cache.now c.add_entry.new.cache None = at_none c.in_ok-bounds.field-0 _ c.in_ok-bounds.ensures.full c.in_default.not-Some in
+    let asked : AsksUntil c.args.cache.now c.add_entry.new.cache None =
+    at_none c.in_ok-bounds.field-0 _ c.in_ok-bounds.ensures.full c.in_default.not-Some in
     let node : NodeContent = record { level = c.args.at.level; entries = items } in
-    at_broken c.from_residual-in_err-read_fitting.result (before c.in_err-read_fitting.field-0.0) (λ (b : Broken). IsNoDamage c.read_fitting.new.cache b.cause) c.from_residual-in_err-read_fitting.ensures.1
-    (inl (c.in_err-read_fitting.ensures.faults (asked.gate.honest.0 h.honest) node (ap (node_in g.row.D) (asked.map.pages_stay h.honest c.args.at.page) ∙ there) refl few))
+    at_broken c.from_residual-in_err-read_fitting.result (before c.in_err-read_fitting.field-0.0)
+    (λ (b : Broken). IsNoDamage c.read_fitting.new.cache b.cause)
+    c.from_residual-in_err-read_fitting.ensures.1
+    (inl (c.in_err-read_fitting.ensures.faults (asked.gate.honest.0 h.honest) node
+    (ap (node_in g.row.D) (asked.map.pages_stay h.honest c.args.at.page) ∙ there) refl few))
 
 -- ---- it is settled
 
 pub settle-requires : goal.settle-requires
 settle-requires g c =
     let level = c.in_ok-read_fitting.ensures.level in
-    let asked : AsksUntil c.args.cache.now c.add_entry.new.cache None = at_none c.in_ok-bounds.field-0 _ c.in_ok-bounds.ensures.full c.in_default.not-Some in
+    let asked : AsksUntil c.args.cache.now c.add_entry.new.cache None =
+    at_none c.in_ok-bounds.field-0 _ c.in_ok-bounds.ensures.full c.in_default.not-Some in
     let P : Entry g.row.D → Type 0 = λ e. IsOfLevel c.read_fitting.new.node.level e.reference e.tag in
-    let before : All P c.read_fitting.new.node.entries.items = subst (λ l. All (λ (e : Entry g.row.D). IsOfLevel l e.reference e.tag) c.read_fitting.new.node.entries.items) (sym level) c.in_ok-read_fitting.ensures.refers in
-    let too : P c.args.entry.now = subst (λ l. IsOfLevel l c.args.entry.now.reference c.args.entry.now.tag) (sym level) c.requires.refers in
-    let refers : All P c.push.new.self.items = subst (λ xs. All P xs) (sym c.push.ensures.items) (All-append P c.read_fitting.new.node.entries.items (c.args.entry.now ∷ []) before (All-one P c.args.entry.now too)) in (
+    let before : All P c.read_fitting.new.node.entries.items =
+    subst (λ l. All (λ (e : Entry g.row.D). IsOfLevel l e.reference e.tag)
+    c.read_fitting.new.node.entries.items) (sym level) c.in_ok-read_fitting.ensures.refers in
+    let too : P c.args.entry.now =
+    subst (λ l. IsOfLevel l c.args.entry.now.reference c.args.entry.now.tag) (sym level)
+    c.requires.refers in
+    let refers : All P c.push.new.self.items =
+    subst (λ xs. All P xs) (sym c.push.ensures.items)
+    (All-append P c.read_fitting.new.node.entries.items (c.args.entry.now ∷ []) before
+    (All-one P c.args.entry.now too)) in (
       search rules,
       (
         search rules,
@@ -83,7 +104,13 @@ settle-requires g c =
               c.in_ok-read_fitting.ensures.asks.gate.gate ∙ asked.gate.gate ∙ c.requires.open,
               (
                 c.requires.most,
-                ((omega (arith, level, c.requires.top), omega (arith, c.requires.top)), (omega (arith, c.push.ensures.len), (omega (arith, c.push.ensures.len, c.in_ok-read_fitting.ensures.few), refers))),
+                (
+                  (omega (arith, level, c.requires.top), omega (arith, c.requires.top)),
+                  (
+                    omega (arith, c.push.ensures.len),
+                    (omega (arith, c.push.ensures.len, c.in_ok-read_fitting.ensures.few), refers),
+                  ),
+                ),
               ),
             ),
           ),
@@ -96,11 +123,17 @@ returns-in-Ok-clause-alters g c =
     let old = c.args.cache.now in
     let mid = c.add_entry.new.cache in
     let read = c.read_fitting.new.cache in
-    let asked : AsksUntil old mid None = at_none c.in_ok-bounds.field-0 _ c.in_ok-bounds.ensures.full c.in_default.not-Some in
-    made_alters old c.settle.new.cache _ (changes_in_turn old read c.settle.new.cache None (asks_changes old read None (asks_in_turn old mid read None asked c.in_ok-read_fitting.ensures.asks)) c.in-Ok.ensures.changes)
+    let asked : AsksUntil old mid None =
+    at_none c.in_ok-bounds.field-0 _ c.in_ok-bounds.ensures.full c.in_default.not-Some in
+    made_alters old c.settle.new.cache _
+    (changes_in_turn old read c.settle.new.cache None
+    (asks_changes old read None (asks_in_turn old mid read None asked c.in_ok-read_fitting.ensures.asks))
+    c.in-Ok.ensures.changes)
 
 pub returns-in-Ok-clause-beside : goal.returns-in-Ok-clause-beside
-returns-in-Ok-clause-beside g c = subst (λ l. IfSome c.in-Ok.settled.beside (λ (e : Entry g.row.D). IsOfLevel (l + 1) e.reference e.tag)) c.in_ok-read_fitting.ensures.level c.in-Ok.ensures.beside
+returns-in-Ok-clause-beside g c =
+    subst (λ l. IfSome c.in-Ok.settled.beside (λ (e : Entry g.row.D). IsOfLevel (l + 1) e.reference e.tag))
+    c.in_ok-read_fitting.ensures.level c.in-Ok.ensures.beside
 
 pub returns-in-Ok-clause-settled : goal.returns-in-Ok-clause-settled
 returns-in-Ok-clause-settled g c = λ h items branches there are can.
@@ -111,34 +144,57 @@ returns-in-Ok-clause-settled g c = λ h items branches there are can.
     let page = c.args.at.page in
     let node = c.read_fitting.new.node in
     let level = c.in_ok-read_fitting.ensures.level in
-    let asked : AsksUntil c.args.cache.now c.add_entry.new.cache None = at_none c.in_ok-bounds.field-0 _ c.in_ok-bounds.ensures.full c.in_default.not-Some in
-    let asks = asks_in_turn c.args.cache.now c.add_entry.new.cache c.read_fitting.new.cache None asked c.in_ok-read_fitting.ensures.asks in
+    let asked : AsksUntil c.args.cache.now c.add_entry.new.cache None =
+    at_none c.in_ok-bounds.field-0 _ c.in_ok-bounds.ensures.full c.in_default.not-Some in
+    let asks =
+    asks_in_turn c.args.cache.now c.add_entry.new.cache c.read_fitting.new.cache None asked
+    c.in_ok-read_fitting.ensures.asks in
     let stays = asks.map.pages_stay h.honest in
     let there' = ap (node_in D) (asked.map.pages_stay h.honest page) ∙ there in
-    let read = c.in_ok-read_fitting.ensures.node (asked.gate.honest.0 h.honest) (page_of_node D (pages c.add_entry.new.cache page) _ there') in
-    let same : items ≡ map item_of node.entries.items = ap (λ (x : NodeContent). x.entries) (same_content D (pages c.add_entry.new.cache) page _ _ there' read) in
+    let read =
+    c.in_ok-read_fitting.ensures.node (asked.gate.honest.0 h.honest)
+    (page_of_node D (pages c.add_entry.new.cache page) _ there') in
+    let same : items ≡ map item_of node.entries.items =
+    ap (λ (x : NodeContent). x.entries)
+    (same_content D (pages c.add_entry.new.cache) page _ _ there' read) in
     let pushed = map-append item_of node.entries.items (c.args.entry.now ∷ []) in
     let settled : Result (Settled D) Fault = Ok c.in-Ok.settled in
-    settles_from settled (IsPageMap c.settle.new.cache) c.args.m_max c.args.top c.args.at.level c.args.waiting.now.called branches m m0 m' page c.args.waiting.now.waits.items _ _ stays
-    (subst (λ l. IfOk settled (λ s. IsPageMap c.settle.new.cache × SettlesTo D c.args.m_max c.args.top l c.args.waiting.now.called branches m0 m' page s c.args.waiting.now.waits.items c.settle.new.waiting.waits.items c.settle.new.waiting.called)) level
+    settles_from settled (IsPageMap c.settle.new.cache) c.args.m_max c.args.top c.args.at.level
+    c.args.waiting.now.called branches m m0 m' page c.args.waiting.now.waits.items _ _ stays
+    (subst (λ l. IfOk settled
+    (λ s. IsPageMap c.settle.new.cache
+    × SettlesTo D c.args.m_max c.args.top l c.args.waiting.now.called branches m0 m' page s
+    c.args.waiting.now.waits.items c.settle.new.waiting.waits.items c.settle.new.waiting.called)) level
     (c.in-Ok.ensures.settled (asks.map.sound.0 h) branches
-    (are ∙ ap (λ (es : List Item). es ++ item_of c.args.entry.now ∷ []) same ∙ sym pushed ∙ ap (map item_of) (sym c.push.ensures.items))
-    (subst (λ l. CanSettle D m0 page l branches) (sym level) (can_settle_from D m m0 page c.args.at.level branches stays can))))
+    (are ∙ ap (λ (es : List Item). es ++ item_of c.args.entry.now ∷ []) same ∙ sym pushed
+    ∙ ap (map item_of) (sym c.push.ensures.items))
+    (subst (λ l. CanSettle D m0 page l branches) (sym level)
+    (can_settle_from D m m0 page c.args.at.level branches stays can))))
 
 pub returns-in-Err-clause-alters : goal.returns-in-Err-clause-alters
 returns-in-Err-clause-alters g c =
     let old = c.args.cache.now in
     let mid = c.add_entry.new.cache in
     let read = c.read_fitting.new.cache in
-    let asked : AsksUntil old mid None = at_none c.in_ok-bounds.field-0 _ c.in_ok-bounds.ensures.full c.in_default.not-Some in
-    changes_and_breaks old read c.settle.new.cache c.in-Err.fault (Err c.midway.result) c.midway.ensures (asks_changes old read None (asks_in_turn old mid read None asked c.in_ok-read_fitting.ensures.asks)) c.in-Err.ensures.changes
+    let asked : AsksUntil old mid None =
+    at_none c.in_ok-bounds.field-0 _ c.in_ok-bounds.ensures.full c.in_default.not-Some in
+    changes_and_breaks old read c.settle.new.cache c.in-Err.fault (Err c.midway.result) c.midway.ensures
+    (asks_changes old read None (asks_in_turn old mid read None asked c.in_ok-read_fitting.ensures.asks))
+    c.in-Err.ensures.changes
 
 pub returns-in-Err-clause-faults : goal.returns-in-Err-clause-faults
 returns-in-Err-clause-faults g c = λ h items there few.
-    let asked : AsksUntil c.args.cache.now c.add_entry.new.cache None = at_none c.in_ok-bounds.field-0 _ c.in_ok-bounds.ensures.full c.in_default.not-Some in
-    let asks = asks_in_turn c.args.cache.now c.add_entry.new.cache c.read_fitting.new.cache None asked c.in_ok-read_fitting.ensures.asks in
-    let live = subst IsSome (sym (asks.map.pages_stay h.honest c.args.at.page)) (page_of_node g.row.D (pages c.args.cache.now c.args.at.page) _ there) in
-    subst (λ (b : Broken). IsNoDamage c.settle.new.cache b.cause) (sym c.midway.ensures) (c.in-Err.ensures.faults (asks.map.sound.0 h) live)
+    let asked : AsksUntil c.args.cache.now c.add_entry.new.cache None =
+    at_none c.in_ok-bounds.field-0 _ c.in_ok-bounds.ensures.full c.in_default.not-Some in
+    let asks =
+    asks_in_turn c.args.cache.now c.add_entry.new.cache c.read_fitting.new.cache None asked
+    c.in_ok-read_fitting.ensures.asks in
+    let live =
+    subst IsSome (sym (asks.map.pages_stay h.honest c.args.at.page))
+    (page_of_node g.row.D (pages c.args.cache.now c.args.at.page) _ there) in
+    subst (λ (b : Broken). IsNoDamage c.settle.new.cache b.cause) (sym c.midway.ensures)
+    (c.in-Err.ensures.faults (asks.map.sound.0 h) live)
 
 pub returns-in-Err-clause-other_faults : goal.returns-in-Err-clause-other_faults
-returns-in-Err-clause-other_faults g c = subst (λ (b : Broken). IsChangeFault b.cause) (sym c.midway.ensures) c.in-Err.ensures.other_faults
+returns-in-Err-clause-other_faults g c =
+    subst (λ (b : Broken). IsChangeFault b.cause) (sym c.midway.ensures) c.in-Err.ensures.other_faults

@@ -1,5 +1,6 @@
 -- The node that is read is the one at the page.
-use Rattle.std.proofs.Common.{rules, ◌≡◌, ◌∙◌, ◌+◌, All, IfOk, IfSome, IsSome, None, List, length, map, inl, refl, sym, ap, subst, arith}
+use Rattle.std.proofs.Common.{rules, ◌≡◌, ◌∙◌, ◌+◌, All, IfOk, IfSome, IsSome, None, List, length, map, inl}
+use Rattle.std.proofs.Common.{refl, sym, ap, subst, arith}
 use Rattle.std.proofs.lemmas.List.{length-map}
 use Rattle.page_cache.specs.Cache.{IsPageMap, pages}
 use Rattle.page_cache.specs.Calls.{asks_changes, changes_in_turn}
@@ -16,7 +17,8 @@ use Rattle.reinsert.proofs.place.read_and_settle.Goals as goal
 
 pub returns-in_err-read_fitting-clause-faults : goal.returns-in_err-read_fitting-clause-faults
 returns-in_err-read_fitting-clause-faults g c = λ h items there within few.
-    at_error c.from_residual.result c.in_err-read_fitting.field-0.0 (IsNoDamage c.read_fitting.new.cache) c.from_residual.ensures.1 (inl (c.in_err-read_fitting.ensures.faults h.honest _ there refl few))
+    at_error c.from_residual.result c.in_err-read_fitting.field-0.0 (IsNoDamage c.read_fitting.new.cache)
+    c.from_residual.ensures.1 (inl (c.in_err-read_fitting.ensures.faults h.honest _ there refl few))
 
 pub returns-then-place-len-clause-faults : goal.returns-then-place-len-clause-faults
 returns-then-place-len-clause-faults g c = λ h items there within few.
@@ -24,15 +26,26 @@ returns-then-place-len-clause-faults g c = λ h items there within few.
     let page = c.args.at.page in
     let read = c.in_ok-read_fitting.ensures.node h.honest (page_of_node g.row.D (m page) _ there) in
     let same = same_content g.row.D m page _ _ there read in
-    absurd (omega (arith, ap (λ (x : NodeContent). length x.entries) same, length-map c.read_fitting.new.node.entries.items item_of, within, c.if-place-len.true, c.len.ensures.value))
+    absurd (omega (
+      arith,
+      ap (λ (x : NodeContent). length x.entries) same,
+      length-map c.read_fitting.new.node.entries.items item_of,
+      within,
+      c.if-place-len.true,
+      c.len.ensures.value,
+    ))
 
 pub settle_above-requires : goal.settle_above-requires
 settle_above-requires g c =
     let level = c.in_ok-read_fitting.ensures.level in
-    let refers : All (λ (e : Entry g.row.D). IsOfLevel c.read_fitting.new.node.level e.reference e.tag) c.read_fitting.new.node.entries.items =
-    subst (λ l. All (λ (e : Entry g.row.D). IsOfLevel l e.reference e.tag) c.read_fitting.new.node.entries.items) (sym level) c.in_ok-read_fitting.ensures.refers in
-    let beside : IfSome c.args.lower.beside (λ (e : Entry g.row.D). IsOfLevel c.read_fitting.new.node.level e.reference e.tag) =
-    subst (λ l. IfSome c.args.lower.beside (λ (e : Entry g.row.D). IsOfLevel l e.reference e.tag)) (sym level) c.requires.beside in (
+    let refers : All (λ (e : Entry g.row.D). IsOfLevel c.read_fitting.new.node.level e.reference e.tag)
+    c.read_fitting.new.node.entries.items =
+    subst (λ l. All (λ (e : Entry g.row.D). IsOfLevel l e.reference e.tag)
+    c.read_fitting.new.node.entries.items) (sym level) c.in_ok-read_fitting.ensures.refers in
+    let beside : IfSome c.args.lower.beside
+    (λ (e : Entry g.row.D). IsOfLevel c.read_fitting.new.node.level e.reference e.tag) =
+    subst (λ l. IfSome c.args.lower.beside (λ (e : Entry g.row.D). IsOfLevel l e.reference e.tag))
+    (sym level) c.requires.beside in (
       search rules,
       (
         search rules,
@@ -44,7 +57,13 @@ settle_above-requires g c =
               c.in_ok-read_fitting.ensures.asks.gate.gate ∙ c.requires.open,
               (
                 c.requires.most,
-                ((omega (arith, level, c.requires.top), omega (arith, c.requires.top)), (omega (arith, c.if-place-len.false, c.len.ensures.value), (c.in_ok-read_fitting.ensures.few, (refers, beside)))),
+                (
+                  (omega (arith, level, c.requires.top), omega (arith, c.requires.top)),
+                  (
+                    omega (arith, c.if-place-len.false, c.len.ensures.value),
+                    (c.in_ok-read_fitting.ensures.few, (refers, beside)),
+                  ),
+                ),
               ),
             ),
           ),
@@ -54,11 +73,15 @@ settle_above-requires g c =
 
 pub returns-clause-changes : goal.returns-clause-changes
 returns-clause-changes g c =
-    changes_in_turn c.args.cache.now c.read_fitting.new.cache c.settle_above.new.cache _ (asks_changes c.args.cache.now c.read_fitting.new.cache None c.in_ok-read_fitting.ensures.asks) c.settle_above.ensures.changes
+    changes_in_turn c.args.cache.now c.read_fitting.new.cache c.settle_above.new.cache _
+    (asks_changes c.args.cache.now c.read_fitting.new.cache None c.in_ok-read_fitting.ensures.asks)
+    c.settle_above.ensures.changes
 
 pub returns-clause-beside : goal.returns-clause-beside
 returns-clause-beside g c =
-    subst (λ l. IfOk c.settle_above.result (λ s. IfSome s.beside (λ (e : Entry g.row.D). IsOfLevel (l + 1) e.reference e.tag))) c.in_ok-read_fitting.ensures.level c.settle_above.ensures.beside
+    subst (λ l. IfOk c.settle_above.result
+    (λ s. IfSome s.beside (λ (e : Entry g.row.D). IsOfLevel (l + 1) e.reference e.tag)))
+    c.in_ok-read_fitting.ensures.level c.settle_above.ensures.beside
 
 pub returns-clause-settled : goal.returns-clause-settled
 returns-clause-settled g c = λ h items branches there are can.
@@ -69,16 +92,25 @@ returns-clause-settled g c = λ h items branches there are can.
     let level = c.in_ok-read_fitting.ensures.level in
     let page = c.args.at.page in
     let read = c.in_ok-read_fitting.ensures.node h.honest (page_of_node D (m page) _ there) in
-    let same : items ≡ map item_of c.read_fitting.new.node.entries.items = ap (λ (x : NodeContent). x.entries) (same_content D m page _ _ there read) in
+    let same : items ≡ map item_of c.read_fitting.new.node.entries.items =
+    ap (λ (x : NodeContent). x.entries) (same_content D m page _ _ there read) in
     let stays = c.in_ok-read_fitting.ensures.asks.map.pages_stay h.honest in
-    settles_from c.settle_above.result (IsPageMap c.settle_above.new.cache) c.args.m_max c.args.top c.args.at.level c.args.waiting.now.called branches m m0 m' page c.args.waiting.now.waits.items _ _ stays
-    (subst (λ l. IfOk c.settle_above.result (λ s. IsPageMap c.settle_above.new.cache × SettlesTo D c.args.m_max c.args.top l c.args.waiting.now.called branches m0 m' page s c.args.waiting.now.waits.items c.settle_above.new.waiting.waits.items c.settle_above.new.waiting.called)) level
+    settles_from c.settle_above.result (IsPageMap c.settle_above.new.cache) c.args.m_max c.args.top
+    c.args.at.level c.args.waiting.now.called branches m m0 m' page c.args.waiting.now.waits.items _ _
+    stays
+    (subst (λ l. IfOk c.settle_above.result
+    (λ s. IsPageMap c.settle_above.new.cache
+    × SettlesTo D c.args.m_max c.args.top l c.args.waiting.now.called branches m0 m' page s
+    c.args.waiting.now.waits.items c.settle_above.new.waiting.waits.items
+    c.settle_above.new.waiting.called)) level
     (c.settle_above.ensures.settled (c.in_ok-read_fitting.ensures.asks.map.sound.0 h) branches
     (are ∙ ap (λ (es : List Item). items_after es c.args.place c.args.lower) same)
-    (subst (λ l. CanSettle D m0 page l branches) (sym level) (can_settle_from D m m0 page c.args.at.level branches stays can))))
+    (subst (λ l. CanSettle D m0 page l branches) (sym level)
+    (can_settle_from D m m0 page c.args.at.level branches stays can))))
 
 pub returns-clause-faults : goal.returns-clause-faults
 returns-clause-faults g c = λ h items there within few.
     let m : PageMap = pages c.args.cache.now in
     let same = c.in_ok-read_fitting.ensures.asks.map.pages_stay h.honest c.args.at.page in
-    c.settle_above.ensures.faults (c.in_ok-read_fitting.ensures.asks.map.sound.0 h) (subst IsSome (sym same) (page_of_node g.row.D (m c.args.at.page) _ there))
+    c.settle_above.ensures.faults (c.in_ok-read_fitting.ensures.asks.map.sound.0 h)
+    (subst IsSome (sym same) (page_of_node g.row.D (m c.args.at.page) _ there))

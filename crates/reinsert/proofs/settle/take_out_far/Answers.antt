@@ -23,7 +23,8 @@ wait_again-requires g c = (
           c.requires.first,
           (
             omega (arith, c.farthest-near.ensures.counts, c.far_count.ensures.few),
-            All-part c.args.node.now.level c.args.node.now.entries.items c.farthest-near.result.1.items _ c.farthest-near.ensures.divided.far_is c.requires.refers,
+            All-part c.args.node.now.level c.args.node.now.entries.items c.farthest-near.result.1.items _
+                c.farthest-near.ensures.divided.far_is c.requires.refers,
           ),
         ),
       ),
@@ -38,9 +39,17 @@ write_node-requires g c = (
     c.requires.dims,
     (
       c.requires.open,
-      spellable_of c.args.node.now.level c.farthest-near.result.0.items (omega (arith, c.farthest-near.ensures.counts, c.far_count.ensures.few, c.requires.many, c.requires.most))
+      spellable_of c.args.node.now.level c.farthest-near.result.0.items
+          (omega (
+            arith,
+            c.farthest-near.ensures.counts,
+            c.far_count.ensures.few,
+            c.requires.many,
+            c.requires.most,
+          ))
           (omega (arith, c.farthest-near.ensures.counts, c.requires.many, c.far_count.ensures.few))
-          (All-part c.args.node.now.level c.args.node.now.entries.items c.farthest-near.result.0.items _ c.farthest-near.ensures.divided.near_is c.requires.refers),
+          (All-part c.args.node.now.level c.args.node.now.entries.items c.farthest-near.result.0.items _
+          c.farthest-near.ensures.divided.near_is c.requires.refers),
     ),
   ),
 )
@@ -48,14 +57,20 @@ write_node-requires g c = (
 pub returns-clause-settled : goal.returns-clause-settled
 returns-clause-settled g c = λ h top branches below are can. (
   c.write_node.ensures.sound h can.live,
-  far_settled c.args.m_max top c.args.node.now.level c.args.waiting.now.called branches c.args.node.now.entries.items _ _ c.args.page _ _ _ _ are can
+  far_settled c.args.m_max top c.args.node.now.level c.args.waiting.now.called branches
+      c.args.node.now.entries.items _ _ c.args.page _ _ _ _ are can
       c.farthest-near.result.0.items c.farthest-near.result.1.items
-      (subst (λ p. IsDividedFar g.row.D p c.args.node.now.entries.items c.farthest-near.result.0.items c.farthest-near.result.1.items) c.far_count.ensures.value c.farthest-near.ensures.divided)
+      (subst (λ p. IsDividedFar g.row.D p c.args.node.now.entries.items c.farthest-near.result.0.items
+      c.farthest-near.result.1.items) c.far_count.ensures.value c.farthest-near.ensures.divided)
       c.requires.many below c.requires.first
-      (c.least-bounds.ensures ∙ ap (λ (es : List (Entry g.row.D)). least_box g.row.D (map item_of es)) c.as_slice.ensures.value) refl
+      (c.least-bounds.ensures
+      ∙ ap (λ (es : List (Entry g.row.D)). least_box g.row.D (map item_of es)) c.as_slice.ensures.value)
+      refl
       c.wait_again.ensures.waits c.wait_again.ensures.called
       (c.in_ok-write_node.ensures.written h.honest can.live) (c.write_node.ensures.others h.honest can.live),
 )
 
 pub returns-in_err-write_node-clause-other_faults : goal.returns-in_err-write_node-clause-other_faults
-returns-in_err-write_node-clause-other_faults g c = at_error c.from_residual.result c.in_err-write_node.field-0.0 IsChangeFault c.from_residual.ensures.1 (one_more _ _ _ c.in_err-write_node.ensures.other_faults)
+returns-in_err-write_node-clause-other_faults g c =
+    at_error c.from_residual.result c.in_err-write_node.field-0.0 IsChangeFault c.from_residual.ensures.1
+    (one_more _ _ _ c.in_err-write_node.ensures.other_faults)

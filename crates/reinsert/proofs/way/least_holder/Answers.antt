@@ -6,13 +6,16 @@ use Rattle.box_math.specs.Measures.{volume_of}
 use Rattle.tree_node.specs.Boxes.{box_at, no_item}
 use Rattle.tree_node.specs.Nodes.{Item, item_of}
 use Rattle.node_page.specs.Views.{content_in}
-use Rattle.reinsert.proofs.HolderLemmas.{IsLeastHolder, holder_passes, holder_takes, least_is_chosen, unset_holds_not}
+use Rattle.reinsert.proofs.HolderLemmas.{IsLeastHolder, holder_passes, holder_takes, least_is_chosen}
+use Rattle.reinsert.proofs.HolderLemmas.{unset_holds_not}
 use Rattle.reinsert.proofs.way.least_holder.Goals as goal
 use Rattle.reinsert.proofs.way.least_holder.Goals.{then-encloses, else-encloses}
 
 pub entries-init : goal.entries-init
 entries-init g c = λ j below lt inside.
-    unset_holds_not g.row.D (content_in c.args.node.now).entries c.args.bounds.now c.mask-mask.result j c.low.ensures.is_box c.mask-mask.ensures.met (c.next_set-place.ensures.unset j (omega arith) below) lt inside
+    unset_holds_not g.row.D (content_in c.args.node.now).entries c.args.bounds.now c.mask-mask.result j
+    c.low.ensures.is_box c.mask-mask.ensures.met (c.next_set-place.ensures.unset j (omega arith) below)
+    lt inside
 
 pub entries-preserved : goal.entries-preserved
 entries-preserved g c =
@@ -22,19 +25,28 @@ entries-preserved g c =
     let place = c.entries.place in
     let held = c.entry-held.result in
     let within : place < length items = omega (arith, c.entries-test.true, c.len.ensures.count) in
-    let box : held.bounds ≡ box_at items place = ap (λ (x : Item). x.bounds) (c.entry-held.ensures ∙ get_or_default items place (item_of held) no_item within) in
-    holder_passes D items new (place + 1) c.next_set-place-in-entries.result c.if-encloses.least c.next_set-place-in-entries.ensures.within
-    (λ j up below lt inside. unset_holds_not D items new c.mask-mask.result j c.low.ensures.is_box c.mask-mask.ensures.met (c.next_set-place-in-entries.ensures.unset j up below) lt inside)
+    let box : held.bounds ≡ box_at items place =
+    ap (λ (x : Item). x.bounds)
+    (c.entry-held.ensures ∙ get_or_default items place (item_of held) no_item within) in
+    holder_passes D items new (place + 1) c.next_set-place-in-entries.result c.if-encloses.least
+    c.next_set-place-in-entries.ensures.within
+    (λ j up below lt inside. unset_holds_not D items new c.mask-mask.result j c.low.ensures.is_box
+    c.mask-mask.ensures.met (c.next_set-place-in-entries.ensures.unset j up below) lt inside)
     (elim c.if-encloses.branch [
       | then-encloses w ↦
-          let inside : Within D new (box_at items place) = subst (Within D new) box (c.encloses.ensures.encloses.0 w.if-encloses.true) in
+          let inside : Within D new (box_at items place) =
+          subst (Within D new) box (c.encloses.ensures.encloses.0 w.if-encloses.true) in
           let area = w.volume-area.ensures.value ∙ ap (volume_of D) box in
-          subst (IsLeastHolder D items new (place + 1)) (sym w.least-is) (holder_takes D items new place c.entries.least w.volume-area.result w.lesser.result within inside area w.lesser.ensures.alone w.lesser.ensures.both c.entries.invariant)
+          subst (IsLeastHolder D items new (place + 1)) (sym w.least-is)
+          (holder_takes D items new place c.entries.least w.volume-area.result w.lesser.result within
+          inside area w.lesser.ensures.alone w.lesser.ensures.both c.entries.invariant)
       | else-encloses w ↦
-          subst (IsLeastHolder D items new (place + 1)) (sym w.least-is) (holder_passes D items new place (place + 1) c.entries.least (omega arith)
+          subst (IsLeastHolder D items new (place + 1)) (sym w.least-is)
+          (holder_passes D items new place (place + 1) c.entries.least (omega arith)
           (λ j up below lt inside.
           let is : j ≡ place = omega (arith, up, below) in
-          let holds : Within D new held.bounds = subst (Within D new) (ap (box_at items) is ∙ sym box) inside in
+          let holds : Within D new held.bounds =
+          subst (Within D new) (ap (box_at items) is ∙ sym box) inside in
           let test = c.encloses.ensures.encloses.1 holds in
           absurd (cc)) c.entries.invariant)
     ])
@@ -42,5 +54,7 @@ entries-preserved g c =
 pub returns-in-Some : goal.returns-in-Some
 returns-in-Some g c =
     let items : List Item = (content_in c.args.node.now).entries in
-    least_is_chosen g.row.D c.args.node.now.level items c.args.bounds.now c.entries.place c.in-Some.holder (omega (arith, c.entries-test.false, c.len.ensures.count)) c.requires.boxes (c.none_is_flat.ensures.0 (search rules))
+    least_is_chosen g.row.D c.args.node.now.level items c.args.bounds.now c.entries.place c.in-Some.holder
+    (omega (arith, c.entries-test.false, c.len.ensures.count)) c.requires.boxes
+    (c.none_is_flat.ensures.0 (search rules))
     (subst (IsLeastHolder g.row.D items c.args.bounds.now c.entries.place) c.in-Some.is c.entries.invariant)

@@ -16,8 +16,16 @@ pub returns-then-len-m_max-clause-faults : goal.returns-then-len-m_max-clause-fa
 returns-then-len-m_max-clause-faults g c = λ h content there level few.
     let m : PageMap = pages c.args.cache.now in
     let live = page_of_node g.row.D (m c.args.at.page) content there in
-    let same = same_content g.row.D m c.args.at.page (content_in c.in_ok-node.node) content (c.in_ok-node.ensures.node h live) there in
-    absurd (omega (arith, ap (λ (x : NodeContent). length x.entries) same, few, c.if-len-m_max.true, c.len.ensures.count))
+    let same =
+    same_content g.row.D m c.args.at.page (content_in c.in_ok-node.node) content
+    (c.in_ok-node.ensures.node h live) there in
+    absurd (omega (
+      arith,
+      ap (λ (x : NodeContent). length x.entries) same,
+      few,
+      c.if-len-m_max.true,
+      c.len.ensures.count,
+    ))
 
 pub returns-clause-way : goal.returns-clause-way
 returns-clause-way g c = λ h content there level.
@@ -28,11 +36,16 @@ returns-clause-way g c = λ h content there level.
     let same = same_content D m c.args.at.page view content (c.in_ok-node.ensures.node h live) there in
     let place = c.chosen_child-place.result in
     let child = c.entry-child.result in
-    let item : item_of child ≡ get_or view.entries place no_item = c.entry-child.ensures ∙ get_or_default view.entries place (item_of child) no_item c.chosen_child-place.ensures.within in
-    let way : Way D = record { place = place; page = child.reference; bounds = child.bounds; least = c.least.result } in
-    subst (λ items. IsWay D c.args.m_max c.args.at.level items c.args.bounds.now way) (ap (λ (x : NodeContent). x.entries) same) (record {
+    let item : item_of child ≡ get_or view.entries place no_item = c.entry-child.ensures
+    ∙ get_or_default view.entries place (item_of child) no_item c.chosen_child-place.ensures.within in
+    let way : Way D =
+    record { place = place; page = child.reference; bounds = child.bounds; least = c.least.result } in
+    subst (λ items. IsWay D c.args.m_max c.args.at.level items c.args.bounds.now way)
+    (ap (λ (x : NodeContent). x.entries) same) (record {
       few = omega (arith, c.if-len-m_max.false, c.len.ensures.count);
-      chosen = subst (λ l. IsChosenChild D l view.entries c.args.bounds.now place) c.in_ok-node.ensures.level c.chosen_child-place.ensures;
+      chosen =
+          subst (λ l. IsChosenChild D l view.entries c.args.bounds.now place) c.in_ok-node.ensures.level
+          c.chosen_child-place.ensures;
       page = ap (λ (x : Item). x.reference) item;
       bounds = ap (λ (x : Item). x.bounds) item;
       least = c.least.ensures;

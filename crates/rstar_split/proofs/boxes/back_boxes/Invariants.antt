@@ -7,5 +7,6 @@ abbrev pub invariant-loop-behind : goal.invariant-loop-behind
 invariant-loop-behind g l = record {
   whole : length l.boxes ≡ 101;
   all : l.all ≡ back_box g.row.D (items_of l.entries) l.places (length l.places - l.behind);
-  boxes : AreBacks g.row.D (items_of l.entries) l.places (length l.places - l.behind) (length l.places) l.boxes;
+  boxes : AreBacks g.row.D (items_of l.entries) l.places (length l.places - l.behind) (length l.places)
+      l.boxes;
 }

@@ -13,12 +13,16 @@ loop-size-init g c =
     let order = c.args.places.now in
     let boxes = c.args.boxes.now in
     let whole : length boxes ≡ 101 = c.told-boxes in
-    let below = all_below items order (length c.args.entries.now) (length-map c.args.entries.now item_of) c.requires.below in
-    let first : c.box_of-all.result ≡ front_box D items order 1 = c.box_of-all.ensures.value ∙ sym (front_box-one D items order (omega (arith, c.requires.most)) below) in
+    let below =
+    all_below items order (length c.args.entries.now) (length-map c.args.entries.now item_of)
+    c.requires.below in
+    let first : c.box_of-all.result ≡ front_box D items order 1 = c.box_of-all.ensures.value
+    ∙ sym (front_box-one D items order (omega (arith, c.requires.most)) below) in
     record {
       whole = length-set boxes 1 c.box_of-all.result ∙ whole;
       all = first;
-      boxes = fronts_set D items order 0 boxes c.box_of-all.result (omega (arith, whole)) (fronts_none D items order boxes) first;
+      boxes = fronts_set D items order 0 boxes c.box_of-all.result (omega (arith, whole))
+          (fronts_none D items order boxes) first;
     }
 
 pub loop-size-preserved : goal.loop-size-preserved
@@ -29,11 +33,18 @@ loop-size-preserved g c =
     let boxes = c.loop-size.boxes in
     let inv = c.loop-size.invariant in
     let size = c.loop-size.size in
-    let below = all_below items order (length c.args.entries.now) (length-map c.args.entries.now item_of) c.requires.below in
-    let more = front_box-more D items order size (omega (arith, c.loop-size.auto.size)) (omega (arith, c.loop-size-test.true, c.requires.most)) below in
-    let next : c.join-all.result ≡ front_box D items order (size + 1) = c.join-all.ensures.value ∙ ap (λ b. join_of D b c.box_of.result) inv.all ∙ ap (join_of D (front_box D items order size)) c.box_of.ensures.value ∙ sym more in
+    let below =
+    all_below items order (length c.args.entries.now) (length-map c.args.entries.now item_of)
+    c.requires.below in
+    let more =
+    front_box-more D items order size (omega (arith, c.loop-size.auto.size))
+    (omega (arith, c.loop-size-test.true, c.requires.most)) below in
+    let next : c.join-all.result ≡ front_box D items order (size + 1) = c.join-all.ensures.value
+    ∙ ap (λ b. join_of D b c.box_of.result) inv.all
+    ∙ ap (join_of D (front_box D items order size)) c.box_of.ensures.value ∙ sym more in
     record {
       whole = length-set boxes (size + 1) c.join-all.result ∙ inv.whole;
       all = next;
-      boxes = fronts_set D items order size boxes c.join-all.result (omega (arith, inv.whole, c.loop-size-test.true, c.requires.most)) inv.boxes next;
+      boxes = fronts_set D items order size boxes c.join-all.result
+          (omega (arith, inv.whole, c.loop-size-test.true, c.requires.most)) inv.boxes next;
     }

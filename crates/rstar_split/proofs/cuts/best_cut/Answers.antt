@@ -19,21 +19,38 @@ loop-size-preserved g c =
     let i = c.loop-size.invariant in
     let b = c.loop-size.best in
     let cut = c.cut_at-cut.result in
-    let turn : Cut → Type 0 = λ x. record { bound : x.bound ≡ sort; least : (items : List Item) (order : List ℕ) → AreFronts D items order (n - m) fs → AreBacks D items order m n bs → IsLeastCut D items order n m sort (size + 1) x.size (numbers_of x) } in
-    let cut_key = λ (items : List Item) (order : List ℕ) (f : AreFronts D items order (n - m) fs) (k : AreBacks D items order m n bs). c.cut_at-cut.ensures.key items order m (n - m) n f k (omega arith) (omega (arith, c.loop-size-test.true, c.requires.enough)) (omega (arith, c.loop-size-test.true, c.requires.some)) in
+    let turn : Cut
+    → Type 0 =
+    λ x. record {
+      bound : x.bound ≡ sort;
+      least : (items : List Item) (order : List ℕ)
+          → AreFronts D items order (n - m) fs → AreBacks D items order m n bs
+          → IsLeastCut D items order n m sort (size + 1) x.size (numbers_of x);
+    } in
+    let cut_key =
+    λ (items : List Item) (order : List ℕ) (f : AreFronts D items order (n - m) fs)
+    (k : AreBacks D items order m n bs). c.cut_at-cut.ensures.key items order m (n - m) n f k
+    (omega arith) (omega (arith, c.loop-size-test.true, c.requires.enough))
+    (omega (arith, c.loop-size-test.true, c.requires.some)) in
     elim c.if-not-at_most.branch [
       | then-not-at_most w ↦
           subst turn (sym w.best-is) (record {
             bound = c.cut_at-cut.ensures.bound;
             least = λ items order f k.
-                let taken : IsLeastCut D items order n m sort (size + 1) size (numbers_of cut) = least_cut_takes D items order n m sort size b.size (numbers_of b) (numbers_of cut) (i.least items order f k) (omega arith) (omega arith) (cut_key items order f k) refl (λ h. let t = c.at_most.ensures.1 h in search rules) in
-                subst (λ s. IsLeastCut D items order n m sort (size + 1) s (numbers_of cut)) (sym c.cut_at-cut.ensures.size) taken;
+                let taken : IsLeastCut D items order n m sort (size + 1) size (numbers_of cut) =
+                least_cut_takes D items order n m sort size b.size (numbers_of b) (numbers_of cut)
+                (i.least items order f k) (omega arith) (omega arith) (cut_key items order f k) refl
+                (λ h. let t = c.at_most.ensures.1 h in search rules) in
+                subst (λ s. IsLeastCut D items order n m sort (size + 1) s (numbers_of cut))
+                (sym c.cut_at-cut.ensures.size) taken;
           })
       | else-not-at_most w ↦
           subst turn (sym w.best-is) (record {
             bound = i.bound;
             least = λ items order f k.
-                least_cut_keeps D items order n m sort size b.size (numbers_of b) (i.least items order f k) (subst (AtMost (numbers_of b)) (cut_key items order f k) (c.at_most.ensures.0 (search rules)));
+                least_cut_keeps D items order n m sort size b.size (numbers_of b) (i.least items order f k)
+                (subst (AtMost (numbers_of b)) (cut_key items order f k)
+                (c.at_most.ensures.0 (search rules)));
           })
     ]
 
@@ -41,5 +58,8 @@ pub returns-clause-least : goal.returns-clause-least
 returns-clause-least g c =
     let n = c.args.n in
     let m = c.args.m in
-    let whole : c.loop-size.size ≡ n + 1 - m = omega (arith, c.loop-size-test.false, c.loop-size.auto.size-end, c.requires.enough) in
-    λ items order f b. subst (λ limit. IsLeastCut g.row.D items order n m c.args.bound limit c.loop-size.best.size (numbers_of c.loop-size.best)) whole (c.loop-size.invariant.least items order f b)
+    let whole : c.loop-size.size ≡ n + 1 - m =
+    omega (arith, c.loop-size-test.false, c.loop-size.auto.size-end, c.requires.enough) in
+    λ items order f b. subst
+    (λ limit. IsLeastCut g.row.D items order n m c.args.bound limit c.loop-size.best.size
+    (numbers_of c.loop-size.best)) whole (c.loop-size.invariant.least items order f b)

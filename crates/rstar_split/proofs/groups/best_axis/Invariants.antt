@@ -11,5 +11,6 @@ invariant-loop-number g l = record {
   order : l.places ≡ order_of (items_of l.entries) l.best.number l.best.cut.bound;
   whole : length l.places ≡ length l.entries;
   room : length l.others ≡ length l.entries;
-  first : IsFirstLeast l.number (λ axis. axis_margin g.row.D (items_of l.entries) l.m axis ∷ []) l.best.number;
+  first : IsFirstLeast l.number (λ axis. axis_margin g.row.D (items_of l.entries) l.m axis ∷ [])
+      l.best.number;
 }

@@ -1,4 +1,5 @@
-use Rattle.std.proofs.Common.{rules, refl, ◌≡◌, ◌+◌, ◌<◌, ◌≤◌, ℕ, ◌∷◌, [], ◌∙◌, List, ap, subst, sym, arith, length, take, drop}
+use Rattle.std.proofs.Common.{rules, refl, ◌≡◌, ◌+◌, ◌<◌, ◌≤◌, ℕ, ◌∷◌, [], ◌∙◌, List, ap, subst, sym, arith}
+use Rattle.std.proofs.Common.{length, take, drop}
 use Rattle.std.specs.List.{All}
 use Rattle.std.proofs.lemmas.List.{length-map}
 use Rattle.std.proofs.lemmas.List.Elements.{All-take, All-drop}
@@ -19,9 +20,21 @@ picked-requires g c =
     let long = length-map all item_of in
     let P : ℕ → Type 0 = λ p. p < length (items_of all) in
     let is = c.best_axis-best.ensures.order in
-    let good : All P c.best_axis-best.new.places = subst (All P) (sym is) (below-order_of (items_of all) best.number best.cut.bound) in
-    let front : All P c.split_at.result.0.now = subst (All P) (sym c.split_at.ensures.front) (All-take P best.cut.size c.best_axis-best.new.places good) in
-    let few : length c.split_at.result.0.now ≤ 101 = omega (arith, c.split_at.ensures.front_len, c.best_axis-best.ensures.axis.second_full, long, ap length c.as_slice-all.ensures.value, c.requires.count, c.requires.most) in
+    let good : All P c.best_axis-best.new.places =
+    subst (All P) (sym is) (below-order_of (items_of all) best.number best.cut.bound) in
+    let front : All P c.split_at.result.0.now =
+    subst (All P) (sym c.split_at.ensures.front)
+    (All-take P best.cut.size c.best_axis-best.new.places good) in
+    let few : length c.split_at.result.0.now ≤ 101 =
+    omega (
+      arith,
+      c.split_at.ensures.front_len,
+      c.best_axis-best.ensures.axis.second_full,
+      long,
+      ap length c.as_slice-all.ensures.value,
+      c.requires.count,
+      c.requires.most,
+    ) in
     (search rules, (search rules, (few, λ k h. omega (arith, front k 0 h, long))))
 
 pub picked-requires-2 : goal.picked-requires-2
@@ -32,9 +45,21 @@ picked-requires-2 g c =
     let P : ℕ → Type 0 = λ p. p < length (items_of all) in
     let is = c.best_axis-best.ensures.order in
     let whole = ap length is ∙ length-order_of (items_of all) best.number best.cut.bound in
-    let good : All P c.best_axis-best.new.places = subst (All P) (sym is) (below-order_of (items_of all) best.number best.cut.bound) in
-    let back : All P c.split_at.result.1.now = subst (All P) (sym c.split_at.ensures.back) (All-drop P best.cut.size c.best_axis-best.new.places good) in
-    let few : length c.split_at.result.1.now ≤ 101 = omega (arith, c.split_at.ensures.back_len, whole, long, ap length c.as_slice-all.ensures.value, c.requires.count, c.requires.most) in
+    let good : All P c.best_axis-best.new.places =
+    subst (All P) (sym is) (below-order_of (items_of all) best.number best.cut.bound) in
+    let back : All P c.split_at.result.1.now =
+    subst (All P) (sym c.split_at.ensures.back)
+    (All-drop P best.cut.size c.best_axis-best.new.places good) in
+    let few : length c.split_at.result.1.now ≤ 101 =
+    omega (
+      arith,
+      c.split_at.ensures.back_len,
+      whole,
+      long,
+      ap length c.as_slice-all.ensures.value,
+      c.requires.count,
+      c.requires.most,
+    ) in
     (search rules, (search rules, (few, λ k h. omega (arith, back k 0 h, long))))
 
 pub returns-clause-divided : goal.returns-clause-divided
@@ -51,9 +76,13 @@ returns-clause-divided g c =
     let axis = c.best_axis-best.ensures.axis in
     let m : c.max-m.result ≡ least_entries most = search rules in
     let o : List ℕ = order_of (items_of es) number bound in
-    let places : c.best_axis-best.new.places ≡ o = c.best_axis-best.ensures.order ∙ ap (λ xs. order_of (items_of xs) number bound) is in
-    let AxisLeast : List (Entry D) → ℕ → Type 0 = λ xs n. IsFirstLeast D (λ a. axis_margin D (items_of xs) n a ∷ []) number in
-    let Least : List (Entry D) → ℕ → Type 0 = λ xs n. (b : Bound) (s : ℕ) → n ≤ s → s + n ≤ length (items_of xs) → AtMost (cut_key D (items_of xs) number bound best.cut.size) (cut_key D (items_of xs) number b s) in
+    let places : c.best_axis-best.new.places ≡ o = c.best_axis-best.ensures.order
+    ∙ ap (λ xs. order_of (items_of xs) number bound) is in
+    let AxisLeast : List (Entry D) → ℕ
+    → Type 0 = λ xs n. IsFirstLeast D (λ a. axis_margin D (items_of xs) n a ∷ []) number in
+    let Least : List (Entry D) → ℕ → Type 0 = λ xs n. (b : Bound) (s : ℕ) → n ≤ s
+    → s + n ≤ length (items_of xs)
+    → AtMost (cut_key D (items_of xs) number bound best.cut.size) (cut_key D (items_of xs) number b s) in
     let same = ap (λ xs. length (items_of xs)) is in
     record {
       places = take best.cut.size o;
@@ -62,7 +91,9 @@ returns-clause-divided g c =
         axis = number;
         bound = bound;
         size = best.cut.size;
-        axis_least = subst (λ n. AxisLeast es n) m (subst (λ xs. AxisLeast xs c.max-m.result) is c.best_axis-best.ensures.first);
+        axis_least =
+            subst (λ n. AxisLeast es n) m
+            (subst (λ xs. AxisLeast xs c.max-m.result) is c.best_axis-best.ensures.first);
         first_full = omega (arith, m, axis.first_full);
         second_full = omega (arith, m, same, axis.second_full);
         least = subst (λ n. Least es n) m (subst (λ xs. Least xs c.max-m.result) is axis.least);

@@ -12,6 +12,8 @@ invariant-loop-axis g l = record {
   boxes : 0 < l.axis → HaveBoxes g.row.D (items_of l.node.entries.items);
   low_size : length l.lows ≡ g.row.D;
   high_size : length l.highs ≡ g.row.D;
-  lows : (axis place : ℕ) → axis < l.axis → place < length l.node.entries.items → cell l.lows axis place ≡ on_axis (box_at (items_of l.node.entries.items) place).low axis;
-  highs : (axis place : ℕ) → axis < l.axis → place < length l.node.entries.items → cell l.highs axis place ≡ on_axis (box_at (items_of l.node.entries.items) place).high axis;
+  lows : (axis place : ℕ) → axis < l.axis → place < length l.node.entries.items
+      → cell l.lows axis place ≡ on_axis (box_at (items_of l.node.entries.items) place).low axis;
+  highs : (axis place : ℕ) → axis < l.axis → place < length l.node.entries.items
+      → cell l.highs axis place ≡ on_axis (box_at (items_of l.node.entries.items) place).high axis;
 }

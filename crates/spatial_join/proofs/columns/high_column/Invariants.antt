@@ -8,5 +8,6 @@ use Rattle.spatial_join.proofs.columns.high_column.Given as goal
 abbrev pub invariant-loop-place : goal.invariant-loop-place
 invariant-loop-place g l = record {
   size : length l.column ≡ 100;
-  filled : (k : ℕ) → k < l.place → on_axis l.column k ≡ on_axis (box_at (items_of l.node.entries.items) k).high l.axis;
+  filled : (k : ℕ) → k < l.place
+      → on_axis l.column k ≡ on_axis (box_at (items_of l.node.entries.items) k).high l.axis;
 }

@@ -9,5 +9,6 @@ abbrev pub invariant-loop-place : goal.invariant-loop-place
 invariant-loop-place g l = record {
   boxes : (k : ℕ) → k < l.place → IsBox g.row.D (box_at (items_of l.node.entries.items) k);
   size : length l.column ≡ 100;
-  filled : (k : ℕ) → k < l.place → on_axis l.column k ≡ on_axis (box_at (items_of l.node.entries.items) k).low l.axis;
+  filled : (k : ℕ) → k < l.place
+      → on_axis l.column k ≡ on_axis (box_at (items_of l.node.entries.items) k).low l.axis;
 }

@@ -8,7 +8,11 @@ pub returns-then-rest-eq0-clause-none : goal.returns-then-rest-eq0-clause-none
 returns-then-rest-eq0-clause-none c = clear_after c.args.mask c.args.from c.if-rest-eq0.true
 
 pub returns-clause-set : goal.returns-clause-set
-returns-clause-set c = (omega arith, first_within w128 c.args.mask c.args.from c.ranges.mask.fits c.if-rest-eq0.false, first_set w128 c.args.mask c.args.from c.ranges.mask.fits c.if-rest-eq0.false)
+returns-clause-set c = (
+  omega arith,
+  first_within w128 c.args.mask c.args.from c.ranges.mask.fits c.if-rest-eq0.false,
+  first_set w128 c.args.mask c.args.from c.ranges.mask.fits c.if-rest-eq0.false,
+)
 
 pub returns-clause-first : goal.returns-clause-first
 returns-clause-first c = clear_before w128 c.args.mask c.args.from c.ranges.mask.fits c.if-rest-eq0.false

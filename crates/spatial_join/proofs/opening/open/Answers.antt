@@ -13,11 +13,19 @@ use Rattle.spatial_join.proofs.opening.open.Goals as goal
 pub returns-then-other-node-clause-entries : goal.returns-then-other-node-clause-entries
 returns-then-other-node-clause-entries g c = λ h row at.
     let m : PageMap = pages c.args.cache.now in
-    IfOk-weaker c.read_node.result _ _ (λ node there. ap row_items (opened_here c.args.node.level c.args.other c.args.bounds.now c.args.node.page row c.if-other-node.true) ∙ entries_there g.row.D m c.args.node.page c.args.node.level row (content_of node) at there)
+    IfOk-weaker c.read_node.result _ _
+    (λ node there. ap row_items
+    (opened_here c.args.node.level c.args.other c.args.bounds.now c.args.node.page row
+    c.if-other-node.true)
+    ∙ entries_there g.row.D m c.args.node.page c.args.node.level row (content_of node) at there)
     (c.read_node.ensures.node h (page_of_node g.row.D (m c.args.node.page) _ at.node))
 
 pub returns-then-other-node-clause-references : goal.returns-then-other-node-clause-references
-returns-then-other-node-clause-references g c = IfOk-weaker c.read_node.result _ _ (λ node spellable. has_pages (content_of node) spellable) c.read_node.ensures.spellable
+returns-then-other-node-clause-references g c =
+    IfOk-weaker c.read_node.result _ _ (λ node spellable. has_pages (content_of node) spellable)
+    c.read_node.ensures.spellable
 
 pub returns-then-other-node-clause-stands : goal.returns-then-other-node-clause-stands
-returns-then-other-node-clause-stands g c = λ h row at. c.read_node.ensures.there h (record { level = c.args.node.level; entries = row_items row }) at.node refl
+returns-then-other-node-clause-stands g c =
+    λ h row at. c.read_node.ensures.there h (record { level = c.args.node.level; entries = row_items row })
+    at.node refl

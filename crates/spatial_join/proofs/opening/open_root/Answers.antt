@@ -16,10 +16,12 @@ use Rattle.spatial_join.proofs.opening.open_root.Goals as goal
 pub returns-in_err-node-clause-stands : goal.returns-in_err-node-clause-stands
 returns-in_err-node-clause-stands g c = λ h row at.
     at_error c.from_residual.result c.in_err-node.field-0.0 IsOfDevice c.from_residual.ensures.1
-    (c.in_err-node.ensures.there h (record { level = c.args.root.level; entries = row_items row }) at.node refl)
+    (c.in_err-node.ensures.there h (record { level = c.args.root.level; entries = row_items row }) at.node
+    refl)
 
 pub returns-then-other-root-clause-level : goal.returns-then-other-root-clause-level
-returns-then-other-root-clause-level g c = c.in_ok-node.ensures.level ∙ level_here c.args.root.level c.args.other c.if-other-root.true
+returns-then-other-root-clause-level g c = c.in_ok-node.ensures.level
+    ∙ level_here c.args.root.level c.args.other c.if-other-root.true
 
 pub returns-then-other-root-clause-entries : goal.returns-then-other-root-clause-entries
 returns-then-other-root-clause-entries g c = λ h row at.
@@ -29,14 +31,18 @@ returns-then-other-root-clause-entries g c = λ h row at.
     ∙ entries_there g.row.D m c.args.root.page c.args.root.level row (content_of c.in_ok-node.node) at there
 
 pub returns-clause-level : goal.returns-clause-level
-returns-clause-level g c = c.above.ensures.level ∙ level_above c.args.root.level c.args.other (omega (arith, c.if-other-root.false))
+returns-clause-level g c = c.above.ensures.level
+    ∙ level_above c.args.root.level c.args.other (omega (arith, c.if-other-root.false))
 
 pub returns-clause-entries : goal.returns-clause-entries
 returns-clause-entries g c = λ h row at.
     let m : PageMap = pages c.args.cache.now in
     let there = c.in_ok-node.ensures.node h (page_of_node g.row.D (m c.args.root.page) _ at.node) in
-    let same = entries_there g.row.D m c.args.root.page c.args.root.level row (content_of c.in_ok-node.node) at there in
-    root_above g.row.D c.args.root.level c.args.other c.args.root.page row (content_of c.in_ok-node.node).entries (omega (arith, c.if-other-root.false)) same
+    let same =
+    entries_there g.row.D m c.args.root.page c.args.root.level row (content_of c.in_ok-node.node) at
+    there in
+    root_above g.row.D c.args.root.level c.args.other c.args.root.page row
+    (content_of c.in_ok-node.node).entries (omega (arith, c.if-other-root.false)) same
     ∙ ap (λ (o : Option Bounds). lone o c.args.root.page) (sym c.node_box.ensures)
     ∙ sym c.above.ensures.entries
 
@@ -44,4 +50,6 @@ pub returns-clause-few : goal.returns-clause-few
 returns-clause-few g c = omega (arith, c.above.ensures.few)
 
 pub returns-clause-references : goal.returns-clause-references
-returns-clause-references g c = lone_has_pages (content_of c.above.result) c.node_box.result c.args.root.page (search rules) (search rules)
+returns-clause-references g c =
+    lone_has_pages (content_of c.above.result) c.node_box.result c.args.root.page (search rules)
+    (search rules)

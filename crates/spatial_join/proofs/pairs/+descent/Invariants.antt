@@ -14,13 +14,18 @@ decreases-add_pairs_of_entry g l = 2 * (l.level + l.right.now.level)
 
 -- the pairs below the entries so far are added
 abbrev pub invariant-add_pairs-loop-entry : goal.invariant-add_pairs-loop-entry
-invariant-add_pairs-loop-entry g l = Progress g.row.D l.fn.reach.limit l.fn.cache l.cache (content_of l.fn.left) (content_of l.fn.right) (left_from g.row.D l.fn.reach.limit l.entry-index) (nodes_from g.row.D l.fn.reach.limit l.entry-index) 0 l.fn.pairs.items l.pairs.items
+invariant-add_pairs-loop-entry g l =
+    Progress g.row.D l.fn.reach.limit l.fn.cache l.cache (content_of l.fn.left) (content_of l.fn.right)
+    (left_from g.row.D l.fn.reach.limit l.entry-index) (nodes_from g.row.D l.fn.reach.limit l.entry-index) 0
+    l.fn.pairs.items l.pairs.items
 
--- the pairs below the entry and the other node's entries so far are added; the look at the left node is one ahead of the
--- pairs until there is one
+-- the pairs below the entry and the other node's entries so far are added; the look at the left node is one
+-- ahead of the pairs until there is one
 abbrev pub invariant-add_pairs_of_entry-other : goal.invariant-add_pairs_of_entry-other
 invariant-add_pairs_of_entry-other g l =
-    Progress g.row.D l.fn.reach.limit l.fn.cache l.cache (sole l.fn.level (item_of l.fn.entry)) (content_of l.fn.right) (left_beside g.row.D l.fn.reach.limit l.from) (nodes_beside g.row.D l.fn.reach.limit l.from) (1 - l.from) l.fn.pairs.items l.pairs.items
+    Progress g.row.D l.fn.reach.limit l.fn.cache l.cache (sole l.fn.level (item_of l.fn.entry))
+    (content_of l.fn.right) (left_beside g.row.D l.fn.reach.limit l.from)
+    (nodes_beside g.row.D l.fn.reach.limit l.from) (1 - l.from) l.fn.pairs.items l.pairs.items
     × (l.from ≤ length l.fn.right.entries.items)
 
 -- each entry comes after the one before it

@@ -8,14 +8,24 @@ use Rattle.spatial_join.proofs.pairs.push_pairs.Goals as goal
 
 pub other-preserved : goal.other-preserved
 other-preserved g c =
-    let within = place_within c.deref.result.now c.args.right.now.entries.items c.in-Some.place c.args.mask c.requires.mask c.in-Some.ensures.set.2 c.deref.ensures.0 in
-    let named = entry_named c.deref.result.now c.args.right.now.entries.items c.in-Some.place c.index-deref-place.result c.deref.ensures.0 within c.index-deref-place.is in (
-      next_pushed g.row.D c.args.reach.limit (map item_of c.args.right.now.entries.items) (item_of c.args.entry.now) c.args.pairs.now.items c.other.pairs.items c.args.mask c.requires.mask c.other.from c.other.invariant.0
-          c.in-Some.place c.in-Some.ensures.set.0 c.in-Some.ensures.set.2 c.in-Some.ensures.first (item_of c.index-deref-place.result) named c.push.new.self.items c.in_ok-push.ensures.items,
+    let within =
+    place_within c.deref.result.now c.args.right.now.entries.items c.in-Some.place c.args.mask
+    c.requires.mask c.in-Some.ensures.set.2 c.deref.ensures.0 in
+    let named =
+    entry_named c.deref.result.now c.args.right.now.entries.items c.in-Some.place
+    c.index-deref-place.result c.deref.ensures.0 within c.index-deref-place.is in (
+      next_pushed g.row.D c.args.reach.limit (map item_of c.args.right.now.entries.items)
+          (item_of c.args.entry.now) c.args.pairs.now.items c.other.pairs.items c.args.mask c.requires.mask
+          c.other.from c.other.invariant.0
+          c.in-Some.place c.in-Some.ensures.set.0 c.in-Some.ensures.set.2 c.in-Some.ensures.first
+          (item_of c.index-deref-place.result) named c.push.new.self.items c.in_ok-push.ensures.items,
       omega (arith, within, ap length c.deref.ensures.0),
     )
 
 pub returns-clause-pairs : goal.returns-clause-pairs
 returns-clause-pairs g c =
-    all_pushed g.row.D c.args.reach.limit (map item_of c.args.right.now.entries.items) (item_of c.args.entry.now) c.args.pairs.now.items c.other.pairs.items c.args.mask c.requires.mask c.other.from c.other.invariant.0
-    (omega (arith, c.other.invariant.1, length-map c.args.right.now.entries.items item_of)) c.in_default.ensures.none
+    all_pushed g.row.D c.args.reach.limit (map item_of c.args.right.now.entries.items)
+    (item_of c.args.entry.now) c.args.pairs.now.items c.other.pairs.items c.args.mask c.requires.mask
+    c.other.from c.other.invariant.0
+    (omega (arith, c.other.invariant.1, length-map c.args.right.now.entries.items item_of))
+    c.in_default.ensures.none

@@ -8,4 +8,6 @@ use Rattle.tree_node.proofs.entries.see_boxes.Goals as goal
 pub loop-i-preserved : goal.loop-i-preserved
 loop-i-preserved g c =
     let e = c.args.entries.now in
-    below_more (λ k. IsBox g.row.D (box_at (items_of e) k)) c.loop-i.i c.loop-i.invariant (subst (IsBox g.row.D) (sym (box_at-any e c.loop-i.i c.index-entries-i.result c.loop-i-test.true)) c.low.ensures.is_box)
+    below_more (λ k. IsBox g.row.D (box_at (items_of e) k)) c.loop-i.i c.loop-i.invariant
+    (subst (IsBox g.row.D) (sym (box_at-any e c.loop-i.i c.index-entries-i.result c.loop-i-test.true))
+    c.low.ensures.is_box)

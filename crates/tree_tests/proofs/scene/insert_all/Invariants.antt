@@ -5,4 +5,5 @@ use Rattle.page_cache.specs.Cache.{gate_of}
 use Rattle.tree_tests.proofs.scene.insert_all.Given as goal
 
 abbrev pub invariant-entries : goal.invariant-entries
-invariant-entries g l = (gate_of l.cache ≡ Open) × (l.now.level ≤ 40) × (3 ≤ l.now.page) × (l.now.page < 2 ^ 31)
+invariant-entries g l = (gate_of l.cache ≡ Open) × (l.now.level ≤ 40) × (3 ≤ l.now.page)
+    × (l.now.page < 2 ^ 31)

@@ -6,6 +6,10 @@ use Rattle.block_device.proofs.memory.stop.fill.Goals.{then-marks-i, else-marks-
 
 pub loop-i-preserved : goal.loop-i-preserved
 loop-i-preserved g c = elim c.if-marks-i.branch [
-  | then-marks-i w ↦ rw w.blocks-is (filled_next c.args.bytes.now c.args.marks.now c.loop-i.i c.args.blocks.now.items c.loop-i.blocks.items c.loop-i.invariant (omega arith) w.if-marks-i.true)
-  | else-marks-i w ↦ rw w.blocks-is (filled_not c.args.bytes.now c.args.marks.now c.loop-i.i c.args.blocks.now.items c.loop-i.blocks.items c.loop-i.invariant w.if-marks-i.false)
+  | then-marks-i w ↦ rw w.blocks-is
+      (filled_next c.args.bytes.now c.args.marks.now c.loop-i.i c.args.blocks.now.items c.loop-i.blocks.items
+      c.loop-i.invariant (omega arith) w.if-marks-i.true)
+  | else-marks-i w ↦ rw w.blocks-is
+      (filled_not c.args.bytes.now c.args.marks.now c.loop-i.i c.args.blocks.now.items c.loop-i.blocks.items
+      c.loop-i.invariant w.if-marks-i.false)
 ]

@@ -10,7 +10,8 @@ use Rattle.box_math.proofs.Growth.{meet_of-side, overlap_of-meet, overlap_of-apa
 use Rattle.box_math.proofs.bounds.BBox.overlap.Goals as goal
 
 pub overflow_mul-product : goal.overflow_mul-product
-overflow_mul-product g c = product_fits c.loop-axis.axis _ _ (omega arith) c.loop-axis.invariant.2 (omega arith)
+overflow_mul-product g c =
+    product_fits c.loop-axis.axis _ _ (omega arith) c.loop-axis.invariant.2 (omega arith)
 
 pub returns-then-high-low-clause-value : goal.returns-then-high-low-clause-value
 returns-then-high-low-clause-value g c =
@@ -30,7 +31,9 @@ loop-axis-preserved g c =
     let b = c.args.other.now in
     let k = c.loop-axis.axis in
     let i = c.loop-axis.invariant in
-    let side : c.from-product.result ≡ unsigned_abs (int_min (on_axis a.high k) (on_axis b.high k) -ℤ int_max (on_axis a.low k) (on_axis b.low k)) = grind (arith, to_z-of_z) in
+    let side : c.from-product.result ≡ unsigned_abs
+    (int_min (on_axis a.high k) (on_axis b.high k) -ℤ int_max (on_axis a.low k) (on_axis b.low k)) =
+    grind (arith, to_z-of_z) in
     let e = meet_of-side g.row.D a b k c.loop-axis-test.true in (
       below_more _ _ i.0 (grind (arith, ints, clamps, to_z-of_z), grind (arith, ints, clamps, to_z-of_z)),
       rw (add-one, i.1, side, e) refl,

@@ -6,4 +6,6 @@ use Rattle.box_math.proofs.bounds.BBox.overlap.Given as goal
 
 abbrev pub invariant-loop-axis : goal.invariant-loop-axis
 invariant-loop-axis g l =
-    (Meets l.axis l.self l.other) × (l.product ≡ product_over l.axis (side_of (meet_of g.row.D l.self l.other))) × (l.product ≤ 4294967295 ^ l.axis)
+    (Meets l.axis l.self l.other)
+    × (l.product ≡ product_over l.axis (side_of (meet_of g.row.D l.self l.other)))
+    × (l.product ≤ 4294967295 ^ l.axis)

@@ -11,7 +11,8 @@ loop-axis-preserved g c =
     let k = c.loop-axis.axis in
     let p = c.args.point.now in
     let i = c.loop-axis.invariant in
-    let gap : c.abs_diff-gap.result ≡ unsigned_abs (on_axis p k -ℤ nearest_on c.args.self.now p k) = grind (arith, to_z-of_z) in
+    let gap : c.abs_diff-gap.result ≡ unsigned_abs (on_axis p k -ℤ nearest_on c.args.self.now p k) =
+    grind (arith, to_z-of_z) in
     let squared : c.square-sum.result ≡ c.abs_diff-gap.result * c.abs_diff-gap.result = cc in
     let small = square_le c.abs_diff-gap.result (2 ^ 32) (omega arith) in
     (rw (add-one, i.0, squared, gap) refl, rw squared (omega (arith, small, i.1)))

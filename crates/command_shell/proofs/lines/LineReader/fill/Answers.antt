@@ -11,5 +11,9 @@ returns-clause-ok g c =
     record {
       more = take n new;
       read = c.in_ok-count.ensures.bytes.0;
-      so = (sym c.in_ok-count.ensures.bound.1, filled mid.buffer new _ mid.start mid.«end» n c.make_room.ensures.front (omega arith) c.in_ok-count.ensures.bound.0 ∙ ap (λ p. p ++ take n new) c.make_room.ensures.pending);
+      so = (
+        sym c.in_ok-count.ensures.bound.1,
+        filled mid.buffer new _ mid.start mid.«end» n c.make_room.ensures.front (omega arith)
+            c.in_ok-count.ensures.bound.0 ∙ ap (λ p. p ++ take n new) c.make_room.ensures.pending,
+      );
     }

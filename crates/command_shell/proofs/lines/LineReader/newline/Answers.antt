@@ -11,11 +11,14 @@ returns-in-None c =
     let xs = pending c.args.self.now in
     let rest = c.split_at.result.1.now in
     none_later xs c.args.seen c.requires.none_seen
-    (subst IsOneLine (c.split_at.ensures.back ∙ ap (drop c.args.seen) c.pending.ensures) (newline_found rest None c.in-None.ensures))
+    (subst IsOneLine (c.split_at.ensures.back ∙ ap (drop c.args.seen) c.pending.ensures)
+    (newline_found rest None c.in-None.ensures))
 
 pub returns-in-Some : goal.returns-in-Some
 returns-in-Some c =
     let xs = pending c.args.self.now in
     let rest = c.split_at.result.1.now in
     begins_later xs c.args.seen c.in-Some.at c.requires.within c.requires.none_seen
-    (subst (λ r. BeginsLine r c.in-Some.at) (c.split_at.ensures.back ∙ ap (drop c.args.seen) c.pending.ensures) (newline_found rest (Some c.in-Some.at) c.in-Some.ensures))
+    (subst (λ r. BeginsLine r c.in-Some.at)
+    (c.split_at.ensures.back ∙ ap (drop c.args.seen) c.pending.ensures)
+    (newline_found rest (Some c.in-Some.at) c.in-Some.ensures))

@@ -7,11 +7,13 @@ use Rattle.command_shell.proofs.lines.LineReader.read_line.Given as goal
 
 abbrev pub invariant-loop-at : goal.invariant-loop-at
 invariant-loop-at g l = record {
-  text : ReadsTo (g.R.Read.remaining l.fn.reader) (g.R.Read.remaining l.reader) (λ more. pending l.self ≡ pending l.fn.self ++ more);
+  text : ReadsTo (g.R.Read.remaining l.fn.reader) (g.R.Read.remaining l.reader)
+      (λ more. pending l.self ≡ pending l.fn.self ++ more);
   within : l.seen ≤ length (pending l.self);
   none_seen : IsOneLine (take l.seen (pending l.self));
   fewer : work_left l.self ≤ work_left l.fn.self;
-  lazy : (n : ℕ) → BeginsLine (pending l.fn.self) n → (l.reader ≡ l.fn.reader) × (pending l.self ≡ pending l.fn.self);
+  lazy : (n : ℕ) → BeginsLine (pending l.fn.self) n
+      → (l.reader ≡ l.fn.reader) × (pending l.self ≡ pending l.fn.self);
 }
 
 abbrev pub decreases-loop-at : goal.decreases-loop-at

@@ -8,5 +8,6 @@ use Rattle.condense.proofs.kept.Kept.keep.Given as goal
 -- the last entries so far are kept
 abbrev pub invariant-loop-passed : goal.invariant-loop-passed
 invariant-loop-passed g l =
-    (held_now l.self ≡ held_now l.fn.self ++ take l.passed (reverse (map (held_with l.level) l.entries.items)))
+    (held_now l.self ≡ held_now l.fn.self
+    ++ take l.passed (reverse (map (held_with l.level) l.entries.items)))
     × (array_vec_len l.self.orphans ≡ array_vec_len l.fn.self.orphans + l.passed)

@@ -57,23 +57,32 @@ module _ (A B : RattleType) where
     abbrev held : Clauses 𝓤 ended
     held = it.clauses A B 𝓛 at_mem run
 
-    walks : (C : Calls 𝓤 H) (Λ : Loops 𝓤 H) (z : (walk_of 𝓛 ended tt held).Ghost) → ent 𝓤 ((walk_of 𝓛 ended tt held).pre z) (WpFn 𝓤 H C Λ function ((walk_of 𝓛 ended tt held).args z) ((walk_of 𝓛 ended tt held).post z))
+    walks : (C : Calls 𝓤 H) (Λ : Loops 𝓤 H) (z : (walk_of 𝓛 ended tt held).Ghost)
+        → ent 𝓤 ((walk_of 𝓛 ended tt held).pre z)
+        (WpFn 𝓤 H C Λ function ((walk_of 𝓛 ended tt held).args z) ((walk_of 𝓛 ended tt held).post z))
     walks C Λ z =
-        qed 𝓛 ((raw (alive 𝓛 ended.signature z.0.0 z.0.1) ⊛ ‵ (owns (types_at ended.signature.params z.0.0) z.0.3 z.0.4)) ∷ raw ((held z.0.0 z.0.3).requires z.1) ∷ []) ∵
+        qed 𝓛 ((raw (alive 𝓛 ended.signature z.0.0 z.0.1) ⊛ ‵
+        (owns (types_at ended.signature.params z.0.0) z.0.3 z.0.4)) ∷ raw
+        ((held z.0.0 z.0.3).requires z.1) ∷ []) ∵
         keep ! (0 ∷ []) $ split ! $ keep ! (0 ∷ []) $
         enter ! C Λ function [] _ $ alloc_all ! (λ l. pass_all ! refl tt $
-        sets ! (agg ! (no_more !)) refl (tt, tt) $ sets ! (agg ! (and_then ! (get ! refl) (no_more !))) refl (tt, (tt, tt)) $
+        sets ! (agg ! (no_more !)) refl (tt, tt) $ sets ! (agg ! (and_then ! (get ! refl) (no_more !))) refl
+        (tt, (tt, tt)) $
         returns ! (look_at ! 0 refl) $ free_all ! refl $
-        pure_i ! (row.own_val r (v ∷ [])) ((λ vss. (tt, ((λ uss. (tt, tt)), tt))), tt) (((vstruct vnil ∷ [], tt), (refl, ((tt, (refl, tt)), tt))), tt) $
+        pure_i ! (row.own_val r (v ∷ [])) ((λ vss. (tt, ((λ uss. (tt, tt)), tt))), tt)
+        (((vstruct vnil ∷ [], tt), (refl, ((tt, (refl, tt)), tt))), tt) $
         suffices ! _ (ends_at 𝓛 ended tt held z v r tt tt) $ says ! refl $
         nothing ! $ move ! (2 ∷ 0 ∷ 1 ∷ []) $ done !)
 
     meets : (𝓣 : Tables 𝓤 H) → Meets 𝓛 ended.signature (WpFn 𝓤 H 𝓣.C 𝓣.Λ function) (it.spec A B 𝓛 at_mem run)
-    meets 𝓣 = walk_Meets 𝓛 ended tt tt held (WpFn 𝓤 H 𝓣.C 𝓣.Λ function) (WpFn-mono 𝓤 H 𝓛.laws 𝓣 function) (walks 𝓣.C 𝓣.Λ)
+    meets 𝓣 =
+        walk_Meets 𝓛 ended tt tt held (WpFn 𝓤 H 𝓣.C 𝓣.Λ function) (WpFn-mono 𝓤 H 𝓛.laws 𝓣 function)
+        (walks 𝓣.C 𝓣.Λ)
 
 pub new_spec : {M : Type 1} → stated.statement M
 unfolding tables_of
 new_spec 𝓤 𝓛 𝓜 𝓡 wired A B LA LB =
     let 𝓣 : Tables 𝓤 𝓛.H = tables_of 𝓤 𝓛.H 𝓜 (tables 𝓤 𝓛.H 𝓜 𝓡 𝓡.env) in
-    entered 𝓤 𝓛.H (triple_of 𝓛 (ended A B).signature (it.spec A B 𝓛 𝓜.mem 𝓡.returns)) 𝓣.C 𝓣.Λ (#it (args A B)) (function A B)
+    entered 𝓤 𝓛.H (triple_of 𝓛 (ended A B).signature (it.spec A B 𝓛 𝓜.mem 𝓡.returns)) 𝓣.C 𝓣.Λ
+    (#it (args A B)) (function A B)
     (code.unfolded 𝓤 𝓛.H 𝓜 𝓡 wired (A, (B, tt))) (meets A B 𝓛 𝓜.mem 𝓡.returns 𝓣)

@@ -12,7 +12,8 @@ use types.Logic.{Logic}
 use contract.Monad.{Fun}
 use contract.Running.{tables, tables_of}
 use sound.WpLaws.{WpFn-mono}
-use types.Kit.{‵, raw, ◌⊛◌, prop, ◌$◌, ◌∵◌, !, qed, move, keep, drop, split, fsplit, fjoin, feq_l, regoal, suffices, done}
+use types.Kit.{‵, raw, ◌⊛◌, prop, ◌$◌, ◌∵◌, !, qed, move, keep, drop, split, fsplit, fjoin, feq_l, regoal}
+use types.Kit.{suffices, done}
 use types.Run.{no_more, and_then, returns, enter}
 use types.Part.{agg}
 use types.ByLocal.{alloc_all, pass_all, free_all, look_at, get, sets}
@@ -76,7 +77,8 @@ module _ (A B : RattleType) where
       abbrev goes : List Val → SProp 𝓤
       goes us = WpFn 𝓤 H C Λ function us Post
 
-      walks : ent 𝓤 ((walk_of 𝓛 ended stayed held).pre z) (WpFn 𝓤 H C Λ function ((walk_of 𝓛 ended stayed held).args z) Post)
+      walks : ent 𝓤 ((walk_of 𝓛 ended stayed held).pre z)
+          (WpFn 𝓤 H C Λ function ((walk_of 𝓛 ended stayed held).args z) Post)
       walks =
           let a = z.0.3 in
           let at = z.0.4 in
@@ -84,27 +86,39 @@ module _ (A B : RattleType) where
           let q = vptr a.1.0.ref_ptr.0 a.1.0.ref_ptr.1 in
           let s = vptr a.1.1.0.ref_ptr.0 a.1.1.0.ref_ptr.1 in
           let r : row.Denot = record { of = record {}; taken = (a.1.0.now, a.1.1.0.now) ∷ a.0.now.taken } in
-          qed 𝓛 ((raw (alive 𝓛 ended.signature z.0.0 z.0.1) ⊛ ‵ (owns (types_at ended.signature.params z.0.0) a at)) ∷ raw ((held z.0.0 a).requires z.1) ∷ []) ∵
+          qed 𝓛 ((raw (alive 𝓛 ended.signature z.0.0 z.0.1) ⊛ ‵
+          (owns (types_at ended.signature.params z.0.0) a at)) ∷ raw ((held z.0.0 a).requires z.1) ∷ []) ∵
           keep ! (0 ∷ []) $ split ! $ move ! (1 ∷ []) $
-          fsplit ! $ fsplit ! $ feq_l ! (λ e. drop ! $ fsplit ! $ fsplit ! $ feq_l ! (λ e'. drop ! $ fsplit ! $ fsplit ! $ feq_l ! (λ e''. drop ! $ drop ! $
+          fsplit ! $ fsplit ! $ feq_l !
+          (λ e. drop ! $ fsplit ! $ fsplit ! $ feq_l !
+          (λ e'. drop ! $ fsplit ! $ fsplit ! $ feq_l ! (λ e''. drop ! $ drop ! $
           regoal ! (λ (us : List Val). prop (goes (us ++ (at.1.0 ++ (at.1.1.0 ++ []))))) e refl $
           regoal ! (λ (us : List Val). prop (goes ((p ∷ []) ++ (us ++ (at.1.1.0 ++ []))))) e' refl $
           regoal ! (λ (us : List Val). prop (goes ((p ∷ []) ++ ((q ∷ []) ++ (us ++ []))))) e'' refl $
-          enter ! C Λ function (p ∷ q ∷ s ∷ []) Post $ alloc_all ! (λ l. pass_all ! refl ((tt, tt), ((tt, tt), ((tt, tt), tt))) $
-          sets ! (agg ! (no_more !)) refl (tt, tt) $ sets ! (agg ! (and_then ! (get ! refl) (no_more !))) refl (tt, (tt, tt)) $
+          enter ! C Λ function (p ∷ q ∷ s ∷ []) Post $ alloc_all !
+          (λ l. pass_all ! refl ((tt, tt), ((tt, tt), ((tt, tt), tt))) $
+          sets ! (agg ! (no_more !)) refl (tt, tt) $ sets ! (agg ! (and_then ! (get ! refl) (no_more !)))
+          refl (tt, (tt, tt)) $
           returns ! (look_at ! 0 refl) $ free_all ! refl $
-          pure_i ! (row.own_val r (v ∷ [])) ((λ vss. (tt, ((λ uss. (tt, tt)), tt))), tt) (((vstruct vnil ∷ [], tt), (refl, ((tt, (refl, tt)), tt))), tt) $
-          suffices ! _ (ends_at 𝓛 ended stayed held z v r (tt, (tt, (tt, tt))) (tt, (tt, (tt, tt)))) $ says ! refl $
-          nothing ! $ nothing ! $ fjoin ! $ nothing ! $ fjoin ! $ nothing ! $ fjoin ! $ move ! (2 ∷ 0 ∷ 1 ∷ []) $ done !))))
+          pure_i ! (row.own_val r (v ∷ [])) ((λ vss. (tt, ((λ uss. (tt, tt)), tt))), tt)
+          (((vstruct vnil ∷ [], tt), (refl, ((tt, (refl, tt)), tt))), tt) $
+          suffices ! _ (ends_at 𝓛 ended stayed held z v r (tt, (tt, (tt, tt))) (tt, (tt, (tt, tt)))) $ says !
+          refl $
+          nothing ! $ nothing ! $ fjoin ! $ nothing ! $ fjoin ! $ nothing ! $ fjoin ! $ move !
+          (2 ∷ 0 ∷ 1 ∷ []) $ done !))))
 
     meets : (𝓣 : Tables 𝓤 H) → Meets 𝓛 ended.signature (WpFn 𝓤 H 𝓣.C 𝓣.Λ function) (it.spec A B 𝓛 at_mem run)
     meets 𝓣 =
-        walk_Meets 𝓛 ended stayed (Goes-dropped 𝓛 5 self yes (λ κs x f. refl), (Goes-dropped 𝓛 5 first yes (λ κs x f. refl), (Goes-dropped 𝓛 5 second yes (λ κs x f. refl), tt)))
+        walk_Meets 𝓛 ended stayed (
+          Goes-dropped 𝓛 5 self yes (λ κs x f. refl),
+          (Goes-dropped 𝓛 5 first yes (λ κs x f. refl), (Goes-dropped 𝓛 5 second yes (λ κs x f. refl), tt)),
+        )
         held (WpFn 𝓤 H 𝓣.C 𝓣.Λ function) (WpFn-mono 𝓤 H 𝓛.laws 𝓣 function) (walks 𝓣.C 𝓣.Λ)
 
 pub with_spec : {M : Type 1} → stated.statement M
 unfolding tables_of
 with_spec 𝓤 𝓛 𝓜 𝓡 wired A B LA LB =
     let 𝓣 : Tables 𝓤 𝓛.H = tables_of 𝓤 𝓛.H 𝓜 (tables 𝓤 𝓛.H 𝓜 𝓡 𝓡.env) in
-    entered 𝓤 𝓛.H (triple_of 𝓛 (ended A B).signature (it.spec A B 𝓛 𝓜.mem 𝓡.returns)) 𝓣.C 𝓣.Λ (#it (args A B)) (function A B)
+    entered 𝓤 𝓛.H (triple_of 𝓛 (ended A B).signature (it.spec A B 𝓛 𝓜.mem 𝓡.returns)) 𝓣.C 𝓣.Λ
+    (#it (args A B)) (function A B)
     (code.unfolded 𝓤 𝓛.H 𝓜 𝓡 wired (A, (B, tt))) (meets A B 𝓛 𝓜.mem 𝓡.returns 𝓣)

@@ -11,6 +11,7 @@ invariant_of-result g c = record {
       let d = c.in_ok-pair.pair in
       let p = g.met.P.DevicePair in
       let h = c.in_ok-pair.ensures.honest.1 h' in
-      noted_new d c.new.result.taken c.new.ensures (shown_blocks d h' (p.whole d.pair (base_of d) (journal_of d) h' (p.shown_counts d.pair h')))
+      noted_new d c.new.result.taken c.new.ensures
+      (shown_blocks d h' (p.whole d.pair (base_of d) (journal_of d) h' (p.shown_counts d.pair h')))
       (λ k is. c.in_ok-pair.ensures.commits h k is ∙ sym (c.in_ok-pair.ensures.shown h));
 }

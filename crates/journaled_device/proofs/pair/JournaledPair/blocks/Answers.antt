@@ -5,4 +5,5 @@ use Rattle.journaled_device.specs.Replay.{length-overlaid}
 use Rattle.journaled_device.proofs.pair.JournaledPair.blocks.Goals as goal
 
 pub returns-clause-is : goal.returns-clause-is
-returns-clause-is g c = let d = c.args.self.now in c.base_blocks.ensures.is ∙ sym (length-overlaid (homes_of d) (journal_of d) (base_of d))
+returns-clause-is g c = let d = c.args.self.now in
+    c.base_blocks.ensures.is ∙ sym (length-overlaid (homes_of d) (journal_of d) (base_of d))

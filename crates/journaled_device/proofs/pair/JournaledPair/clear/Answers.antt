@@ -9,29 +9,40 @@ use Rattle.journaled_device.proofs.pair.JournaledPair.clear.Goals as goal
 
 pub invariant_of-self-2 : goal.invariant_of-self-2
 invariant_of-self-2 g c =
-    let d = c.args.self.now in let p = g.P.DevicePair in let m = c.put_gate.new.self in let e = c.sync_journal.new.self in
+    let d = c.args.self.now in let p = g.P.DevicePair in let m = c.put_gate.new.self in
+    let e = c.sync_journal.new.self in
     record {
       standing = λ h3.
           let h2 = c.sync_journal.ensures.honest.1 h3 in
           let h = c.put_gate.ensures.honest.1 h2 in
-          cleared m.stage m.kept m.slots.homes.items (p.base m.pair) (p.base e) (p.journal m.pair) (p.journal e) (p.may_leave m.pair) (p.may_leave e) (c.sync_journal.ensures.base h2) (c.sync_journal.ensures.journal h2)
+          cleared m.stage m.kept m.slots.homes.items (p.base m.pair) (p.base e) (p.journal m.pair)
+          (p.journal e) (p.may_leave m.pair) (p.may_leave e) (c.sync_journal.ensures.base h2)
+          (c.sync_journal.ensures.journal h2)
           c.base_blocks-self.result c.clear.new.self.homes.items c.base_blocks-self.ensures.is c.clear.ensures
-          (c.put_gate.ensures.slots.stage ∙ c.requires) (c.sync_journal.ensures.stops h2) (c.in_ok-sync_journal.ensures.durable h2) (c.in_ok-put_gate.ensures.gate h) (m.standing h2);
+          (c.put_gate.ensures.slots.stage ∙ c.requires) (c.sync_journal.ensures.stops h2)
+          (c.in_ok-sync_journal.ensures.durable h2) (c.in_ok-put_gate.ensures.gate h) (m.standing h2);
     }
 
 pub returns-in_err-sync_journal-clause-keeps : goal.returns-in_err-sync_journal-clause-keeps
 returns-in_err-sync_journal-clause-keeps g c = λ h.
-    let d = c.args.self.now in let p = g.P.DevicePair in let m = c.put_gate.new.self in let e = c.sync_journal.new.self in
+    let d = c.args.self.now in let p = g.P.DevicePair in let m = c.put_gate.new.self in
+    let e = c.sync_journal.new.self in
     let h2 = c.put_gate.ensures.honest.0 h in
-    keeps_on (commits_of d) d m _ (c.put_gate.ensures.keeps h) (keeps_call (commits_of m) m _ (c.sync_journal.ensures.honest.0 h2) (c.sync_journal.ensures.time h2)
-    (read_stays m.stage m.kept m.slots.homes.items (p.base m.pair) (p.base e) (p.journal m.pair) (p.journal e) (c.sync_journal.ensures.base h2) (c.sync_journal.ensures.journal h2)))
+    keeps_on (commits_of d) d m _ (c.put_gate.ensures.keeps h)
+    (keeps_call (commits_of m) m _ (c.sync_journal.ensures.honest.0 h2) (c.sync_journal.ensures.time h2)
+    (read_stays m.stage m.kept m.slots.homes.items (p.base m.pair) (p.base e) (p.journal m.pair)
+    (p.journal e) (c.sync_journal.ensures.base h2) (c.sync_journal.ensures.journal h2)))
 
 pub returns-clause-keeps : goal.returns-clause-keeps
 returns-clause-keeps g c = λ h.
-    let d = c.args.self.now in let p = g.P.DevicePair in let m = c.put_gate.new.self in let e = c.sync_journal.new.self in
+    let d = c.args.self.now in let p = g.P.DevicePair in let m = c.put_gate.new.self in
+    let e = c.sync_journal.new.self in
     let h2 = c.put_gate.ensures.honest.0 h in
     let filled : m.stage ≡ Clearing = c.put_gate.ensures.slots.stage ∙ c.requires in
-    keeps_on (commits_of d) d m _ (c.put_gate.ensures.keeps h) (keeps_call (commits_of m) m _ (c.sync_journal.ensures.honest.0 h2) (c.sync_journal.ensures.time h2)
+    keeps_on (commits_of d) d m _ (c.put_gate.ensures.keeps h)
+    (keeps_call (commits_of m) m _ (c.sync_journal.ensures.honest.0 h2) (c.sync_journal.ensures.time h2)
     (λ k is. clearing_commits m.stage m.kept m.slots.homes.items (p.base m.pair) (p.journal m.pair) k filled
-    (commits_cleared m.stage m.kept c.base_blocks-self.result m.slots.homes.items c.clear.new.self.homes.items (p.base m.pair) (p.base e) (p.journal m.pair) (p.journal e) (p.may_leave m.pair)
+    (commits_cleared m.stage m.kept c.base_blocks-self.result m.slots.homes.items
+    c.clear.new.self.homes.items (p.base m.pair) (p.base e) (p.journal m.pair) (p.journal e)
+    (p.may_leave m.pair)
     c.base_blocks-self.ensures.is filled (c.sync_journal.ensures.base h2) (m.standing h2) k is)))

@@ -7,4 +7,5 @@ use Rattle.journaled_device.specs.declared.stage.Stage.TheVariants.{Copying}
 use Rattle.journaled_device.proofs.pair.JournaledPair.copy_entries.Given as goal
 
 abbrev pub invariant-loop-k : goal.invariant-loop-k
-invariant-loop-k g l = CopiedTo l.k l.fn.self l.self × (l.k-end ≡ length (homes_of l.fn.self)) × (stage_of l.fn.self ≡ Copying)
+invariant-loop-k g l = CopiedTo l.k l.fn.self l.self × (l.k-end ≡ length (homes_of l.fn.self))
+    × (stage_of l.fn.self ≡ Copying)

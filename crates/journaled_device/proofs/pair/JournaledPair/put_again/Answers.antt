@@ -9,13 +9,19 @@ pub returns-clause-written : goal.returns-clause-written
 returns-clause-written g c = λ h.
     let d = c.args.self.now in let e = c.put_journal.new.self in
     let s = d.standing h in
-    on_ok c.put_journal.result _ _ (λ (w : journal_of e ≡ written (2 + c.args.slot) c.args.bytes.now (journal_of d)).
-    again_is (homes_of d) (homes_of e) (journal_of d) (journal_of e) (base_of d) (base_of e) c.put_journal.ensures.slots.homes (c.put_journal.ensures.base h) s.slots
-    c.args.i c.args.slot c.args.bytes.now c.requires.slot (omega (arith, c.requires.committed, s.kept_there)) w) (c.put_journal.ensures.written h)
+    on_ok c.put_journal.result _ _
+    (λ (w : journal_of e ≡ written (2 + c.args.slot) c.args.bytes.now (journal_of d)).
+    again_is (homes_of d) (homes_of e) (journal_of d) (journal_of e) (base_of d) (base_of e)
+    c.put_journal.ensures.slots.homes (c.put_journal.ensures.base h) s.slots
+    c.args.i c.args.slot c.args.bytes.now c.requires.slot (omega (arith, c.requires.committed, s.kept_there))
+    w) (c.put_journal.ensures.written h)
 
 pub returns-clause-torn : goal.returns-clause-torn
 returns-clause-torn g c = λ h.
     let d = c.args.self.now in let e = c.put_journal.new.self in
     let s = d.standing h in
-    on_any c.put_journal.result _ (again_torn (homes_of d) (homes_of e) (journal_of d) (journal_of e) (base_of d) (base_of e) c.put_journal.ensures.slots.homes (c.put_journal.ensures.base h) s.slots
-    c.args.i c.args.slot c.requires.slot (omega (arith, c.requires.committed, s.kept_there)) (c.put_journal.ensures.torn h))
+    on_any c.put_journal.result _
+    (again_torn (homes_of d) (homes_of e) (journal_of d) (journal_of e) (base_of d) (base_of e)
+    c.put_journal.ensures.slots.homes (c.put_journal.ensures.base h) s.slots
+    c.args.i c.args.slot c.requires.slot (omega (arith, c.requires.committed, s.kept_there))
+    (c.put_journal.ensures.torn h))

@@ -6,4 +6,5 @@ use Rattle.journaled_device.specs.declared.stage.Stage.TheVariants.{Filling}
 use Rattle.journaled_device.proofs.pair.JournaledPair.put_index.Given as goal
 
 abbrev pub invariant-loop-j : goal.invariant-loop-j
-invariant-loop-j g l = IndexedTo l.j l.fn.self l.self × (l.count ≡ length (homes_of l.fn.self)) × (stage_of l.fn.self ≡ Filling)
+invariant-loop-j g l = IndexedTo l.j l.fn.self l.self × (l.count ≡ length (homes_of l.fn.self))
+    × (stage_of l.fn.self ≡ Filling)

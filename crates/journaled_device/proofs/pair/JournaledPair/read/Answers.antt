@@ -10,17 +10,25 @@ use Rattle.journaled_device.proofs.Stood.{on_ok}
 use Rattle.journaled_device.proofs.pair.JournaledPair.read.Goals as goal
 
 pub read_behind-requires-clause-there : goal.read_behind-requires-clause-there
-read_behind-requires-clause-there g c = let d = c.args.self.now in omega (arith, c.requires, length-overlaid (homes_of d) (journal_of d) (base_of d))
+read_behind-requires-clause-there g c = let d = c.args.self.now in
+    omega (arith, c.requires, length-overlaid (homes_of d) (journal_of d) (base_of d))
 
 pub returns-in-Some-clause-bytes : goal.returns-in-Some-clause-bytes
 returns-in-Some-clause-bytes g c = λ h.
     let d = c.args.self.now in
     let slot : IsSlot (homes_of d) c.args.i c.in-Some.k = c.in-Some.ensures.found in
-    let there : c.args.i < length (base_of d) = omega (arith, c.requires, length-overlaid (homes_of d) (journal_of d) (base_of d)) in
-    on_ok c.read_slot.result _ _ (λ (e : c.read_slot.new.into ≡ block_at (2 + c.in-Some.k) (journal_of d)). e ∙ sym (overlay_reads c.args.i c.in-Some.k (homes_of d) (journal_of d) (base_of d) slot there)) (c.read_slot.ensures.bytes h)
+    let there : c.args.i < length (base_of d) =
+    omega (arith, c.requires, length-overlaid (homes_of d) (journal_of d) (base_of d)) in
+    on_ok c.read_slot.result _ _
+    (λ (e : c.read_slot.new.into ≡ block_at (2 + c.in-Some.k) (journal_of d)). e
+    ∙ sym (overlay_reads c.args.i c.in-Some.k (homes_of d) (journal_of d) (base_of d) slot there))
+    (c.read_slot.ensures.bytes h)
 
 pub returns-in-None-clause-bytes : goal.returns-in-None-clause-bytes
 returns-in-None-clause-bytes g c = λ h.
     let d = c.args.self.now in
     let none : ¬ Contains (homes_of d) c.args.i = c.in-None.ensures.none refl in
-    on_ok c.read_behind.result _ _ (λ (e : c.read_behind.new.into ≡ block_at c.args.i (base_of d)). e ∙ sym (overlaid_other (homes_of d) (journal_of d) (base_of d) c.args.i none)) (c.read_behind.ensures.bytes h)
+    on_ok c.read_behind.result _ _
+    (λ (e : c.read_behind.new.into ≡ block_at c.args.i (base_of d)). e
+    ∙ sym (overlaid_other (homes_of d) (journal_of d) (base_of d) c.args.i none))
+    (c.read_behind.ensures.bytes h)

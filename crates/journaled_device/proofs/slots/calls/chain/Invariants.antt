@@ -4,4 +4,7 @@ use Rattle.journaled_device.specs.Buckets.{AreChained}
 use Rattle.journaled_device.proofs.slots.calls.chain.Given as goal
 
 abbrev pub invariant-loop-k : goal.invariant-loop-k
-invariant-loop-k g l = AreChained (take l.k l.homes) l.before.items l.heads.items × (length l.homes ≤ vec_capacity l.before) × (vec_len l.heads ≡ vec_len l.initial.heads) × (vec_capacity l.before ≡ vec_capacity l.initial.before) × (vec_capacity l.heads ≡ vec_capacity l.initial.heads)
+invariant-loop-k g l = AreChained (take l.k l.homes) l.before.items l.heads.items
+    × (length l.homes ≤ vec_capacity l.before) × (vec_len l.heads ≡ vec_len l.initial.heads)
+    × (vec_capacity l.before ≡ vec_capacity l.initial.before)
+    × (vec_capacity l.heads ≡ vec_capacity l.initial.heads)

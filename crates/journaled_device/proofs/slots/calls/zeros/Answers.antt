@@ -4,4 +4,9 @@ use Rattle.std.proofs.lemmas.List.{replicate_more}
 use Rattle.journaled_device.proofs.slots.calls.zeros.Goals as goal
 
 pub loop-k-preserved : goal.loop-k-preserved
-loop-k-preserved g c = (c.push_reserved.ensures.items ∙ ap (λ (l : List ℕ). l ++ 0 ∷ []) c.loop-k.invariant.0 ∙ replicate_more _ 0, search rules, search rules)
+loop-k-preserved g c = (
+  c.push_reserved.ensures.items ∙ ap (λ (l : List ℕ). l ++ 0 ∷ []) c.loop-k.invariant.0
+      ∙ replicate_more _ 0,
+  search rules,
+  search rules,
+)

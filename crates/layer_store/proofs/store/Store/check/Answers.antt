@@ -9,18 +9,26 @@ use Rattle.layer_store.proofs.StoreLemmas.{alive_so, dead_so, is_settled}
 use Rattle.layer_store.proofs.store.Store.check.Goals as goal
 
 pub returns-then-self-clause-answers : goal.returns-then-self-clause-answers
-returns-then-self-clause-answers g c = failed_answers c.if-self.true (λ honest b left. g.met.D.BlockDevice.only_now (device_in c.args.self.now) b honest left) refl
+returns-then-self-clause-answers g c =
+    failed_answers c.if-self.true
+    (λ honest b left. g.met.D.BlockDevice.only_now (device_in c.args.self.now) b honest left) refl
 
 pub returns-clause-answers : goal.returns-clause-answers
 returns-clause-answers g c =
     let d = g.met.D.BlockDevice in
     let asked = c.check.ensures in
-    asked_answers c.if-self.false (λ honest b left. d.only_now (device_in c.args.self.now) b honest left) (λ t. refl) (λ t stops. refl) tt (d.faults_fit (device_in c.args.self.now))
+    asked_answers c.if-self.false (λ honest b left. d.only_now (device_in c.args.self.now) b honest left)
+    (λ t. refl) (λ t stops. refl) tt (d.faults_fit (device_in c.args.self.now))
     asked.answered asked.keeps
 
 pub returns-clause-sound : goal.returns-clause-sound
 returns-clause-sound g c = λ honest.
-    on_ok c.check.result (λ found. (found.0, alive_so (record c.args.self.now { layers = c.check.new.self }) found.0 c.if-self.false found.1)) (c.check.ensures.sound honest)
+    on_ok c.check.result
+    (λ found. (
+      found.0,
+      alive_so (record c.args.self.now { layers = c.check.new.self }) found.0 c.if-self.false found.1,
+    ))
+    (c.check.ensures.sound honest)
 
 pub returns-clause-begins : goal.returns-clause-begins
 returns-clause-begins g c = λ honest settled.
@@ -29,7 +37,9 @@ returns-clause-begins g c = λ honest settled.
     on_ok c.check.result (λ found. (
       found.0,
       settled_begins new found.0 (λ honest b left. g.met.D.BlockDevice.only_now (device_in new) b honest left)
-          (λ honest k only takes. g.met.D.BlockDevice.committed (device_in new) k honest only takes) (λ honest b found. g.met.D.BlockDevice.brought_now (device_in new) b honest found) (kept.settled settled) c.if-self.false found.1,
+          (λ honest k only takes. g.met.D.BlockDevice.committed (device_in new) k honest only takes)
+          (λ honest b found. g.met.D.BlockDevice.brought_now (device_in new) b honest found)
+          (kept.settled settled) c.if-self.false found.1,
     )) (c.check.ensures.sound honest)
 
 pub returns-then-self-clause-refused : goal.returns-then-self-clause-refused
@@ -41,4 +51,7 @@ returns-clause-refused g c = inr c.check.ensures.refused
 pub returns-clause-spelled : goal.returns-clause-spelled
 returns-clause-spelled g c = λ honest settled.
     let kept = keeps_asked c.args.self.now c.check.new.self c.check.ensures.keeps in
-    on_ok c.check.result (λ found. found.1.catalog (is_settled (record c.args.self.now { layers = c.check.new.self }) (kept.settled settled)).1) (c.check.ensures.sound honest)
+    on_ok c.check.result
+    (λ found. found.1.catalog
+    (is_settled (record c.args.self.now { layers = c.check.new.self }) (kept.settled settled)).1)
+    (c.check.ensures.sound honest)

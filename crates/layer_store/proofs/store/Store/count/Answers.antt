@@ -5,8 +5,12 @@ use Rattle.layer_store.proofs.QuestionLemmas.{failed_answers, reply_answers}
 use Rattle.layer_store.proofs.store.Store.count.Goals as goal
 
 pub returns-then-self-clause-answers : goal.returns-then-self-clause-answers
-returns-then-self-clause-answers g c = failed_answers c.if-self.true (λ honest b left. g.met.D.BlockDevice.only_now (device_in c.args.self.now) b honest left) refl
+returns-then-self-clause-answers g c =
+    failed_answers c.if-self.true
+    (λ honest b left. g.met.D.BlockDevice.only_now (device_in c.args.self.now) b honest left) refl
 
 pub returns-clause-answers : goal.returns-clause-answers
 returns-clause-answers g c =
-    reply_answers c.count.result c.if-self.false (λ honest b left. g.met.D.BlockDevice.only_now (device_in c.args.self.now) b honest left) (λ t. refl) (λ t stops. refl) c.count.ensures.answered c.count.ensures.cause
+    reply_answers c.count.result c.if-self.false
+    (λ honest b left. g.met.D.BlockDevice.only_now (device_in c.args.self.now) b honest left) (λ t. refl)
+    (λ t stops. refl) c.count.ensures.answered c.count.ensures.cause

@@ -5,13 +5,21 @@ use Rattle.layer_store.proofs.QuestionLemmas.{asked_answers, failed_answers}
 use Rattle.layer_store.proofs.store.Store.get.Goals as goal
 
 pub returns-then-self : goal.returns-then-self
-returns-then-self g c = record { answers = failed_answers c.if-self.true (λ honest b left. g.met.D.BlockDevice.only_now (device_in c.args.self.now) b honest left) refl }
+returns-then-self g c =
+    record {
+      answers =
+          failed_answers c.if-self.true
+          (λ honest b left. g.met.D.BlockDevice.only_now (device_in c.args.self.now) b honest left) refl;
+    }
 
 pub returns : goal.returns
 returns g c =
     let d = g.met.D.BlockDevice in
     let asked = c.get.ensures in
     record {
-      answers = asked_answers c.if-self.false (λ honest b left. d.only_now (device_in c.args.self.now) b honest left) (λ t. refl) (λ t stops. refl) tt (d.faults_fit (device_in c.args.self.now))
+      answers =
+          asked_answers c.if-self.false
+          (λ honest b left. d.only_now (device_in c.args.self.now) b honest left) (λ t. refl)
+          (λ t stops. refl) tt (d.faults_fit (device_in c.args.self.now))
           asked.answered asked.keeps;
     }

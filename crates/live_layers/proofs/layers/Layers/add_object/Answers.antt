@@ -1,4 +1,5 @@
--- The object is in the tree and in the table, and the record says so; or the change was refused, or broke off.
+-- The object is in the tree and in the table, and the record says so; or the change was refused, or broke
+-- off.
 use Rattle.std.proofs.Common.{refl, inl, arith}
 use Rattle.box_math.specs.Objects.{Object}
 use Rattle.plain_table.specs.Table.{layer_at}
@@ -13,22 +14,31 @@ use Rattle.live_layers.proofs.layers.Layers.add_object.Goals as goal
 
 pub returns-in_err-waiting-clause-begins : goal.returns-in_err-waiting-clause-begins
 returns-in_err-waiting-clause-begins g c =
-    no_memory c.args.self.now c.in_err-waiting.field-0.0 c.from_residual.result c.from_residual.ensures.1 c.in_err-waiting.ensures g.met.B.BlockDevice.only_now
+    no_memory c.args.self.now c.in_err-waiting.field-0.0 c.from_residual.result c.from_residual.ensures.1
+    c.in_err-waiting.ensures g.met.B.BlockDevice.only_now
 
 pub returns-in_err-begin-clause-begins : goal.returns-in_err-begin-clause-begins
 returns-in_err-begin-clause-begins g c =
-    not_opened c.args.self.now c.begin.new.self c.in_err-begin.field-0.0 c.from_residual-in_err-begin.result c.from_residual-in_err-begin.ensures.1 c.in_err-begin.ensures.begins c.begin.ensures.sound c.begin.ensures.keeps
+    not_opened c.args.self.now c.begin.new.self c.in_err-begin.field-0.0 c.from_residual-in_err-begin.result
+    c.from_residual-in_err-begin.ensures.1 c.in_err-begin.ensures.begins c.begin.ensures.sound
+    c.begin.ensures.keeps
 
 pub returns-in_err-root-clause-begins : goal.returns-in_err-root-clause-begins
 returns-in_err-root-clause-begins g c =
-    broke_behind c.args.self.now c.begin.new.self _ c.in_err-root.field-0.0 c.from_residual-in_err-root.result c.from_residual-in_err-root.ensures.1 (refl, refl, refl) c.in_ok-begin.ensures.begins c.begin.ensures.sound c.begin.ensures.keeps
+    broke_behind c.args.self.now c.begin.new.self _ c.in_err-root.field-0.0
+    c.from_residual-in_err-root.result c.from_residual-in_err-root.ensures.1 (refl, refl, refl)
+    c.in_ok-begin.ensures.begins c.begin.ensures.sound c.begin.ensures.keeps
     c.in_err-root.ensures.alters
 
 pub returns-in_err-waiting-clause-faults : goal.returns-in_err-waiting-clause-faults
-returns-in_err-waiting-clause-faults g c = λ t name sound finds dims. the_err c.from_residual.result _ _ c.from_residual.ensures.1 (inl c.in_err-waiting.ensures)
+returns-in_err-waiting-clause-faults g c =
+    λ t name sound finds dims. the_err c.from_residual.result _ _ c.from_residual.ensures.1
+    (inl c.in_err-waiting.ensures)
 
 pub returns-in_err-begin-clause-faults : goal.returns-in_err-begin-clause-faults
-returns-in_err-begin-clause-faults g c = λ t name sound finds dims. the_err c.from_residual-in_err-begin.result _ _ c.from_residual-in_err-begin.ensures.1 c.in_err-begin.ensures.faults
+returns-in_err-begin-clause-faults g c =
+    λ t name sound finds dims. the_err c.from_residual-in_err-begin.result _ _
+    c.from_residual-in_err-begin.ensures.1 c.in_err-begin.ensures.faults
 
 pub returns-in_err-root-clause-faults : goal.returns-in_err-root-clause-faults
 returns-in_err-root-clause-faults g c = λ t name sound finds dims.
@@ -39,8 +49,10 @@ returns-in_err-root-clause-faults g c = λ t name sound finds dims.
     let id = c.args.id in
     let at = stands_at kept t name c.args.place before finds located by g.row.D dims in
     the_err c.from_residual-in_err-root.result c.in_err-root.field-0.0 _ c.from_residual-in_err-root.ensures.1
-    (no_page_wanted kept t before c.locate-located.ensures.few most_inserted_pages c.insert.new.cache _ (omega (arith)) c.insert.ensures.grows
-    (c.in_err-root.ensures.faults before.map (reading kept t name c.args.place before finds).pages (layer_at t name).objects at))
+    (no_page_wanted kept t before c.locate-located.ensures.few most_inserted_pages c.insert.new.cache _
+    (omega (arith)) c.insert.ensures.grows
+    (c.in_err-root.ensures.faults before.map (reading kept t name c.args.place before finds).pages
+    (layer_at t name).objects at))
 
 pub returns-clause-added : goal.returns-clause-added
 returns-clause-added g c = λ t name sound finds dims absent.
@@ -54,9 +66,13 @@ returns-clause-added g c = λ t name sound finds dims absent.
     let l = (reading kept t name c.args.place before finds).pages in
     let objects = (layer_at t name).objects in
     let became = c.in_ok-root.ensures.inserted before.map l objects at absent in
-    sound_added kept t name c.args.place before finds located by g.row.D dims id object absent c.insert.new.cache c.in_ok-root.root became _ c.note.ensures.cache c.count_at.result c.saturating_add-count.result c.count_at.ensures
-    c.saturating_add-count.ensures c.in_ok-root.ensures.root c.in_ok-root.ensures.alters.changes.next (omega (arith, c.requires.room, c.begin.ensures.count)) c.note.ensures.records
-    (c.in_ok-root.ensures.sound before.map l objects at) (omega (arith, c.note.ensures.count)) c.note.ensures.written
+    sound_added kept t name c.args.place before finds located by g.row.D dims id object absent
+    c.insert.new.cache c.in_ok-root.root became _ c.note.ensures.cache c.count_at.result
+    c.saturating_add-count.result c.count_at.ensures
+    c.saturating_add-count.ensures c.in_ok-root.ensures.root c.in_ok-root.ensures.alters.changes.next
+    (omega (arith, c.requires.room, c.begin.ensures.count)) c.note.ensures.records
+    (c.in_ok-root.ensures.sound before.map l objects at) (omega (arith, c.note.ensures.count))
+    c.note.ensures.written
 
 pub returns-clause-tree : goal.returns-clause-tree
 returns-clause-tree g c = λ t name sound finds dims absent.
@@ -70,10 +86,15 @@ returns-clause-tree g c = λ t name sound finds dims absent.
     let l = (reading kept t name c.args.place before finds).pages in
     let objects = (layer_at t name).objects in
     let became = c.in_ok-root.ensures.inserted before.map l objects at absent in
-    changes_before c.args.self.now kept _ name (HasGained (layer_at t name) id object) (c.begin.ensures.keeps.map.pages_stay sound.map.honest) c.begin.ensures.keeps.records
-    (tree_added kept t name c.args.place before finds located by g.row.D dims id object absent c.insert.new.cache c.in_ok-root.root became _ c.note.ensures.cache c.count_at.result c.saturating_add-count.result c.count_at.ensures
-    c.saturating_add-count.ensures c.in_ok-root.ensures.root c.in_ok-root.ensures.alters.changes.next (omega (arith, c.requires.room, c.begin.ensures.count)) c.note.ensures.records)
+    changes_before c.args.self.now kept _ name (HasGained (layer_at t name) id object)
+    (c.begin.ensures.keeps.map.pages_stay sound.map.honest) c.begin.ensures.keeps.records
+    (tree_added kept t name c.args.place before finds located by g.row.D dims id object absent
+    c.insert.new.cache c.in_ok-root.root became _ c.note.ensures.cache c.count_at.result
+    c.saturating_add-count.result c.count_at.ensures
+    c.saturating_add-count.ensures c.in_ok-root.ensures.root c.in_ok-root.ensures.alters.changes.next
+    (omega (arith, c.requires.room, c.begin.ensures.count)) c.note.ensures.records)
 
 pub returns-clause-begins : goal.returns-clause-begins
 returns-clause-begins g c =
-    made_behind c.args.self.now c.begin.new.self _ c.insert.new.cache c.note.ensures.cache c.in_ok-begin.ensures.begins c.in_ok-root.ensures.alters.changes
+    made_behind c.args.self.now c.begin.new.self _ c.insert.new.cache c.note.ensures.cache
+    c.in_ok-begin.ensures.begins c.in_ok-root.ensures.alters.changes

@@ -18,16 +18,21 @@ use Rattle.live_layers.proofs.layers.Layers.check_all.Goals as goal
 
 pub returns-then-not-are_good-clause-stands : goal.returns-then-not-are_good-clause-stands
 returns-then-not-are_good-clause-stands g c = λ t sound.
-    let pass = records_pass c.args.self.now t c.next_number.result c.deref.result.now sound c.next_number.ensures c.deref.ensures.0 in
+    let pass =
+    records_pass c.args.self.now t c.next_number.result c.deref.result.now sound c.next_number.ensures
+    c.deref.ensures.0 in
     let yes = c.are_good.ensures.found pass.0 pass.1 in
     let no = c.if-not-are_good.true in
     absurd (cc)
 
 pub returns-in_err-check_catalog-clause-sound : goal.returns-in_err-check_catalog-clause-sound
-returns-in_err-check_catalog-clause-sound g c = λ t sound. sound_kept c.args.self.now _ t c.check_catalog.ensures.asks.map refl refl (λ w. w) sound
+returns-in_err-check_catalog-clause-sound g c =
+    λ t sound. sound_kept c.args.self.now _ t c.check_catalog.ensures.asks.map refl refl (λ w. w) sound
 
 pub returns-clause-asks : goal.returns-clause-asks
-returns-clause-asks g c = asks_in_turn c.args.self.now.cache c.check_catalog.new.cache c.check_pages.new.cache (fault_in c.check_pages.result) c.in_ok-check_catalog.ensures.asks c.check_pages.ensures.asks
+returns-clause-asks g c =
+    asks_in_turn c.args.self.now.cache c.check_catalog.new.cache c.check_pages.new.cache
+    (fault_in c.check_pages.result) c.in_ok-check_catalog.ensures.asks c.check_pages.ensures.asks
 
 pub returns-clause-found : goal.returns-clause-found
 returns-clause-found g c = λ honest.
@@ -37,14 +42,24 @@ returns-clause-found g c = λ honest.
     let asked = c.in_ok-check_catalog.ensures.asks in
     let records = records_of kept.records in
     let yes = c.if-not-are_good.false in
-    let good : is_good_catalog (next_of old) records ≡ true = sym (λ i. is_good_catalog (c.next_number.ensures i) (map record_of (c.deref.ensures.0 i))) ∙ c.are_good.ensures.good yes in
-    let count : kept.object_count ≡ objects_named records = c.are_good.ensures.counted yes ∙ (λ i. objects_named (map record_of (c.deref.ensures.0 i))) in
-    let spelled = λ (w : kept.written ≡ true). c.in_ok-check_catalog.ensures.spelled honest w ∙ (λ i. Some (map record_of (c.deref-2.ensures.0 i))) in
-    let keeps = the_map_is_kept_in_turn old mid c.check_pages.new.cache asked.gate.honest.0 asked.map c.check_pages.ensures.asks.map in
+    let good : is_good_catalog (next_of old) records ≡ true =
+    sym (λ i. is_good_catalog (c.next_number.ensures i) (map record_of (c.deref.ensures.0 i)))
+    ∙ c.are_good.ensures.good yes in
+    let count : kept.object_count ≡ objects_named records = c.are_good.ensures.counted yes
+    ∙ (λ i. objects_named (map record_of (c.deref.ensures.0 i))) in
+    let spelled = λ (w : kept.written ≡ true). c.in_ok-check_catalog.ensures.spelled honest w
+    ∙ (λ i. Some (map record_of (c.deref-2.ensures.0 i))) in
+    let keeps =
+    the_map_is_kept_in_turn old mid c.check_pages.new.cache asked.gate.honest.0 asked.map
+    c.check_pages.ensures.asks.map in
     on_ok c.check_pages.result
     (λ found.
-    let there = subst (λ (xs : List LayerRecord). FindsLayers (pages mid) (map record_of xs)) c.deref-3.ensures.0 found.1 in
-    let sound = sound_found kept (asked.map.sound.1 found.0) good count spelled (found_in old mid records honest asked.map there) in
+    let there =
+    subst (λ (xs : List LayerRecord). FindsLayers (pages mid) (map record_of xs)) c.deref-3.ensures.0
+    found.1 in
+    let sound =
+    sound_found kept (asked.map.sound.1 found.0) good count spelled
+    (found_in old mid records honest asked.map there) in
     (sound.0, sound_kept kept _ sound.0 keeps refl refl (λ w. w) sound.1))
     (c.check_pages.ensures.found (asked.gate.honest.0 honest))
 
@@ -54,13 +69,17 @@ returns-clause-stands g c = λ t sound.
     let mid = c.check_catalog.new.cache in
     let asked = c.in_ok-check_catalog.ensures.asks in
     let hs = sound.holds.layers in
-    c.check_pages.ensures.stands (asked.map.sound.0 sound.map) hs (sound.holds.rows ∙ sym (λ i. map record_of (c.deref-3.ensures.0 i)))
+    c.check_pages.ensures.stands (asked.map.sound.0 sound.map) hs
+    (sound.holds.rows ∙ sym (λ i. map record_of (c.deref-3.ensures.0 i)))
     (stand_in (pages old) (pages mid) hs (asked.map.pages_stay sound.map.honest) sound.holds.stand)
-    (subst (λ (p : PageMap). IsAllOf p (in_use hs)) (λ i n. sym (asked.map.pages_stay sound.map.honest n) i) sound.holds.used)
+    (subst (λ (p : PageMap). IsAllOf p (in_use hs)) (λ i n. sym (asked.map.pages_stay sound.map.honest n) i)
+    sound.holds.used)
 
 pub returns-clause-sound : goal.returns-clause-sound
 returns-clause-sound g c = λ t sound.
     let old = c.args.self.now.cache in
     let asked = c.in_ok-check_catalog.ensures.asks in
-    let keeps = the_map_is_kept_in_turn old c.check_catalog.new.cache c.check_pages.new.cache asked.gate.honest.0 asked.map c.check_pages.ensures.asks.map in
+    let keeps =
+    the_map_is_kept_in_turn old c.check_catalog.new.cache c.check_pages.new.cache asked.gate.honest.0
+    asked.map c.check_pages.ensures.asks.map in
     sound_kept c.args.self.now _ t keeps refl refl (λ w. w) sound

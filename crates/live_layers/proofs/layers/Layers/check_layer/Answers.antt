@@ -9,19 +9,27 @@ use Rattle.live_layers.proofs.FindLemmas.{as_many}
 use Rattle.live_layers.proofs.layers.Layers.check_layer.Goals as goal
 
 pub returns-then-not-is_layer_name-clause-allowed : goal.returns-then-not-is_layer_name-clause-allowed
-returns-then-not-is_layer_name-clause-allowed g c = λ t sound. bad_name t c.args.name.now c.args.dims c.args.fanout (sym c.is_layer_name.ensures ∙ c.if-not-is_layer_name.true)
+returns-then-not-is_layer_name-clause-allowed g c =
+    λ t sound. bad_name t c.args.name.now c.args.dims c.args.fanout
+    (sym c.is_layer_name.ensures ∙ c.if-not-is_layer_name.true)
 
 pub returns-then-not-is_dims-clause-allowed : goal.returns-then-not-is_dims-clause-allowed
 returns-then-not-is_dims-clause-allowed g c = λ t sound.
-    bad_dims t c.args.name.now c.args.dims c.args.fanout (sym c.is_layer_name.ensures ∙ c.if-not-is_layer_name.false) (sym c.is_dims.ensures ∙ c.if-not-is_dims.true)
+    bad_dims t c.args.name.now c.args.dims c.args.fanout
+    (sym c.is_layer_name.ensures ∙ c.if-not-is_layer_name.false)
+    (sym c.is_dims.ensures ∙ c.if-not-is_dims.true)
 
 pub returns-then-not-is_fanout-clause-allowed : goal.returns-then-not-is_fanout-clause-allowed
 returns-then-not-is_fanout-clause-allowed g c = λ t sound.
-    bad_fanout t c.args.name.now c.args.dims c.args.fanout (sym c.is_layer_name.ensures ∙ c.if-not-is_layer_name.false) (sym c.is_dims.ensures ∙ c.if-not-is_dims.false) (sym c.is_fanout.ensures ∙ c.if-not-is_fanout.true)
+    bad_fanout t c.args.name.now c.args.dims c.args.fanout
+    (sym c.is_layer_name.ensures ∙ c.if-not-is_layer_name.false)
+    (sym c.is_dims.ensures ∙ c.if-not-is_dims.false) (sym c.is_fanout.ensures ∙ c.if-not-is_fanout.true)
 
 pub returns-in_default-clause-allowed : goal.returns-in_default-clause-allowed
 returns-in_default-clause-allowed g c = λ t sound.
-    create_exists t c.args.name.now (sym c.is_layer_name.ensures ∙ c.if-not-is_layer_name.false) c.args.dims c.args.fanout (sym c.is_dims.ensures ∙ c.if-not-is_dims.false) (sym c.is_fanout.ensures ∙ c.if-not-is_fanout.false)
+    create_exists t c.args.name.now (sym c.is_layer_name.ensures ∙ c.if-not-is_layer_name.false) c.args.dims
+    c.args.fanout (sym c.is_dims.ensures ∙ c.if-not-is_dims.false)
+    (sym c.is_fanout.ensures ∙ c.if-not-is_fanout.false)
     (named_there t c.args.name.now c.in_default.field-0 (c.in_default.ensures.found t sound))
 
 pub returns-then-len-ge-MOST_LAYERS-clause-allowed : goal.returns-then-len-ge-MOST_LAYERS-clause-allowed
@@ -33,8 +41,10 @@ returns-then-len-ge-MOST_LAYERS-clause-allowed g c = λ t sound.
     let axes = sym c.is_dims.ensures ∙ c.if-not-is_dims.false in
     let sized = sym c.is_fanout.ensures ∙ c.if-not-is_fanout.false in
     let absent = not_there t name c.in-Err.place belongs in
-    let count : len t ≡ length old.records.items = len-entries t ∙ as_many (pages old.cache) (next_of old.cache) old.records.items t sound.holds in
-    create_full t name good c.args.dims c.args.fanout axes sized absent (omega (arith, c.if-len-ge-MOST_LAYERS.true, c.len.ensures.value, count))
+    let count : len t ≡ length old.records.items = len-entries t
+    ∙ as_many (pages old.cache) (next_of old.cache) old.records.items t sound.holds in
+    create_full t name good c.args.dims c.args.fanout axes sized absent
+    (omega (arith, c.if-len-ge-MOST_LAYERS.true, c.len.ensures.value, count))
 
 pub returns-clause-allowed : goal.returns-clause-allowed
 returns-clause-allowed g c = λ t sound.
@@ -45,5 +55,7 @@ returns-clause-allowed g c = λ t sound.
     let axes = sym c.is_dims.ensures ∙ c.if-not-is_dims.false in
     let sized = sym c.is_fanout.ensures ∙ c.if-not-is_fanout.false in
     let absent = not_there t name c.in-Err.place belongs in
-    let count : len t ≡ length old.records.items = len-entries t ∙ as_many (pages old.cache) (next_of old.cache) old.records.items t sound.holds in
-    create_passes t name good c.args.dims c.args.fanout axes sized absent (omega (arith, c.if-len-ge-MOST_LAYERS.false, c.len.ensures.value, count))
+    let count : len t ≡ length old.records.items = len-entries t
+    ∙ as_many (pages old.cache) (next_of old.cache) old.records.items t sound.holds in
+    create_passes t name good c.args.dims c.args.fanout axes sized absent
+    (omega (arith, c.if-len-ge-MOST_LAYERS.false, c.len.ensures.value, count))

@@ -5,24 +5,36 @@ use Rattle.live_layers.proofs.layers.Layers.check_load.Goals as goal
 
 pub returns-then-count_at-gt0-clause-allowed : goal.returns-then-count_at-gt0-clause-allowed
 returns-then-count_at-gt0-clause-allowed g c = λ t name given sound reaches.
-    let many = counted_there c.args.self.now t name c.args.place sound reaches.finds c.count_at.result c.count_at.ensures in
-    inl (not_empty t name c.args.place given g.row.D c.args.objects.now reaches (omega (arith, many, c.if-count_at-gt0.true)))
+    let many =
+    counted_there c.args.self.now t name c.args.place sound reaches.finds c.count_at.result
+    c.count_at.ensures in
+    inl (not_empty t name c.args.place given g.row.D c.args.objects.now reaches
+    (omega (arith, many, c.if-count_at-gt0.true)))
 
 pub returns-in-Some-clause-allowed : goal.returns-in-Some-clause-allowed
 returns-in-Some-clause-allowed g c = λ t name given sound reaches.
-    let many = counted_there c.args.self.now t name c.args.place sound reaches.finds c.count_at.result c.count_at.ensures in
-    inl (twice_given t name c.args.place given g.row.D c.args.objects.now reaches c.in-Some.id (omega (arith, many, c.if-count_at-gt0.false)) (sym c.in-Some.is ∙ c.in_ok-id.ensures))
+    let many =
+    counted_there c.args.self.now t name c.args.place sound reaches.finds c.count_at.result
+    c.count_at.ensures in
+    inl (twice_given t name c.args.place given g.row.D c.args.objects.now reaches c.in-Some.id
+    (omega (arith, many, c.if-count_at-gt0.false)) (sym c.in-Some.is ∙ c.in_ok-id.ensures))
 
 pub returns-then-objects-saturating_sub-clause-allowed : goal.returns-then-objects-saturating_sub-clause-allowed
 returns-then-objects-saturating_sub-clause-allowed g c = λ t name given sound reaches.
-    let many = counted_there c.args.self.now t name c.args.place sound reaches.finds c.count_at.result c.count_at.ensures in
+    let many =
+    counted_there c.args.self.now t name c.args.place sound reaches.finds c.count_at.result
+    c.count_at.ensures in
     let once : None ≡ c.in_ok-id.field-0 = sym c.in_default.is in
-    inl (too_many_given t name c.args.place given g.row.D c.args.objects.now reaches (omega (arith, many, c.if-count_at-gt0.false)) (once ∙ c.in_ok-id.ensures)
+    inl (too_many_given t name c.args.place given g.row.D c.args.objects.now reaches
+    (omega (arith, many, c.if-count_at-gt0.false)) (once ∙ c.in_ok-id.ensures)
     (omega (arith, c.saturating_sub.ensures, c.if-objects-saturating_sub.true, sound.counted, sound.within)))
 
 pub returns-clause-allowed : goal.returns-clause-allowed
 returns-clause-allowed g c = λ t name given sound reaches.
-    let many = counted_there c.args.self.now t name c.args.place sound reaches.finds c.count_at.result c.count_at.ensures in
+    let many =
+    counted_there c.args.self.now t name c.args.place sound reaches.finds c.count_at.result
+    c.count_at.ensures in
     let once : None ≡ c.in_ok-id.field-0 = sym c.in_default.is in
-    may_be_given t name c.args.place given g.row.D c.args.objects.now reaches (omega (arith, many, c.if-count_at-gt0.false)) (once ∙ c.in_ok-id.ensures)
+    may_be_given t name c.args.place given g.row.D c.args.objects.now reaches
+    (omega (arith, many, c.if-count_at-gt0.false)) (once ∙ c.in_ok-id.ensures)
     (omega (arith, c.saturating_sub.ensures, c.if-objects-saturating_sub.false, sound.counted, sound.within))

@@ -17,13 +17,20 @@ returns-in-Ok-clause-allowed g c = λ t name box sound located axes given.
     let there = c.args.located.now in
     let layer = layer_at t name in
     let id = c.args.id in
-    let right : (dims_of box == layer.dims) ≡ true = tested_same (dims_of box) layer.dims there.dims located.dims ((sym c.from.ensures ∙ c.if-from.false) ∙ sym axes) in
-    let test : is_ordered (dims_of box) (given_bounds box) ≡ is_some c.try_new.result = (λ i. is_ordered (axes i) (given i)) ∙ sym c.try_new.ensures.test in
+    let right : (dims_of box == layer.dims) ≡ true =
+    tested_same (dims_of box) layer.dims there.dims located.dims
+    ((sym c.from.ensures ∙ c.if-from.false) ∙ sym axes) in
+    let test : is_ordered (dims_of box) (given_bounds box) ≡ is_some c.try_new.result =
+    (λ i. is_ordered (axes i) (given i)) ∙ sym c.try_new.ensures.test in
     good_box layer id box right (test ∙ ap is_some c.in-Some.is)
-    ∙ (object_answered (Rose c.args.self.now c.object_of.new.self) (first_refusal (missing_refusals layer id)) id (object_at layer id) c.in-Ok.known (c.in-Ok.ensures.replied t name sound located)).0
+    ∙ (object_answered (Rose c.args.self.now c.object_of.new.self)
+    (first_refusal (missing_refusals layer id)) id (object_at layer id) c.in-Ok.known
+    (c.in-Ok.ensures.replied t name sound located)).0
 
 pub returns-in-Ok-clause-has : goal.returns-in-Ok-clause-has
-returns-in-Ok-clause-has g c = λ t name sound located. has_object (layer_at t name) c.args.id (Rose c.args.self.now c.object_of.new.self) c.in-Ok.known (c.in-Ok.ensures.replied t name sound located)
+returns-in-Ok-clause-has g c =
+    λ t name sound located. has_object (layer_at t name) c.args.id
+    (Rose c.args.self.now c.object_of.new.self) c.in-Ok.known (c.in-Ok.ensures.replied t name sound located)
 
 pub returns-in-Err-clause-allowed : goal.returns-in-Err-clause-allowed
 returns-in-Err-clause-allowed g c = λ t name box sound located axes given.
@@ -31,7 +38,12 @@ returns-in-Err-clause-allowed g c = λ t name box sound located axes given.
     let layer = layer_at t name in
     let id = c.args.id in
     let rose = Rose c.args.self.now c.object_of.new.self in
-    let right : (dims_of box == layer.dims) ≡ true = tested_same (dims_of box) layer.dims there.dims located.dims ((sym c.from.ensures ∙ c.if-from.false) ∙ sym axes) in
-    let test : is_ordered (dims_of box) (given_bounds box) ≡ is_some c.try_new.result = (λ i. is_ordered (axes i) (given i)) ∙ sym c.try_new.ensures.test in
-    subst (λ (o : Option Refusal). (o ≡ Some c.in-Err.refusal) ⊎ IsFault rose c.in-Err.refusal) (sym (good_box layer id box right (test ∙ ap is_some c.in-Some.is)))
-    (none_answered rose (first_refusal (missing_refusals layer id)) (object_row layer id ∷ []) c.in-Err.refusal (c.in-Err.ensures.replied t name sound located))
+    let right : (dims_of box == layer.dims) ≡ true =
+    tested_same (dims_of box) layer.dims there.dims located.dims
+    ((sym c.from.ensures ∙ c.if-from.false) ∙ sym axes) in
+    let test : is_ordered (dims_of box) (given_bounds box) ≡ is_some c.try_new.result =
+    (λ i. is_ordered (axes i) (given i)) ∙ sym c.try_new.ensures.test in
+    subst (λ (o : Option Refusal). (o ≡ Some c.in-Err.refusal) ⊎ IsFault rose c.in-Err.refusal)
+    (sym (good_box layer id box right (test ∙ ap is_some c.in-Some.is)))
+    (none_answered rose (first_refusal (missing_refusals layer id)) (object_row layer id ∷ [])
+    c.in-Err.refusal (c.in-Err.ensures.replied t name sound located))

@@ -10,7 +10,8 @@ use Rattle.plain_table.specs.declared.refusal.Refusal.{Refusal}
 use Rattle.store_law.specs.Lawful.{IsFault}
 use Rattle.live_layers.specs.Changes.{Rose}
 use Rattle.live_layers.proofs.AskLemmas.{device_refuses, risen_of, tested_other, tested_same}
-use Rattle.live_layers.proofs.InsertLemmas.{bad_box, duplicate, full_so, none_refuses, room_so, too_many, wrong_dims}
+use Rattle.live_layers.proofs.InsertLemmas.{bad_box, duplicate, full_so, none_refuses, room_so, too_many}
+use Rattle.live_layers.proofs.InsertLemmas.{wrong_dims}
 use Rattle.live_layers.proofs.QuestionLemmas.{asks_and_answers, asks_and_fails, asks_and_refuses}
 use Rattle.live_layers.proofs.layers.Layers.check_object.Goals as goal
 
@@ -19,7 +20,8 @@ returns-then-from-clause-allowed g c = λ t name box sound located axes given.
     let there = c.args.located.now in
     let layer = layer_at t name in
     inl (wrong_dims layer c.args.id box (nat_le most_objects (object_count t))
-    (tested_other (dims_of box) layer.dims there.dims located.dims (λ e. c.if-from.true (c.from.ensures ∙ e ∙ axes))))
+    (tested_other (dims_of box) layer.dims there.dims located.dims
+    (λ e. c.if-from.true (c.from.ensures ∙ e ∙ axes))))
 
 pub returns-in_default-clause-allowed : goal.returns-in_default-clause-allowed
 returns-in_default-clause-allowed g c = λ t name box sound located axes given.
@@ -29,8 +31,10 @@ returns-in_default-clause-allowed g c = λ t name box sound located axes given.
     let full = nat_le most_objects (object_count t) in
     let id = c.args.id in
     let its : there.dims ≡ g.row.D = sym c.from.ensures ∙ c.if-from.false in
-    let right : (dims_of box == layer.dims) ≡ true = tested_same (dims_of box) layer.dims there.dims located.dims (its ∙ sym axes) in
-    let test : is_ordered (dims_of box) (given_bounds box) ≡ is_some c.try_new.result = (λ i. is_ordered (axes i) (given i)) ∙ sym c.try_new.ensures.test in
+    let right : (dims_of box == layer.dims) ≡ true =
+    tested_same (dims_of box) layer.dims there.dims located.dims (its ∙ sym axes) in
+    let test : is_ordered (dims_of box) (given_bounds box) ≡ is_some c.try_new.result =
+    (λ i. is_ordered (axes i) (given i)) ∙ sym c.try_new.ensures.test in
     inl (bad_box layer id box full right (test ∙ ap is_some c.in_default.is))
 
 pub returns-in-Err-clause-allowed : goal.returns-in-Err-clause-allowed
@@ -38,10 +42,13 @@ returns-in-Err-clause-allowed g c = λ t name box sound located axes given.
     let old = c.args.self.now in
     let there = c.args.located.now in
     let its : there.dims ≡ g.row.D = sym c.from.ensures ∙ c.if-from.false in
-    let stand : IdsStand g.row.D (pages old.cache) located.layer.ids = subst (λ (k : ℕ). IdsStand k (pages old.cache) located.layer.ids) its located.stands.ids in
+    let stand : IdsStand g.row.D (pages old.cache) located.layer.ids =
+    subst (λ (k : ℕ). IdsStand k (pages old.cache) located.layer.ids) its located.stands.ids in
     let new = record old { cache = c.get.new.cache } in
     inr (subst (λ (x : Refusal). IsFault (Rose old new) x) (sym c.as_refusal.ensures)
-    (device_refuses (Rose old new) c.in-Err.fault (c.in-Err.ensures.stands sound.map.honest located.layer.ids located.stands.directory_is stand) (risen_of _ _ c.in-Err.fault c.in-Err.ensures.asks.faults)))
+    (device_refuses (Rose old new) c.in-Err.fault
+    (c.in-Err.ensures.stands sound.map.honest located.layer.ids located.stands.directory_is stand)
+    (risen_of _ _ c.in-Err.fault c.in-Err.ensures.asks.faults)))
 
 pub returns-then-is_some-clause-allowed : goal.returns-then-is_some-clause-allowed
 returns-then-is_some-clause-allowed g c = λ t name box sound located axes given.
@@ -51,11 +58,16 @@ returns-then-is_some-clause-allowed g c = λ t name box sound located axes given
     let full = nat_le most_objects (object_count t) in
     let id = c.args.id in
     let its : there.dims ≡ g.row.D = sym c.from.ensures ∙ c.if-from.false in
-    let right : (dims_of box == layer.dims) ≡ true = tested_same (dims_of box) layer.dims there.dims located.dims (its ∙ sym axes) in
-    let test : is_ordered (dims_of box) (given_bounds box) ≡ is_some c.try_new.result = (λ i. is_ordered (axes i) (given i)) ∙ sym c.try_new.ensures.test in
-    let stand : IdsStand g.row.D (pages old.cache) located.layer.ids = subst (λ (k : ℕ). IdsStand k (pages old.cache) located.layer.ids) its located.stands.ids in
+    let right : (dims_of box == layer.dims) ≡ true =
+    tested_same (dims_of box) layer.dims there.dims located.dims (its ∙ sym axes) in
+    let test : is_ordered (dims_of box) (given_bounds box) ≡ is_some c.try_new.result =
+    (λ i. is_ordered (axes i) (given i)) ∙ sym c.try_new.ensures.test in
+    let stand : IdsStand g.row.D (pages old.cache) located.layer.ids =
+    subst (λ (k : ℕ). IdsStand k (pages old.cache) located.layer.ids) its located.stands.ids in
     let found = c.in-Ok.ensures.found sound.map.honest located.layer.ids located.stands.directory_is stand in
-    let has : contains_key layer.objects id ≡ c.is_some.result = ap (λ (o : Objects). is_some (find_in o id)) (sym located.stands.table) ∙ ap is_some (sym found) ∙ sym c.is_some.ensures in
+    let has : contains_key layer.objects id ≡ c.is_some.result =
+    ap (λ (o : Objects). is_some (find_in o id)) (sym located.stands.table) ∙ ap is_some (sym found)
+    ∙ sym c.is_some.ensures in
     inl (duplicate layer id box full right (test ∙ ap is_some c.in-Some.is) (has ∙ c.if-is_some.true))
 
 pub returns-then-self-ge-MOST_OBJECTS-clause-allowed : goal.returns-then-self-ge-MOST_OBJECTS-clause-allowed
@@ -66,11 +78,16 @@ returns-then-self-ge-MOST_OBJECTS-clause-allowed g c = λ t name box sound locat
     let full = nat_le most_objects (object_count t) in
     let id = c.args.id in
     let its : there.dims ≡ g.row.D = sym c.from.ensures ∙ c.if-from.false in
-    let right : (dims_of box == layer.dims) ≡ true = tested_same (dims_of box) layer.dims there.dims located.dims (its ∙ sym axes) in
-    let test : is_ordered (dims_of box) (given_bounds box) ≡ is_some c.try_new.result = (λ i. is_ordered (axes i) (given i)) ∙ sym c.try_new.ensures.test in
-    let stand : IdsStand g.row.D (pages old.cache) located.layer.ids = subst (λ (k : ℕ). IdsStand k (pages old.cache) located.layer.ids) its located.stands.ids in
+    let right : (dims_of box == layer.dims) ≡ true =
+    tested_same (dims_of box) layer.dims there.dims located.dims (its ∙ sym axes) in
+    let test : is_ordered (dims_of box) (given_bounds box) ≡ is_some c.try_new.result =
+    (λ i. is_ordered (axes i) (given i)) ∙ sym c.try_new.ensures.test in
+    let stand : IdsStand g.row.D (pages old.cache) located.layer.ids =
+    subst (λ (k : ℕ). IdsStand k (pages old.cache) located.layer.ids) its located.stands.ids in
     let found = c.in-Ok.ensures.found sound.map.honest located.layer.ids located.stands.directory_is stand in
-    let has : contains_key layer.objects id ≡ c.is_some.result = ap (λ (o : Objects). is_some (find_in o id)) (sym located.stands.table) ∙ ap is_some (sym found) ∙ sym c.is_some.ensures in
+    let has : contains_key layer.objects id ≡ c.is_some.result =
+    ap (λ (o : Objects). is_some (find_in o id)) (sym located.stands.table) ∙ ap is_some (sym found)
+    ∙ sym c.is_some.ensures in
     inl (too_many layer id box full right (test ∙ ap is_some c.in-Some.is) (has ∙ c.if-is_some.false)
     (full_so old.object_count most_objects (object_count t) c.if-self-ge-MOST_OBJECTS.true sound.counted))
 
@@ -82,22 +99,31 @@ returns-clause-allowed g c = λ t name box sound located axes given.
     let full = nat_le most_objects (object_count t) in
     let id = c.args.id in
     let its : there.dims ≡ g.row.D = sym c.from.ensures ∙ c.if-from.false in
-    let right : (dims_of box == layer.dims) ≡ true = tested_same (dims_of box) layer.dims there.dims located.dims (its ∙ sym axes) in
-    let test : is_ordered (dims_of box) (given_bounds box) ≡ is_some c.try_new.result = (λ i. is_ordered (axes i) (given i)) ∙ sym c.try_new.ensures.test in
-    let stand : IdsStand g.row.D (pages old.cache) located.layer.ids = subst (λ (k : ℕ). IdsStand k (pages old.cache) located.layer.ids) its located.stands.ids in
+    let right : (dims_of box == layer.dims) ≡ true =
+    tested_same (dims_of box) layer.dims there.dims located.dims (its ∙ sym axes) in
+    let test : is_ordered (dims_of box) (given_bounds box) ≡ is_some c.try_new.result =
+    (λ i. is_ordered (axes i) (given i)) ∙ sym c.try_new.ensures.test in
+    let stand : IdsStand g.row.D (pages old.cache) located.layer.ids =
+    subst (λ (k : ℕ). IdsStand k (pages old.cache) located.layer.ids) its located.stands.ids in
     let found = c.in-Ok.ensures.found sound.map.honest located.layer.ids located.stands.directory_is stand in
-    let has : contains_key layer.objects id ≡ c.is_some.result = ap (λ (o : Objects). is_some (find_in o id)) (sym located.stands.table) ∙ ap is_some (sym found) ∙ sym c.is_some.ensures in
+    let has : contains_key layer.objects id ≡ c.is_some.result =
+    ap (λ (o : Objects). is_some (find_in o id)) (sym located.stands.table) ∙ ap is_some (sym found)
+    ∙ sym c.is_some.ensures in
     none_refuses layer id box full right (test ∙ ap is_some c.in-Some.is) (has ∙ c.if-is_some.false)
     (room_so old.object_count most_objects (object_count t) c.if-self-ge-MOST_OBJECTS.false sound.counted)
 
 pub returns-in-Err-clause-keeps : goal.returns-in-Err-clause-keeps
-returns-in-Err-clause-keeps g c = asks_and_fails c.args.self.now _ c.in-Err.fault c.as_refusal.ensures (refl, refl, refl) c.in-Err.ensures.asks
+returns-in-Err-clause-keeps g c =
+    asks_and_fails c.args.self.now _ c.in-Err.fault c.as_refusal.ensures (refl, refl, refl)
+    c.in-Err.ensures.asks
 
 pub returns-then-is_some-clause-keeps : goal.returns-then-is_some-clause-keeps
-returns-then-is_some-clause-keeps g c = asks_and_refuses c.args.self.now _ refl (refl, refl, refl) c.in-Ok.ensures.asks
+returns-then-is_some-clause-keeps g c =
+    asks_and_refuses c.args.self.now _ refl (refl, refl, refl) c.in-Ok.ensures.asks
 
 pub returns-then-self-ge-MOST_OBJECTS-clause-keeps : goal.returns-then-self-ge-MOST_OBJECTS-clause-keeps
-returns-then-self-ge-MOST_OBJECTS-clause-keeps g c = asks_and_refuses c.args.self.now _ refl (refl, refl, refl) c.in-Ok.ensures.asks
+returns-then-self-ge-MOST_OBJECTS-clause-keeps g c =
+    asks_and_refuses c.args.self.now _ refl (refl, refl, refl) c.in-Ok.ensures.asks
 
 pub returns-clause-keeps : goal.returns-clause-keeps
 returns-clause-keeps g c = asks_and_answers c.args.self.now _ (refl, refl, refl) c.in-Ok.ensures.asks

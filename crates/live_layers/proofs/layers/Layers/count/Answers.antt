@@ -15,7 +15,8 @@ use Rattle.live_layers.proofs.layers.Layers.count.Goals as goal
 pub returns-in_err-place-clause-answered : goal.returns-in_err-place-clause-answered
 returns-in_err-place-clause-answered g c = λ t sound.
     let r = c.in_err-place.field-0.0 in
-    err_count c.from_residual.result r c.from_residual.ensures.1 ∙ refused t (Count c.args.name.now) r (c.in_err-place.ensures.unnamed t sound [])
+    err_count c.from_residual.result r c.from_residual.ensures.1
+    ∙ refused t (Count c.args.name.now) r (c.in_err-place.ensures.unnamed t sound [])
 
 pub returns-clause-answered : goal.returns-clause-answered
 returns-clause-answered g c = λ t sound.
@@ -24,7 +25,10 @@ returns-clause-answered g c = λ t sound.
     let place = c.in_ok-place.place in
     let r = c.index-deref-place.result in
     let items : c.deref.result.now ≡ kept.records.items = c.deref.ensures.0 in
-    let is : r ≡ get_or kept.records.items place r = c.index-deref-place.is ∙ ap (λ (xs : List LayerRecord). get_or xs place r) items in
+    let is : r ≡ get_or kept.records.items place r = c.index-deref-place.is
+    ∙ ap (λ (xs : List LayerRecord). get_or xs place r) items in
     let finds = c.in_ok-place.ensures.found t sound in
-    ap (λ (x : LayerRecord). Counted x.count) (sym c.index-deref-place.is) ∙ ap Counted (sym (count_here kept t name place sound finds r is))
-    ∙ ap (λ (o : Option Refusal). refused_or o (Counted (len (layer_at t name).objects))) (sym (c.in_ok-place.ensures.named t sound []))
+    ap (λ (x : LayerRecord). Counted x.count) (sym c.index-deref-place.is)
+    ∙ ap Counted (sym (count_here kept t name place sound finds r is))
+    ∙ ap (λ (o : Option Refusal). refused_or o (Counted (len (layer_at t name).objects)))
+    (sym (c.in_ok-place.ensures.named t sound []))

@@ -20,14 +20,20 @@ returns-in-Ok-clause-change g c =
       lawful = λ t sound.
           let none = c.in-Ok.ensures.allowed t sound in
           let belongs = c.in-Ok.ensures.belongs t sound in
-          begun_change old old new unasked made added.begins result c.change_of.ensures t (Create name c.args.dims c.args.fanout)
-          (it_grows t name c.args.dims c.args.fanout none (not_there t name c.in-Ok.place belongs)) g.met.B.BlockDevice.only_now sound none refl
+          begun_change old old new unasked made added.begins result c.change_of.ensures t
+          (Create name c.args.dims c.args.fanout)
+          (it_grows t name c.args.dims c.args.fanout none (not_there t name c.in-Ok.place belongs))
+          g.met.B.BlockDevice.only_now sound none refl
           (added.added t sound belongs) (added.faults t sound);
     }
 
 pub returns-in-Ok-clause-tree : goal.returns-in-Ok-clause-tree
-returns-in-Ok-clause-tree g c = λ t sound. made_so _ c.add_layer.result c.change_of.result c.change_of.ensures (c.add_layer.ensures.tree t sound (c.in-Ok.ensures.belongs t sound))
+returns-in-Ok-clause-tree g c =
+    λ t sound. made_so _ c.add_layer.result c.change_of.result c.change_of.ensures
+    (c.add_layer.ensures.tree t sound (c.in-Ok.ensures.belongs t sound))
 
 pub returns-in-Err-clause-change : goal.returns-in-Err-clause-change
 returns-in-Err-clause-change g c =
-    refused_by c.args.self.now (Create c.args.name.now c.args.dims c.args.fanout) c.in-Err.refusal g.met.B.BlockDevice.only_now c.in-Err.ensures.blames_none (λ t sound. inl (c.in-Err.ensures.allowed t sound))
+    refused_by c.args.self.now (Create c.args.name.now c.args.dims c.args.fanout) c.in-Err.refusal
+    g.met.B.BlockDevice.only_now c.in-Err.ensures.blames_none
+    (λ t sound. inl (c.in-Err.ensures.allowed t sound))

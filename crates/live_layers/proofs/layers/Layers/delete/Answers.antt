@@ -10,7 +10,9 @@ pub returns-in-Err-clause-change : goal.returns-in-Err-clause-change
 returns-in-Err-clause-change g c =
     let name = c.args.name.now in
     let id = c.args.id in
-    refused_by c.args.self.now (Delete name id) c.in-Err.refusal g.met.B.BlockDevice.only_now c.in-Err.ensures.cause (λ t sound. inl (c.in-Err.ensures.unnamed t sound (missing_refusals (layer_at t name) id)))
+    refused_by c.args.self.now (Delete name id) c.in-Err.refusal g.met.B.BlockDevice.only_now
+    c.in-Err.ensures.cause
+    (λ t sound. inl (c.in-Err.ensures.unnamed t sound (missing_refusals (layer_at t name) id)))
 
 pub returns-then-located-eq2-clause-change : goal.returns-then-located-eq2-clause-change
 returns-then-located-eq2-clause-change g c = record {
@@ -18,7 +20,12 @@ returns-then-located-eq2-clause-change g c = record {
   lawful = λ t sound.
       let name = c.args.name.now in
       let finds = c.in-Ok.ensures.found t sound in
-      c.delete_at.ensures.change t name sound (record { named = c.in-Ok.ensures.named t sound; finds = finds; located = c.locate-located.ensures.located t name sound finds });
+      c.delete_at.ensures.change t name sound
+      (record {
+        named = c.in-Ok.ensures.named t sound;
+        finds = finds;
+        located = c.locate-located.ensures.located t name sound finds;
+      });
 }
 
 pub returns-else-located-eq2-clause-change : goal.returns-else-located-eq2-clause-change
@@ -27,5 +34,10 @@ returns-else-located-eq2-clause-change g c = record {
   lawful = λ t sound.
       let name = c.args.name.now in
       let finds = c.in-Ok.ensures.found t sound in
-      c.delete_at-else-located-eq2.ensures.change t name sound (record { named = c.in-Ok.ensures.named t sound; finds = finds; located = c.locate-located.ensures.located t name sound finds });
+      c.delete_at-else-located-eq2.ensures.change t name sound
+      (record {
+        named = c.in-Ok.ensures.named t sound;
+        finds = finds;
+        located = c.locate-located.ensures.located t name sound finds;
+      });
 }

@@ -8,13 +8,15 @@ use Rattle.plain_table.specs.declared.refusal.Refusal.{Refusal}
 use Rattle.store_law.specs.Lawful.{IsFault}
 use Rattle.live_layers.specs.Changes.{Rose}
 use Rattle.live_layers.specs.Rules.{HasLost}
-use Rattle.live_layers.proofs.ChangeLemmas.{begun_change, begun_keeps, begun_tree, refused_change, refused_keeps}
+use Rattle.live_layers.proofs.ChangeLemmas.{begun_change, begun_keeps, begun_tree, refused_change}
+use Rattle.live_layers.proofs.ChangeLemmas.{refused_keeps}
 use Rattle.live_layers.proofs.DeleteLemmas.{as_missing, has_object, it_shrinks, none_answered, not_missing}
 use Rattle.live_layers.proofs.layers.Layers.delete_at.Goals as goal
 
 pub returns-in-Ok-clause-keeps : goal.returns-in-Ok-clause-keeps
 returns-in-Ok-clause-keeps g c =
-    begun_keeps c.args.self.now c.object_of.new.self c.take_object.new.self c.in-Ok.ensures.keeps c.take_object.result c.take_object.ensures.begins c.change_of.result c.change_of.ensures
+    begun_keeps c.args.self.now c.object_of.new.self c.take_object.new.self c.in-Ok.ensures.keeps
+    c.take_object.result c.take_object.ensures.begins c.change_of.result c.change_of.ensures
 
 pub returns-in-Ok-clause-change : goal.returns-in-Ok-clause-change
 returns-in-Ok-clause-change g c = λ t name sound reaches.
@@ -26,9 +28,11 @@ returns-in-Ok-clause-change g c = λ t name sound reaches.
     let there = has_object (layer_at t name) id (Rose old mid) c.in-Ok.known reply in
     let dims = reaches.located.dims ∙ c.requires.axes in
     let before = c.in-Ok.ensures.keeps.sound t sound in
-    begun_change old mid c.take_object.new.self c.in-Ok.ensures.keeps c.take_object.result c.take_object.ensures.begins c.change_of.result c.change_of.ensures t (Delete name id)
+    begun_change old mid c.take_object.new.self c.in-Ok.ensures.keeps c.take_object.result
+    c.take_object.ensures.begins c.change_of.result c.change_of.ensures t (Delete name id)
     (it_shrinks t name id reaches.named none) g.met.B.BlockDevice.only_now sound none refl
-    (c.take_object.ensures.taken t name before reaches.finds dims there) (c.take_object.ensures.faults t name before reaches.finds dims there)
+    (c.take_object.ensures.taken t name before reaches.finds dims there)
+    (c.take_object.ensures.faults t name before reaches.finds dims there)
 
 pub returns-in-Ok-clause-tree : goal.returns-in-Ok-clause-tree
 returns-in-Ok-clause-tree g c = λ t name sound reaches.
@@ -36,12 +40,17 @@ returns-in-Ok-clause-tree g c = λ t name sound reaches.
     let mid = c.object_of.new.self in
     let layer = layer_at t name in
     let id = c.args.id in
-    let there = has_object layer id (Rose old mid) c.in-Ok.known (c.in-Ok.ensures.replied t name sound reaches.located) in
-    begun_tree old mid c.take_object.new.self c.in-Ok.ensures.keeps c.take_object.result c.take_object.ensures.begins c.change_of.result c.change_of.ensures t name (HasLost layer id) sound
-    (c.take_object.ensures.tree t name (c.in-Ok.ensures.keeps.sound t sound) reaches.finds (reaches.located.dims ∙ c.requires.axes) there)
+    let there =
+    has_object layer id (Rose old mid) c.in-Ok.known
+    (c.in-Ok.ensures.replied t name sound reaches.located) in
+    begun_tree old mid c.take_object.new.self c.in-Ok.ensures.keeps c.take_object.result
+    c.take_object.ensures.begins c.change_of.result c.change_of.ensures t name (HasLost layer id) sound
+    (c.take_object.ensures.tree t name (c.in-Ok.ensures.keeps.sound t sound) reaches.finds
+    (reaches.located.dims ∙ c.requires.axes) there)
 
 pub returns-in-Err-clause-keeps : goal.returns-in-Err-clause-keeps
-returns-in-Err-clause-keeps g c = refused_keeps c.args.self.now c.object_of.new.self c.in-Err.refusal c.in-Err.ensures.keeps
+returns-in-Err-clause-keeps g c =
+    refused_keeps c.args.self.now c.object_of.new.self c.in-Err.refusal c.in-Err.ensures.keeps
 
 pub returns-in-Err-clause-change : goal.returns-in-Err-clause-change
 returns-in-Err-clause-change g c = λ t name sound reaches.
@@ -50,6 +59,9 @@ returns-in-Err-clause-change g c = λ t name sound reaches.
     let layer = layer_at t name in
     let id = c.args.id in
     let r = c.in-Err.refusal in
-    let why = none_answered (Rose old new) (first_refusal (missing_refusals layer id)) (object_row layer id ∷ []) r (c.in-Err.ensures.replied t name sound reaches.located) in
+    let why =
+    none_answered (Rose old new) (first_refusal (missing_refusals layer id)) (object_row layer id ∷ []) r
+    (c.in-Err.ensures.replied t name sound reaches.located) in
     refused_change old new t (Delete name id) r g.met.B.BlockDevice.only_now c.in-Err.ensures.keeps sound
-    (subst (λ (o : Option Refusal). (o ≡ Some r) ⊎ IsFault (Rose old new) r) (sym (as_missing t name id reaches.named)) why)
+    (subst (λ (o : Option Refusal). (o ≡ Some r) ⊎ IsFault (Rose old new) r)
+    (sym (as_missing t name id reaches.named)) why)

@@ -19,14 +19,17 @@ returns-in-Ok-clause-change g c =
       lawful = λ t sound.
           let none = c.in-Ok.ensures.named t sound [] in
           let finds = c.in-Ok.ensures.found t sound in
-          begun_change old old new unasked made taken.begins result c.change_of.ensures t (Drop name) (it_shrinks t name none) g.met.B.BlockDevice.only_now sound none refl
+          begun_change old old new unasked made taken.begins result c.change_of.ensures t (Drop name)
+          (it_shrinks t name none) g.met.B.BlockDevice.only_now sound none refl
           (taken.taken t name sound finds) (taken.faults t name sound finds);
     }
 
 pub returns-in-Ok-clause-others : goal.returns-in-Ok-clause-others
 returns-in-Ok-clause-others g c = λ t sound.
-    made_so _ c.take_layer.result c.change_of.result c.change_of.ensures (c.take_layer.ensures.others t c.args.name.now sound (c.in-Ok.ensures.found t sound))
+    made_so _ c.take_layer.result c.change_of.result c.change_of.ensures
+    (c.take_layer.ensures.others t c.args.name.now sound (c.in-Ok.ensures.found t sound))
 
 pub returns-in-Err-clause-change : goal.returns-in-Err-clause-change
 returns-in-Err-clause-change g c =
-    refused_by c.args.self.now (Drop c.args.name.now) c.in-Err.refusal g.met.B.BlockDevice.only_now c.in-Err.ensures.cause (λ t sound. inl (c.in-Err.ensures.unnamed t sound []))
+    refused_by c.args.self.now (Drop c.args.name.now) c.in-Err.refusal g.met.B.BlockDevice.only_now
+    c.in-Err.ensures.cause (λ t sound. inl (c.in-Err.ensures.unnamed t sound []))

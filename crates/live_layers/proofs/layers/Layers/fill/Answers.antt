@@ -12,15 +12,20 @@ use Rattle.live_layers.proofs.layers.Layers.fill.Goals as goal
 
 pub returns-in_err-begin-clause-begins : goal.returns-in_err-begin-clause-begins
 returns-in_err-begin-clause-begins g c =
-    not_opened c.args.self.now c.begin.new.self c.in_err-begin.field-0.0 c.from_residual.result c.from_residual.ensures.1 c.in_err-begin.ensures.begins c.begin.ensures.sound c.begin.ensures.keeps
+    not_opened c.args.self.now c.begin.new.self c.in_err-begin.field-0.0 c.from_residual.result
+    c.from_residual.ensures.1 c.in_err-begin.ensures.begins c.begin.ensures.sound c.begin.ensures.keeps
 
 pub returns-in_err-root-clause-begins : goal.returns-in_err-root-clause-begins
 returns-in_err-root-clause-begins g c =
-    broke_behind c.args.self.now c.begin.new.self _ c.in_err-root.field-0.0 c.from_residual-in_err-root.result c.from_residual-in_err-root.ensures.1 (refl, refl, refl) c.in_ok-begin.ensures.begins c.begin.ensures.sound c.begin.ensures.keeps
+    broke_behind c.args.self.now c.begin.new.self _ c.in_err-root.field-0.0
+    c.from_residual-in_err-root.result c.from_residual-in_err-root.ensures.1 (refl, refl, refl)
+    c.in_ok-begin.ensures.begins c.begin.ensures.sound c.begin.ensures.keeps
     c.in_err-root.ensures.alters
 
 pub returns-in_err-begin-clause-faults : goal.returns-in_err-begin-clause-faults
-returns-in_err-begin-clause-faults g c = λ t name all sound finds dims none same. the_err c.from_residual.result _ _ c.from_residual.ensures.1 c.in_err-begin.ensures.faults
+returns-in_err-begin-clause-faults g c =
+    λ t name all sound finds dims none same. the_err c.from_residual.result _ _ c.from_residual.ensures.1
+    c.in_err-begin.ensures.faults
 
 pub returns-in_err-root-clause-faults : goal.returns-in_err-root-clause-faults
 returns-in_err-root-clause-faults g c = λ t name all sound finds dims none same.
@@ -28,10 +33,15 @@ returns-in_err-root-clause-faults g c = λ t name all sound finds dims none same
     let count = length c.args.objects.now in
     let before = c.begin.ensures.sound t sound in
     let located = c.locate-located.result in
-    let empty_there = stands_empty kept t name c.args.place before finds located c.locate-located.ensures.by_record g.row.D dims none in
+    let empty_there =
+    stands_empty kept t name c.args.place before finds located c.locate-located.ensures.by_record g.row.D
+    dims none in
     the_err c.from_residual-in_err-root.result c.in_err-root.field-0.0 _ c.from_residual-in_err-root.ensures.1
-    (no_page_wanted_by_load kept t before c.locate-located.ensures.few (most_loaded_pages count) count c.load.new.cache _ (omega (arith, c.requires.room, c.begin.ensures.count)) (omega (arith)) c.load.ensures.grows
-    (c.in_err-root.ensures.faults before.map (reading kept t name c.args.place before finds).pages located.fanout all empty_there same))
+    (no_page_wanted_by_load kept t before c.locate-located.ensures.few (most_loaded_pages count) count
+    c.load.new.cache _ (omega (arith, c.requires.room, c.begin.ensures.count)) (omega (arith))
+    c.load.ensures.grows
+    (c.in_err-root.ensures.faults before.map (reading kept t name c.args.place before finds).pages
+    located.fanout all empty_there same))
 
 pub returns-clause-filled : goal.returns-clause-filled
 returns-clause-filled g c = λ t name all sound finds dims none same.
@@ -42,9 +52,12 @@ returns-clause-filled g c = λ t name all sound finds dims none same.
     let l = (reading kept t name c.args.place before finds).pages in
     let empty_there = stands_empty kept t name c.args.place before finds located by g.row.D dims none in
     let became = c.in_ok-root.ensures.loaded before.map l located.fanout all empty_there same in
-    sound_filled kept t name c.args.place before finds located by g.row.D dims none c.args.objects.now all same c.load.new.cache c.in_ok-root.root became _ c.note.ensures.cache
-    c.in_ok-root.ensures.root c.in_ok-root.ensures.alters.changes.next (omega (arith, c.requires.room, c.begin.ensures.count)) c.note.ensures.records
-    (c.in_ok-root.ensures.sound before.map l located.fanout all empty_there same) (omega (arith, c.note.ensures.count)) c.note.ensures.written
+    sound_filled kept t name c.args.place before finds located by g.row.D dims none c.args.objects.now all
+    same c.load.new.cache c.in_ok-root.root became _ c.note.ensures.cache
+    c.in_ok-root.ensures.root c.in_ok-root.ensures.alters.changes.next
+    (omega (arith, c.requires.room, c.begin.ensures.count)) c.note.ensures.records
+    (c.in_ok-root.ensures.sound before.map l located.fanout all empty_there same)
+    (omega (arith, c.note.ensures.count)) c.note.ensures.written
 
 pub returns-clause-tree : goal.returns-clause-tree
 returns-clause-tree g c = λ t name all sound finds dims none same.
@@ -55,10 +68,14 @@ returns-clause-tree g c = λ t name all sound finds dims none same.
     let l = (reading kept t name c.args.place before finds).pages in
     let empty_there = stands_empty kept t name c.args.place before finds located by g.row.D dims none in
     let became = c.in_ok-root.ensures.loaded before.map l located.fanout all empty_there same in
-    changes_before c.args.self.now kept _ name (HasFilled (layer_at t name) c.args.objects.now) (c.begin.ensures.keeps.map.pages_stay sound.map.honest) c.begin.ensures.keeps.records
-    (tree_filled kept t name c.args.place before finds located by g.row.D dims none c.args.objects.now all same c.load.new.cache c.in_ok-root.root became _ c.note.ensures.cache
-    c.in_ok-root.ensures.root c.in_ok-root.ensures.alters.changes.next (omega (arith, c.requires.room, c.begin.ensures.count)) c.note.ensures.records)
+    changes_before c.args.self.now kept _ name (HasFilled (layer_at t name) c.args.objects.now)
+    (c.begin.ensures.keeps.map.pages_stay sound.map.honest) c.begin.ensures.keeps.records
+    (tree_filled kept t name c.args.place before finds located by g.row.D dims none c.args.objects.now all
+    same c.load.new.cache c.in_ok-root.root became _ c.note.ensures.cache
+    c.in_ok-root.ensures.root c.in_ok-root.ensures.alters.changes.next
+    (omega (arith, c.requires.room, c.begin.ensures.count)) c.note.ensures.records)
 
 pub returns-clause-begins : goal.returns-clause-begins
 returns-clause-begins g c =
-    made_behind c.args.self.now c.begin.new.self _ c.load.new.cache c.note.ensures.cache c.in_ok-begin.ensures.begins c.in_ok-root.ensures.alters.changes
+    made_behind c.args.self.now c.begin.new.self _ c.load.new.cache c.note.ensures.cache
+    c.in_ok-begin.ensures.begins c.in_ok-root.ensures.alters.changes

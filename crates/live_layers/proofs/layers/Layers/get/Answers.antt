@@ -10,5 +10,10 @@ pub returns-in_err-place-clause-answered : goal.returns-in_err-place-clause-answ
 returns-in_err-place-clause-answered g c = λ t sound.
     let name = c.args.name.now in
     let id = c.args.id in
-    let r = c.in_err-place.field-0.0 in
-    (sound, inl (err_object id c.from_residual.result r c.from_residual.ensures.1 ∙ refused t (Get name id) r (c.in_err-place.ensures.unnamed t sound (missing_refusals (layer_at t name) id))))
+    let r = c.in_err-place.field-0.0 in (
+      sound,
+      inl
+          (err_object id c.from_residual.result r c.from_residual.ensures.1
+          ∙ refused t (Get name id) r
+          (c.in_err-place.ensures.unnamed t sound (missing_refusals (layer_at t name) id))),
+    )

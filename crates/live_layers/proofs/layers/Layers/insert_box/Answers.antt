@@ -12,14 +12,16 @@ use Rattle.store_law.specs.Lawful.{IsFault}
 use Rattle.live_layers.specs.Changes.{Rose}
 use Rattle.live_layers.specs.Keeping.{ChangesTree, IsSound}
 use Rattle.live_layers.specs.Rules.{HasGained}
-use Rattle.live_layers.proofs.ChangeLemmas.{begun_change, begun_keeps, begun_tree, refused_change, refused_keeps}
+use Rattle.live_layers.proofs.ChangeLemmas.{begun_change, begun_keeps, begun_tree, refused_change}
+use Rattle.live_layers.proofs.ChangeLemmas.{refused_keeps}
 use Rattle.live_layers.proofs.InsertLemmas.{as_object, it_grows, its_dims}
 use Rattle.live_layers.proofs.Results.{on_ok}
 use Rattle.live_layers.proofs.layers.Layers.insert_box.Goals as goal
 
 pub returns-in-Ok-clause-keeps : goal.returns-in-Ok-clause-keeps
 returns-in-Ok-clause-keeps g c =
-    begun_keeps c.args.self.now c.check_object.new.self c.add_object.new.self c.in-Ok.ensures.keeps c.add_object.result c.add_object.ensures.begins c.change_of.result c.change_of.ensures
+    begun_keeps c.args.self.now c.check_object.new.self c.add_object.new.self c.in-Ok.ensures.keeps
+    c.add_object.result c.add_object.ensures.begins c.change_of.result c.change_of.ensures
 
 pub returns-in-Ok-clause-change : goal.returns-in-Ok-clause-change
 returns-in-Ok-clause-change g c = λ t name box sound reaches.
@@ -33,10 +35,18 @@ returns-in-Ok-clause-change g c = λ t name box sound reaches.
     let before = c.in-Ok.ensures.keeps.sound t sound in
     let new = c.add_object.new.self in
     let made = c.add_object.result in
-    let added = on_ok made (λ there. subst (λ (b : Bounds). IsSound new (map_insert t name (with_object layer id (b, c.args.tag)))) (c.in-Ok.ensures.bounds ∙ sym reaches.given) there) (c.add_object.ensures.added t name before reaches.finds dims absent) in
+    let added =
+    on_ok made
+    (λ there. subst
+    (λ (b : Bounds). IsSound new (map_insert t name (with_object layer id (b, c.args.tag))))
+    (c.in-Ok.ensures.bounds ∙ sym reaches.given) there)
+    (c.add_object.ensures.added t name before reaches.finds dims absent) in
     let refused = as_object t name c.args.place id box c.args.tag g.row.D _ reaches ∙ none in
-    begun_change c.args.self.now c.check_object.new.self new c.in-Ok.ensures.keeps made c.add_object.ensures.begins c.change_of.result c.change_of.ensures t (Insert name id box c.args.tag)
-    (it_grows t name c.args.place id box c.args.tag g.row.D _ reaches refused absent) g.met.B.BlockDevice.only_now sound refused refl added (c.add_object.ensures.faults t name before reaches.finds dims)
+    begun_change c.args.self.now c.check_object.new.self new c.in-Ok.ensures.keeps made
+    c.add_object.ensures.begins c.change_of.result c.change_of.ensures t (Insert name id box c.args.tag)
+    (it_grows t name c.args.place id box c.args.tag g.row.D _ reaches refused absent)
+    g.met.B.BlockDevice.only_now sound refused refl added
+    (c.add_object.ensures.faults t name before reaches.finds dims)
 
 pub returns-in-Ok-clause-tree : goal.returns-in-Ok-clause-tree
 returns-in-Ok-clause-tree g c = λ t name box sound reaches.
@@ -49,12 +59,18 @@ returns-in-Ok-clause-tree g c = λ t name box sound reaches.
     let dims = its_dims layer id box full none ∙ reaches.axes in
     let mid = c.check_object.new.self in
     let new = c.add_object.new.self in
-    let there = subst (λ (b : Bounds). OnOk c.add_object.result (ChangesTree mid new name (HasGained layer id (b, c.args.tag)))) (c.in-Ok.ensures.bounds ∙ sym reaches.given)
+    let there =
+    subst (λ (b : Bounds). OnOk c.add_object.result
+    (ChangesTree mid new name (HasGained layer id (b, c.args.tag))))
+    (c.in-Ok.ensures.bounds ∙ sym reaches.given)
     (c.add_object.ensures.tree t name (c.in-Ok.ensures.keeps.sound t sound) reaches.finds dims absent) in
-    begun_tree c.args.self.now mid new c.in-Ok.ensures.keeps c.add_object.result c.add_object.ensures.begins c.change_of.result c.change_of.ensures t name (HasGained layer id (given_bounds box, c.args.tag)) sound there
+    begun_tree c.args.self.now mid new c.in-Ok.ensures.keeps c.add_object.result c.add_object.ensures.begins
+    c.change_of.result c.change_of.ensures t name (HasGained layer id (given_bounds box, c.args.tag))
+    sound there
 
 pub returns-in-Err-clause-keeps : goal.returns-in-Err-clause-keeps
-returns-in-Err-clause-keeps g c = refused_keeps c.args.self.now c.check_object.new.self c.in-Err.refusal c.in-Err.ensures.keeps
+returns-in-Err-clause-keeps g c =
+    refused_keeps c.args.self.now c.check_object.new.self c.in-Err.refusal c.in-Err.ensures.keeps
 
 pub returns-in-Err-clause-change : goal.returns-in-Err-clause-change
 returns-in-Err-clause-change g c = λ t name box sound reaches.
@@ -62,6 +78,10 @@ returns-in-Err-clause-change g c = λ t name box sound reaches.
     let new = c.check_object.new.self in
     let id = c.args.id in
     let r = c.in-Err.refusal in
-    let why = c.in-Err.ensures.allowed t name box sound (c.locate-located.ensures.located t name sound reaches.finds) reaches.axes reaches.given in
-    refused_change old new t (Insert name id box c.args.tag) r g.met.B.BlockDevice.only_now c.in-Err.ensures.keeps sound
-    (subst (λ (o : Option Refusal). (o ≡ Some r) ⊎ IsFault (Rose old new) r) (sym (as_object t name c.args.place id box c.args.tag g.row.D _ reaches)) why)
+    let why =
+    c.in-Err.ensures.allowed t name box sound
+    (c.locate-located.ensures.located t name sound reaches.finds) reaches.axes reaches.given in
+    refused_change old new t (Insert name id box c.args.tag) r g.met.B.BlockDevice.only_now
+    c.in-Err.ensures.keeps sound
+    (subst (λ (o : Option Refusal). (o ≡ Some r) ⊎ IsFault (Rose old new) r)
+    (sym (as_object t name c.args.place id box c.args.tag g.row.D _ reaches)) why)

@@ -19,16 +19,26 @@ returns-in_default-clause-answered g c = λ t sound.
     let first = c.args.first.now in
     let second = c.args.second.now in
     let named = sym c.is_layer_name.ensures ∙ c.if-not-is_layer_name.false in
-    let named' = sym c.is_layer_name-else-not-is_layer_name.ensures ∙ c.if-not-is_layer_name-2.false in
-    (sound, inl (refused t (Join first second c.args.within) refusal.NoLayer (no_first t first second c.args.within named named' c.in_default.field-0 (c.in_default.ensures.belongs t sound))))
+    let named' = sym c.is_layer_name-else-not-is_layer_name.ensures ∙ c.if-not-is_layer_name-2.false in (
+      sound,
+      inl
+          (refused t (Join first second c.args.within) refusal.NoLayer
+          (no_first t first second c.args.within named named' c.in_default.field-0
+          (c.in_default.ensures.belongs t sound))),
+    )
 
 pub returns-in_default-find-clause-answered : goal.returns-in_default-find-clause-answered
 returns-in_default-find-clause-answered g c = λ t sound.
     let first = c.args.first.now in
     let second = c.args.second.now in
     let named = sym c.is_layer_name.ensures ∙ c.if-not-is_layer_name.false in
-    let named' = sym c.is_layer_name-else-not-is_layer_name.ensures ∙ c.if-not-is_layer_name-2.false in
-    (sound, inl (refused t (Join first second c.args.within) refusal.NoLayer (no_second t first second c.args.within named named' c.in-Ok.place (c.in-Ok.ensures.found t sound) c.in_default-find.field-0 (c.in_default-find.ensures.belongs t sound))))
+    let named' = sym c.is_layer_name-else-not-is_layer_name.ensures ∙ c.if-not-is_layer_name-2.false in (
+      sound,
+      inl
+          (refused t (Join first second c.args.within) refusal.NoLayer
+          (no_second t first second c.args.within named named' c.in-Ok.place (c.in-Ok.ensures.found t sound)
+          c.in_default-find.field-0 (c.in_default-find.ensures.belongs t sound))),
+    )
 
 pub returns-then-left-right-clause-answered : goal.returns-then-left-right-clause-answered
 returns-then-left-right-clause-answered g c = λ t sound.
@@ -40,8 +50,16 @@ returns-then-left-right-clause-answered g c = λ t sound.
     let finds' = c.in-Ok-find.ensures.found t sound in
     let located = c.locate-left.ensures.located t first sound finds in
     let other = c.locate-right.ensures.located t second sound finds' in
-    let differ = tested_other (layer_at t first).dims (layer_at t second).dims c.locate-right.result.dims other.dims (λ (e : c.locate-right.result.dims ≡ (layer_at t first).dims). c.if-left-right.true (sym located.dims ∙ sym e)) in
-    (sound, inl (refused t (Join first second c.args.within) refusal.DimsDiffer (dims_differ t first second c.args.within named named' c.in-Ok.place finds c.in-Ok-find.other_place finds' differ)))
+    let differ =
+    tested_other (layer_at t first).dims (layer_at t second).dims c.locate-right.result.dims other.dims
+    (λ (e : c.locate-right.result.dims ≡ (layer_at t first).dims). c.if-left-right.true
+    (sym located.dims ∙ sym e)) in (
+      sound,
+      inl
+          (refused t (Join first second c.args.within) refusal.DimsDiffer
+          (dims_differ t first second c.args.within named named' c.in-Ok.place finds c.in-Ok-find.other_place
+          finds' differ)),
+    )
 
 pub returns-then-left-eq2-clause-answered : goal.returns-then-left-eq2-clause-answered
 returns-then-left-eq2-clause-answered g c = λ t sound.
@@ -53,11 +71,20 @@ returns-then-left-eq2-clause-answered g c = λ t sound.
     let finds' = c.in-Ok-find.ensures.found t sound in
     let located = c.locate-left.ensures.located t first sound finds in
     let other = c.locate-right.ensures.located t second sound finds' in
-    let same = tested_same (layer_at t first).dims (layer_at t second).dims c.locate-right.result.dims other.dims (sym c.if-left-right.false ∙ sym located.dims) in
+    let same =
+    tested_same (layer_at t first).dims (layer_at t second).dims c.locate-right.result.dims other.dims
+    (sym c.if-left-right.false ∙ sym located.dims) in
     let new = c.pairs_in.new.self in
     let rose = Rose c.args.self.now new in
-    let reply = pairs_replied rose (join_rows (layer_at t first) (layer_at t second) c.args.within) c.pairs_in.result (c.pairs_in.ensures.pairs t first second sound located other) (c.pairs_in.ensures.fault t first second sound located other) in
-    (c.pairs_in.ensures.keeps.sound t sound, replied rose t (Join first second c.args.within) None (pairs_answer c.pairs_in.result) (joins t first second c.args.within named named' c.in-Ok.place finds c.in-Ok-find.other_place finds' same) reply)
+    let reply =
+    pairs_replied rose (join_rows (layer_at t first) (layer_at t second) c.args.within) c.pairs_in.result
+    (c.pairs_in.ensures.pairs t first second sound located other)
+    (c.pairs_in.ensures.fault t first second sound located other) in (
+      c.pairs_in.ensures.keeps.sound t sound,
+      replied rose t (Join first second c.args.within) None (pairs_answer c.pairs_in.result)
+          (joins t first second c.args.within named named' c.in-Ok.place finds c.in-Ok-find.other_place finds'
+          same) reply,
+    )
 
 pub returns-then-left-eq2-clause-looks : goal.returns-then-left-eq2-clause-looks
 returns-then-left-eq2-clause-looks g c = λ t sound.
@@ -65,8 +92,11 @@ returns-then-left-eq2-clause-looks g c = λ t sound.
     let second = c.args.second.now in
     let located = c.locate-left.ensures.located t first sound (c.in-Ok.ensures.found t sound) in
     let other = c.locate-right.ensures.located t second sound (c.in-Ok-find.ensures.found t sound) in
-    let axes : (layer_at t first).dims ≡ 2 = omega (arith, located.dims, c.locate-left.ensures.dims, c.if-left-eq2) in
-    subst (λ (d : ℕ). OnOk c.pairs_in.result (LooksAtTrees c.args.self.now c.pairs_in.new.self first second (λ tree other. 2 * admitted_pairs d c.args.within tree other))) (sym axes)
+    let axes : (layer_at t first).dims ≡ 2 =
+    omega (arith, located.dims, c.locate-left.ensures.dims, c.if-left-eq2) in
+    subst (λ (d : ℕ). OnOk c.pairs_in.result
+    (LooksAtTrees c.args.self.now c.pairs_in.new.self first second
+    (λ tree other. 2 * admitted_pairs d c.args.within tree other))) (sym axes)
     (c.pairs_in.ensures.looks t first second sound located other)
 
 pub returns-else-left-eq2-clause-answered : goal.returns-else-left-eq2-clause-answered
@@ -79,11 +109,21 @@ returns-else-left-eq2-clause-answered g c = λ t sound.
     let finds' = c.in-Ok-find.ensures.found t sound in
     let located = c.locate-left.ensures.located t first sound finds in
     let other = c.locate-right.ensures.located t second sound finds' in
-    let same = tested_same (layer_at t first).dims (layer_at t second).dims c.locate-right.result.dims other.dims (sym c.if-left-right.false ∙ sym located.dims) in
+    let same =
+    tested_same (layer_at t first).dims (layer_at t second).dims c.locate-right.result.dims other.dims
+    (sym c.if-left-right.false ∙ sym located.dims) in
     let new = c.pairs_in-else-left-eq2.new.self in
     let rose = Rose c.args.self.now new in
-    let reply = pairs_replied rose (join_rows (layer_at t first) (layer_at t second) c.args.within) c.pairs_in-else-left-eq2.result (c.pairs_in-else-left-eq2.ensures.pairs t first second sound located other) (c.pairs_in-else-left-eq2.ensures.fault t first second sound located other) in
-    (c.pairs_in-else-left-eq2.ensures.keeps.sound t sound, replied rose t (Join first second c.args.within) None (pairs_answer c.pairs_in-else-left-eq2.result) (joins t first second c.args.within named named' c.in-Ok.place finds c.in-Ok-find.other_place finds' same) reply)
+    let reply =
+    pairs_replied rose (join_rows (layer_at t first) (layer_at t second) c.args.within)
+    c.pairs_in-else-left-eq2.result
+    (c.pairs_in-else-left-eq2.ensures.pairs t first second sound located other)
+    (c.pairs_in-else-left-eq2.ensures.fault t first second sound located other) in (
+      c.pairs_in-else-left-eq2.ensures.keeps.sound t sound,
+      replied rose t (Join first second c.args.within) None (pairs_answer c.pairs_in-else-left-eq2.result)
+          (joins t first second c.args.within named named' c.in-Ok.place finds c.in-Ok-find.other_place finds'
+          same) reply,
+    )
 
 pub returns-else-left-eq2-clause-looks : goal.returns-else-left-eq2-clause-looks
 returns-else-left-eq2-clause-looks g c = λ t sound.
@@ -91,6 +131,9 @@ returns-else-left-eq2-clause-looks g c = λ t sound.
     let second = c.args.second.now in
     let located = c.locate-left.ensures.located t first sound (c.in-Ok.ensures.found t sound) in
     let other = c.locate-right.ensures.located t second sound (c.in-Ok-find.ensures.found t sound) in
-    let axes : (layer_at t first).dims ≡ 3 = omega (arith, located.dims, c.locate-left.ensures.dims, c.if-left-eq2) in
-    subst (λ (d : ℕ). OnOk c.pairs_in-else-left-eq2.result (LooksAtTrees c.args.self.now c.pairs_in-else-left-eq2.new.self first second (λ tree other. 2 * admitted_pairs d c.args.within tree other))) (sym axes)
+    let axes : (layer_at t first).dims ≡ 3 =
+    omega (arith, located.dims, c.locate-left.ensures.dims, c.if-left-eq2) in
+    subst (λ (d : ℕ). OnOk c.pairs_in-else-left-eq2.result
+    (LooksAtTrees c.args.self.now c.pairs_in-else-left-eq2.new.self first second
+    (λ tree other. 2 * admitted_pairs d c.args.within tree other))) (sym axes)
     (c.pairs_in-else-left-eq2.ensures.looks t first second sound located other)

@@ -16,7 +16,13 @@ returns g c = record {
       let kept = c.args.self.now in
       let records = c.as_slice-record-items.result.now in
       let shown : map line_of_layer c.loop-record.all.items ≡ map record_line (map record_of records) =
-      c.loop-record.invariant.lines ∙ ap (λ (rs : List LayerRecord). map record_line (map record_of rs)) (take_all c.loop-record.record-index records c.loop-record-test.false) in
-      let same : map record_line (map record_of records) ≡ map record_line (records_of kept.records) = ap (λ (rs : List LayerRecord). map record_line (map record_of rs)) c.as_slice-record-items.ensures.value in
-      ap Listed (shown ∙ same ∙ all_listed (pages kept.cache) (next_of kept.cache) (records_of kept.records) t sound.holds);
+      c.loop-record.invariant.lines
+      ∙ ap (λ (rs : List LayerRecord). map record_line (map record_of rs))
+      (take_all c.loop-record.record-index records c.loop-record-test.false) in
+      let same : map record_line (map record_of records) ≡ map record_line (records_of kept.records) =
+      ap (λ (rs : List LayerRecord). map record_line (map record_of rs))
+      c.as_slice-record-items.ensures.value in
+      ap Listed
+      (shown ∙ same
+      ∙ all_listed (pages kept.cache) (next_of kept.cache) (records_of kept.records) t sound.holds);
 }

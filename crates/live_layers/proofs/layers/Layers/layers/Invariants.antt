@@ -7,6 +7,7 @@ use Rattle.live_layers.proofs.layers.Layers.layers.Given as goal
 
 abbrev pub invariant-loop-record : goal.invariant-loop-record
 invariant-loop-record g l = record {
-  lines : map line_of_layer l.all.items ≡ map record_line (map record_of (take l.record-index l.record-items));
+  lines : map line_of_layer l.all.items ≡ map record_line
+      (map record_of (take l.record-index l.record-items));
   many : length l.all.items ≡ l.record-index;
 }

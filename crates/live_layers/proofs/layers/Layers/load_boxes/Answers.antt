@@ -9,8 +9,10 @@ use Rattle.plain_table.specs.Table.{layer_at}
 use Rattle.plain_table.specs.declared.refusal.Refusal.{Refusal}
 use Rattle.live_layers.specs.Changes.{Rose}
 use Rattle.live_layers.specs.Inserting.{IsAllowedOr}
-use Rattle.live_layers.proofs.ChangeLemmas.{begun_change, begun_keeps, made_so, refused_change, refused_keeps, unbegun_change, unbegun_keeps}
-use Rattle.live_layers.proofs.LoadLemmas.{allowed_anyhow, as_load, had_none, made_of, none_change, some_change}
+use Rattle.live_layers.proofs.ChangeLemmas.{begun_change, begun_keeps, made_so, refused_change, refused_keeps}
+use Rattle.live_layers.proofs.ChangeLemmas.{unbegun_change, unbegun_keeps}
+use Rattle.live_layers.proofs.LoadLemmas.{allowed_anyhow, as_load, had_none, made_of, none_change}
+use Rattle.live_layers.proofs.LoadLemmas.{some_change}
 use Rattle.live_layers.proofs.QuestionLemmas.{none_asked, refuses_unasked}
 use Rattle.live_layers.proofs.layers.Layers.load_boxes.Goals as goal
 
@@ -24,48 +26,65 @@ returns-in-Err-clause-change g c = λ t name given sound reaches.
     let old = c.args.self.now in
     let r = c.in-Err.refusal in
     let why = allowed_anyhow (Rose old old) _ r (c.in-Err.ensures.allowed t name given sound reaches) in
-    refused_change old old t (Load name given) r g.met.B.BlockDevice.only_now (refuses_unasked old r c.in-Err.ensures.quiet) sound
-    (subst (λ (o : Option Refusal). IsAllowedOr {T = Unit {0}} (Rose old old) o (Err r)) (sym (as_load t name c.args.place given reaches.good reaches.finds)) why)
+    refused_change old old t (Load name given) r g.met.B.BlockDevice.only_now
+    (refuses_unasked old r c.in-Err.ensures.quiet) sound
+    (subst (λ (o : Option Refusal). IsAllowedOr {T = Unit {0}} (Rose old old) o (Err r))
+    (sym (as_load t name c.args.place given reaches.good reaches.finds)) why)
 
 pub returns-then-is_empty-clause-keeps : goal.returns-then-is_empty-clause-keeps
-returns-then-is_empty-clause-keeps g c = unbegun_keeps c.args.self.now c.args.self.now (none_asked c.args.self.now)
+returns-then-is_empty-clause-keeps g c =
+    unbegun_keeps c.args.self.now c.args.self.now (none_asked c.args.self.now)
 
 pub returns-then-is_empty-clause-change : goal.returns-then-is_empty-clause-change
 returns-then-is_empty-clause-change g c = λ t name given sound reaches.
     let old = c.args.self.now in
     let none = c.in_default.ensures.allowed t name given sound reaches in
-    let empty : length c.args.objects.now ≡ 0 = grind (arith, nat_tests, c.is_empty.ensures, c.if-is_empty.true) in
-    let same = no_change_leaves_the_table t (Load name given) (none_change t name c.args.place given g.row.D c.args.objects.now reaches none empty) in
-    unbegun_change old old t (Load name given) g.met.B.BlockDevice.only_now (none_asked old) sound (as_load t name c.args.place given reaches.good reaches.finds ∙ none) refl same
+    let empty : length c.args.objects.now ≡ 0 =
+    grind (arith, nat_tests, c.is_empty.ensures, c.if-is_empty.true) in
+    let same =
+    no_change_leaves_the_table t (Load name given)
+    (none_change t name c.args.place given g.row.D c.args.objects.now reaches none empty) in
+    unbegun_change old old t (Load name given) g.met.B.BlockDevice.only_now (none_asked old) sound
+    (as_load t name c.args.place given reaches.good reaches.finds ∙ none) refl same
 
 pub returns-clause-keeps : goal.returns-clause-keeps
 returns-clause-keeps g c =
     let old = c.args.self.now in
-    begun_keeps old old c.fill.new.self (none_asked old) c.fill.result c.fill.ensures.begins c.change_of.result c.change_of.ensures
+    begun_keeps old old c.fill.new.self (none_asked old) c.fill.result c.fill.ensures.begins
+    c.change_of.result c.change_of.ensures
 
 pub returns-clause-change : goal.returns-clause-change
 returns-clause-change g c = λ t name given sound reaches.
     let old = c.args.self.now in
     let new = c.fill.new.self in
     let none = c.in_default.ensures.allowed t name given sound reaches in
-    let some : 0 < length c.args.objects.now = grind (arith, nat_tests, c.is_empty.ensures, c.if-is_empty.false) in
-    let grows = a_change_makes_another_table t (Load name given) (some_change t name c.args.place given g.row.D c.args.objects.now reaches none some) in
+    let some : 0 < length c.args.objects.now =
+    grind (arith, nat_tests, c.is_empty.ensures, c.if-is_empty.false) in
+    let grows =
+    a_change_makes_another_table t (Load name given)
+    (some_change t name c.args.place given g.row.D c.args.objects.now reaches none some) in
     let empty = had_none t name c.args.place given g.row.D c.args.objects.now reaches none in
     let same = made_of t name c.args.place given g.row.D c.args.objects.now reaches none in
     let all = (with_objects (layer_at t name) given).objects in
-    begun_change old old new (none_asked old) c.fill.result c.fill.ensures.begins c.change_of.result c.change_of.ensures t (Load name given) grows g.met.B.BlockDevice.only_now sound
+    begun_change old old new (none_asked old) c.fill.result c.fill.ensures.begins c.change_of.result
+    c.change_of.ensures t (Load name given) grows g.met.B.BlockDevice.only_now sound
     (as_load t name c.args.place given reaches.good reaches.finds ∙ none) refl
-    (c.fill.ensures.filled t name all sound reaches.finds reaches.axes empty same) (c.fill.ensures.faults t name all sound reaches.finds reaches.axes empty same)
+    (c.fill.ensures.filled t name all sound reaches.finds reaches.axes empty same)
+    (c.fill.ensures.faults t name all sound reaches.finds reaches.axes empty same)
 
 pub returns-clause-tree : goal.returns-clause-tree
 returns-clause-tree g c = λ t name given sound reaches changed.
     let none = c.in_default.ensures.allowed t name given sound reaches in
     let empty = had_none t name c.args.place given g.row.D c.args.objects.now reaches none in
     let same = made_of t name c.args.place given g.row.D c.args.objects.now reaches none in
-    made_so _ c.fill.result c.change_of.result c.change_of.ensures (c.fill.ensures.tree t name (with_objects (layer_at t name) given).objects sound reaches.finds reaches.axes empty same)
+    made_so _ c.fill.result c.change_of.result c.change_of.ensures
+    (c.fill.ensures.tree t name (with_objects (layer_at t name) given).objects sound reaches.finds
+    reaches.axes empty same)
 
 pub returns-clause-same : goal.returns-clause-same
 returns-clause-same g c = λ t name given sound reaches unchanged.
     let none = c.in_default.ensures.allowed t name given sound reaches in
-    let some : 0 < length c.args.objects.now = grind (arith, nat_tests, c.is_empty.ensures, c.if-is_empty.false) in
-    absurd (let no = sym (some_change t name c.args.place given g.row.D c.args.objects.now reaches none some) ∙ unchanged in cc)
+    let some : 0 < length c.args.objects.now =
+    grind (arith, nat_tests, c.is_empty.ensures, c.if-is_empty.false) in
+    absurd (let no = sym (some_change t name c.args.place given g.row.D c.args.objects.now reaches none some)
+    ∙ unchanged in cc)

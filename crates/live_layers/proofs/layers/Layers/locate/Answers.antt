@@ -13,7 +13,8 @@ returns-clause-dims g c =
     let items = kept.records.items in
     let place = c.args.place in
     let r = c.index-deref-place.result in
-    let is : r ≡ get_or items place r = c.index-deref-place.is ∙ ap (λ (xs : List LayerRecord). get_or xs place r) c.deref.ensures.0 in
+    let is : r ≡ get_or items place r = c.index-deref-place.is
+    ∙ ap (λ (xs : List LayerRecord). get_or xs place r) c.deref.ensures.0 in
     dims_fit items place r is (omega (arith, c.requires, length-map items record_of)) kept.are_layers
 
 pub returns-clause-fanout : goal.returns-clause-fanout
@@ -22,7 +23,8 @@ returns-clause-fanout g c =
     let items = kept.records.items in
     let place = c.args.place in
     let r = c.index-deref-place.result in
-    let is : r ≡ get_or items place r = c.index-deref-place.is ∙ ap (λ (xs : List LayerRecord). get_or xs place r) c.deref.ensures.0 in
+    let is : r ≡ get_or items place r = c.index-deref-place.is
+    ∙ ap (λ (xs : List LayerRecord). get_or xs place r) c.deref.ensures.0 in
     fanout_fits items place r is (omega (arith, c.requires, length-map items record_of)) kept.are_layers
 
 pub returns-clause-root : goal.returns-clause-root
@@ -31,7 +33,8 @@ returns-clause-root g c =
     let items = kept.records.items in
     let place = c.args.place in
     let r = c.index-deref-place.result in
-    let is : r ≡ get_or items place r = c.index-deref-place.is ∙ ap (λ (xs : List LayerRecord). get_or xs place r) c.deref.ensures.0 in
+    let is : r ≡ get_or items place r = c.index-deref-place.is
+    ∙ ap (λ (xs : List LayerRecord). get_or xs place r) c.deref.ensures.0 in
     can_be_root items place r is (omega (arith, c.requires, length-map items record_of)) kept.are_layers
 
 pub returns-clause-located : goal.returns-clause-located
@@ -39,7 +42,8 @@ returns-clause-located g c = λ t name sound finds.
     let kept = c.args.self.now in
     let place = c.args.place in
     let r = c.index-deref-place.result in
-    let is : r ≡ get_or kept.records.items place r = c.index-deref-place.is ∙ ap (λ (xs : List LayerRecord). get_or xs place r) c.deref.ensures.0 in
+    let is : r ≡ get_or kept.records.items place r = c.index-deref-place.is
+    ∙ ap (λ (xs : List LayerRecord). get_or xs place r) c.deref.ensures.0 in
     located_here kept t name place sound finds r is
 
 pub returns-clause-few : goal.returns-clause-few
@@ -52,6 +56,9 @@ returns-clause-by_record g c = λ d.
     let items = c.args.self.now.records.items in
     let place = c.args.place in
     let r = c.index-deref-place.result in
-    let is : r ≡ get_or items place r = c.index-deref-place.is ∙ ap (λ (xs : List LayerRecord). get_or xs place r) c.deref.ensures.0 in
-    let row : record_of r ≡ get_or (records_of c.args.self.now.records) place d = ap record_of is ∙ sym (get_or-map record_of items place r d (omega (arith, c.requires, length-map items record_of))) in
+    let is : r ≡ get_or items place r = c.index-deref-place.is
+    ∙ ap (λ (xs : List LayerRecord). get_or xs place r) c.deref.ensures.0 in
+    let row : record_of r ≡ get_or (records_of c.args.self.now.records) place d = ap record_of is
+    ∙ sym (get_or-map record_of items place r d
+    (omega (arith, c.requires, length-map items record_of))) in
     ap located_by row

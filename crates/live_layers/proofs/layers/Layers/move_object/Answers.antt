@@ -12,19 +12,32 @@ returns-in-Err-clause-change g c =
     let name = c.args.name.now in
     let id = c.args.id in
     let bounds = c.args.bounds in
-    refused_by c.args.self.now (Move name id bounds) c.in-Err.refusal g.met.B.BlockDevice.only_now c.in-Err.ensures.cause
-    (λ t sound. inl (c.in-Err.ensures.unnamed t sound (box_refusals (layer_at t name).dims bounds (missing_refusals (layer_at t name) id))))
+    refused_by c.args.self.now (Move name id bounds) c.in-Err.refusal g.met.B.BlockDevice.only_now
+    c.in-Err.ensures.cause
+    (λ t sound. inl
+    (c.in-Err.ensures.unnamed t sound
+    (box_refusals (layer_at t name).dims bounds (missing_refusals (layer_at t name) id))))
 
 pub returns-in-Two-clause-change : goal.returns-in-Two-clause-change
 returns-in-Two-clause-change g c = record {
   keeps = c.move_box.ensures.keeps;
   lawful = λ t sound. c.move_box.ensures.change t c.args.name.now c.args.bounds sound
-      (record { good = c.in-Ok.ensures.good; finds = c.in-Ok.ensures.found t sound; axes = ap dims_of c.in-Two.is; given = ap given_bounds c.in-Two.is });
+      (record {
+        good = c.in-Ok.ensures.good;
+        finds = c.in-Ok.ensures.found t sound;
+        axes = ap dims_of c.in-Two.is;
+        given = ap given_bounds c.in-Two.is;
+      });
 }
 
 pub returns-in-Three-clause-change : goal.returns-in-Three-clause-change
 returns-in-Three-clause-change g c = record {
   keeps = c.move_box-in-Three.ensures.keeps;
   lawful = λ t sound. c.move_box-in-Three.ensures.change t c.args.name.now c.args.bounds sound
-      (record { good = c.in-Ok.ensures.good; finds = c.in-Ok.ensures.found t sound; axes = ap dims_of c.in-Three.is; given = ap given_bounds c.in-Three.is });
+      (record {
+        good = c.in-Ok.ensures.good;
+        finds = c.in-Ok.ensures.found t sound;
+        axes = ap dims_of c.in-Three.is;
+        given = ap given_bounds c.in-Three.is;
+      });
 }

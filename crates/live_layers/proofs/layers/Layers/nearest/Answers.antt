@@ -1,4 +1,5 @@
--- A name that no layer has is refused as the table refuses it, and the layer that is named answers for the table.
+-- A name that no layer has is refused as the table refuses it, and the layer that is named answers for the
+-- table.
 use Rattle.std.proofs.Common.{◌∙◌, inl, subst, sym}
 use Rattle.std.specs.Prelude.{OnOk}
 use Rattle.nearest.specs.Nearest.{is_searched}
@@ -19,8 +20,13 @@ pub returns-in_err-place-clause-answered : goal.returns-in_err-place-clause-answ
 returns-in_err-place-clause-answered g c = λ t sound.
     let name = c.args.name.now in
     let k = c.args.k in
-    let r = c.in_err-place.field-0.0 in
-    (sound, inl (err_distances c.from_residual.result r c.from_residual.ensures.1 ∙ refused t (Nearest name k c.args.point) r (c.in_err-place.ensures.unnamed t sound (nearest_refusals (layer_at t name).dims k c.args.point))))
+    let r = c.in_err-place.field-0.0 in (
+      sound,
+      inl
+          (err_distances c.from_residual.result r c.from_residual.ensures.1
+          ∙ refused t (Nearest name k c.args.point) r
+          (c.in_err-place.ensures.unnamed t sound (nearest_refusals (layer_at t name).dims k c.args.point))),
+    )
 
 pub returns-in-Two-clause-answered : goal.returns-in-Two-clause-answered
 returns-in-Two-clause-answered g c = λ t sound.
@@ -28,15 +34,24 @@ returns-in-Two-clause-answered g c = λ t sound.
     let k = c.args.k in
     let located = c.locate-located.ensures.located t name sound (c.in_ok-place.ensures.found t sound) in
     let p = raw.Two c.in-Two.point in
-    subst (λ (point : RawPoint). IsAnswered c.args.self.now c.nearest_to.new.self t (Nearest name k point) (distances_answer c.nearest_to.result)) (sym c.in-Two.is)
-    (c.nearest_to.ensures.keeps.sound t sound, replied (Rose c.args.self.now c.nearest_to.new.self) t (Nearest name k p) (first_refusal (nearest_refusals (layer_at t name).dims k p)) (distances_answer c.nearest_to.result) (c.in_ok-place.ensures.named t sound (nearest_refusals (layer_at t name).dims k p)) (c.nearest_to.ensures.replied t name sound located))
+    subst (λ (point : RawPoint). IsAnswered c.args.self.now c.nearest_to.new.self t (Nearest name k point)
+    (distances_answer c.nearest_to.result)) (sym c.in-Two.is) (
+      c.nearest_to.ensures.keeps.sound t sound,
+      replied (Rose c.args.self.now c.nearest_to.new.self) t (Nearest name k p)
+          (first_refusal (nearest_refusals (layer_at t name).dims k p)) (distances_answer c.nearest_to.result)
+          (c.in_ok-place.ensures.named t sound (nearest_refusals (layer_at t name).dims k p))
+          (c.nearest_to.ensures.replied t name sound located),
+    )
 
 pub returns-in-Two-clause-looks : goal.returns-in-Two-clause-looks
 returns-in-Two-clause-looks g c = λ t sound.
     let name = c.args.name.now in
     let k = c.args.k in
     let located = c.locate-located.ensures.located t name sound (c.in_ok-place.ensures.found t sound) in
-    subst (λ (p : RawPoint). OnOk c.nearest_to.result (LooksAtTree c.args.self.now c.nearest_to.new.self name (admitted (is_searched (point_dims p) k (given_point p) (nearest_rows (layer_at t name) k p))))) (sym c.in-Two.is)
+    subst (λ (p : RawPoint). OnOk c.nearest_to.result
+    (LooksAtTree c.args.self.now c.nearest_to.new.self name
+    (admitted (is_searched (point_dims p) k (given_point p) (nearest_rows (layer_at t name) k p)))))
+    (sym c.in-Two.is)
     (c.nearest_to.ensures.looks t name sound located)
 
 pub returns-in-Three-clause-answered : goal.returns-in-Three-clause-answered
@@ -45,13 +60,23 @@ returns-in-Three-clause-answered g c = λ t sound.
     let k = c.args.k in
     let located = c.locate-located.ensures.located t name sound (c.in_ok-place.ensures.found t sound) in
     let p = raw.Three c.in-Three.point in
-    subst (λ (point : RawPoint). IsAnswered c.args.self.now c.nearest_to-in-Three.new.self t (Nearest name k point) (distances_answer c.nearest_to-in-Three.result)) (sym c.in-Three.is)
-    (c.nearest_to-in-Three.ensures.keeps.sound t sound, replied (Rose c.args.self.now c.nearest_to-in-Three.new.self) t (Nearest name k p) (first_refusal (nearest_refusals (layer_at t name).dims k p)) (distances_answer c.nearest_to-in-Three.result) (c.in_ok-place.ensures.named t sound (nearest_refusals (layer_at t name).dims k p)) (c.nearest_to-in-Three.ensures.replied t name sound located))
+    subst (λ (point : RawPoint). IsAnswered c.args.self.now c.nearest_to-in-Three.new.self t
+    (Nearest name k point) (distances_answer c.nearest_to-in-Three.result)) (sym c.in-Three.is) (
+      c.nearest_to-in-Three.ensures.keeps.sound t sound,
+      replied (Rose c.args.self.now c.nearest_to-in-Three.new.self) t (Nearest name k p)
+          (first_refusal (nearest_refusals (layer_at t name).dims k p))
+          (distances_answer c.nearest_to-in-Three.result)
+          (c.in_ok-place.ensures.named t sound (nearest_refusals (layer_at t name).dims k p))
+          (c.nearest_to-in-Three.ensures.replied t name sound located),
+    )
 
 pub returns-in-Three-clause-looks : goal.returns-in-Three-clause-looks
 returns-in-Three-clause-looks g c = λ t sound.
     let name = c.args.name.now in
     let k = c.args.k in
     let located = c.locate-located.ensures.located t name sound (c.in_ok-place.ensures.found t sound) in
-    subst (λ (p : RawPoint). OnOk c.nearest_to-in-Three.result (LooksAtTree c.args.self.now c.nearest_to-in-Three.new.self name (admitted (is_searched (point_dims p) k (given_point p) (nearest_rows (layer_at t name) k p))))) (sym c.in-Three.is)
+    subst (λ (p : RawPoint). OnOk c.nearest_to-in-Three.result
+    (LooksAtTree c.args.self.now c.nearest_to-in-Three.new.self name
+    (admitted (is_searched (point_dims p) k (given_point p) (nearest_rows (layer_at t name) k p)))))
+    (sym c.in-Three.is)
     (c.nearest_to-in-Three.ensures.looks t name sound located)

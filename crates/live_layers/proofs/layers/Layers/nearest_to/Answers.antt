@@ -31,11 +31,14 @@ returns-in-Ok-clause-replied g c = λ t name sound located.
     let at = stands_with old t name there located g.row.D axes in
     let nearest : c.in-Ok.rows.items ≡ take c.args.k (by_distance layer.dims point objects) =
     c.in-Ok.ensures.rows sound.map.honest located.layer.tree there.fanout at.tree
-    ∙ nearest_are_objects g.row.D there.fanout (pages old.cache) there.root there.directory located.layer layer.objects c.args.k point at
+    ∙ nearest_are_objects g.row.D there.fanout (pages old.cache) there.root there.directory located.layer
+    layer.objects c.args.k point at
     ∙ ap (λ (d : ℕ). take c.args.k (by_distance d point objects)) (sym axes ∙ sym located.dims) in
     let right = tested_same g.row.D layer.dims there.dims located.dims axes in
     let good = good_count g.row.D c.args.k layer right (sym c.is_count.ensures ∙ c.if-not-is_count.false) in
-    inl (ap Distances nearest ∙ ap (λ (o : Option Refusal). refused_or o (Distances (take c.args.k (by_distance layer.dims point objects)))) (sym good))
+    inl (ap Distances nearest
+    ∙ ap (λ (o : Option Refusal). refused_or o
+    (Distances (take c.args.k (by_distance layer.dims point objects)))) (sym good))
 
 pub returns-in-Ok-clause-looks : goal.returns-in-Ok-clause-looks
 returns-in-Ok-clause-looks g c = λ t name sound located.
@@ -47,14 +50,17 @@ returns-in-Ok-clause-looks g c = λ t name sound located.
     let axes : there.dims ≡ g.row.D = sym c.from.ensures ∙ c.if-from.false in
     let at = stands_with old t name there located g.row.D axes in
     let tree = located.layer.tree in
-    let nearest : nearest_rows g.row.D c.args.k point tree ≡ take c.args.k (by_distance layer.dims point objects) =
-    nearest_are_objects g.row.D there.fanout (pages old.cache) there.root there.directory located.layer layer.objects c.args.k point at
+    let nearest : nearest_rows g.row.D c.args.k point tree ≡ take c.args.k
+    (by_distance layer.dims point objects) =
+    nearest_are_objects g.row.D there.fanout (pages old.cache) there.root there.directory located.layer
+    layer.objects c.args.k point at
     ∙ ap (λ (d : ℕ). take c.args.k (by_distance d point objects)) (sym axes ∙ sym located.dims) in
     record {
       tree = tree;
       is_tree = located.its_tree;
       looks = c.in-Ok.ensures.looks sound.map.honest tree there.fanout at.tree
-          ∙ ap (λ (rows : List (ℕ × ℕ)). counted (looks_of old.cache) (admitted (is_searched g.row.D c.args.k point rows) tree)) nearest;
+          ∙ ap (λ (rows : List (ℕ × ℕ)). counted (looks_of old.cache)
+          (admitted (is_searched g.row.D c.args.k point rows) tree)) nearest;
     }
 
 pub returns-in-Err-clause-replied : goal.returns-in-Err-clause-replied
@@ -63,13 +69,22 @@ returns-in-Err-clause-replied g c = λ t name sound located.
     let axes : there.dims ≡ g.row.D = sym c.from.ensures ∙ c.if-from.false in
     let at = stands_with c.args.self.now t name there located g.row.D axes in
     let layer = layer_at t name in
-    let rose = HasRisen (g.B.BlockDevice.faults (device_of c.args.self.now.cache)) (g.B.BlockDevice.faults (device_of c.nearest.new.cache)) in
-    reply_failed rose (first_refusal ((not (g.row.D == layer.dims), refusal.WrongDims) ∷ (not (is_count c.args.k), refusal.BadCount) ∷ []))
-    (Distances (take c.args.k (by_distance layer.dims c.args.point.now (entries layer.objects)))) _ _ (device_refuses rose c.in-Err.fault (c.in-Err.ensures.stands sound.map.honest located.layer.tree there.fanout at.tree) (risen_of _ _ c.in-Err.fault c.in-Err.ensures.asks.faults))
+    let rose =
+    HasRisen (g.B.BlockDevice.faults (device_of c.args.self.now.cache))
+    (g.B.BlockDevice.faults (device_of c.nearest.new.cache)) in
+    reply_failed rose
+    (first_refusal
+    ((not (g.row.D == layer.dims), refusal.WrongDims) ∷ (not (is_count c.args.k), refusal.BadCount) ∷ []))
+    (Distances (take c.args.k (by_distance layer.dims c.args.point.now (entries layer.objects)))) _ _
+    (device_refuses rose c.in-Err.fault
+    (c.in-Err.ensures.stands sound.map.honest located.layer.tree there.fanout at.tree)
+    (risen_of _ _ c.in-Err.fault c.in-Err.ensures.asks.faults))
     (ap Refused c.as_refusal.ensures)
 
 pub returns-in-Ok-clause-keeps : goal.returns-in-Ok-clause-keeps
 returns-in-Ok-clause-keeps g c = asks_and_answers c.args.self.now _ (refl, refl, refl) c.in-Ok.ensures.asks
 
 pub returns-in-Err-clause-keeps : goal.returns-in-Err-clause-keeps
-returns-in-Err-clause-keeps g c = asks_and_fails c.args.self.now _ c.in-Err.fault c.as_refusal.ensures (refl, refl, refl) c.in-Err.ensures.asks
+returns-in-Err-clause-keeps g c =
+    asks_and_fails c.args.self.now _ c.in-Err.fault c.as_refusal.ensures (refl, refl, refl)
+    c.in-Err.ensures.asks

@@ -7,4 +7,9 @@ use Rattle.live_layers.proofs.layers.Layers.note.Goals as goal
 pub invariant_of-self : goal.invariant_of-self
 invariant_of-self g c =
     let d = record_of no_record in
-    record { are_layers = still_layers (records_of c.args.self.now.records) (records_of c.note_tree.new.records) c.args.place c.args.root c.args.count d c.requires.within c.requires.root (c.note_tree.ensures d) c.args.self.now.are_layers }
+    record {
+      are_layers =
+          still_layers (records_of c.args.self.now.records) (records_of c.note_tree.new.records) c.args.place
+          c.args.root c.args.count d c.requires.within c.requires.root (c.note_tree.ensures d)
+          c.args.self.now.are_layers;
+    }

@@ -18,22 +18,35 @@ returns-in-Ok-None-clause-replied g c = λ t name sound located.
     let there = c.args.located.now in
     let at = stands_with c.args.self.now t name there located g.row.D c.requires.axes in
     let found = c.in-Ok-None.ensures.found sound.map.honest located.layer.ids at.directory_is at.ids in
-    object_missing (HasRisen (g.B.BlockDevice.faults (device_of c.args.self.now.cache)) (g.B.BlockDevice.faults (device_of c.get.new.cache))) (layer_at t name) c.args.id (ap (λ (o : Objects). map.get o c.args.id) (sym at.table) ∙ sym found ∙ c.in-Ok-None.field-0-is)
+    object_missing
+    (HasRisen (g.B.BlockDevice.faults (device_of c.args.self.now.cache))
+    (g.B.BlockDevice.faults (device_of c.get.new.cache))) (layer_at t name) c.args.id
+    (ap (λ (o : Objects). map.get o c.args.id) (sym at.table) ∙ sym found ∙ c.in-Ok-None.field-0-is)
 
 pub returns-in-Err-clause-replied : goal.returns-in-Err-clause-replied
 returns-in-Err-clause-replied g c = λ t name sound located.
     let there = c.args.located.now in
     let at = stands_with c.args.self.now t name there located g.row.D c.requires.axes in
     let layer = layer_at t name in
-    let rose = HasRisen (g.B.BlockDevice.faults (device_of c.args.self.now.cache)) (g.B.BlockDevice.faults (device_of c.get.new.cache)) in
-    reply_failed rose (first_refusal (missing_refusals layer c.args.id)) (Boxes (object_row layer c.args.id ∷ [])) _ _ (device_refuses rose c.in-Err.fault (c.in-Err.ensures.stands sound.map.honest located.layer.ids at.directory_is at.ids) (risen_of _ _ c.in-Err.fault c.in-Err.ensures.asks.faults))
+    let rose =
+    HasRisen (g.B.BlockDevice.faults (device_of c.args.self.now.cache))
+    (g.B.BlockDevice.faults (device_of c.get.new.cache)) in
+    reply_failed rose (first_refusal (missing_refusals layer c.args.id))
+    (Boxes (object_row layer c.args.id ∷ [])) _ _
+    (device_refuses rose c.in-Err.fault
+    (c.in-Err.ensures.stands sound.map.honest located.layer.ids at.directory_is at.ids)
+    (risen_of _ _ c.in-Err.fault c.in-Err.ensures.asks.faults))
     (ap Refused c.as_refusal.ensures)
 
 pub returns-in-Ok-Some-clause-keeps : goal.returns-in-Ok-Some-clause-keeps
-returns-in-Ok-Some-clause-keeps g c = asks_and_answers c.args.self.now _ (refl, refl, refl) c.in-Ok-Some.ensures.asks
+returns-in-Ok-Some-clause-keeps g c =
+    asks_and_answers c.args.self.now _ (refl, refl, refl) c.in-Ok-Some.ensures.asks
 
 pub returns-in-Ok-None-clause-keeps : goal.returns-in-Ok-None-clause-keeps
-returns-in-Ok-None-clause-keeps g c = asks_and_refuses c.args.self.now _ refl (refl, refl, refl) c.in-Ok-None.ensures.asks
+returns-in-Ok-None-clause-keeps g c =
+    asks_and_refuses c.args.self.now _ refl (refl, refl, refl) c.in-Ok-None.ensures.asks
 
 pub returns-in-Err-clause-keeps : goal.returns-in-Err-clause-keeps
-returns-in-Err-clause-keeps g c = asks_and_fails c.args.self.now _ c.in-Err.fault c.as_refusal.ensures (refl, refl, refl) c.in-Err.ensures.asks
+returns-in-Err-clause-keeps g c =
+    asks_and_fails c.args.self.now _ c.in-Err.fault c.as_refusal.ensures (refl, refl, refl)
+    c.in-Err.ensures.asks

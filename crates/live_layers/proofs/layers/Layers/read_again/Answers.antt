@@ -11,39 +11,56 @@ use Rattle.live_layers.proofs.KeepLemmas.{kept_catalog, sound_kept}
 use Rattle.live_layers.proofs.layers.Layers.read_again.Goals as goal
 
 pub returns-in_err-check_again-clause-sound : goal.returns-in_err-check_again-clause-sound
-returns-in_err-check_again-clause-sound g c = λ t sound written. sound_kept c.args.self.now _ t (c.check_again.ensures.map sound.map.honest) refl refl (λ w. w) sound
+returns-in_err-check_again-clause-sound g c =
+    λ t sound written. sound_kept c.args.self.now _ t (c.check_again.ensures.map sound.map.honest) refl refl
+    (λ w. w) sound
 
 pub returns-in_err-records-clause-sound : goal.returns-in_err-records-clause-sound
 returns-in_err-records-clause-sound g c = λ t sound written.
     let old = c.args.self.now in
-    let keeps = the_map_is_kept_in_turn old.cache c.check_again.new.self c.read_catalog.new.cache c.check_again.ensures.gate.honest.0 (c.check_again.ensures.map sound.map.honest) c.read_catalog.ensures.asks.map in
+    let keeps =
+    the_map_is_kept_in_turn old.cache c.check_again.new.self c.read_catalog.new.cache
+    c.check_again.ensures.gate.honest.0 (c.check_again.ensures.map sound.map.honest)
+    c.read_catalog.ensures.asks.map in
     sound_kept old _ t keeps refl refl (λ w. w) sound
 
 pub invariant_of-self-2 : goal.invariant_of-self-2
-invariant_of-self-2 g c = record { are_layers = layers_may_be (next_of c.check_again.new.self) (records_of c.in_ok-records.records) (numbers_are_few c.check_again.new.self).1 c.in_ok-records.ensures.good }
+invariant_of-self-2 g c =
+    record {
+      are_layers =
+          layers_may_be (next_of c.check_again.new.self) (records_of c.in_ok-records.records)
+          (numbers_are_few c.check_again.new.self).1 c.in_ok-records.ensures.good;
+    }
 
 pub returns-clause-sound : goal.returns-clause-sound
 returns-clause-sound g c = λ t sound written.
     let old = c.args.self.now in
     let mid = c.check_again.new.self in
     let checked = c.check_again.ensures.map sound.map.honest in
-    let keeps = the_map_is_kept_in_turn old.cache mid c.read_catalog.new.cache c.check_again.ensures.gate.honest.0 checked c.read_catalog.ensures.asks.map in
+    let keeps =
+    the_map_is_kept_in_turn old.cache mid c.read_catalog.new.cache c.check_again.ensures.gate.honest.0
+    checked c.read_catalog.ensures.asks.map in
     read_sound old _ t sound written keeps
-    (catalog_before old.cache mid (records_of c.in_ok-records.records) sound.map.honest checked (c.in_ok-records.ensures.catalog (c.check_again.ensures.gate.honest.0 sound.map.honest)))
-    (c.count_of-self.ensures ∙ ap (λ (xs : List LayerRecord). objects_named (map record_of xs)) c.deref.ensures.0)
+    (catalog_before old.cache mid (records_of c.in_ok-records.records) sound.map.honest checked
+    (c.in_ok-records.ensures.catalog (c.check_again.ensures.gate.honest.0 sound.map.honest)))
+    (c.count_of-self.ensures
+    ∙ ap (λ (xs : List LayerRecord). objects_named (map record_of xs)) c.deref.ensures.0)
 
 pub returns-in_err-check_again-clause-trees : goal.returns-in_err-check_again-clause-trees
 returns-in_err-check_again-clause-trees g c = λ t sound written.
     let old = c.args.self.now in
     let rs = records_of old.records in
-    trees_kept old.cache c.check_again.new.self rs rs sound.map.honest (c.check_again.ensures.map sound.map.honest) refl
+    trees_kept old.cache c.check_again.new.self rs rs sound.map.honest
+    (c.check_again.ensures.map sound.map.honest) refl
 
 pub returns-in_err-records-clause-trees : goal.returns-in_err-records-clause-trees
 returns-in_err-records-clause-trees g c = λ t sound written.
     let old = c.args.self.now in
     let rs = records_of old.records in
     trees_kept old.cache c.read_catalog.new.cache rs rs sound.map.honest
-    (the_map_is_kept_in_turn old.cache c.check_again.new.self c.read_catalog.new.cache c.check_again.ensures.gate.honest.0 (c.check_again.ensures.map sound.map.honest) c.read_catalog.ensures.asks.map) refl
+    (the_map_is_kept_in_turn old.cache c.check_again.new.self c.read_catalog.new.cache
+    c.check_again.ensures.gate.honest.0 (c.check_again.ensures.map sound.map.honest)
+    c.read_catalog.ensures.asks.map) refl
 
 pub returns-clause-trees : goal.returns-clause-trees
 returns-clause-trees g c = λ t sound written.
@@ -51,18 +68,25 @@ returns-clause-trees g c = λ t sound written.
     let mid = c.check_again.new.self in
     let rs = records_of c.in_ok-records.records in
     let checked = c.check_again.ensures.map sound.map.honest in
-    let keeps = the_map_is_kept_in_turn old.cache mid c.read_catalog.new.cache c.check_again.ensures.gate.honest.0 checked c.read_catalog.ensures.asks.map in
-    trees_read_again old c.read_catalog.new.cache rs t sound written keeps (catalog_before old.cache mid rs sound.map.honest checked (c.in_ok-records.ensures.catalog (c.check_again.ensures.gate.honest.0 sound.map.honest)))
+    let keeps =
+    the_map_is_kept_in_turn old.cache mid c.read_catalog.new.cache c.check_again.ensures.gate.honest.0
+    checked c.read_catalog.ensures.asks.map in
+    trees_read_again old c.read_catalog.new.cache rs t sound written keeps
+    (catalog_before old.cache mid rs sound.map.honest checked
+    (c.in_ok-records.ensures.catalog (c.check_again.ensures.gate.honest.0 sound.map.honest)))
 
 pub returns-in_err-records-clause-map : goal.returns-in_err-records-clause-map
 returns-in_err-records-clause-map g c = λ honest.
-    the_map_is_kept_in_turn c.args.self.now.cache c.check_again.new.self c.read_catalog.new.cache c.check_again.ensures.gate.honest.0 (c.check_again.ensures.map honest) c.read_catalog.ensures.asks.map
+    the_map_is_kept_in_turn c.args.self.now.cache c.check_again.new.self c.read_catalog.new.cache
+    c.check_again.ensures.gate.honest.0 (c.check_again.ensures.map honest) c.read_catalog.ensures.asks.map
 
 pub returns-clause-map : goal.returns-clause-map
 returns-clause-map g c = λ honest.
-    the_map_is_kept_in_turn c.args.self.now.cache c.check_again.new.self c.read_catalog.new.cache c.check_again.ensures.gate.honest.0 (c.check_again.ensures.map honest) c.read_catalog.ensures.asks.map
+    the_map_is_kept_in_turn c.args.self.now.cache c.check_again.new.self c.read_catalog.new.cache
+    c.check_again.ensures.gate.honest.0 (c.check_again.ensures.map honest) c.read_catalog.ensures.asks.map
 
 pub returns-clause-read : goal.returns-clause-read
 returns-clause-read g c = λ honest.
     let there = c.check_again.ensures.gate.honest.0 honest in
-    kept_catalog c.check_again.new.self c.read_catalog.new.cache (records_of c.in_ok-records.records) there c.read_catalog.ensures.asks.map (c.in_ok-records.ensures.catalog there)
+    kept_catalog c.check_again.new.self c.read_catalog.new.cache (records_of c.in_ok-records.records) there
+    c.read_catalog.ensures.asks.map (c.in_ok-records.ensures.catalog there)

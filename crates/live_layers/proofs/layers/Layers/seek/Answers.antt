@@ -17,7 +17,8 @@ returns-in-Ok-clause-rows g c = λ t name sound located.
     let there = c.args.located.now in
     let old = c.args.self.now in
     let at = stands_with old t name there located g.row.D c.requires.axes in
-    ranges_answer_objects g.row.D there.fanout (pages old.cache) there.root there.directory located.layer (layer_at t name).objects (seeks c.args.query.now) c.args.tag c.in-Ok.rows.items at
+    ranges_answer_objects g.row.D there.fanout (pages old.cache) there.root there.directory located.layer
+    (layer_at t name).objects (seeks c.args.query.now) c.args.tag c.in-Ok.rows.items at
     (c.in-Ok.ensures.rows sound.map.honest located.layer.tree there.fanout at.tree)
     ∙ same_tags g.row.D c.args.query.now c.args.tag (layer_at t name).objects
 
@@ -25,7 +26,11 @@ pub returns-in-Ok-clause-looks : goal.returns-in-Ok-clause-looks
 returns-in-Ok-clause-looks g c = λ t name sound located.
     let there = c.args.located.now in
     let at = stands_with c.args.self.now t name there located g.row.D c.requires.axes in
-    record { tree = located.layer.tree; is_tree = located.its_tree; looks = c.in-Ok.ensures.looks sound.map.honest located.layer.tree there.fanout at.tree }
+    record {
+      tree = located.layer.tree;
+      is_tree = located.its_tree;
+      looks = c.in-Ok.ensures.looks sound.map.honest located.layer.tree there.fanout at.tree;
+    }
 
 pub returns-in-Err-clause-fault : goal.returns-in-Err-clause-fault
 returns-in-Err-clause-fault g c = λ t name sound located.
@@ -33,4 +38,6 @@ returns-in-Err-clause-fault g c = λ t name sound located.
     let at = stands_with c.args.self.now t name there located g.row.D c.requires.axes in
     let rose = Rose c.args.self.now c.seek_in_tree.new.self in
     subst (λ (x : Refusal). IsFault rose x) (sym c.as_refusal.ensures)
-    (device_refuses rose c.in-Err.fault (c.in-Err.ensures.stands sound.map.honest located.layer.tree there.fanout at.tree) (risen_of _ _ c.in-Err.fault c.in-Err.ensures.asks.faults))
+    (device_refuses rose c.in-Err.fault
+    (c.in-Err.ensures.stands sound.map.honest located.layer.tree there.fanout at.tree)
+    (risen_of _ _ c.in-Err.fault c.in-Err.ensures.asks.faults))

@@ -11,11 +11,14 @@ use Rattle.live_layers.proofs.layers.Layers.take_layer.Goals as goal
 
 pub returns-in_err-begin-clause-begins : goal.returns-in_err-begin-clause-begins
 returns-in_err-begin-clause-begins g c =
-    not_opened c.args.self.now c.begin.new.self c.in_err-begin.field-0.0 c.from_residual.result c.from_residual.ensures.1 c.in_err-begin.ensures.begins c.begin.ensures.sound c.begin.ensures.keeps
+    not_opened c.args.self.now c.begin.new.self c.in_err-begin.field-0.0 c.from_residual.result
+    c.from_residual.ensures.1 c.in_err-begin.ensures.begins c.begin.ensures.sound c.begin.ensures.keeps
 
 pub returns-in_err-free_pages-clause-begins : goal.returns-in_err-free_pages-clause-begins
 returns-in_err-free_pages-clause-begins g c =
-    broke_behind c.args.self.now c.begin.new.self _ c.in_err-free_pages.field-0.0 c.from_residual-in_err-free_pages.result c.from_residual-in_err-free_pages.ensures.1 (refl, refl, refl) c.in_ok-begin.ensures.begins c.begin.ensures.sound c.begin.ensures.keeps
+    broke_behind c.args.self.now c.begin.new.self _ c.in_err-free_pages.field-0.0
+    c.from_residual-in_err-free_pages.result c.from_residual-in_err-free_pages.ensures.1
+    (refl, refl, refl) c.in_ok-begin.ensures.begins c.begin.ensures.sound c.begin.ensures.keeps
     c.in_err-free_pages.ensures.alters
 
 pub returns-in_err-free_pages-clause-faults : goal.returns-in_err-free_pages-clause-faults
@@ -24,15 +27,23 @@ returns-in_err-free_pages-clause-faults g c = λ t name sound finds.
     let before = c.begin.ensures.sound t sound in
     let located = c.locate-located.result in
     let dims = (c.locate-located.ensures.located t name before finds).dims in
-    let at = stands_at kept t name c.args.place before finds located c.locate-located.ensures.by_record located.dims dims in
-    the_err c.from_residual-in_err-free_pages.result c.in_err-free_pages.field-0.0 _ c.from_residual-in_err-free_pages.ensures.1
-    (c.in_err-free_pages.ensures.faults before.map (reading kept t name c.args.place before finds).pages located.fanout (layer_at t name).objects at)
+    let at =
+    stands_at kept t name c.args.place before finds located c.locate-located.ensures.by_record
+    located.dims dims in
+    the_err c.from_residual-in_err-free_pages.result c.in_err-free_pages.field-0.0 _
+    c.from_residual-in_err-free_pages.ensures.1
+    (c.in_err-free_pages.ensures.faults before.map (reading kept t name c.args.place before finds).pages
+    located.fanout (layer_at t name).objects at)
 
 pub invariant_of-self-2 : goal.invariant_of-self-2
 invariant_of-self-2 g c =
     let kept = c.begin.new.self in
     let records = taken_out kept.records.items c.remove.new.self.items c.args.place c.remove.ensures.items in
-    record { are_layers = one_less_may_be (records_of kept.records) (records_of c.remove.new.self) c.args.place (omega (arith, ap length c.begin.ensures.keeps.records, c.requires.within)) records kept.are_layers }
+    record {
+      are_layers =
+          one_less_may_be (records_of kept.records) (records_of c.remove.new.self) c.args.place
+          (omega (arith, ap length c.begin.ensures.keeps.records, c.requires.within)) records kept.are_layers;
+    }
 
 pub returns-clause-taken : goal.returns-clause-taken
 returns-clause-taken g c = λ t name sound finds.
@@ -40,12 +51,18 @@ returns-clause-taken g c = λ t name sound finds.
     let before = c.begin.ensures.sound t sound in
     let located = c.locate-located.result in
     let dims = (c.locate-located.ensures.located t name before finds).dims in
-    let at = stands_at kept t name c.args.place before finds located c.locate-located.ensures.by_record located.dims dims in
+    let at =
+    stands_at kept t name c.args.place before finds located c.locate-located.ensures.by_record
+    located.dims dims in
     let l = (reading kept t name c.args.place before finds).pages in
     let objects = (layer_at t name).objects in
     let records = taken_out kept.records.items c.remove.new.self.items c.args.place c.remove.ensures.items in
-    sound_less kept _ t name c.args.place before finds (c.in_ok-free_pages.ensures.freed before.map l located.fanout objects at) c.in_ok-free_pages.ensures.alters.changes.next records c.count_at-count.result c.count_at-count.ensures
-    (c.in_ok-free_pages.ensures.sound before.map l located.fanout objects at) c.saturating_sub-self.ensures refl
+    sound_less kept _ t name c.args.place before finds
+    (c.in_ok-free_pages.ensures.freed before.map l located.fanout objects at)
+    c.in_ok-free_pages.ensures.alters.changes.next records c.count_at-count.result
+    c.count_at-count.ensures
+    (c.in_ok-free_pages.ensures.sound before.map l located.fanout objects at) c.saturating_sub-self.ensures
+    refl
 
 pub returns-clause-others : goal.returns-clause-others
 returns-clause-others g c = λ t name sound finds.
@@ -53,12 +70,18 @@ returns-clause-others g c = λ t name sound finds.
     let before = c.begin.ensures.sound t sound in
     let located = c.locate-located.result in
     let dims = (c.locate-located.ensures.located t name before finds).dims in
-    let at = stands_at kept t name c.args.place before finds located c.locate-located.ensures.by_record located.dims dims in
+    let at =
+    stands_at kept t name c.args.place before finds located c.locate-located.ensures.by_record
+    located.dims dims in
     let l = (reading kept t name c.args.place before finds).pages in
     let records = taken_out kept.records.items c.remove.new.self.items c.args.place c.remove.ensures.items in
-    keeps_before c.args.self.now kept _ name (c.begin.ensures.keeps.map.pages_stay sound.map.honest) c.begin.ensures.keeps.records
-    (trees_left kept _ t name c.args.place before finds (c.in_ok-free_pages.ensures.freed before.map l located.fanout (layer_at t name).objects at) c.in_ok-free_pages.ensures.alters.changes.next records)
+    keeps_before c.args.self.now kept _ name (c.begin.ensures.keeps.map.pages_stay sound.map.honest)
+    c.begin.ensures.keeps.records
+    (trees_left kept _ t name c.args.place before finds
+    (c.in_ok-free_pages.ensures.freed before.map l located.fanout (layer_at t name).objects at)
+    c.in_ok-free_pages.ensures.alters.changes.next records)
 
 pub returns-clause-begins : goal.returns-clause-begins
 returns-clause-begins g c =
-    made_behind c.args.self.now c.begin.new.self _ c.free_pages.new.cache refl c.in_ok-begin.ensures.begins c.in_ok-free_pages.ensures.alters.changes
+    made_behind c.args.self.now c.begin.new.self _ c.free_pages.new.cache refl c.in_ok-begin.ensures.begins
+    c.in_ok-free_pages.ensures.alters.changes

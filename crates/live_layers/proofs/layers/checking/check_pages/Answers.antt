@@ -13,13 +13,18 @@ use Rattle.live_layers.proofs.layers.checking.check_pages.Goals as goal
 pub returns-in_err-list_layers-clause-stands : goal.returns-in_err-list_layers-clause-stands
 returns-in_err-list_layers-clause-stands g c = λ sound hs rows stand used.
     let asked = c.in_ok-found.ensures.asks in
-    the_err c.from_residual-in_err-list_layers.result c.in_err-list_layers.field-0.0 IsOfDevice c.from_residual-in_err-list_layers.ensures.1
-    (c.in_err-list_layers.ensures.stands (asked.gate.honest.0 sound.honest) hs rows (stand_in (pages c.args.cache.now) (pages c.free_pages.new.self) hs (asked.map.pages_stay sound.honest) stand))
+    the_err c.from_residual-in_err-list_layers.result c.in_err-list_layers.field-0.0 IsOfDevice
+    c.from_residual-in_err-list_layers.ensures.1
+    (c.in_err-list_layers.ensures.stands (asked.gate.honest.0 sound.honest) hs rows
+    (stand_in (pages c.args.cache.now) (pages c.free_pages.new.self) hs
+    (asked.map.pages_stay sound.honest) stand))
 
 pub returns-clause-asks : goal.returns-clause-asks
 returns-clause-asks g c =
-    quiet_asks c.args.cache.now c.list_layers.new.cache c.each_once.result (if_err c.each_once.result (λ f d. inr d) c.each_once.ensures.damage)
-    (asks_in_turn c.args.cache.now c.free_pages.new.self c.list_layers.new.cache None c.in_ok-found.ensures.asks c.in_ok-list_layers.ensures.asks)
+    quiet_asks c.args.cache.now c.list_layers.new.cache c.each_once.result
+    (if_err c.each_once.result (λ f d. inr d) c.each_once.ensures.damage)
+    (asks_in_turn c.args.cache.now c.free_pages.new.self c.list_layers.new.cache None
+    c.in_ok-found.ensures.asks c.in_ok-list_layers.ensures.asks)
 
 pub returns-clause-found : goal.returns-clause-found
 returns-clause-found g c = λ honest.
@@ -29,10 +34,18 @@ returns-clause-found g c = λ honest.
     let records = map record_of c.args.records.now in
     let before : List ℕ = c.push.new.self.items in
     let pushed : before ≡ c.in_ok-found.found.items ++ 2 ∷ [] = c.in_ok-push.ensures.items in
-    let begun : before ≡ free_of old ++ 2 ∷ [] = pushed ∙ ap (λ (xs : List ℕ). xs ++ 2 ∷ []) (c.in_ok-found.ensures.pages honest) in
-    let adds = all_in (pages old) (pages c.free_pages.new.self) records before c.list_layers.new.found.items (asked.map.pages_stay honest) (c.in_ok-list_layers.ensures.layers (asked.map.sound.0 sound)) in
+    let begun : before ≡ free_of old ++ 2 ∷ [] = pushed
+    ∙ ap (λ (xs : List ℕ). xs ++ 2 ∷ []) (c.in_ok-found.ensures.pages honest) in
+    let adds =
+    all_in (pages old) (pages c.free_pages.new.self) records before c.list_layers.new.found.items
+    (asked.map.pages_stay honest) (c.in_ok-list_layers.ensures.layers (asked.map.sound.0 sound)) in
     let number = c.next_number.ensures ∙ c.in_ok-list_layers.ensures.asks.map.next ∙ asked.map.next in
-    on_ok c.each_once.result (λ each. (sound, layers_found old sound records before c.list_layers.new.found.items c.as_mut_slice.result.now c.next_number.result begun adds c.as_mut_slice.ensures.value number each)) c.each_once.ensures.once
+    on_ok c.each_once.result
+    (λ each. (
+      sound,
+      layers_found old sound records before c.list_layers.new.found.items c.as_mut_slice.result.now
+          c.next_number.result begun adds c.as_mut_slice.ensures.value number each,
+    )) c.each_once.ensures.once
 
 pub returns-clause-stands : goal.returns-clause-stands
 returns-clause-stands g c = λ sound hs rows stand used.
@@ -41,13 +54,20 @@ returns-clause-stands g c = λ sound hs rows stand used.
     let records = map record_of c.args.records.now in
     let before : List ℕ = c.push.new.self.items in
     let pushed : before ≡ c.in_ok-found.found.items ++ 2 ∷ [] = c.in_ok-push.ensures.items in
-    let begun : before ≡ free_of old ++ 2 ∷ [] = pushed ∙ ap (λ (xs : List ℕ). xs ++ 2 ∷ []) (c.in_ok-found.ensures.pages sound.honest) in
-    let adds = all_in (pages old) (pages c.free_pages.new.self) records before c.list_layers.new.found.items (asked.map.pages_stay sound.honest) (c.in_ok-list_layers.ensures.layers (asked.map.sound.0 sound)) in
+    let begun : before ≡ free_of old ++ 2 ∷ [] = pushed
+    ∙ ap (λ (xs : List ℕ). xs ++ 2 ∷ []) (c.in_ok-found.ensures.pages sound.honest) in
+    let adds =
+    all_in (pages old) (pages c.free_pages.new.self) records before c.list_layers.new.found.items
+    (asked.map.pages_stay sound.honest) (c.in_ok-list_layers.ensures.layers (asked.map.sound.0 sound)) in
     let number = c.next_number.ensures ∙ c.in_ok-list_layers.ensures.asks.map.next ∙ asked.map.next in
     no_err c.each_once.result IsOfDevice
-    (c.each_once.ensures.passes (pages_listed old sound records before c.list_layers.new.found.items c.as_mut_slice.result.now c.next_number.result begun adds c.as_mut_slice.ensures.value number hs rows stand used))
+    (c.each_once.ensures.passes
+    (pages_listed old sound records before c.list_layers.new.found.items c.as_mut_slice.result.now
+    c.next_number.result begun adds c.as_mut_slice.ensures.value number hs rows stand used))
 
 pub returns-in_err-list_layers-clause-asks : goal.returns-in_err-list_layers-clause-asks
 returns-in_err-list_layers-clause-asks g c =
-    asks_and_refuses c.args.cache.now c.free_pages.new.self c.list_layers.new.cache c.in_err-list_layers.field-0.0 c.from_residual-in_err-list_layers.result c.from_residual-in_err-list_layers.ensures.1
+    asks_and_refuses c.args.cache.now c.free_pages.new.self c.list_layers.new.cache
+    c.in_err-list_layers.field-0.0 c.from_residual-in_err-list_layers.result
+    c.from_residual-in_err-list_layers.ensures.1
     c.in_ok-found.ensures.asks c.in_err-list_layers.ensures.asks

@@ -5,4 +5,5 @@ use Rattle.live_layers.specs.Listing.{lines_of}
 use Rattle.live_layers.proofs.layers.dumping.add_in_plane.Given as goal
 
 abbrev pub invariant-loop-id : goal.invariant-loop-id
-invariant-loop-id g l = lines_of l.rows.items ≡ lines_of l.fn.rows.items ++ map (λ object. InsertLine l.name.items object.0 object.1) (take l.id-index l.objects)
+invariant-loop-id g l = lines_of l.rows.items ≡ lines_of l.fn.rows.items
+    ++ map (λ object. InsertLine l.name.items object.0 object.1) (take l.id-index l.objects)

@@ -10,6 +10,7 @@ use Rattle.live_layers.proofs.layers.dumping.dump_layers.Given as goal
 abbrev pub invariant-loop-record : goal.invariant-loop-record
 invariant-loop-record g l = record {
   asks : AsksUntil l.fn.cache l.cache None;
-  lines : IsHonest l.fn.cache → (hs : List Reading) → map row_of hs ≡ map record_of l.records → LayersStand (pages l.fn.cache) hs
+  lines : IsHonest l.fn.cache → (hs : List Reading) → map row_of hs ≡ map record_of l.records
+      → LayersStand (pages l.fn.cache) hs
       → lines_of l.rows.items ≡ lines_of_layers (take l.record-index hs);
 }

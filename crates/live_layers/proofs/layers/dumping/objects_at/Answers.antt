@@ -18,7 +18,10 @@ returns-clause-rows g c = λ honest most directory l objects at.
     let old = pages c.args.cache.now in
     if_ok c.window.result
     (λ rows answer.
-    ranges_answer_objects dims most old c.args.root directory l objects (λ b. meets_test dims b all) None rows.items at answer
-    ∙ ap (λ (w : Bounds). filter (λ (o : ℕ × Object). meets_test dims (bounds_of o.1) w && has_tag None (tag_of o.1)) (entries objects)) c.new-all.ensures
+    ranges_answer_objects dims most old c.args.root directory l objects (λ b. meets_test dims b all) None
+    rows.items at answer
+    ∙ ap (λ (w : Bounds). filter
+    (λ (o : ℕ × Object). meets_test dims (bounds_of o.1) w && has_tag None (tag_of o.1))
+    (entries objects)) c.new-all.ensures
     ∙ all_objects_meet dims most old c.args.root directory l objects at)
     (c.window.ensures.rows honest l.tree most at.tree)

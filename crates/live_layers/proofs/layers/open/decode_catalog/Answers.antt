@@ -7,4 +7,6 @@ use Rattle.live_layers.proofs.layers.open.decode_catalog.Goals as goal
 
 pub returns-clause-spelled : goal.returns-clause-spelled
 returns-clause-spelled g c = λ honest.
-    c.decode.ensures.spelled ∙ sym (ap (option_and_then records_at) (c.in_ok-page.ensures.bytes honest (the_catalog_is_live c.args.cache.now)))
+    c.decode.ensures.spelled
+    ∙ sym (ap (option_and_then records_at)
+    (c.in_ok-page.ensures.bytes honest (the_catalog_is_live c.args.cache.now)))

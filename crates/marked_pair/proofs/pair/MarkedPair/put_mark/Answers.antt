@@ -11,5 +11,7 @@ note_mark-requires g c = record {
   marked = λ h2.
       let h = c.put_gate.ensures.honest.1 h2 in
       let d = c.args.self.now in
-      subst IsMarked (sym (c.in_ok-put_gate.ensures.written h ∙ ap (λ b. written 0 b (disk_of d)) c.gate_page.ensures)) (marked_written (disk_of d));
+      subst IsMarked
+      (sym (c.in_ok-put_gate.ensures.written h ∙ ap (λ b. written 0 b (disk_of d)) c.gate_page.ensures))
+      (marked_written (disk_of d));
 }

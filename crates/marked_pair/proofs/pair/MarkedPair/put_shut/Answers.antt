@@ -18,5 +18,7 @@ returns-then-branch-clause-written g c = λ h.
 
 pub returns-clause-written : goal.returns-clause-written
 returns-clause-written g c = λ h.
-    shown_gate_from c.put_mark.result (gate_block 2) (gate_block 1) (disk_of c.args.self.now) (disk_of c.has_mark.new.self) (disk_of c.put_mark.new.self) (c.has_mark.ensures.quiet h).base
-    (unmarked_marked (gate_block 2) (gate_reads 2 (lit< tt))) (c.put_mark.ensures.written (c.has_mark.ensures.honest.0 h))
+    shown_gate_from c.put_mark.result (gate_block 2) (gate_block 1) (disk_of c.args.self.now)
+    (disk_of c.has_mark.new.self) (disk_of c.put_mark.new.self) (c.has_mark.ensures.quiet h).base
+    (unmarked_marked (gate_block 2) (gate_reads 2 (lit< tt)))
+    (c.put_mark.ensures.written (c.has_mark.ensures.honest.0 h))

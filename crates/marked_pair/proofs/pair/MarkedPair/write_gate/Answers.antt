@@ -5,4 +5,5 @@ use Rattle.marked_pair.proofs.pair.MarkedPair.write_gate.Goals as goal
 
 pub returns-then-eq-clause-torn : goal.returns-then-eq-clause-torn
 returns-then-eq-clause-torn g c = λ h.
-    shown_torn c.put_shut.result 0 (disk_of c.args.self.now) (disk_of c.put_shut.new.self) (c.put_shut.ensures.torn h)
+    shown_torn c.put_shut.result 0 (disk_of c.args.self.now) (disk_of c.put_shut.new.self)
+    (c.put_shut.ensures.torn h)

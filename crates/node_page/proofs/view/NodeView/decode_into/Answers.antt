@@ -14,8 +14,11 @@ loop-place-preserved g c =
     let items = c.loop-place.node.entries.items in
     let x : Item = item_of c.entry.result in
     record {
-      read = ap (map item_of) c.push.ensures.items ∙ map-append item_of items (c.entry.result ∷ []) ∙ ap (λ (xs : List Item). xs ++ x ∷ []) inv.read ∙ ap (λ (y : Item). take place all ++ y ∷ []) c.entry.ensures
-          ∙ sym (take_more all place x (omega (arith, c.loop-place-test.true, c.len-place-end.ensures.count)));
+      read = ap (map item_of) c.push.ensures.items ∙ map-append item_of items (c.entry.result ∷ [])
+          ∙ ap (λ (xs : List Item). xs ++ x ∷ []) inv.read
+          ∙ ap (λ (y : Item). take place all ++ y ∷ []) c.entry.ensures
+          ∙ sym (take_more all place x
+          (omega (arith, c.loop-place-test.true, c.len-place-end.ensures.count)));
       many = omega (arith, c.push.ensures.len, inv.many);
       level = inv.level;
     }
@@ -25,6 +28,9 @@ returns g c =
     let inv = c.loop-place.invariant in
     let view = c.args.self.now in
     let all : List Item = (content_in view).entries in
-    let read : map item_of c.loop-place.node.entries.items ≡ all = inv.read ∙ take_all c.loop-place.place all (omega (arith, c.loop-place-test.false, c.len-place-end.ensures.count)) in
-    ap (λ (n : ℕ). let x : NodeContent = record { level = n; entries = map item_of c.loop-place.node.entries.items } in x) inv.level
+    let read : map item_of c.loop-place.node.entries.items ≡ all = inv.read
+    ∙ take_all c.loop-place.place all
+    (omega (arith, c.loop-place-test.false, c.len-place-end.ensures.count)) in
+    ap (λ (n : ℕ). let x : NodeContent =
+    record { level = n; entries = map item_of c.loop-place.node.entries.items } in x) inv.level
     ∙ ap (λ (xs : List Item). let x : NodeContent = record { level = view.level; entries = xs } in x) read

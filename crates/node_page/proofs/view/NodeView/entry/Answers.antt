@@ -8,11 +8,18 @@ pub entry_at-requires : goal.entry_at-requires
 entry_at-requires g c =
     let view = c.args.self.now in
     let many = length-first_places (item_at g.row.D view.page.now) view.count in
-    let within : c.args.place < view.count = omega (arith, many) in
-    (search rules, (view.laid_out.dims_is, (omega (arith, view.laid_out.few), (view.tags, (view.laid_out.each c.args.place within).ordered))))
+    let within : c.args.place < view.count = omega (arith, many) in (
+      search rules,
+      (
+        view.laid_out.dims_is,
+        (omega (arith, view.laid_out.few), (view.tags, (view.laid_out.each c.args.place within).ordered)),
+      ),
+    )
 
 pub returns : goal.returns
 returns g c =
     let view = c.args.self.now in
     let many = length-first_places (item_at g.row.D view.page.now) view.count in
-    c.entry_at.ensures ∙ sym (get_or-first_places (item_at g.row.D view.page.now) view.count c.args.place _ (omega (arith, many)))
+    c.entry_at.ensures
+    ∙ sym (get_or-first_places (item_at g.row.D view.page.now) view.count c.args.place _
+    (omega (arith, many)))

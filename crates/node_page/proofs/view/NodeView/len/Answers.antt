@@ -5,7 +5,8 @@ use Rattle.node_page.specs.Layout.{item_at}
 use Rattle.node_page.proofs.view.NodeView.len.Goals as goal
 
 pub returns-clause-count : goal.returns-clause-count
-returns-clause-count g c = sym (length-first_places (item_at g.row.D c.args.self.now.page.now) c.args.self.now.count)
+returns-clause-count g c =
+    sym (length-first_places (item_at g.row.D c.args.self.now.page.now) c.args.self.now.count)
 
 pub returns-clause-few : goal.returns-clause-few
 returns-clause-few g c = c.args.self.now.laid_out.few

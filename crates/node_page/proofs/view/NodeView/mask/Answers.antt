@@ -16,11 +16,16 @@ returns-clause-met g c place item there =
     let window = c.args.window.now in
     let many = length-first_places at view.count in
     let within : place < view.count = omega (arith, many, slice_get_within items place item there) in
-    let here : at place ≡ item = sym (get_or-first_places at view.count place item within) ∙ get_or_from_slice_get items place item item there in
-    c.mask_in.ensures place ∙ ap (λ b. b && meets_test g.row.D (at place).bounds window) (lt-ltb place view.count within) ∙ ap (λ (i : Item). meets_test g.row.D i.bounds window) here
+    let here : at place ≡ item = sym (get_or-first_places at view.count place item within)
+    ∙ get_or_from_slice_get items place item item there in
+    c.mask_in.ensures place
+    ∙ ap (λ b. b && meets_test g.row.D (at place).bounds window) (lt-ltb place view.count within)
+    ∙ ap (λ (i : Item). meets_test g.row.D i.bounds window) here
 
 pub returns-clause-none : goal.returns-clause-none
 returns-clause-none g c place past =
     let view = c.args.self.now in
     let many = length-first_places (item_at g.row.D view.page.now) view.count in
-    c.mask_in.ensures place ∙ ap (λ b. b && meets_test g.row.D (item_at g.row.D view.page.now place).bounds c.args.window.now) (le-ltb place view.count (omega (arith, many)))
+    c.mask_in.ensures place
+    ∙ ap (λ b. b && meets_test g.row.D (item_at g.row.D view.page.now place).bounds c.args.window.now)
+    (le-ltb place view.count (omega (arith, many)))

@@ -19,10 +19,15 @@ returns g c =
     let many = length-first_places at view.count in (
       λ always axis place item below there.
           let within : place < view.count = omega (arith, many, slice_get_within items place item there) in
-          let here : at place ≡ item = sym (get_or-first_places at view.count place item within) ∙ get_or_from_slice_get items place item item there in
+          let here : at place ≡ item = sym (get_or-first_places at view.count place item within)
+          ∙ get_or_from_slice_get items place item item there in
           let ascends = c.none_is_flat.ensures.0 always axis place below within in
-          subst (λ (i : Item). on_axis i.bounds.low axis <ℤ on_axis i.bounds.high axis) here (rw (low_read D place page axis below, high_read D place page axis below) ascends),
+          subst (λ (i : Item). on_axis i.bounds.low axis <ℤ on_axis i.bounds.high axis) here
+          (rw (low_read D place page axis below, high_read D place page axis below) ascends),
       λ each. c.none_is_flat.ensures.1 (λ axis place below within.
-          let there : slice_get items place ≡ Some (at place) = slice_get-get_or items place (at place) (omega (arith, many, within)) ∙ ap Some (get_or-first_places at view.count place (at place) within) in
-          rw (← low_read D place page axis below, ← high_read D place page axis below) (each axis place (at place) below there)),
+          let there : slice_get items place ≡ Some (at place) =
+          slice_get-get_or items place (at place) (omega (arith, many, within))
+          ∙ ap Some (get_or-first_places at view.count place (at place) within) in
+          rw (← low_read D place page axis below, ← high_read D place page axis below)
+          (each axis place (at place) below there)),
     )

@@ -1,11 +1,15 @@
 -- The goals of `PageCache::allocate` that are proved by hand.
-use Rattle.std.proofs.Common.{inl, inr, ◌≡◌, ◌∙◌, ℕ, ◌≤◌, ◌<◌, length, Option, Some, None, is_some, IsSome, ap, refl, sym, subst, arith, ⊎_elim}
+use Rattle.std.proofs.Common.{inl, inr, ◌≡◌, ◌∙◌, ℕ, ◌≤◌, ◌<◌, length, Option, Some, None, is_some, IsSome}
+use Rattle.std.proofs.Common.{ap, refl, sym, subst, arith, ⊎_elim}
 use Rattle.block_bytes.specs.Numbers.{zeros}
 use Rattle.block_device.specs.Device.{Blocks, block_at}
 use Rattle.page_file.specs.Fault.{IsOfDevice}
 use Rattle.page_file.specs.File as below
-use Rattle.page_file.specs.Pages.{HasGiven, MayHaveGiven, SameBut, TakesFirst, free_page_link, free_pages_of, given_pages, next_given, page_of}
-use Rattle.page_file.specs.Reused.{all_live, chain_refused, chain_stays, chain_unchanged, given_is_zeros, given_refused, given_stays, given_unchanged, none_before, others_refused, others_stay, pages_unchanged, sound_link, takes_first}
+use Rattle.page_file.specs.Pages.{HasGiven, MayHaveGiven, SameBut, TakesFirst, free_page_link, free_pages_of}
+use Rattle.page_file.specs.Pages.{given_pages, next_given, page_of}
+use Rattle.page_file.specs.Reused.{all_live, chain_refused, chain_stays, chain_unchanged, given_is_zeros}
+use Rattle.page_file.specs.Reused.{given_refused, given_stays, given_unchanged, none_before, others_refused}
+use Rattle.page_file.specs.Reused.{others_stay, pages_unchanged, sound_link, takes_first}
 use Rattle.page_file.specs.declared.fault.Fault.TheVariants as fault
 use Rattle.page_file.specs.declared.file.PageFile.{PageFile}
 use Rattle.page_file.specs.declared.header.Header.{Header}
@@ -23,15 +27,19 @@ use Rattle.page_cache.proofs.Reused.{either_given, first_same, gives_behind, may
 use Rattle.page_cache.proofs.cache.PageCache.allocate.Goals as goal
 
 -- no page is held that was not given out
-none_next : {A : Type 0} (frames : ℕ → Option (Frame A)) (next : ℕ) → ((n : ℕ) → IsSome (frames n) → (2 ≤ n) × (n < next)) → frames next ≡ None
+none_next : {A : Type 0} (frames : ℕ → Option (Frame A)) (next : ℕ)
+    → ((n : ℕ) → IsSome (frames n) → (2 ≤ n) × (n < next)) → frames next ≡ None
 none_next frames next within = case (frames next) refl
   where
     case : (o : Option _) → frames next ≡ o → o ≡ None
     case None e = refl
     case (Some f) e = absurd (let w = within next (ap is_some e) in omega (arith, w.1))
 
--- the cache before, the one of which the first free page was let go, and the file in which a page was given out
-module _ {D A : Type 0} {m : _} (old mid : PageCache D A m) (file : PageFile D m) (keeps : KeepsBlocks old mid) (first : ℕ) (is : first ≡ mid.file.header.first) (gone : frame_at mid.frames.entries first ≡ None) where
+-- the cache before, the one of which the first free page was let go, and the file in which a page was given
+-- out
+module _ {D A : Type 0} {m : _} (old mid : PageCache D A m) (file : PageFile D m)
+    (keeps : KeepsBlocks old mid) (first : ℕ) (is : first ≡ mid.file.header.first)
+    (gone : frame_at mid.frames.entries first ≡ None) where
   at_first : frame_at mid.frames.entries mid.file.header.first ≡ None
   at_first = subst (λ (n : ℕ). frame_at mid.frames.entries n ≡ None) is gone
 
@@ -45,137 +53,219 @@ module _ {D A : Type 0} {m : _} (old mid : PageCache D A m) (file : PageFile D m
   after = laid_over (changed_pages mid.frames.entries) (below.blocks_of file)
 
   pub room : IsHonest old → old.file.header.next ≤ length (blocks_behind old)
-  room h = let size = length-laid (changed_pages old.frames.entries) (blocks_of old) in omega (arith, size, old.file.room h)
+  room h = let size = length-laid (changed_pages old.frames.entries) (blocks_of old) in
+      omega (arith, size, old.file.room h)
 
-  pub gives : IsHonest old → HasGiven (blocks_of mid) (below.blocks_of file) mid.file.header file.header → HasGiven (blocks_behind old) after old.file.header file.header
+  pub gives : IsHonest old → HasGiven (blocks_of mid) (below.blocks_of file) mid.file.header file.header
+      → HasGiven (blocks_behind old) after old.file.header file.header
   gives h given = subst (λ (x : Header). HasGiven (blocks_behind old) after x file.header) keeps.header
       (subst (λ (b : Blocks). HasGiven b after mid.file.header file.header) (keeps.blocks h)
-      (gives_behind (changed_pages mid.frames.entries) (blocks_of mid) mid.file.header mid.file.sound (mid.file.room (keeps.gate.honest.0 h)) (below.blocks_of file) file.header (ap newer_bytes at_first) (ap newer_bytes at_next) given))
+      (gives_behind (changed_pages mid.frames.entries) (blocks_of mid) mid.file.header mid.file.sound
+      (mid.file.room (keeps.gate.honest.0 h)) (below.blocks_of file) file.header
+      (ap newer_bytes at_first) (ap newer_bytes at_next) given))
 
-  pub may : IsHonest old → MayHaveGiven (blocks_of mid) (below.blocks_of file) mid.file.header file.header → MayHaveGiven (blocks_behind old) after old.file.header file.header
+  pub may : IsHonest old → MayHaveGiven (blocks_of mid) (below.blocks_of file) mid.file.header file.header
+      → MayHaveGiven (blocks_behind old) after old.file.header file.header
   may h given = subst (λ (x : Header). MayHaveGiven (blocks_behind old) after x file.header) keeps.header
       (subst (λ (b : Blocks). MayHaveGiven b after mid.file.header file.header) (keeps.blocks h)
-      (may_behind (changed_pages mid.frames.entries) (blocks_of mid) mid.file.header mid.file.sound (mid.file.room (keeps.gate.honest.0 h)) (below.blocks_of file) file.header (ap newer_bytes at_first) (ap newer_bytes at_next) given))
+      (may_behind (changed_pages mid.frames.entries) (blocks_of mid) mid.file.header mid.file.sound
+      (mid.file.room (keeps.gate.honest.0 h)) (below.blocks_of file) file.header
+      (ap newer_bytes at_first) (ap newer_bytes at_next) given))
 
   pub which : (n : ℕ) → n ≡ next_given mid.file.header → n ≡ next_given old.file.header
   which n e = e ∙ ap (λ (x : Header). next_given x) keeps.header
 
   -- the block of the first free page is as it is behind what is held
-  pub same_link : IsHonest old → free_page_link mid.file.header.count mid.file.header.next (block_at mid.file.header.first (blocks_of mid)) ≡ free_page_link old.file.header.count old.file.header.next (block_at old.file.header.first (blocks_behind old))
+  pub same_link : IsHonest old
+      → free_page_link mid.file.header.count mid.file.header.next
+      (block_at mid.file.header.first (blocks_of mid)) ≡ free_page_link old.file.header.count
+      old.file.header.next (block_at old.file.header.first (blocks_behind old))
   same_link h =
-      ap (free_page_link mid.file.header.count mid.file.header.next) (sym (first_same (changed_pages mid.frames.entries) (blocks_of mid) mid.file.header mid.file.sound (mid.file.room (keeps.gate.honest.0 h)) (ap newer_bytes at_first)))
-      ∙ ap (λ (b : Blocks). free_page_link mid.file.header.count mid.file.header.next (block_at mid.file.header.first b)) (keeps.blocks h)
+      ap (free_page_link mid.file.header.count mid.file.header.next)
+      (sym (first_same (changed_pages mid.frames.entries) (blocks_of mid) mid.file.header mid.file.sound
+      (mid.file.room (keeps.gate.honest.0 h)) (ap newer_bytes at_first)))
+      ∙ ap (λ (b : Blocks). free_page_link mid.file.header.count mid.file.header.next
+      (block_at mid.file.header.first b)) (keeps.blocks h)
       ∙ ap (λ (x : Header). free_page_link x.count x.next (block_at x.first (blocks_behind old))) keeps.header
 
 pub invariant_of-self : goal.invariant_of-self
 invariant_of-self g c =
     let mid = c.release.new.self in let new = c.allocate.new.self in
-    let first = c.first_free-first.ensures ∙ ap (λ (x : Header). x.first) (sym c.release.ensures.kept.header) in
-    let kept = kept_below mid.file new (frame_at mid.frames.entries) c.allocate.ensures.next.0 c.allocate.ensures.gate.gate c.allocate.ensures.gate.honest.1
+    let first = c.first_free-first.ensures
+    ∙ ap (λ (x : Header). x.first) (sym c.release.ensures.kept.header) in
+    let kept =
+    kept_below mid.file new (frame_at mid.frames.entries) c.allocate.ensures.next.0
+    c.allocate.ensures.gate.gate c.allocate.ensures.gate.honest.1
     (λ h n f is clean.
-    let apart : n ≡ next_given mid.file.header → ⊥ = λ e. let none = at_given c.args.self.now mid new c.release.ensures.kept c.first_free-first.result first c.in_ok-release.ensures.gone in let some = sym (ap (frame_at mid.frames.entries) e) ∙ is in absurd (let bad = sym none ∙ some in cc) in
+    let apart : n ≡ next_given mid.file.header
+    → ⊥ = λ e. let none =
+    at_given c.args.self.now mid new c.release.ensures.kept c.first_free-first.result first
+    c.in_ok-release.ensures.gone in let some = sym (ap (frame_at mid.frames.entries) e) ∙ is in
+    absurd (let bad = sym none ∙ some in cc) in
     either c.allocate.result (c.allocate.ensures.gives h) (c.allocate.ensures.may_give h)
-    (λ gives. given_stays (blocks_of mid) (below.blocks_of new) mid.file.header new.header mid.file.sound (mid.file.room h) gives n apart)
-    (λ may. given_refused (blocks_of mid) (below.blocks_of new) mid.file.header new.header mid.file.sound (mid.file.room h) may n apart))
+    (λ gives. given_stays (blocks_of mid) (below.blocks_of new) mid.file.header new.header mid.file.sound
+    (mid.file.room h) gives n apart)
+    (λ may. given_refused (blocks_of mid) (below.blocks_of new) mid.file.header new.header mid.file.sound
+    (mid.file.room h) may n apart))
     (record { within = mid.within; true_to = mid.true_to; behind_the_gate = mid.behind_the_gate }) in
-    record { within = kept.within; true_to = kept.true_to; behind_the_gate = kept.behind_the_gate; counted = mid.counted }
+    record {
+      within = kept.within;
+      true_to = kept.true_to;
+      behind_the_gate = kept.behind_the_gate;
+      counted = mid.counted;
+    }
 
 pub returns-clause-fresh : goal.returns-clause-fresh
 returns-clause-fresh g c = λ map.
-    let old = c.args.self.now in let mid = c.release.new.self in let new = c.allocate.new.self in let h = map.honest in let k = c.release.ensures.kept in
-    let first = c.first_free-first.ensures ∙ ap (λ (x : Header). x.first) (sym k.header) in let gone = c.in_ok-release.ensures.gone in
+    let old = c.args.self.now in let mid = c.release.new.self in let new = c.allocate.new.self in
+    let h = map.honest in let k = c.release.ensures.kept in
+    let first = c.first_free-first.ensures ∙ ap (λ (x : Header). x.first) (sym k.header) in
+    let gone = c.in_ok-release.ensures.gone in
     let X = blocks_behind old in let Y = after old mid new k c.first_free-first.result first gone in
     if_ok_both c.allocate.result c.allocate.ensures.which (c.allocate.ensures.gives (k.gate.honest.0 h))
-    (λ n is given. subst (λ (i : ℕ). (page_of X old.file.header i ≡ None) × (page_of Y new.header i ≡ Some zeros) × SameBut i (page_of X old.file.header) (page_of Y new.header)) (sym (which old mid new k c.first_free-first.result first gone n is)) (
-      none_before X Y old.file.header new.header old.file.sound (room old mid new k c.first_free-first.result first gone h) map.free,
-      given_is_zeros X Y old.file.header new.header old.file.sound (room old mid new k c.first_free-first.result first gone h) map.free (gives old mid new k c.first_free-first.result first gone h given),
-      others_stay X Y old.file.header new.header old.file.sound (room old mid new k c.first_free-first.result first gone h) map.free (gives old mid new k c.first_free-first.result first gone h given),
+    (λ n is given. subst
+    (λ (i : ℕ). (page_of X old.file.header i ≡ None) × (page_of Y new.header i ≡ Some zeros)
+    × SameBut i (page_of X old.file.header) (page_of Y new.header))
+    (sym (which old mid new k c.first_free-first.result first gone n is)) (
+      none_before X Y old.file.header new.header old.file.sound
+          (room old mid new k c.first_free-first.result first gone h) map.free,
+      given_is_zeros X Y old.file.header new.header old.file.sound
+          (room old mid new k c.first_free-first.result first gone h) map.free
+          (gives old mid new k c.first_free-first.result first gone h given),
+      others_stay X Y old.file.header new.header old.file.sound
+          (room old mid new k c.first_free-first.result first gone h) map.free
+          (gives old mid new k c.first_free-first.result first gone h given),
     ))
 
 pub returns-clause-taken : goal.returns-clause-taken
 returns-clause-taken g c = λ map.
-    let old = c.args.self.now in let mid = c.release.new.self in let new = c.allocate.new.self in let h = map.honest in let k = c.release.ensures.kept in
-    let first = c.first_free-first.ensures ∙ ap (λ (x : Header). x.first) (sym k.header) in let gone = c.in_ok-release.ensures.gone in
+    let old = c.args.self.now in let mid = c.release.new.self in let new = c.allocate.new.self in
+    let h = map.honest in let k = c.release.ensures.kept in
+    let first = c.first_free-first.ensures ∙ ap (λ (x : Header). x.first) (sym k.header) in
+    let gone = c.in_ok-release.ensures.gone in
     let X = blocks_behind old in let Y = after old mid new k c.first_free-first.result first gone in
     if_ok_both c.allocate.result c.allocate.ensures.which (c.allocate.ensures.gives (k.gate.honest.0 h))
-    (λ n is given. subst (λ (i : ℕ). TakesFirst i (free_pages_of X old.file.header) old.file.header.next (free_pages_of Y new.header) new.header.next) (sym (which old mid new k c.first_free-first.result first gone n is))
-    (takes_first X Y old.file.header new.header old.file.sound (room old mid new k c.first_free-first.result first gone h) map.free (gives old mid new k c.first_free-first.result first gone h given)))
+    (λ n is given. subst
+    (λ (i : ℕ). TakesFirst i (free_pages_of X old.file.header) old.file.header.next
+    (free_pages_of Y new.header) new.header.next)
+    (sym (which old mid new k c.first_free-first.result first gone n is))
+    (takes_first X Y old.file.header new.header old.file.sound
+    (room old mid new k c.first_free-first.result first gone h) map.free
+    (gives old mid new k c.first_free-first.result first gone h given)))
 
 pub returns-clause-given_others : goal.returns-clause-given_others
 returns-clause-given_others g c = λ h.
-    let old = c.args.self.now in let mid = c.release.new.self in let new = c.allocate.new.self in let k = c.release.ensures.kept in
-    let first = c.first_free-first.ensures ∙ ap (λ (x : Header). x.first) (sym k.header) in let gone = c.in_ok-release.ensures.gone in
+    let old = c.args.self.now in let mid = c.release.new.self in let new = c.allocate.new.self in
+    let k = c.release.ensures.kept in
+    let first = c.first_free-first.ensures ∙ ap (λ (x : Header). x.first) (sym k.header) in
+    let gone = c.in_ok-release.ensures.gone in
     let X = blocks_behind old in let Y = after old mid new k c.first_free-first.result first gone in
     if_ok_both c.allocate.result c.allocate.ensures.which (c.allocate.ensures.gives (k.gate.honest.0 h))
-    (λ n is given. subst (λ (i : ℕ). SameBut i (given_pages X old.file.header.next) (given_pages Y new.header.next)) (sym (which old mid new k c.first_free-first.result first gone n is))
-    (given_stays X Y old.file.header new.header old.file.sound (room old mid new k c.first_free-first.result first gone h) (gives old mid new k c.first_free-first.result first gone h given)))
+    (λ n is given. subst
+    (λ (i : ℕ). SameBut i (given_pages X old.file.header.next) (given_pages Y new.header.next))
+    (sym (which old mid new k c.first_free-first.result first gone n is))
+    (given_stays X Y old.file.header new.header old.file.sound
+    (room old mid new k c.first_free-first.result first gone h)
+    (gives old mid new k c.first_free-first.result first gone h given)))
 
 pub returns-clause-given_refused : goal.returns-clause-given_refused
 returns-clause-given_refused g c = λ h.
-    let old = c.args.self.now in let mid = c.release.new.self in let new = c.allocate.new.self in let k = c.release.ensures.kept in
-    let first = c.first_free-first.ensures ∙ ap (λ (x : Header). x.first) (sym k.header) in let gone = c.in_ok-release.ensures.gone in
-    let X = blocks_behind old in let Y = after old mid new k c.first_free-first.result first gone in
-    on_err_map c.allocate.result (c.allocate.ensures.may_give (k.gate.honest.0 h))
-    (λ given. (next_given old.file.header, given_refused X Y old.file.header new.header old.file.sound (room old mid new k c.first_free-first.result first gone h) (may old mid new k c.first_free-first.result first gone h given)))
-
-pub returns-clause-refused : goal.returns-clause-refused
-returns-clause-refused g c = λ map.
-    let old = c.args.self.now in let mid = c.release.new.self in let new = c.allocate.new.self in let h = map.honest in let k = c.release.ensures.kept in
-    let first = c.first_free-first.ensures ∙ ap (λ (x : Header). x.first) (sym k.header) in let gone = c.in_ok-release.ensures.gone in
+    let old = c.args.self.now in let mid = c.release.new.self in let new = c.allocate.new.self in
+    let k = c.release.ensures.kept in
+    let first = c.first_free-first.ensures ∙ ap (λ (x : Header). x.first) (sym k.header) in
+    let gone = c.in_ok-release.ensures.gone in
     let X = blocks_behind old in let Y = after old mid new k c.first_free-first.result first gone in
     on_err_map c.allocate.result (c.allocate.ensures.may_give (k.gate.honest.0 h))
     (λ given. (
       next_given old.file.header,
-      none_before X Y old.file.header new.header old.file.sound (room old mid new k c.first_free-first.result first gone h) map.free,
-      others_refused X Y old.file.header new.header old.file.sound (room old mid new k c.first_free-first.result first gone h) map.free (may old mid new k c.first_free-first.result first gone h given),
+      given_refused X Y old.file.header new.header old.file.sound
+          (room old mid new k c.first_free-first.result first gone h)
+          (may old mid new k c.first_free-first.result first gone h given),
+    ))
+
+pub returns-clause-refused : goal.returns-clause-refused
+returns-clause-refused g c = λ map.
+    let old = c.args.self.now in let mid = c.release.new.self in let new = c.allocate.new.self in
+    let h = map.honest in let k = c.release.ensures.kept in
+    let first = c.first_free-first.ensures ∙ ap (λ (x : Header). x.first) (sym k.header) in
+    let gone = c.in_ok-release.ensures.gone in
+    let X = blocks_behind old in let Y = after old mid new k c.first_free-first.result first gone in
+    on_err_map c.allocate.result (c.allocate.ensures.may_give (k.gate.honest.0 h))
+    (λ given. (
+      next_given old.file.header,
+      none_before X Y old.file.header new.header old.file.sound
+          (room old mid new k c.first_free-first.result first gone h) map.free,
+      others_refused X Y old.file.header new.header old.file.sound
+          (room old mid new k c.first_free-first.result first gone h) map.free
+          (may old mid new k c.first_free-first.result first gone h given),
     ))
 
 pub returns-clause-kept : goal.returns-clause-kept
 returns-clause-kept g c =
-    let old = c.args.self.now in let mid = c.release.new.self in let new = c.allocate.new.self in let k = c.release.ensures.kept in
-    let first = c.first_free-first.ensures ∙ ap (λ (x : Header). x.first) (sym k.header) in let gone = c.in_ok-release.ensures.gone in
+    let old = c.args.self.now in let mid = c.release.new.self in let new = c.allocate.new.self in
+    let k = c.release.ensures.kept in
+    let first = c.first_free-first.ensures ∙ ap (λ (x : Header). x.first) (sym k.header) in
+    let gone = c.in_ok-release.ensures.gone in
     let X = blocks_behind old in let Y = after old mid new k c.first_free-first.result first gone in
     on_err_given c.allocate.result c.allocate.ensures.refused_next c.allocate.ensures.may_give
     (λ next may_give. λ count.
-    let roomy : IsHonest old → old.file.header.next ≤ length X = room old mid new k c.first_free-first.result first gone in
-    let may_of : IsHonest old → MayHaveGiven X Y old.file.header new.header = λ h. may old mid new k c.first_free-first.result first gone h (may_give (k.gate.honest.0 h)) in record {
+    let roomy : IsHonest old
+    → old.file.header.next ≤ length X = room old mid new k c.first_free-first.result first gone in
+    let may_of : IsHonest old
+    → MayHaveGiven X Y old.file.header new.header =
+    λ h. may old mid new k c.first_free-first.result first gone h (may_give (k.gate.honest.0 h)) in
+    record {
       next = next ∙ ap (λ (x : Header). x.next) k.header;
       free_count = count;
-      pages_stay = λ h n. pages_unchanged X Y old.file.header new.header old.file.sound (roomy h) (may_of h) count n;
-      given_stay = λ h n. given_unchanged X Y old.file.header new.header old.file.sound (roomy h) (may_of h) count n;
+      pages_stay =
+          λ h n. pages_unchanged X Y old.file.header new.header old.file.sound (roomy h) (may_of h) count n;
+      given_stay =
+          λ h n. given_unchanged X Y old.file.header new.header old.file.sound (roomy h) (may_of h) count n;
       sound = (
         λ p. record {
           honest = c.allocate.ensures.gate.honest.0 (k.gate.honest.0 p.honest);
-          free = chain_refused X Y old.file.header new.header old.file.sound (roomy p.honest) p.free (may_of p.honest);
+          free = chain_refused X Y old.file.header new.header old.file.sound (roomy p.honest) p.free
+              (may_of p.honest);
         },
         λ p. let h = k.gate.honest.1 (c.allocate.ensures.gate.honest.1 p.honest) in record {
           honest = h;
-          free = chain_unchanged X Y old.file.header new.header old.file.sound (roomy h) (may_of h) count p.free;
+          free = chain_unchanged X Y old.file.header new.header old.file.sound (roomy h) (may_of h) count
+              p.free;
         },
       );
     })
 
 pub returns-clause-sound : goal.returns-clause-sound
 returns-clause-sound g c = λ map.
-    let old = c.args.self.now in let mid = c.release.new.self in let new = c.allocate.new.self in let h = map.honest in let k = c.release.ensures.kept in
-    let first = c.first_free-first.ensures ∙ ap (λ (x : Header). x.first) (sym k.header) in let gone = c.in_ok-release.ensures.gone in
+    let old = c.args.self.now in let mid = c.release.new.self in let new = c.allocate.new.self in
+    let h = map.honest in let k = c.release.ensures.kept in
+    let first = c.first_free-first.ensures ∙ ap (λ (x : Header). x.first) (sym k.header) in
+    let gone = c.in_ok-release.ensures.gone in
     let X = blocks_behind old in let Y = after old mid new k c.first_free-first.result first gone in record {
       honest = c.allocate.ensures.gate.honest.0 (k.gate.honest.0 h);
-      free = either c.allocate.result (c.allocate.ensures.gives (k.gate.honest.0 h)) (c.allocate.ensures.may_give (k.gate.honest.0 h))
-          (λ given. chain_stays X Y old.file.header new.header old.file.sound (room old mid new k c.first_free-first.result first gone h) map.free (gives old mid new k c.first_free-first.result first gone h given))
-          (λ given. chain_refused X Y old.file.header new.header old.file.sound (room old mid new k c.first_free-first.result first gone h) map.free (may old mid new k c.first_free-first.result first gone h given));
+      free = either c.allocate.result (c.allocate.ensures.gives (k.gate.honest.0 h))
+          (c.allocate.ensures.may_give (k.gate.honest.0 h))
+          (λ given. chain_stays X Y old.file.header new.header old.file.sound
+          (room old mid new k c.first_free-first.result first gone h) map.free
+          (gives old mid new k c.first_free-first.result first gone h given))
+          (λ given. chain_refused X Y old.file.header new.header old.file.sound
+          (room old mid new k c.first_free-first.result first gone h) map.free
+          (may old mid new k c.first_free-first.result first gone h given));
     }
 
 pub returns-clause-all_live : goal.returns-clause-all_live
 returns-clause-all_live g c = λ is n low below.
     let old = c.args.self.now in let header = c.release.ensures.kept.header in
-    all_live (blocks_behind old) old.file.header (sym (ap (λ (x : Header). x.count) header) ∙ (c.allocate.ensures.full is).0.1) n low
+    all_live (blocks_behind old) old.file.header
+    (sym (ap (λ (x : Header). x.count) header) ∙ (c.allocate.ensures.full is).0.1) n low
     (omega (arith, below, (c.allocate.ensures.full is).0.0, ap (λ (x : Header). x.next) header))
 
 pub returns-clause-faults : goal.returns-clause-faults
 returns-clause-faults g c = λ map.
-    let old = c.args.self.now in let mid = c.release.new.self in let new = c.allocate.new.self in let h = map.honest in let k = c.release.ensures.kept in
-    let first = c.first_free-first.ensures ∙ ap (λ (x : Header). x.first) (sym k.header) in let gone = c.in_ok-release.ensures.gone in
+    let old = c.args.self.now in let mid = c.release.new.self in let new = c.allocate.new.self in
+    let h = map.honest in let k = c.release.ensures.kept in
+    let first = c.first_free-first.ensures ∙ ap (λ (x : Header). x.first) (sym k.header) in
+    let gone = c.in_ok-release.ensures.gone in
     if_err_map c.allocate.result (c.allocate.ensures.damaged (k.gate.honest.0 h))
     (λ f is. ⊎_elim
     (λ (device : IsOfDevice f). inl device)
@@ -183,14 +273,18 @@ returns-clause-faults g c = λ map.
     (λ (none : f ≡ fault.NoPages). inr none)
     (λ (broken : below.IsBroken mid.file new f).
     let some : 0 < old.file.header.count = subst (λ (x : Header). 0 < x.count) k.header broken.some in
-    let link = sound_link (blocks_behind old) old.file.header map.free some in let none = sym (same_link old mid new k c.first_free-first.result first gone h) ∙ broken.no_link in absurd (let bad = sym none ∙ link in cc))
+    let link = sound_link (blocks_behind old) old.file.header map.free some in
+    let none = sym (same_link old mid new k c.first_free-first.result first gone h) ∙ broken.no_link in
+    absurd (let bad = sym none ∙ link in cc))
     rest)
     is)
 
 pub returns-clause-damaged : goal.returns-clause-damaged
 returns-clause-damaged g c = λ h.
-    let old = c.args.self.now in let mid = c.release.new.self in let new = c.allocate.new.self in let k = c.release.ensures.kept in
-    let first = c.first_free-first.ensures ∙ ap (λ (x : Header). x.first) (sym k.header) in let gone = c.in_ok-release.ensures.gone in
+    let old = c.args.self.now in let mid = c.release.new.self in let new = c.allocate.new.self in
+    let k = c.release.ensures.kept in
+    let first = c.first_free-first.ensures ∙ ap (λ (x : Header). x.first) (sym k.header) in
+    let gone = c.in_ok-release.ensures.gone in
     if_err_map c.allocate.result (c.allocate.ensures.damaged (k.gate.honest.0 h))
     (λ f is. ⊎_elim
     (λ (device : IsOfDevice f). inl device)
@@ -201,7 +295,8 @@ returns-clause-damaged g c = λ h.
       some = subst (λ (x : Header). 0 < x.count) k.header broken.some;
       no_link = sym (same_link old mid new k c.first_free-first.result first gone h) ∙ broken.no_link;
       map = the_map_is_kept_in_turn old mid _ k.gate.honest.0 (map_kept old mid k)
-          (map_from mid _ broken.header c.allocate.ensures.gate.honest (λ h2. ap (laid_over (changed_pages mid.frames.entries)) broken.blocks));
+          (map_from mid _ broken.header c.allocate.ensures.gate.honest
+          (λ h2. ap (laid_over (changed_pages mid.frames.entries)) broken.blocks));
     })))
     rest)
     is)

@@ -8,4 +8,5 @@ pub returns-clause-gone : goal.returns-clause-gone
 returns-clause-gone g c =
     let es = c.args.self.now.frames.entries in let n = c.in-Some.last.now in
     let some = ap is_some (lookup-last n _ es c.len-count.ensures.valid.0 c.in-Some.ensures) in
-    on_ok_map c.release.result (c.release.ensures.entries some) (λ removed. ap (λ l. length l + 1) removed ∙ length-removed n es some)
+    on_ok_map c.release.result (c.release.ensures.entries some)
+    (λ removed. ap (λ l. length l + 1) removed ∙ length-removed n es some)

@@ -1,5 +1,6 @@
 -- The goals of `PageCache::free` that are proved by hand.
-use Rattle.std.proofs.Common.{◌≡◌, ◌∙◌, ℕ, ◌<◌, ◌≤◌, ◌-◌, ◌^◌, [], length, true, cond, nat_eq, eq-eqb, Option, Some, None, ap, sym, subst, arith}
+use Rattle.std.proofs.Common.{◌≡◌, ◌∙◌, ℕ, ◌<◌, ◌≤◌, ◌-◌, ◌^◌, [], length, true, cond, nat_eq, eq-eqb, Option}
+use Rattle.std.proofs.Common.{Some, None, ap, sym, subst, arith}
 use Rattle.std.specs.List.{All}
 use Rattle.block_device.specs.Device.{IsBlock, Torn, block_at, written}
 use Rattle.block_device.specs.Written.{block_at-written, torn_length}
@@ -15,17 +16,21 @@ use Rattle.page_cache.specs.Frames.{changed_pages, frame_at, laid_over}
 use Rattle.page_cache.specs.Laid.{length-laid}
 use Rattle.page_cache.specs.declared.cache.PageCache.{PageCache}
 use Rattle.page_cache.specs.declared.frame.Frame.{Frame}
-use Rattle.page_cache.proofs.Changed.{given_stay, gone_free, gone_none, gone_others, kept_free, kept_others, laid_gone}
+use Rattle.page_cache.proofs.Changed.{given_stay, gone_free, gone_none, gone_others, kept_free, kept_others}
+use Rattle.page_cache.proofs.Changed.{laid_gone}
 use Rattle.page_cache.proofs.Kept.{kept_below}
 use Rattle.page_cache.proofs.Results.{either_both, on_ok_both}
 use Rattle.page_cache.proofs.cache.PageCache.free.Goals as goal
 
-not_gone : {A : Type 0} (k : ℕ) (f : Frame A) (n : ℕ) (o : Option (Frame A)) {p : Option (Frame A)} → p ≡ cond (nat_eq k n) None o → p ≡ Some f → k ≡ n → ⊥
-not_gone k f n o gone is e = let t : nat_eq k n ≡ true = eq-eqb k n e in let none : None ≡ Some f = sym (gone ∙ ap (λ y. cond y None o) t) ∙ is in cc
+not_gone : {A : Type 0} (k : ℕ) (f : Frame A) (n : ℕ) (o : Option (Frame A)) {p : Option (Frame A)}
+    → p ≡ cond (nat_eq k n) None o → p ≡ Some f → k ≡ n → ⊥
+not_gone k f n o gone is e = let t : nat_eq k n ≡ true = eq-eqb k n e in
+    let none : None ≡ Some f = sym (gone ∙ ap (λ y. cond y None o) t) ∙ is in cc
 
 module _ {D A : Type 0} {m : _} (cache : PageCache D A m) where
   room : IsHonest cache → cache.file.header.next ≤ length (blocks_behind cache)
-  room h = let size = length-laid (changed_pages cache.frames.entries) (blocks_of cache) in omega (arith, size, cache.file.room h)
+  room h = let size = length-laid (changed_pages cache.frames.entries) (blocks_of cache) in
+      omega (arith, size, cache.file.room h)
 
   small : cache.file.header.first < 2 ^ 32
   small = omega (arith, (sound_says cache.file.header cache.file.sound).first_below, cache.file.few)
@@ -34,81 +39,127 @@ module _ {D A : Type 0} {m : _} (cache : PageCache D A m) where
   below_next n live = (lives (blocks_behind cache) cache.file.header n live).below
 
 -- the block of the page, and what is behind the cache once it is let go and its block written or torn
-module _ {D A : Type 0} {m : _} (cache mid : PageCache D A m) (file : PageFile D m) (n : ℕ) (within : n < cache.file.header.next) (same : mid.file ≡ cache.file)
-    (gone : (k : ℕ) → frame_at mid.frames.entries k ≡ cond (nat_eq k n) None (frame_at cache.frames.entries k)) (honest : IsHonest cache) (torn : Torn n (below.blocks_of mid.file) (below.blocks_of file)) where
+module _ {D A : Type 0} {m : _} (cache mid : PageCache D A m) (file : PageFile D m) (n : ℕ)
+    (within : n < cache.file.header.next) (same : mid.file ≡ cache.file)
+    (gone : (k : ℕ)
+    → frame_at mid.frames.entries k ≡ cond (nat_eq k n) None (frame_at cache.frames.entries k))
+    (honest : IsHonest cache) (torn : Torn n (below.blocks_of mid.file) (below.blocks_of file)) where
   torn_here : Torn n (blocks_of cache) (below.blocks_of file)
   torn_here = subst (λ (f : PageFile D m). Torn n (below.blocks_of f) (below.blocks_of file)) same torn
 
-  behind : laid_over (changed_pages mid.frames.entries) (below.blocks_of file) ≡ written n (block_at n (below.blocks_of file)) (blocks_behind cache)
-  behind = laid_gone (frame_at cache.frames.entries) (frame_at mid.frames.entries) n (blocks_of cache) (below.blocks_of file) (omega (arith, within, cache.file.room honest)) gone torn_here
+  behind : laid_over (changed_pages mid.frames.entries) (below.blocks_of file) ≡ written n
+      (block_at n (below.blocks_of file)) (blocks_behind cache)
+  behind =
+      laid_gone (frame_at cache.frames.entries) (frame_at mid.frames.entries) n (blocks_of cache)
+      (below.blocks_of file) (omega (arith, within, cache.file.room honest)) gone torn_here
 
-  here : block_at n (laid_over (changed_pages mid.frames.entries) (below.blocks_of file)) ≡ block_at n (below.blocks_of file)
-  here = ap (block_at n) behind ∙ block_at-written n (block_at n (below.blocks_of file)) (blocks_behind cache) (omega (arith, within, room cache honest))
+  here : block_at n (laid_over (changed_pages mid.frames.entries) (below.blocks_of file)) ≡ block_at n
+      (below.blocks_of file)
+  here = ap (block_at n) behind
+      ∙ block_at-written n (block_at n (below.blocks_of file)) (blocks_behind cache)
+      (omega (arith, within, room cache honest))
 
-  behind_is : laid_over (changed_pages mid.frames.entries) (below.blocks_of file) ≡ written n (block_at n (laid_over (changed_pages mid.frames.entries) (below.blocks_of file))) (blocks_behind cache)
+  behind_is : laid_over (changed_pages mid.frames.entries) (below.blocks_of file) ≡ written n
+      (block_at n (laid_over (changed_pages mid.frames.entries) (below.blocks_of file))) (blocks_behind cache)
   behind_is = behind ∙ ap (λ b. written n b (blocks_behind cache)) (sym here)
 
-  is_block : All IsBlock (below.blocks_of file) → IsBlock (block_at n (laid_over (changed_pages mid.frames.entries) (below.blocks_of file)))
+  is_block : All IsBlock (below.blocks_of file)
+      → IsBlock (block_at n (laid_over (changed_pages mid.frames.entries) (below.blocks_of file)))
   is_block whole = let longer = torn_length n (blocks_of cache) (below.blocks_of file) torn_here in
       subst IsBlock (sym here) (whole n [] (omega (arith, within, cache.file.room honest, longer.0)))
 
-  linked : below.blocks_of file ≡ written n (free_block mid.file.header.first) (below.blocks_of mid.file) → block_at n (laid_over (changed_pages mid.frames.entries) (below.blocks_of file)) ≡ free_block cache.file.header.first
-  linked is = here ∙ ap (block_at n) (subst (λ (f : PageFile D m). below.blocks_of file ≡ written n (free_block f.header.first) (below.blocks_of f)) same is)
-      ∙ block_at-written n (free_block cache.file.header.first) (blocks_of cache) (omega (arith, within, cache.file.room honest))
+  linked : below.blocks_of file ≡ written n (free_block mid.file.header.first) (below.blocks_of mid.file)
+      → block_at n (laid_over (changed_pages mid.frames.entries) (below.blocks_of file)) ≡ free_block
+      cache.file.header.first
+  linked is = here
+      ∙ ap (block_at n)
+      (subst (λ (f : PageFile D m). below.blocks_of file ≡ written n (free_block f.header.first)
+      (below.blocks_of f)) same is)
+      ∙ block_at-written n (free_block cache.file.header.first) (blocks_of cache)
+      (omega (arith, within, cache.file.room honest))
 
 pub invariant_of-self : goal.invariant_of-self
 invariant_of-self g c =
     let mid = c.forget.new.self in let new = c.free.new.self in
-    let kept = kept_below mid.file new (frame_at mid.frames.entries) (omega (arith, c.free.ensures.next)) c.free.ensures.gate.gate c.free.ensures.gate.honest.1
-    (λ h k f is clean. c.free.ensures.given_others h k (λ e. not_gone k f c.args.n _ (c.forget.ensures.frames k) is e))
+    let kept =
+    kept_below mid.file new (frame_at mid.frames.entries) (omega (arith, c.free.ensures.next))
+    c.free.ensures.gate.gate c.free.ensures.gate.honest.1
+    (λ h k f is clean. c.free.ensures.given_others h k
+    (λ e. not_gone k f c.args.n _ (c.forget.ensures.frames k) is e))
     (record { within = mid.within; true_to = mid.true_to; behind_the_gate = mid.behind_the_gate }) in
-    record { within = kept.within; true_to = kept.true_to; behind_the_gate = kept.behind_the_gate; counted = mid.counted }
+    record {
+      within = kept.within;
+      true_to = kept.true_to;
+      behind_the_gate = kept.behind_the_gate;
+      counted = mid.counted;
+    }
 
 pub returns-clause-freed : goal.returns-clause-freed
 returns-clause-freed g c = λ h live.
-    let cache = c.args.self.now in let mid = c.forget.new.self in let new = c.free.new.self in let n = c.args.n in let d = g.met.D.BlockDevice in
+    let cache = c.args.self.now in let mid = c.forget.new.self in let new = c.free.new.self in
+    let n = c.args.n in let d = g.met.D.BlockDevice in
     let still : IsHonest mid = subst (λ (f : PageFile _ _). below.IsHonest f) (sym c.forget.ensures.file) h in
     let Y = laid_over (changed_pages mid.frames.entries) (below.blocks_of new) in
     let within = below_next cache n live in let torn = c.free.ensures.torn still in
     let honest = c.free.ensures.gate.honest.0 still in
-    let block = is_block cache mid new n within c.forget.ensures.file c.forget.ensures.frames h torn (d.whole (below.device_of new) (below.blocks_of new) honest (d.shown_counts (below.device_of new) honest)) in
+    let block =
+    is_block cache mid new n within c.forget.ensures.file c.forget.ensures.frames h torn
+    (d.whole (below.device_of new) (below.blocks_of new) honest
+    (d.shown_counts (below.device_of new) honest)) in
     let behind = behind_is cache mid new n within c.forget.ensures.file c.forget.ensures.frames h torn in
     on_ok_both c.free.result c.free.ensures.header (c.free.ensures.block still)
-    (λ header is. gone_none n (blocks_behind cache) Y cache.file.header new.header block behind (room cache h) live (omega (arith, c.if-n-lt3.false))
+    (λ header is. gone_none n (blocks_behind cache) Y cache.file.header new.header block behind
+    (room cache h) live (omega (arith, c.if-n-lt3.false))
     (header ∙ ap (λ (f : PageFile _ _). with_one_free n f.header) c.forget.ensures.file) (small cache)
     (linked cache mid new n within c.forget.ensures.file c.forget.ensures.frames h torn is))
 
 pub returns-clause-others : goal.returns-clause-others
 returns-clause-others g c = λ h live.
-    let cache = c.args.self.now in let mid = c.forget.new.self in let new = c.free.new.self in let n = c.args.n in let d = g.met.D.BlockDevice in
+    let cache = c.args.self.now in let mid = c.forget.new.self in let new = c.free.new.self in
+    let n = c.args.n in let d = g.met.D.BlockDevice in
     let still : IsHonest mid = subst (λ (f : PageFile _ _). below.IsHonest f) (sym c.forget.ensures.file) h in
     let Y = laid_over (changed_pages mid.frames.entries) (below.blocks_of new) in
     let within = below_next cache n live in let torn = c.free.ensures.torn still in
     let honest = c.free.ensures.gate.honest.0 still in
-    let block = is_block cache mid new n within c.forget.ensures.file c.forget.ensures.frames h torn (d.whole (below.device_of new) (below.blocks_of new) honest (d.shown_counts (below.device_of new) honest)) in
+    let block =
+    is_block cache mid new n within c.forget.ensures.file c.forget.ensures.frames h torn
+    (d.whole (below.device_of new) (below.blocks_of new) honest
+    (d.shown_counts (below.device_of new) honest)) in
     let behind = behind_is cache mid new n within c.forget.ensures.file c.forget.ensures.frames h torn in
     either_both c.free.result c.free.ensures.header (c.free.ensures.block still) c.free.ensures.refused_header
-    (λ freed_header is. gone_others n (blocks_behind cache) Y cache.file.header new.header block behind (room cache h) live (omega (arith, c.if-n-lt3.false))
+    (λ freed_header is. gone_others n (blocks_behind cache) Y cache.file.header new.header block behind
+    (room cache h) live (omega (arith, c.if-n-lt3.false))
     (freed_header ∙ ap (λ (f : PageFile _ _). with_one_free n f.header) c.forget.ensures.file) (small cache)
     (linked cache mid new n within c.forget.ensures.file c.forget.ensures.frames h torn is))
-    (λ same. kept_others n (blocks_behind cache) Y cache.file.header new.header block behind (room cache h) live (same ∙ ap (λ (f : PageFile _ _). f.header) c.forget.ensures.file))
+    (λ same. kept_others n (blocks_behind cache) Y cache.file.header new.header block behind (room cache h)
+    live (same ∙ ap (λ (f : PageFile _ _). f.header) c.forget.ensures.file))
 
 pub returns-clause-sound : goal.returns-clause-sound
 returns-clause-sound g c = λ map live.
     let h = map.honest in
-    let cache = c.args.self.now in let mid = c.forget.new.self in let new = c.free.new.self in let n = c.args.n in let d = g.met.D.BlockDevice in
+    let cache = c.args.self.now in let mid = c.forget.new.self in let new = c.free.new.self in
+    let n = c.args.n in let d = g.met.D.BlockDevice in
     let still : IsHonest mid = subst (λ (f : PageFile _ _). below.IsHonest f) (sym c.forget.ensures.file) h in
     let Y = laid_over (changed_pages mid.frames.entries) (below.blocks_of new) in
     let within = below_next cache n live in let torn = c.free.ensures.torn still in
     let honest = c.free.ensures.gate.honest.0 still in
-    let block = is_block cache mid new n within c.forget.ensures.file c.forget.ensures.frames h torn (d.whole (below.device_of new) (below.blocks_of new) honest (d.shown_counts (below.device_of new) honest)) in
-    let behind = behind_is cache mid new n within c.forget.ensures.file c.forget.ensures.frames h torn in record {
+    let block =
+    is_block cache mid new n within c.forget.ensures.file c.forget.ensures.frames h torn
+    (d.whole (below.device_of new) (below.blocks_of new) honest
+    (d.shown_counts (below.device_of new) honest)) in
+    let behind = behind_is cache mid new n within c.forget.ensures.file c.forget.ensures.frames h torn in
+    record {
       honest = honest;
-      free = either_both c.free.result c.free.ensures.header (c.free.ensures.block still) c.free.ensures.refused_header
-          (λ freed_header is. gone_free n (blocks_behind cache) Y cache.file.header new.header block behind (room cache h) live (omega (arith, c.if-n-lt3.false))
-          (freed_header ∙ ap (λ (f : PageFile _ _). with_one_free n f.header) c.forget.ensures.file) (small cache)
+      free = either_both c.free.result c.free.ensures.header (c.free.ensures.block still)
+          c.free.ensures.refused_header
+          (λ freed_header is. gone_free n (blocks_behind cache) Y cache.file.header new.header block behind
+          (room cache h) live (omega (arith, c.if-n-lt3.false))
+          (freed_header ∙ ap (λ (f : PageFile _ _). with_one_free n f.header) c.forget.ensures.file)
+          (small cache)
           (linked cache mid new n within c.forget.ensures.file c.forget.ensures.frames h torn is) map.free)
-          (λ same. kept_free n (blocks_behind cache) Y cache.file.header new.header block behind (room cache h) live (same ∙ ap (λ (f : PageFile _ _). f.header) c.forget.ensures.file) map.free);
+          (λ same. kept_free n (blocks_behind cache) Y cache.file.header new.header block behind
+          (room cache h) live (same ∙ ap (λ (f : PageFile _ _). f.header) c.forget.ensures.file)
+          map.free);
     }
 
 pub returns-clause-faults : goal.returns-clause-faults
@@ -117,15 +168,23 @@ returns-clause-faults g c = λ map live other.
     let l = lives (blocks_behind cache) cache.file.header n live in
     let low : 3 ≤ n = omega (arith, c.if-n-lt3.false) in
     let header = ap (λ (f : PageFile _ _). f.header) c.forget.ensures.file in
-    c.free.ensures.room_faults (subst (λ (f : PageFile _ _). below.IsHonest f) (sym c.forget.ensures.file) map.honest) low
+    c.free.ensures.room_faults
+    (subst (λ (f : PageFile _ _). below.IsHonest f) (sym c.forget.ensures.file) map.honest) low
     (subst (λ (x : Header). n < x.next) (sym header) l.below)
-    (subst (λ (x : Header). x.count < x.next - 3) (sym header) (room_for_one (blocks_behind cache) cache.file.header n map.free low l))
+    (subst (λ (x : Header). x.count < x.next - 3) (sym header)
+    (room_for_one (blocks_behind cache) cache.file.header n map.free low l))
 
 pub returns-clause-given_others : goal.returns-clause-given_others
 returns-clause-given_others g c = λ h.
-    let cache = c.args.self.now in let mid = c.forget.new.self in let new = c.free.new.self in let n = c.args.n in
+    let cache = c.args.self.now in let mid = c.forget.new.self in let new = c.free.new.self in
+    let n = c.args.n in
     let still : IsHonest mid = subst (λ (f : PageFile _ _). below.IsHonest f) (sym c.forget.ensures.file) h in
-    let within : n < cache.file.header.next = omega (arith, c.if-n-next_number.false, c.next_number.ensures) in
-    given_stay n (block_at n (below.blocks_of new)) (blocks_behind cache) (laid_over (changed_pages mid.frames.entries) (below.blocks_of new)) cache.file.header.next new.header.next
-    (behind cache mid new n within c.forget.ensures.file c.forget.ensures.frames h (c.free.ensures.torn still))
-    (c.free.ensures.next ∙ ap (λ (f : PageFile _ _). f.header.next) c.forget.ensures.file) (omega (arith, c.if-n-lt3.false)) within (room cache h)
+    let within : n < cache.file.header.next =
+    omega (arith, c.if-n-next_number.false, c.next_number.ensures) in
+    given_stay n (block_at n (below.blocks_of new)) (blocks_behind cache)
+    (laid_over (changed_pages mid.frames.entries) (below.blocks_of new)) cache.file.header.next
+    new.header.next
+    (behind cache mid new n within c.forget.ensures.file c.forget.ensures.frames h
+    (c.free.ensures.torn still))
+    (c.free.ensures.next ∙ ap (λ (f : PageFile _ _). f.header.next) c.forget.ensures.file)
+    (omega (arith, c.if-n-lt3.false)) within (room cache h)

@@ -13,7 +13,8 @@ returns-clause-looked_at g c =
         gate = c.load.ensures.kept.gate;
         map = looked_at c.args.self.now c.load.new.self _ c.args.n c.load.ensures.kept refl refl;
         capacity = c.load.ensures.kept.capacity;
-        looks = omega (arith, c.saturating_add-self.ensures, c.load.ensures.kept.looks, c.load.new.self.counted);
+        looks = omega
+            (arith, c.saturating_add-self.ensures, c.load.ensures.kept.looks, c.load.new.self.counted);
         faults = c.in_ok-load.ensures.cause.ok;
       };
       looks = c.saturating_add-self.ensures ∙ ap one_more c.load.ensures.kept.looks;
@@ -39,5 +40,9 @@ returns-in_err-load-clause-looked_at g c = record {
 
 pub returns-clause-first : goal.returns-clause-first
 returns-clause-first g c =
-    let found = first-found c.args.n c.load.new.self.frames.entries c.in_ok-load.ensures.first in
-    (found.0, found.1, λ h. sym ((map_kept c.args.self.now c.load.new.self c.load.ensures.kept).given_stay h c.args.n) ∙ given_held c.load.new.self c.args.n found.0 (c.load.ensures.kept.gate.honest.0 h) found.2)
+    let found = first-found c.args.n c.load.new.self.frames.entries c.in_ok-load.ensures.first in (
+      found.0,
+      found.1,
+      λ h. sym ((map_kept c.args.self.now c.load.new.self c.load.ensures.kept).given_stay h c.args.n)
+          ∙ given_held c.load.new.self c.args.n found.0 (c.load.ensures.kept.gate.honest.0 h) found.2,
+    )

@@ -9,17 +9,26 @@ pub invariant_of-self : goal.invariant_of-self
 invariant_of-self g c =
     let cache = c.args.self.now in
     let kept = kept_same cache.file (frame_at cache.frames.entries) (frame_at c.promote.new.self.entries)
-    (λ k. ap (λ d. frame_at d.entries k) c.promote.ensures.entries ∙ lookup-promoted c.args.n k cache.frames.entries c.len-count.ensures.valid.0)
+    (λ k. ap (λ d. frame_at d.entries k) c.promote.ensures.entries
+    ∙ lookup-promoted c.args.n k cache.frames.entries c.len-count.ensures.valid.0)
     (record { within = cache.within; true_to = cache.true_to; behind_the_gate = cache.behind_the_gate }) in
-    record { within = kept.within; true_to = kept.true_to; behind_the_gate = kept.behind_the_gate; counted = cache.counted }
+    record {
+      within = kept.within;
+      true_to = kept.true_to;
+      behind_the_gate = kept.behind_the_gate;
+      counted = cache.counted;
+    }
 
 pub returns-clause-same : goal.returns-clause-same
 returns-clause-same g c = let cache = c.args.self.now in record {
   file = refl;
-  frames = λ k. ap (λ d. frame_at d.entries k) c.promote.ensures.entries ∙ lookup-promoted c.args.n k cache.frames.entries c.len-count.ensures.valid.0;
+  frames = λ k. ap (λ d. frame_at d.entries k) c.promote.ensures.entries
+      ∙ lookup-promoted c.args.n k cache.frames.entries c.len-count.ensures.valid.0;
   looks = refl;
   capacity = ap (λ d. d.cap) c.promote.ensures.entries;
 }
 
 pub returns-clause-first : goal.returns-clause-first
-returns-clause-first g c = λ is. ap (λ d. option_map (λ e. e.0) (slice_get d.entries 0)) c.promote.ensures.entries ∙ first-promoted c.args.n c.args.self.now.frames.entries (sym c.promote.ensures.value ∙ is)
+returns-clause-first g c =
+    λ is. ap (λ d. option_map (λ e. e.0) (slice_get d.entries 0)) c.promote.ensures.entries
+    ∙ first-promoted c.args.n c.args.self.now.frames.entries (sym c.promote.ensures.value ∙ is)

@@ -13,7 +13,10 @@ returns-in_err-write_back-clause-kept g c =
     let within = (cache.within n (ap is_some is)).1 in record {
       gate = c.write_back.ensures.gate;
       header = c.write_back.ensures.header;
-      blocks = λ h. laid_refused (frame_at cache.frames.entries) n f _ _ (omega (arith, within, cache.file.room h)) is c.in_err-write_back.ensures.refused (c.write_back.ensures.torn h);
+      blocks =
+          λ h. laid_refused (frame_at cache.frames.entries) n f _ _
+          (omega (arith, within, cache.file.room h)) is c.in_err-write_back.ensures.refused
+          (c.write_back.ensures.torn h);
       looks = refl;
       capacity = refl;
     }
@@ -23,10 +26,15 @@ returns-clause-kept g c =
     let cache = c.args.self.now in let n = c.args.n in let f = c.in-Some.frame.now in
     let is = sym c.in-Some.ensures in
     let within = (cache.within n (ap is_some is)).1 in record {
-      gate = subst (λ (x : PageFile _ _). below.KeepsGate cache.file x) (sym c.forget.ensures.file) c.write_back.ensures.gate;
-      header = ap (λ (x : PageFile _ _). below.header_of x) c.forget.ensures.file ∙ c.write_back.ensures.header;
-      blocks = λ h. laid_without (frame_at cache.frames.entries) (frame_at c.forget.new.self.frames.entries) n f _ _ (omega (arith, within, cache.file.room h)) is c.forget.ensures.frames
-          (ap (λ (x : PageFile _ _). below.blocks_of x) c.forget.ensures.file ∙ c.in_ok-write_back.ensures.block h);
+      gate = subst (λ (x : PageFile _ _). below.KeepsGate cache.file x) (sym c.forget.ensures.file)
+          c.write_back.ensures.gate;
+      header = ap (λ (x : PageFile _ _). below.header_of x) c.forget.ensures.file
+          ∙ c.write_back.ensures.header;
+      blocks =
+          λ h. laid_without (frame_at cache.frames.entries) (frame_at c.forget.new.self.frames.entries) n f _
+          _ (omega (arith, within, cache.file.room h)) is c.forget.ensures.frames
+          (ap (λ (x : PageFile _ _). below.blocks_of x) c.forget.ensures.file
+          ∙ c.in_ok-write_back.ensures.block h);
       looks = c.forget.ensures.looks;
       capacity = c.forget.ensures.capacity;
     }

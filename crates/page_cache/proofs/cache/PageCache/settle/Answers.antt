@@ -23,7 +23,8 @@ unsure_not_open x a b = let e = sym a ∙ b in cc
 pub returns-clause-map : goal.returns-clause-map
 returns-clause-map g c =
     let none = λ (k : ℕ). ap (λ es. changed_pages es k) c.in_ok-write_all.ensures.empty in
-    the_map_is_kept_in_turn c.args.self.now c.write_all.new.self _ c.write_all.ensures.kept.gate.honest.0 (map_kept c.args.self.now c.write_all.new.self c.write_all.ensures.kept)
+    the_map_is_kept_in_turn c.args.self.now c.write_all.new.self _ c.write_all.ensures.kept.gate.honest.0
+    (map_kept c.args.self.now c.write_all.new.self c.write_all.ensures.kept)
     (map_by_file c.write_all.new.self _ none none c.settle.ensures.map)
 
 pub returns-clause-lies : goal.returns-clause-lies
@@ -34,27 +35,37 @@ returns-clause-lies g c = λ h.
 pub returns-clause-stops : goal.returns-clause-stops
 returns-clause-stops g c = λ h.
     let d = g.met.D.BlockDevice in let old = c.args.self.now in
-    stops_settled old _ c.write_all.new.self.file (λ k. ap (λ es. changed_pages es k) c.in_ok-write_all.ensures.empty) h
-    (λ b left. d.only_now (device_of old) b h left) c.write_all.ensures.kept.gate (λ closed. (c.write_all.ensures.quiet closed).0)
+    stops_settled old _ c.write_all.new.self.file
+    (λ k. ap (λ es. changed_pages es k) c.in_ok-write_all.ensures.empty) h
+    (λ b left. d.only_now (device_of old) b h left) c.write_all.ensures.kept.gate
+    (λ closed. (c.write_all.ensures.quiet closed).0)
     (c.settle.ensures.stops (c.write_all.ensures.kept.gate.honest.0 h))
 
 pub returns-clause-was_shut : goal.returns-clause-was_shut
 returns-clause-was_shut g c = λ shut.
     let old = c.args.self.now in let closed = shut_not_open (gate_of old) shut in
     let quiet = c.write_all.ensures.quiet closed in
-    let still = c.settle.ensures.was_shut (ap (λ (f : PageFile _ _). below.gate_of f) quiet.0 ∙ shut) in
-    (unchanged old _ (still.0 ∙ quiet.0) (λ k. ap (λ es. changed_pages es k) c.in_ok-write_all.ensures.empty ∙ sym (none_changed old closed k)) c.write_all.ensures.kept.looks c.write_all.ensures.kept.capacity, still.1)
+    let still = c.settle.ensures.was_shut (ap (λ (f : PageFile _ _). below.gate_of f) quiet.0 ∙ shut) in (
+      unchanged old _ (still.0 ∙ quiet.0)
+          (λ k. ap (λ es. changed_pages es k) c.in_ok-write_all.ensures.empty
+          ∙ sym (none_changed old closed k)) c.write_all.ensures.kept.looks c.write_all.ensures.kept.capacity,
+      still.1,
+    )
 
 pub returns-clause-was_unsure : goal.returns-clause-was_unsure
 returns-clause-was_unsure g c = λ h unsure.
-    let old = c.args.self.now in let quiet = c.write_all.ensures.quiet (unsure_not_open (gate_of old) unsure) in
+    let old = c.args.self.now in
+    let quiet = c.write_all.ensures.quiet (unsure_not_open (gate_of old) unsure) in
     subst (λ (f : PageFile _ _). SameButGate (below.blocks_of c.settle.new.self) (below.blocks_of f)) quiet.0
-    (c.settle.ensures.was_unsure (c.write_all.ensures.kept.gate.honest.0 h) (ap (λ (f : PageFile _ _). below.gate_of f) quiet.0 ∙ unsure))
+    (c.settle.ensures.was_unsure (c.write_all.ensures.kept.gate.honest.0 h)
+    (ap (λ (f : PageFile _ _). below.gate_of f) quiet.0 ∙ unsure))
 
 pub returns-in_err-write_all-clause-stops : goal.returns-in_err-write_all-clause-stops
 returns-in_err-write_all-clause-stops g c = λ h.
     let d = g.met.D.BlockDevice in let old = c.args.self.now in
     ⊎_elim
-    (λ (opened : gate_of old ≡ Open). stops_refused old c.write_all.new.self h opened (λ b left. d.only_now (device_of old) b h left) c.write_all.ensures.kept.gate)
-    (λ (closed : ¬ (gate_of old ≡ Open)). let quiet = c.in_err-write_all.ensures.quiet closed in absurd (let never = quiet.1 in cc))
+    (λ (opened : gate_of old ≡ Open). stops_refused old c.write_all.new.self h opened
+    (λ b left. d.only_now (device_of old) b h left) c.write_all.ensures.kept.gate)
+    (λ (closed : ¬ (gate_of old ≡ Open)). let quiet = c.in_err-write_all.ensures.quiet closed in
+    absurd (let never = quiet.1 in cc))
     (is_open (gate_of old))

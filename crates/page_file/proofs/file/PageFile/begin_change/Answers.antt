@@ -4,7 +4,8 @@ use Rattle.page_file.specs.Frames.{map_kept_aside}
 use Rattle.page_file.proofs.file.PageFile.begin_change.Goals as goal
 
 pub returns-in_err-write_gate-clause-map : goal.returns-in_err-write_gate-clause-map
-returns-in_err-write_gate-clause-map g c = map_kept_aside _ _ refl c.write_gate.ensures.honest c.write_gate.ensures.same
+returns-in_err-write_gate-clause-map g c =
+    map_kept_aside _ _ refl c.write_gate.ensures.honest c.write_gate.ensures.same
 
 pub returns-clause-map : goal.returns-clause-map
 returns-clause-map g c = map_kept_aside _ _ refl c.write_gate.ensures.honest c.write_gate.ensures.same

@@ -11,7 +11,9 @@ use Rattle.page_file.specs.Reading.{free_link, kind_of_free}
 use Rattle.page_file.specs.Settled.{more_free, sound_says}
 use Rattle.page_file.specs.Written.{torn_longer}
 use Rattle.page_file.proofs.file.PageFile.free.Goals as goal
-use Rattle.page_file.proofs.file.PageFile.free.Goals.{then-n-lt3-via-then-n-lt3, then-n-lt3-via-else-n-lt3+then-n-self, then-n-lt3-via-else-n-lt3+else-n-self+then-self}
+use Rattle.page_file.proofs.file.PageFile.free.Goals.{then-n-lt3-via-then-n-lt3}
+use Rattle.page_file.proofs.file.PageFile.free.Goals.{then-n-lt3-via-else-n-lt3+then-n-self}
+use Rattle.page_file.proofs.file.PageFile.free.Goals.{then-n-lt3-via-else-n-lt3+else-n-self+then-self}
 
 behind_catalog : (n : ℕ) → 2 ≤ n → ¬ (n ≡ 2) → 3 ≤ n
 behind_catalog n low other = grind arith
@@ -35,8 +37,12 @@ invariant_of-self g c =
     record {
       sound = file.sound;
       few = file.few;
-      room = λ h2. let h = was h2 in omega (arith, file.room h, torn_longer _ _ _ (c.write_block.ensures.torn h));
-      stop_now = λ h2. let h = was h2 in stop_behind file.gate (d.shown file.device) (d.shown c.write_block.new.device) (d.may_leave file.device) (d.may_leave c.write_block.new.device) c.args.n c.requires (omega (arith, c.if-n-lt3.false)) (file.stop_now h) (c.write_block.ensures.now h);
+      room = λ h2. let h = was h2 in
+          omega (arith, file.room h, torn_longer _ _ _ (c.write_block.ensures.torn h));
+      stop_now = λ h2. let h = was h2 in
+          stop_behind file.gate (d.shown file.device) (d.shown c.write_block.new.device)
+          (d.may_leave file.device) (d.may_leave c.write_block.new.device) c.args.n c.requires
+          (omega (arith, c.if-n-lt3.false)) (file.stop_now h) (c.write_block.ensures.now h);
       settled = λ _ ne. absurd (ne c.requires);
       shut_reads = λ _ is. absurd (open_is_not_shut file.gate c.requires is);
     }
@@ -46,20 +52,26 @@ returns-in_err-write_block-clause-gate g c = let file = c.args.self.now in let d
   gate = refl;
   honest = c.write_block.ensures.honest;
   blocks = λ h ne. absurd (ne c.requires);
-  stops = λ h. adds_behind d.moment d.left_since d.recovery file.device c.write_block.new.device file.gate (d.shown file.device) (d.may_leave file.device) c.args.n c.requires (omega (arith, c.if-n-lt3.false)) (file.stop_now h) (c.write_block.ensures.stops h);
+  stops = λ h. adds_behind d.moment d.left_since d.recovery file.device c.write_block.new.device file.gate
+      (d.shown file.device) (d.may_leave file.device) c.args.n c.requires (omega (arith, c.if-n-lt3.false))
+      (file.stop_now h) (c.write_block.ensures.stops h);
 }
 
 pub returns-in_err-write_block-clause-others : goal.returns-in_err-write_block-clause-others
-returns-in_err-write_block-clause-others g c = λ h live. let file = c.args.self.now in let d = g.D.BlockDevice in
+returns-in_err-write_block-clause-others g c = λ h live. let file = c.args.self.now in
+    let d = g.D.BlockDevice in
     let l = lives (d.shown file.device) file.header c.args.n live in
-    others_same c.args.n _ _ file.header (c.write_block.ensures.torn h) (omega (arith, l.below, file.room h)) l.not_free
+    others_same c.args.n _ _ file.header (c.write_block.ensures.torn h) (omega (arith, l.below, file.room h))
+    l.not_free
 
 pub returns-in_err-write_block-clause-sound : goal.returns-in_err-write_block-clause-sound
-returns-in_err-write_block-clause-sound g c = λ map live. let file = c.args.self.now in let d = g.D.BlockDevice in
+returns-in_err-write_block-clause-sound g c = λ map live. let file = c.args.self.now in
+    let d = g.D.BlockDevice in
     let l = lives (d.shown file.device) file.header c.args.n live in
     record {
       honest = c.write_block.ensures.honest.0 map.honest;
-      free = free_torn c.args.n _ _ file.header (c.write_block.ensures.torn map.honest) (omega (arith, l.below, file.room map.honest)) l.not_free map.free;
+      free = free_torn c.args.n _ _ file.header (c.write_block.ensures.torn map.honest)
+          (omega (arith, l.below, file.room map.honest)) l.not_free map.free;
     }
 
 pub invariant_of-self-2 : goal.invariant_of-self-2
@@ -67,10 +79,15 @@ invariant_of-self-2 g c =
     let file = c.args.self.now in let d = g.D.BlockDevice in
     let was : d.honest c.write_block.new.device → d.honest file.device = c.write_block.ensures.honest.1 in
     record {
-      sound = more_free file.header c.args.n file.sound (omega (arith, c.if-n-lt3.false)) (omega (arith, c.if-n-lt3.false)) (omega (arith, c.if-n-lt3.false));
+      sound = more_free file.header c.args.n file.sound (omega (arith, c.if-n-lt3.false))
+          (omega (arith, c.if-n-lt3.false)) (omega (arith, c.if-n-lt3.false));
       few = file.few;
-      room = λ h2. let h = was h2 in omega (arith, file.room h, torn_longer _ _ _ (c.write_block.ensures.torn h));
-      stop_now = λ h2. let h = was h2 in stop_behind file.gate (d.shown file.device) (d.shown c.write_block.new.device) (d.may_leave file.device) (d.may_leave c.write_block.new.device) c.args.n c.requires (omega (arith, c.if-n-lt3.false)) (file.stop_now h) (c.write_block.ensures.now h);
+      room = λ h2. let h = was h2 in
+          omega (arith, file.room h, torn_longer _ _ _ (c.write_block.ensures.torn h));
+      stop_now = λ h2. let h = was h2 in
+          stop_behind file.gate (d.shown file.device) (d.shown c.write_block.new.device)
+          (d.may_leave file.device) (d.may_leave c.write_block.new.device) c.args.n c.requires
+          (omega (arith, c.if-n-lt3.false)) (file.stop_now h) (c.write_block.ensures.now h);
       settled = λ _ ne. absurd (ne c.requires);
       shut_reads = λ _ is. absurd (open_is_not_shut file.gate c.requires is);
     }
@@ -80,7 +97,9 @@ returns-clause-gate g c = let file = c.args.self.now in let d = g.D.BlockDevice 
   gate = refl;
   honest = c.write_block.ensures.honest;
   blocks = λ h ne. absurd (ne c.requires);
-  stops = λ h. adds_behind d.moment d.left_since d.recovery file.device c.write_block.new.device file.gate (d.shown file.device) (d.may_leave file.device) c.args.n c.requires (omega (arith, c.if-n-lt3.false)) (file.stop_now h) (c.write_block.ensures.stops h);
+  stops = λ h. adds_behind d.moment d.left_since d.recovery file.device c.write_block.new.device file.gate
+      (d.shown file.device) (d.may_leave file.device) c.args.n c.requires (omega (arith, c.if-n-lt3.false))
+      (file.stop_now h) (c.write_block.ensures.stops h);
 }
 
 pub returns-clause-others : goal.returns-clause-others
@@ -88,9 +107,12 @@ returns-clause-others g c = λ h live. let file = c.args.self.now in let d = g.D
     let l = lives (d.shown file.device) file.header c.args.n live in
     let le : c.args.n ≤ length (d.shown file.device) = omega (arith, l.below, file.room h) in
     let is : block_at c.args.n (d.shown c.write_block.new.device) ≡ free_block file.header.first
-    = ap (block_at c.args.n) (c.in_ok-write_block.ensures.written h) ∙ block_at-written c.args.n _ (d.shown file.device) le ∙ c.free_page.ensures in
-    let small : file.header.first < 2 ^ 32 = omega (arith, (sound_says file.header file.sound).first_below, file.few) in
-    freed_others c.args.n _ _ file.header (c.write_block.ensures.torn h) le l.not_free (omega (arith, c.if-n-lt3.false)) (ap link_of is ∙ free_link file.header.first small)
+    = ap (block_at c.args.n) (c.in_ok-write_block.ensures.written h)
+    ∙ block_at-written c.args.n _ (d.shown file.device) le ∙ c.free_page.ensures in
+    let small : file.header.first < 2 ^ 32 =
+    omega (arith, (sound_says file.header file.sound).first_below, file.few) in
+    freed_others c.args.n _ _ file.header (c.write_block.ensures.torn h) le l.not_free
+    (omega (arith, c.if-n-lt3.false)) (ap link_of is ∙ free_link file.header.first small)
 
 pub returns-clause-sound : goal.returns-clause-sound
 returns-clause-sound g c = λ map live. let file = c.args.self.now in let d = g.D.BlockDevice in
@@ -98,11 +120,14 @@ returns-clause-sound g c = λ map live. let file = c.args.self.now in let d = g.
     let l = lives (d.shown file.device) file.header c.args.n live in
     let le : c.args.n ≤ length (d.shown file.device) = omega (arith, l.below, file.room h) in
     let is : block_at c.args.n (d.shown c.write_block.new.device) ≡ free_block file.header.first
-    = ap (block_at c.args.n) (c.in_ok-write_block.ensures.written h) ∙ block_at-written c.args.n _ (d.shown file.device) le ∙ c.free_page.ensures in
-    let small : file.header.first < 2 ^ 32 = omega (arith, (sound_says file.header file.sound).first_below, file.few) in
+    = ap (block_at c.args.n) (c.in_ok-write_block.ensures.written h)
+    ∙ block_at-written c.args.n _ (d.shown file.device) le ∙ c.free_page.ensures in
+    let small : file.header.first < 2 ^ 32 =
+    omega (arith, (sound_says file.header file.sound).first_below, file.few) in
     record {
       honest = c.write_block.ensures.honest.0 h;
-      free = freed_free c.args.n _ _ file.header (c.write_block.ensures.torn h) le l.not_free (omega (arith, c.if-n-lt3.false)) (ap link_of is ∙ free_link file.header.first small)
+      free = freed_free c.args.n _ _ file.header (c.write_block.ensures.torn h) le l.not_free
+          (omega (arith, c.if-n-lt3.false)) (ap link_of is ∙ free_link file.header.first small)
           l.below (ap kind_of is ∙ kind_of_free file.header.first) map.free;
     }
 

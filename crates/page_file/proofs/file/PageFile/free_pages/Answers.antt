@@ -10,14 +10,22 @@ pub loop-left-init : goal.loop-left-init
 loop-left-init g c = not_walked c.args.self.now _ c.new-found.ensures.items
 
 pub loop-left-preserved : goal.loop-left-preserved
-loop-left-preserved g c = walked_on c.loop-left.invariant c.read_link.new.self c.in_ok-link.link _ (omega (arith, c.loop-left-test.true)) c.read_link.ensures.gate c.read_link.ensures.map c.read_link.ensures.header c.read_link.ensures.blocks
-    c.in_ok-link.ensures.cause.ok c.in_ok-link.ensures.there c.in_ok-link.ensures.link c.in_ok-push.ensures.items
+loop-left-preserved g c =
+    walked_on c.loop-left.invariant c.read_link.new.self c.in_ok-link.link _
+    (omega (arith, c.loop-left-test.true)) c.read_link.ensures.gate c.read_link.ensures.map
+    c.read_link.ensures.header c.read_link.ensures.blocks
+    c.in_ok-link.ensures.cause.ok c.in_ok-link.ensures.there c.in_ok-link.ensures.link
+    c.in_ok-push.ensures.items
 
 pub returns-clause-pages : goal.returns-clause-pages
 returns-clause-pages g c = λ h. (walked_all c.loop-left.invariant (omega (arith, c.loop-left-test.false)) h).0
 
 pub returns-clause-sound : goal.returns-clause-sound
-returns-clause-sound g c = λ h. record { honest = h; free = (walked_all c.loop-left.invariant (omega (arith, c.loop-left-test.false)) h).1 }
+returns-clause-sound g c =
+    λ h. record {
+      honest = h;
+      free = (walked_all c.loop-left.invariant (omega (arith, c.loop-left-test.false)) h).1;
+    }
 
 pub returns-in_err-link-clause-faults : goal.returns-in_err-link-clause-faults
 returns-in_err-link-clause-faults g c = λ map.
@@ -28,4 +36,6 @@ returns-in_err-link-clause-faults g c = λ map.
     (c.in_err-link.ensures.damaged (here.gate.honest.0 map.honest)))
 
 pub returns-in_err-push-clause-gate : goal.returns-in_err-push-clause-gate
-returns-in_err-push-clause-gate g c = the_gate_is_kept_in_turn c.args.self.now c.loop-left.self c.read_link.new.self c.loop-left.invariant.gate c.read_link.ensures.gate
+returns-in_err-push-clause-gate g c =
+    the_gate_is_kept_in_turn c.args.self.now c.loop-left.self c.read_link.new.self c.loop-left.invariant.gate
+    c.read_link.ensures.gate

@@ -15,10 +15,15 @@ use Rattle.page_file.proofs.file.PageFile.settle.Goals as goal
 abbrev Settles : {D : Type 0} {m : _} → PageFile D m → Blocks → Type 0
 Settles file c = IsRefused c ⊎ (SameButGate c (blocks_of file) × LiesIn file c)
 
-shut_behind : {D : Type 0} {m : _} (mid new : PageFile D m) → IsHonest new → ¬ (gate_of new ≡ Open) → SameButGate (blocks_of new) (blocks_of mid)
-    → LeavesOnly m.moment m.left_since m.recovery mid.device new.device (λ c. SameButGate c (blocks_of mid)) → LeavesOnly m.moment m.left_since m.recovery mid.device new.device (Settles new)
-shut_behind {m = m} mid new h closed same stops = leaves_weaker m.moment m.left_since m.recovery mid.device new.device (λ c. SameButGate c (blocks_of mid)) (Settles new)
-    (λ c aside. let here : SameButGate c (blocks_of new) = aside ∙ sym same in ⊎_elim (λ refused. inl refused) (λ lies. inr (here, lies)) (aside_lies new c h closed here)) stops
+shut_behind : {D : Type 0} {m : _} (mid new : PageFile D m) → IsHonest new → ¬ (gate_of new ≡ Open)
+    → SameButGate (blocks_of new) (blocks_of mid)
+    → LeavesOnly m.moment m.left_since m.recovery mid.device new.device (λ c. SameButGate c (blocks_of mid))
+    → LeavesOnly m.moment m.left_since m.recovery mid.device new.device (Settles new)
+shut_behind {m = m} mid new h closed same stops =
+    leaves_weaker m.moment m.left_since m.recovery mid.device new.device (λ c. SameButGate c (blocks_of mid))
+    (Settles new)
+    (λ c aside. let here : SameButGate c (blocks_of new) = aside ∙ sym same in
+    ⊎_elim (λ refused. inl refused) (λ lies. inr (here, lies)) (aside_lies new c h closed here)) stops
 
 pub returns-clause-stops : goal.returns-clause-stops
 returns-clause-stops g c = λ h.
@@ -26,13 +31,22 @@ returns-clause-stops g c = λ h.
     let old = c.args.self.now in
     let mid = c.if-eq.self in
     let new = c.shut.new.self in
-    let shut : IsHonest mid → LeavesOnly d.moment d.left_since d.recovery (device_of mid) (device_of new) (Settles new) = λ honest.
-    shut_behind mid new (c.shut.ensures.honest.0 honest) c.shut.ensures.closed (c.shut.ensures.same honest) (c.shut.ensures.stops honest) in
+    let shut : IsHonest mid
+    → LeavesOnly d.moment d.left_since d.recovery (device_of mid) (device_of new) (Settles new) =
+    λ honest.
+    shut_behind mid new (c.shut.ensures.honest.0 honest) c.shut.ensures.closed (c.shut.ensures.same honest)
+    (c.shut.ensures.stops honest) in
     elim c.if-eq.branch [
-      | then-eq+in_ok-settle_blocks w ↦ leaves_then d.moment d.left_since d.recovery (device_of old) (device_of mid) (device_of new) (Settles new)
-          (leaves_weaker d.moment d.left_since d.recovery (device_of old) (device_of mid) IsRefused (Settles new) (λ b refused. inl refused)
-          (subst (λ (file : PageFile _ _). LeavesOnly d.moment d.left_since d.recovery (device_of old) (device_of file) IsRefused) (sym w.self-is) (w.settle_blocks.ensures.stops h)))
-          (shut (subst (λ (file : PageFile _ _). IsHonest file) (sym w.self-is) (w.settle_blocks.ensures.honest.0 h)))
-      | else-eq w ↦ subst (λ (file : PageFile _ _). LeavesOnly d.moment d.left_since d.recovery (device_of file) (device_of new) (Settles new)) w.self-is
+      | then-eq+in_ok-settle_blocks w ↦ leaves_then d.moment d.left_since d.recovery (device_of old)
+          (device_of mid) (device_of new) (Settles new)
+          (leaves_weaker d.moment d.left_since d.recovery (device_of old) (device_of mid) IsRefused
+          (Settles new) (λ b refused. inl refused)
+          (subst (λ (file : PageFile _ _). LeavesOnly d.moment d.left_since d.recovery (device_of old)
+          (device_of file) IsRefused) (sym w.self-is) (w.settle_blocks.ensures.stops h)))
+          (shut (subst (λ (file : PageFile _ _). IsHonest file) (sym w.self-is)
+          (w.settle_blocks.ensures.honest.0 h)))
+      | else-eq w ↦ subst
+          (λ (file : PageFile _ _). LeavesOnly d.moment d.left_since d.recovery (device_of file)
+          (device_of new) (Settles new)) w.self-is
           (shut (subst (λ (file : PageFile _ _). IsHonest file) (sym w.self-is) h))
     ]

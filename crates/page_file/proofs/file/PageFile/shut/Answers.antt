@@ -7,16 +7,20 @@ use Rattle.page_file.specs.Reading.{shut_gate}
 use Rattle.page_file.proofs.file.PageFile.shut.Goals as goal
 
 pub returns-in_err-write_gate-clause-map : goal.returns-in_err-write_gate-clause-map
-returns-in_err-write_gate-clause-map g c = map_kept_aside _ _ refl c.write_gate.ensures.honest c.write_gate.ensures.same
+returns-in_err-write_gate-clause-map g c =
+    map_kept_aside _ _ refl c.write_gate.ensures.honest c.write_gate.ensures.same
 
 pub invariant_of-self-2-clause-shut_reads : goal.invariant_of-self-2-clause-shut_reads
-invariant_of-self-2-clause-shut_reads g c = λ h2 _. subst IsShutGate (sym (c.in_ok-write_gate.ensures.gate (c.write_gate.ensures.honest.1 h2))) shut_gate
+invariant_of-self-2-clause-shut_reads g c =
+    λ h2 _. subst IsShutGate (sym (c.in_ok-write_gate.ensures.gate (c.write_gate.ensures.honest.1 h2)))
+    shut_gate
 
 pub returns-clause-map : goal.returns-clause-map
 returns-clause-map g c = map_kept_aside _ _ refl c.write_gate.ensures.honest c.write_gate.ensures.same
 
 pub returns-then-eq-clause-lies : goal.returns-then-eq-clause-lies
-returns-then-eq-clause-lies g c = λ h. let shut : c.args.self.now.gate ≡ Shut = search rules in shut_lies _ h shut
+returns-then-eq-clause-lies g c = λ h. let shut : c.args.self.now.gate ≡ Shut = search rules in
+    shut_lies _ h shut
 
 pub returns-clause-lies : goal.returns-clause-lies
 returns-clause-lies g c = λ h. shut_lies _ (c.write_gate.ensures.honest.0 h) refl

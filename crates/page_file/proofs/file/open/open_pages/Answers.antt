@@ -11,10 +11,15 @@ invariant_of-result g c = let d = g.D.BlockDevice in let old = c.check_opening.e
   sound = c.in-Ok.ensures.sound.0;
   few = c.in-Ok.ensures.sound.1;
   room = λ h2. let h = old.honest.1 h2 in
-      subst (λ (b : Blocks). c.in-Ok.header.next ≤ length b) (sym (old.shown h)) (subst (λ (x : Header). x.next ≤ length (d.shown c.args.device)) (sym (c.in-Ok.ensures.header h)) (passes_from _ (c.in-Ok.ensures.ok h)).within);
+      subst (λ (b : Blocks). c.in-Ok.header.next ≤ length b) (sym (old.shown h))
+      (subst (λ (x : Header). x.next ≤ length (d.shown c.args.device)) (sym (c.in-Ok.ensures.header h))
+      (passes_from _ (c.in-Ok.ensures.ok h)).within);
   stop_now = λ h2. c.in-Ok.ensures.durable (old.honest.1 h2);
   settled = λ h2 _. let h = old.honest.1 h2 in
-      subst (λ (b : Blocks). IsHeader c.in-Ok.header (block_at 1 b)) (sym (old.shown h)) (subst (λ (x : Header). IsHeader x (block_at 1 (d.shown c.args.device))) (sym (c.in-Ok.ensures.header h)) (passes_from _ (c.in-Ok.ensures.ok h)).header);
+      subst (λ (b : Blocks). IsHeader c.in-Ok.header (block_at 1 b)) (sym (old.shown h))
+      (subst (λ (x : Header). IsHeader x (block_at 1 (d.shown c.args.device)))
+      (sym (c.in-Ok.ensures.header h)) (passes_from _ (c.in-Ok.ensures.ok h)).header);
   shut_reads = λ h2 _. let h = old.honest.1 h2 in
-      subst (λ (b : Blocks). IsShutGate (block_at 0 b)) (sym (old.shown h)) (passes_from _ (c.in-Ok.ensures.ok h)).gate;
+      subst (λ (b : Blocks). IsShutGate (block_at 0 b)) (sym (old.shown h))
+      (passes_from _ (c.in-Ok.ensures.ok h)).gate;
 }

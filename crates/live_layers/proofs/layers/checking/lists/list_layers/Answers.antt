@@ -14,11 +14,15 @@ use Rattle.live_layers.proofs.Results.{the_err}
 use Rattle.live_layers.proofs.layers.checking.lists.list_layers.Goals as goal
 
 pub list_layer-requires : goal.list_layer-requires
-list_layer-requires g c = dims_fit c.args.records.now c.loop-record.record-index c.record-item.result c.record-item.is c.loop-record-test.true c.requires
+list_layer-requires g c =
+    dims_fit c.args.records.now c.loop-record.record-index c.record-item.result c.record-item.is
+    c.loop-record-test.true c.requires
 
 pub returns-in_err-list_layer-clause-asks : goal.returns-in_err-list_layer-clause-asks
 returns-in_err-list_layer-clause-asks g c =
-    asks_and_refuses c.args.cache.now c.loop-record.cache c.list_layer.new.cache c.in_err-list_layer.field-0.0 c.from_residual.result c.from_residual.ensures.1 c.loop-record.invariant.asks c.in_err-list_layer.ensures.asks
+    asks_and_refuses c.args.cache.now c.loop-record.cache c.list_layer.new.cache
+    c.in_err-list_layer.field-0.0 c.from_residual.result c.from_residual.ensures.1
+    c.loop-record.invariant.asks c.in_err-list_layer.ensures.asks
 
 pub returns-in_err-list_layer-clause-stands : goal.returns-in_err-list_layer-clause-stands
 returns-in_err-list_layer-clause-stands g c = λ honest hs rows stand.
@@ -28,8 +32,10 @@ returns-in_err-list_layer-clause-stands g c = λ honest hs rows stand.
     let r = c.record-item.result in
     let lt : i < length items = c.loop-record-test.true in
     the_err c.from_residual.result c.in_err-list_layer.field-0.0 IsOfDevice c.from_residual.ensures.1
-    (c.in_err-list_layer.ensures.stands (asks.gate.honest.0 honest) (get_or hs i no_reading) (row_here items hs rows i r lt c.record-item.is)
-    (stands_here items hs rows i r lt c.record-item.is (pages c.args.cache.now) (pages c.loop-record.cache) (asks.map.pages_stay honest) stand))
+    (c.in_err-list_layer.ensures.stands (asks.gate.honest.0 honest) (get_or hs i no_reading)
+    (row_here items hs rows i r lt c.record-item.is)
+    (stands_here items hs rows i r lt c.record-item.is (pages c.args.cache.now) (pages c.loop-record.cache)
+    (asks.map.pages_stay honest) stand))
 
 pub loop-record-preserved : goal.loop-record-preserved
 loop-record-preserved g c =
@@ -43,14 +49,20 @@ loop-record-preserved g c =
     record {
       asks = asks_in_turn old mid c.list_layer.new.cache None inv.asks c.in_ok-list_layer.ensures.asks;
       layers = λ sound.
-          subst (λ (rs : List Record). AddsLayers (pages old) rs c.args.found.now.items c.list_layer.new.found.items) (sym more)
-          (adds_more (pages old) (map record_of (take i items)) (record_of r) c.args.found.now.items c.loop-record.found.items c.list_layer.new.found.items (inv.layers sound)
-          (adds_in (pages old) (pages mid) (record_of r) c.loop-record.found.items c.list_layer.new.found.items (inv.asks.map.pages_stay sound.honest) (c.in_ok-list_layer.ensures.layer (inv.asks.map.sound.0 sound))));
+          subst (λ (rs : List Record). AddsLayers (pages old) rs c.args.found.now.items
+          c.list_layer.new.found.items) (sym more)
+          (adds_more (pages old) (map record_of (take i items)) (record_of r) c.args.found.now.items
+          c.loop-record.found.items c.list_layer.new.found.items (inv.layers sound)
+          (adds_in (pages old) (pages mid) (record_of r) c.loop-record.found.items
+          c.list_layer.new.found.items (inv.asks.map.pages_stay sound.honest)
+          (c.in_ok-list_layer.ensures.layer (inv.asks.map.sound.0 sound))));
       looks = omega (arith, inv.looks, inv.asks.map.next, c.in_ok-list_layer.ensures.looks);
     }
 
 pub returns-clause-layers : goal.returns-clause-layers
 returns-clause-layers g c = λ sound.
     let items = c.args.records.now in
-    subst (λ (rs : List LayerRecord). AddsLayers (pages c.args.cache.now) (map record_of rs) c.args.found.now.items c.loop-record.found.items) (take_all c.loop-record.record-index items c.loop-record-test.false)
+    subst (λ (rs : List LayerRecord). AddsLayers (pages c.args.cache.now) (map record_of rs)
+    c.args.found.now.items c.loop-record.found.items)
+    (take_all c.loop-record.record-index items c.loop-record-test.false)
     (c.loop-record.invariant.layers sound)

@@ -9,6 +9,8 @@ use Rattle.live_layers.proofs.layers.checking.lists.list_layers.Given as goal
 abbrev pub invariant-loop-record : goal.invariant-loop-record
 invariant-loop-record g l = record {
   asks : AsksUntil l.fn.cache l.cache None;
-  layers : IsPageMap l.fn.cache → AddsLayers (pages l.fn.cache) (map record_of (take l.record-index l.records)) l.fn.found.items l.found.items;
+  layers : IsPageMap l.fn.cache
+      → AddsLayers (pages l.fn.cache) (map record_of (take l.record-index l.records)) l.fn.found.items
+      l.found.items;
   looks : looks_of l.cache ≤ looks_of l.fn.cache + 2 * (l.record-index * next_of l.fn.cache);
 }

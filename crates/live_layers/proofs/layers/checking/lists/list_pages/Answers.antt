@@ -13,7 +13,8 @@ returns-in_err-list-clause-stands g c = λ honest h row stands.
     let old = pages c.args.cache.now in
     the_err c.from_residual.result c.in_err-list.field-0.0 IsOfDevice c.from_residual.ensures.1
     (c.in_err-list.ensures.stands honest h.pages h.layer.objects
-    (layer_of_row g.row.D old r h row c.requires.axes stands) (count_of_row g.row.D old r h row c.requires.axes stands))
+    (layer_of_row g.row.D old r h row c.requires.axes stands)
+    (count_of_row g.row.D old r h row c.requires.axes stands))
 
 pub returns-clause-layer : goal.returns-clause-layer
 returns-clause-layer g c = λ map.
@@ -22,4 +23,5 @@ returns-clause-layer g c = λ map.
     let now : List ℕ = c.extend_from_slice.new.self.items in
     let added : now ≡ before ++ c.as_slice.result.now = c.in_ok-extend_from_slice.ensures.items in
     let value : c.as_slice.result.now ≡ list = c.as_slice.ensures.value in
-    adds_layer g.row.D (pages c.args.cache.now) (record_of c.args.layer.now) list before now c.requires.axes (c.in_ok-list.ensures.layer map) (added ∙ ap (λ (xs : List ℕ). before ++ xs) value)
+    adds_layer g.row.D (pages c.args.cache.now) (record_of c.args.layer.now) list before now c.requires.axes
+    (c.in_ok-list.ensures.layer map) (added ∙ ap (λ (xs : List ℕ). before ++ xs) value)

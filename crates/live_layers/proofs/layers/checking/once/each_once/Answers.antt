@@ -7,16 +7,21 @@ use Rattle.live_layers.proofs.layers.checking.once.each_once.Goals as goal
 pub returns-then-page-place-clause-passes : goal.returns-then-page-place-clause-passes
 returns-then-page-place-clause-passes c = λ each.
     let sorted = c.sort_unstable.new.self in
-    let counts = names_each_counts c.args.next c.args.list.now sorted c.sort_unstable.ensures.permutation (IsNonDecreasingBy-from_sort (λ n. n) sorted c.sort_unstable.ensures.sorted) c.requires each in
+    let counts =
+    names_each_counts c.args.next c.args.list.now sorted c.sort_unstable.ensures.permutation
+    (IsNonDecreasingBy-from_sort (λ n. n) sorted c.sort_unstable.ensures.sorted) c.requires each in
     absurd (c.if-page-place.true (counts.0 c.loop-place.place c.loop-place-test.true))
 
 pub returns-then-list-next-clause-passes : goal.returns-then-list-next-clause-passes
 returns-then-list-next-clause-passes c = λ each.
     let sorted = c.sort_unstable.new.self in
-    let counts = names_each_counts c.args.next c.args.list.now sorted c.sort_unstable.ensures.permutation (IsNonDecreasingBy-from_sort (λ n. n) sorted c.sort_unstable.ensures.sorted) c.requires each in
+    let counts =
+    names_each_counts c.args.next c.args.list.now sorted c.sort_unstable.ensures.permutation
+    (IsNonDecreasingBy-from_sort (λ n. n) sorted c.sort_unstable.ensures.sorted) c.requires each in
     absurd (c.if-list-next.true counts.1)
 
 pub returns-clause-once : goal.returns-clause-once
 returns-clause-once c =
     let sorted = c.sort_unstable.new.self in
-    counts_names_each c.args.next c.args.list.now sorted c.sort_unstable.ensures.permutation (λ k lt. c.loop-place.invariant k (omega (arith, lt, c.loop-place-test.false))) c.if-list-next.false
+    counts_names_each c.args.next c.args.list.now sorted c.sort_unstable.ensures.permutation
+    (λ k lt. c.loop-place.invariant k (omega (arith, lt, c.loop-place-test.false))) c.if-list-next.false

@@ -17,8 +17,10 @@ returns-then-not-is_same c =
       λ (never : false ≡ true). cc,
       λ same.
           let alike : record_of x ≡ record_of y =
-          ap record_of c.index-records-place.is ∙ sym (get_or-map record_of records here x (record_of x) within)
+          ap record_of c.index-records-place.is
+          ∙ sym (get_or-map record_of records here x (record_of x) within)
           ∙ ap (λ (rs : List Record). get_or rs here (record_of x)) same
-          ∙ get_or-map record_of others here y (record_of x) beside ∙ ap record_of (sym c.index-others-place.is) in
+          ∙ get_or-map record_of others here y (record_of x) beside
+          ∙ ap record_of (sym c.index-others-place.is) in
           subst (λ (b : Bool). IsTrue b) c.if-not-is_same.true (c.is_same.ensures.1 alike),
     )
