@@ -9,6 +9,7 @@ use Rattle.page_file.specs.Laws as kept
 use Rattle.page_file.specs.Opening.{IsRefused}
 use Rattle.page_file.specs.Stops.{SameButGate}
 use Rattle.page_file.specs.Pages.{HasFreeChain, free_pages_of, given_pages, page_of}
+use Rattle.page_file.specs.declared.fault.Fault.{Fault}
 use Rattle.page_file.specs.declared.file.PageFile.{PageFile}
 use Rattle.page_file.specs.declared.gate.Gate.TheVariants.{Open, Shut}
 use Rattle.page_file.specs.declared.header.Header.{Header}
@@ -17,7 +18,8 @@ use Rattle.page_cache.specs.declared.frame.Frame.{Frame}
 use Rattle.page_cache.specs.Frames.{changed_pages, frame_at, laid_over, newer_bytes}
 use Rattle.page_cache.specs.Cache.{IsHonest, IsPageMap, IsUnchanged, IsWritten, KeepsMap, LiesIn}
 use Rattle.page_cache.specs.Cache.{blocks_behind, blocks_of, capacity_of, free_of, gate_of, given, looks_of}
-use Rattle.page_cache.specs.Cache.{next_of, pages}
+use Rattle.page_cache.specs.Cache.{device_of, next_of, pages, touched_of}
+use Rattle.page_cache.specs.Calls.{AsksUntil, faults_behind}
 use Rattle.page_cache.specs.Keeps.{KeepsBlocks, SameFrames}
 use Rattle.page_cache.proofs.Kept.{changed_read}
 use Rattle.page_cache.specs.Laid.{block_at-laid, laid_none, laid_same}
@@ -43,6 +45,7 @@ module _ {D A : Type 0} {m : _} where
         blocks = λ h. refl;
         looks = refl;
         capacity = refl;
+        touched = refl;
       }
 
   pub keeps_in_turn : (old mid new : PageCache D A m) → KeepsBlocks old mid → KeepsBlocks mid new
@@ -53,6 +56,7 @@ module _ {D A : Type 0} {m : _} where
     blocks = λ h. b.blocks (a.gate.honest.0 h) ∙ a.blocks h;
     looks = b.looks ∙ a.looks;
     capacity = b.capacity ∙ a.capacity;
+    touched = b.touched ∙ a.touched;
   }
 
   same_gate : (old new : PageCache D A m) → new.file ≡ old.file → below.KeepsGate old.file new.file
@@ -75,14 +79,15 @@ module _ {D A : Type 0} {m : _} where
     blocks = λ h. behind_same old new same.file (λ k. ap newer_bytes (same.frames k));
     looks = same.looks;
     capacity = same.capacity;
+    touched = same.touched;
   }
 
   -- the file goes on, with the same blocks
   pub keeps_blocks_below : (old new : PageCache D A m) → new.frames ≡ old.frames
-      → looks_of new ≡ looks_of old → below.KeepsGate old.file new.file
+      → looks_of new ≡ looks_of old → touched_of new ≡ touched_of old → below.KeepsGate old.file new.file
       → below.header_of new.file ≡ below.header_of old.file → (IsHonest old → blocks_of new ≡ blocks_of old)
       → KeepsBlocks old new
-  keeps_blocks_below old new frames looks gate header blocks = record {
+  keeps_blocks_below old new frames looks touched gate header blocks = record {
     gate = gate;
     header = header;
     blocks = λ h. ap (laid_over (changed_pages new.frames.entries)) (blocks h)
@@ -90,15 +95,16 @@ module _ {D A : Type 0} {m : _} where
         (λ k. ap (λ f. changed_pages f.entries k) frames);
     looks = looks;
     capacity = ap (λ f. f.cap) frames;
+    touched = touched;
   }
 
   -- a page that is read comes in
   pub held_clean : (old new : PageCache D A m) (n : ℕ) (f : Frame A) → new.file ≡ old.file
-      → looks_of new ≡ looks_of old
+      → looks_of new ≡ looks_of old → touched_of new ≡ touched_of old
       → ((k : ℕ) → frame_at new.frames.entries k ≡ cond (nat_eq k n) (Some f) (frame_at old.frames.entries k))
       → capacity_of new ≡ capacity_of old → f.changed ≡ false → frame_at old.frames.entries n ≡ None
       → KeepsBlocks old new
-  held_clean old new n f file looks put capacity clean none = record {
+  held_clean old new n f file looks touched put capacity clean none = record {
     gate = same_gate old new file;
     header = ap (λ (x : PageFile D m). below.header_of x) file;
     blocks =
@@ -106,6 +112,7 @@ module _ {D A : Type 0} {m : _} where
         (changed_read (frame_at old.frames.entries) (frame_at new.frames.entries) n f clean none put);
     looks = looks;
     capacity = capacity;
+    touched = touched;
   }
 
   -- the map stays where the blocks are the same
@@ -137,11 +144,30 @@ module _ {D A : Type 0} {m : _} where
   pub map_kept : (old new : PageCache D A m) → KeepsBlocks old new → KeepsMap old new
   map_kept old new keeps = map_from old new keeps.header keeps.gate.honest keeps.blocks
 
+  -- pages came and went, which asks for pages, and no more
+  pub kept_asks : (old new : PageCache D A m) (end : Option Fault) → KeepsBlocks old new
+      → m.faults (device_of new) ≡ faults_behind end (m.faults (device_of old)) → AsksUntil old new end
+  kept_asks old new end keeps faults = record {
+    gate = keeps.gate;
+    map = map_kept old new keeps;
+    capacity = keeps.capacity;
+    looks = omega (arith, keeps.looks);
+    touched = keeps.touched;
+    faults = faults;
+  }
+
   pub map_same : (old new : PageCache D A m) → new.file ≡ old.file
       → ((k : ℕ) → changed_pages new.frames.entries k ≡ changed_pages old.frames.entries k) → KeepsMap old new
   map_same old new file changed = map_from old new (ap (λ (f : PageFile D m). below.header_of f) file)
       (subst (λ (f : PageFile D m). below.IsHonest old.file ↔ below.IsHonest f) (sym file) (λ h. h, λ h. h))
       (λ h. behind_same old new file changed)
+
+  -- frames came and went, and then the same are held in any order
+  pub map_through : (old mid new : PageCache D A m) → KeepsBlocks old mid → new.file ≡ mid.file
+      → ((k : ℕ) → frame_at new.frames.entries k ≡ frame_at mid.frames.entries k) → KeepsMap old new
+  map_through old mid new keeps file frames =
+      the_map_is_kept_in_turn old mid new keeps.gate.honest.0 (map_kept old mid keeps)
+      (map_same mid new file (λ k. ap newer_bytes (frames k)))
 
   -- nothing has changed
   pub unchanged : (old new : PageCache D A m) → new.file ≡ old.file

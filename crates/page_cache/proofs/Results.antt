@@ -1,5 +1,10 @@
 -- A fact of an answer from facts of it.
-use Rattle.std.specs.Prelude.{Result, Ok, Err, OnOk, OnErr, IfOk, IfErr}
+use Rattle.std.proofs.Common.{◌≡◌, ◌∙◌, ℕ, Bool, true, false, ◌||◌, Some, eqb, not, refl, sym, ap}
+use Rattle.std.proofs.lemmas.Bool.{eqb-true, eq-eqb}
+use Rattle.std.specs.Prelude.{Result, Ok, Err, OnOk, OnErr, IfOk, IfErr, is_ok}
+use Rattle.page_file.specs.declared.fault.Fault.{Fault}
+use Rattle.page_file.specs.declared.fault.Fault.TheVariants as fault
+use Rattle.page_cache.specs.Calls.{fault_in, faults_behind}
 
 module _ {T E : Type 0} where
   -- an answer of the one kind or the other
@@ -19,6 +24,11 @@ module _ {T E : Type 0} where
       → OnErr r R
   on_err_given (Ok x) p q f = tt
   on_err_given (Err e) p q f = f p q
+
+  pub on_err_and : {H P Q R S : Type 0} (r : Result T E) → OnErr r P → (H → OnErr r Q) → OnErr r S
+      → (P → (H → Q) → S → R) → OnErr r R
+  on_err_and (Ok x) p q s f = tt
+  on_err_and (Err e) p q s f = f p q s
 
   pub if_ok_both : {P Q : T → Type 0} {S : Type 0} (r : Result T E) → IfOk r P → OnOk r S
       → ((x : T) → P x → S → Q x) → IfOk r Q
@@ -58,3 +68,45 @@ module _ {T E : Type 0} where
   pub on_err_any : {P : Type 0} (r : Result T E) → P → OnErr r P
   on_err_any (Ok x) p = tt
   on_err_any (Err e) p = p
+
+-- ---- a flag that is set by an answer that is no refusal, or by a loss
+
+set_by : (was : Bool) → (was || true) ≡ true
+set_by true = refl
+set_by false = refl
+
+never_set : {P : Type 0} (was : Bool) → (was || true) ≡ false → P
+never_set was unset = absurd (let bad : true ≡ false = sym (set_by was) ∙ unset in cc)
+
+pub unset_by_err : {T E P : Type 0} (was ok : Bool) (r : Result T E) → ok ≡ is_ok r → (was || ok) ≡ false
+    → OnErr r P → P
+unset_by_err was ok (Ok x) is unset p = never_set was (ap (λ b. was || b) (sym is) ∙ unset)
+unset_by_err was ok (Err e) is unset p = p
+
+pub stays_unless_lost : {T E : Type 0} (was ok : Bool) (left had : ℕ) (r : Result T E) → ok ≡ is_ok r
+    → OnErr r (left ≡ had → (was || (ok || not (eqb left had))) ≡ was)
+stays_unless_lost was ok left had (Ok x) is = tt
+stays_unless_lost was ok left had (Err e) is =
+    λ same. ap (λ b. was || (b || not (eqb left had))) is
+    ∙ ap (λ b. was || not b) (eq-eqb left had same) ∙ or_none was
+  where
+    or_none : (b : Bool) → (b || false) ≡ b
+    or_none true = refl
+    or_none false = refl
+
+pub none_lost : {T E P : Type 0} (was ok : Bool) (left had : ℕ) (r : Result T E) → ok ≡ is_ok r
+    → (was || (ok || not (eqb left had))) ≡ false → OnErr r (left ≡ had → P) → P
+none_lost was ok left had (Ok x) is unset p =
+    never_set was (ap (λ b. was || (b || not (eqb left had))) (sym is) ∙ unset)
+none_lost {P = P} was ok left had (Err e) is unset p = case (eqb left had) refl
+  where
+    case : (t : Bool) → eqb left had ≡ t → P
+    case true t = p (eqb-true left had t)
+    case false t = never_set was (ap (λ b. was || not b) (sym t)
+        ∙ ap (λ b. was || (b || not (eqb left had))) (sym is) ∙ unset)
+
+-- a call of no device, that gives up where there is no memory
+pub no_device : {T : Type 0} (before now : ℕ) (r : Result T Fault) → now ≡ before
+    → IfErr r (λ f. f ≡ fault.Memory) → now ≡ faults_behind (fault_in r) before
+no_device before now (Ok x) same memory = same
+no_device before now (Err f) same memory = same ∙ sym (ap (λ x. faults_behind (Some x) before) memory)

@@ -1,5 +1,5 @@
 -- What a cache of pages stands for, and what calls keep of it: the words that callers use.
-use Rattle.std.specs.Prelude.{◌≡◌, ◌<◌, ◌↔◌, ℕ, List, Option, None, IsSome, length}
+use Rattle.std.specs.Prelude.{◌≡◌, ◌<◌, ◌↔◌, ℕ, List, Bool, Option, None, IsSome, length}
 use Rattle.block_device.specs.Device.{Blocks, block_at}
 use Rattle.page_file.specs.File as below
 use Rattle.page_file.specs.Opening.{failed_check}
@@ -75,6 +75,10 @@ capacity_of cache = cache.frames.cap
 -- how many pages were lent
 abbrev pub looks_of : {D A : Type 0} {m : _} → PageCache D A m → ℕ
 looks_of cache = cache.looks
+
+-- whether a page was put, given out or freed since the last change was begun
+abbrev pub touched_of : {D A : Type 0} {m : _} → PageCache D A m → Bool
+touched_of cache = cache.touched
 
 -- Each page given out reads on the device as it is lent: none is changed in memory alone.
 abbrev pub IsWritten : {D A : Type 0} {m : _} → PageCache D A m → Type 0

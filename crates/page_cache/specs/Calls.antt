@@ -1,11 +1,12 @@
 -- What each call keeps of the cache that it works on: one word for calls that ask, and one for calls that
 -- change.
-use Rattle.std.proofs.Common.{◌≡◌, ◌∙◌, ℕ, ◌≤◌, Option, None, Some, ap, refl, subst, sym, arith}
+use Rattle.std.proofs.Common.{◌≡◌, ◌∙◌, ℕ, ◌≤◌, Bool, true, false, Option, None, Some, ap, refl, subst, sym, arith}
 use Rattle.std.specs.Prelude.{◌⊎◌, ◌<◌, Result, Ok, Err, IsErrAnd, OnOk}
 use Rattle.block_device.specs.Device.{one_more}
 use Rattle.page_file.specs.Fault.{HasCause, faults_after}
 use Rattle.page_file.specs.declared.fault.Fault.{Fault}
 use Rattle.page_cache.specs.Cache.{IsHeld, KeepsGate, KeepsMap, capacity_of, device_of, looks_of, next_of}
+use Rattle.page_cache.specs.Cache.{touched_of}
 use Rattle.page_cache.specs.Laws.{no_call_keeps_the_gate, no_call_keeps_the_map, the_gate_is_kept_in_turn}
 use Rattle.page_cache.specs.Laws.{the_map_is_kept_in_turn}
 use Rattle.page_cache.specs.declared.cache.PageCache.{PageCache}
@@ -21,22 +22,27 @@ faults_behind None before = before
 faults_behind (Some f) before = faults_after f before
 
 -- Pages were asked for, and it ended so: gate and moment, map and capacity stay, and so does honesty; no look
--- is taken back; and the count of the device's faults rises by one where it ended with `Device`, and else
--- not.
+-- is taken back, and no page touched; and the count of the device's faults rises by one where it ended with
+-- `Device`, and else not.
 pub record AsksUntil {D A : Type 0} {m : _} (old new : PageCache D A m) (end : Option Fault) : Type 0 where
   pub gate : KeepsGate old new
   pub map : KeepsMap old new
   pub capacity : capacity_of new ≡ capacity_of old
   pub looks : looks_of old ≤ looks_of new
+  pub touched : touched_of new ≡ touched_of old
   pub faults : m.faults (device_of new) ≡ faults_behind end (m.faults (device_of old))
 
--- Pages were changed, given out or freed, and it ended so: gate and moment stay, capacity and honesty, no
--- look and no page number is taken back, and the faults are counted as above.
-pub record ChangesUntil {D A : Type 0} {m : _} (old new : PageCache D A m) (end : Option Fault) : Type 0 where
+-- Pages were changed, given out or freed, and it ended so: gate and moment stay, capacity and honesty, no look
+-- and no page number is taken back, and the faults are counted as above. What was touched stays so, and where
+-- no page is touched, the map stays.
+pub record ChangesUntil {D A : Type 0} {m : _} (old new : PageCache D A m) (end : Option Fault)
+    : Type 0 where
   pub gate : KeepsGate old new
   pub next : next_of old ≤ next_of new
   pub capacity : capacity_of new ≡ capacity_of old
   pub looks : looks_of old ≤ looks_of new
+  pub touched : touched_of old ≡ true → touched_of new ≡ true
+  pub untouched : touched_of new ≡ false → KeepsMap old new
   pub faults : m.faults (device_of new) ≡ faults_behind end (m.faults (device_of old))
 
 -- a call with this answer
@@ -80,6 +86,11 @@ pub has_cause : {T : Type 0} (before now : ℕ) (result : Result T Fault)
 has_cause before now (Ok x) is = record { ok = is; refused = tt }
 has_cause before now (Err f) is = record { ok = tt; refused = is }
 
+-- where none is touched now, none was
+none_before : (before now : Bool) → (before ≡ true → now ≡ true) → now ≡ false → before ≡ false
+none_before false now stays none = refl
+none_before true now stays none = absurd (let both = sym (stays refl) ∙ none in cc)
+
 module _ {D A : Type 0} {m : _} where
   -- no call, and calls in turn, of which the first succeeds and the last ends in any way
   pub no_call_asks : (cache : PageCache D A m) → AsksUntil cache cache None
@@ -88,6 +99,7 @@ module _ {D A : Type 0} {m : _} where
     map = no_call_keeps_the_map cache;
     capacity = refl;
     looks = omega arith;
+    touched = refl;
     faults = refl;
   }
 
@@ -98,20 +110,22 @@ module _ {D A : Type 0} {m : _} where
     map = the_map_is_kept_in_turn old mid new a.gate.honest.0 a.map b.map;
     capacity = b.capacity ∙ a.capacity;
     looks = omega (arith, a.looks, b.looks);
+    touched = b.touched ∙ a.touched;
     faults = b.faults ∙ ap (faults_behind end) a.faults;
   }
 
   -- what asks is a change of nothing
   pub asks_changes : (old new : PageCache D A m) (end : Option Fault) → AsksUntil old new end
       → ChangesUntil old new end
-  asks_changes old new end a =
-      record {
-        gate = a.gate;
-        next = omega (arith, a.map.next);
-        capacity = a.capacity;
-        looks = a.looks;
-        faults = a.faults;
-      }
+  asks_changes old new end a = record {
+    gate = a.gate;
+    next = omega (arith, a.map.next);
+    capacity = a.capacity;
+    looks = a.looks;
+    touched = λ was. a.touched ∙ was;
+    untouched = λ none. a.map;
+    faults = a.faults;
+  }
 
   pub no_call_changes : (cache : PageCache D A m) → ChangesUntil cache cache None
   no_call_changes cache = asks_changes cache cache None (no_call_asks cache)
@@ -123,6 +137,9 @@ module _ {D A : Type 0} {m : _} where
     next = omega (arith, a.next, b.next);
     capacity = b.capacity ∙ a.capacity;
     looks = omega (arith, a.looks, b.looks);
+    touched = λ was. b.touched (a.touched was);
+    untouched = λ none. the_map_is_kept_in_turn old mid new a.gate.honest.0
+        (a.untouched (none_before (touched_of mid) (touched_of new) b.touched none)) (b.untouched none);
     faults = b.faults ∙ ap (faults_behind end) a.faults;
   }
 

@@ -33,6 +33,8 @@ pub struct PageCache<D: BlockDevice, A: Allocator> {
     // the bytes of a page that left, for the next one
     spare: Option<Box<[u8; 4096], A>>,
     looks: u64,
+    // whether a page was put, given out or freed since `begin_change`
+    touched: bool,
     ghost within: { (n : ℕ) → IsSome (frame_at frames.entries n) → (2 ≤ n) × (n < next_of file) },
     ghost true_to: { IsHonest file → (n : ℕ) (f : _) → frame_at frames.entries n ≡ Some f →
         f.changed ≡ false →

@@ -1,11 +1,11 @@
 //! The gate opened for a change, and what was put synced.
-ghost use Rattle.std.specs.Prelude.{◌≡◌, ◌⊎◌, ◌↔◌, IsOk, IfErr, OnOk, OnErr};
+ghost use Rattle.std.specs.Prelude.{◌≡◌, ◌⊎◌, ◌↔◌, false, IsOk, IfErr, OnOk, OnErr};
 ghost use Rattle.block_device.specs.Device.{LeavesOnly, Only};
 ghost use Rattle.page_file.specs.Fault.{HasCause, IsDamage, IsOfDevice};
 ghost use Rattle.page_file.specs.Stops.{SameButGate};
 ghost use Rattle.page_file.specs.declared.gate.Gate.TheVariants.{Open, Unsure};
 ghost use Rattle.page_cache.specs.Cache.{IsHonest, IsUnchanged, IsWritten, KeepsGate, KeepsMap, blocks_of};
-ghost use Rattle.page_cache.specs.Cache.{capacity_of, device_of, gate_of, looks_of};
+ghost use Rattle.page_cache.specs.Cache.{capacity_of, device_of, gate_of, looks_of, touched_of};
 ghost use Rattle.page_cache.specs.Calls.{Asks};
 
 use crate::cache::PageCache;
@@ -14,11 +14,13 @@ use page_file::Fault;
 use std::alloc::Allocator;
 
 impl<D: BlockDevice, A: Allocator + Copy> PageCache<D, A> {
-    /// Opens the gate for a change: it is written open, alone, and synced, if it is not open already.
+    /// Opens the gate for a change: it is written open, alone, and synced, if it is not open already. No page
+    /// is touched by this change yet.
     ///
     /// After a refusal, which is `Memory` or `Device`, the gate is unsure. The map stays.
     pub fn begin_change(&mut self) -> Result<(), Fault>
         ensures open { OnOk result (gate_of self.new ≡ Open) }
+        ensures untouched { touched_of self.new ≡ false }
         ensures refused { OnErr result (gate_of self.new ≡ Unsure) }
         ensures was_open { gate_of self.old ≡ Open → IsUnchanged self.old self.new × IsOk result }
         ensures map { KeepsMap self.old self.new }
@@ -35,6 +37,7 @@ impl<D: BlockDevice, A: Allocator + Copy> PageCache<D, A> {
         ensures faults { IfErr result IsOfDevice }
         ensures cause { HasCause (D.faults (device_of self.old)) (D.faults (device_of self.new)) result }
     {
+        self.touched = false;
         self.file.begin_change()
     }
 

@@ -1,7 +1,7 @@
 //! A page changed where it lies in memory.
 ghost use Rattle.std.specs.Prelude.{◌≡◌, ◌⊎◌, ◌≤◌, ◌<◌, ℕ, List, Some, Err, IsErrOf, IfOk, IfErr, OnOk};
 ghost use Rattle.std.specs.Prelude.{OnErr};
-ghost use Rattle.std.specs.Prelude.{if◌then◌else◌, ◌==◌, true};
+ghost use Rattle.std.specs.Prelude.{if◌then◌else◌, ◌==◌, ◌||◌, is_ok, true};
 ghost use Rattle.std.specs.Fn.{FnOnceReturnsAtMut};
 ghost use Rattle.block_device.specs.Device.{IsBlock};
 ghost use Rattle.page_file.specs.Fault.{IsOfDevice, IsDamage};
@@ -9,7 +9,7 @@ ghost use Rattle.page_file.specs.Pages.{SameBut};
 ghost use Rattle.page_file.specs.declared.fault.Fault.TheVariants as fault;
 ghost use Rattle.page_file.specs.declared.gate.Gate.TheVariants.{Open};
 ghost use Rattle.page_cache.specs.Cache.{Grows, IsHeld, IsHonest, IsLive, IsPageMap, IsUnchanged, KeepsMap};
-ghost use Rattle.page_cache.specs.Cache.{device_of, gate_of, given, looks_of, next_of, pages};
+ghost use Rattle.page_cache.specs.Cache.{device_of, gate_of, given, looks_of, next_of, pages, touched_of};
 ghost use Rattle.page_cache.specs.Calls.{Changes};
 ghost use Rattle.page_cache.specs.Frames.{frame_at};
 
@@ -57,6 +57,7 @@ impl<D: BlockDevice, A: Allocator + Copy> PageCache<D, A> {
         ensures grows { Grows 0 self.old self.new }
         ensures looks { looks_of self.new ≡ looks_of self.old }
         ensures holds { OnOk result (IsHeld self.new n) }
+        ensures touched { touched_of self.new ≡ (touched_of self.old || is_ok result) }
         ensures outside { (n < 2) ⊎ (next_of self.old ≤ n) →
             IsErrOf result (fault.Damaged n) × (device_of self.new ≡ device_of self.old) }
         ensures faults { IsHonest self.old → 2 ≤ n → n < next_of self.old → IfErr result IsOfDevice }
@@ -70,8 +71,8 @@ impl<D: BlockDevice, A: Allocator + Copy> PageCache<D, A> {
     /// it is held. The gate has to be open. A number outside 2 to the last one given out is `Damaged` with
     /// that number, without a call of the device.
     ///
-    /// It counts no look. After a refusal, which on an honest device is `Memory` or `Device`, the page is
-    /// still live and may hold any bytes; all others are as before.
+    /// It counts no look. After a refusal, which on an honest device is `Memory` or `Device`, the map is as
+    /// before.
     #[tactic(auto, using(crate::specs::Calls::counted_by_end))]
     pub fn refill<F: FnOnce(&mut [u8; 4096])>(&mut self, n: u32, fill: F) -> Result<(), Fault>
         requires open { gate_of self.old ≡ Open }
@@ -84,11 +85,13 @@ impl<D: BlockDevice, A: Allocator + Copy> PageCache<D, A> {
         ensures live { IsHonest self.old → IsLive self.old n → IsLive self.new n }
         ensures others { IsHonest self.old → IsLive self.old n → SameBut n (pages self.old) (pages self.new) }
         ensures given_others { IsHonest self.old → SameBut n (given self.old) (given self.new) }
+        ensures refused { OnErr result (KeepsMap self.old self.new) }
         ensures sound { IsPageMap self.old → IsLive self.old n → IsPageMap self.new }
         ensures next { next_of self.new ≡ next_of self.old }
         ensures grows { Grows 0 self.old self.new }
         ensures looks { looks_of self.new ≡ looks_of self.old }
         ensures holds { OnOk result (IsHeld self.new n) }
+        ensures touched { touched_of self.new ≡ (touched_of self.old || is_ok result) }
         ensures outside { (n < 2) ⊎ (next_of self.old ≤ n) →
             (result ≡ Err (fault.Damaged n)) × IsUnchanged self.old self.new }
         ensures faults { IsHonest self.old → 2 ≤ n → n < next_of self.old → IfErr result IsOfDevice }
@@ -105,13 +108,13 @@ impl<D: BlockDevice, A: Allocator + Copy> PageCache<D, A> {
         let mut bytes = self.blank()?;
         fill(&mut bytes);
         see_block(&bytes);
-        self.hold(
-            n,
-            Frame {
-                bytes,
-                changed: true,
-            },
-        )
+        let frame = Frame {
+            bytes,
+            changed: true,
+        };
+        let held = self.hold(n, frame);
+        self.touched |= held.is_ok();
+        held
     }
 
     // Changes the bytes of a page that is held.
@@ -126,12 +129,14 @@ impl<D: BlockDevice, A: Allocator + Copy> PageCache<D, A> {
             ≡ (if k == n then Some new else frame_at self.old.frames.entries k)) }
         ensures file { self.new.file ≡ self.old.file }
         ensures looks { self.new.looks ≡ self.old.looks }
+        ensures touched { self.new.touched ≡ true }
         ensures capacity { self.new.frames.cap ≡ self.old.frames.cap }
     {
         let _count = self.frames.len();
         match self.frames.peek_mut(&n) {
             Some(frame) => {
                 frame.changed = true;
+                self.touched = true;
                 let answer = change(&mut frame.bytes);
                 see_block(&frame.bytes);
                 answer

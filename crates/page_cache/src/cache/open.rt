@@ -45,6 +45,7 @@ impl<D: BlockDevice, A: Allocator + Copy> PageCache<D, A> {
                 frames,
                 spare: None,
                 looks: 0,
+                touched: false,
             }),
             Err(_) => Err((Fault::Memory, file.abandon())),
         }

@@ -1,7 +1,7 @@
 //! The pages: given out, put, freed and lent.
 ghost use Rattle.std.specs.Prelude.{◌≡◌, ◌⊎◌, ◌≤◌, ◌<◌, ◌+◌, ◌^◌, ℕ, Some, None, Err, IsErrOf, IsOk, IfOk};
 ghost use Rattle.std.specs.Prelude.{IfErr};
-ghost use Rattle.std.specs.Prelude.{OnOk, OnErr, option_map, slice_get};
+ghost use Rattle.std.specs.Prelude.{OnOk, OnErr, option_map, slice_get, ◌||◌, is_ok, true};
 ghost use Rattle.std.specs.Borrow.{sem};
 ghost use Rattle.block_bytes.specs.Numbers.{zeros};
 ghost use Rattle.page_file.specs.Fault.{HasCause, IsOfDevice, IsDamage};
@@ -11,7 +11,7 @@ ghost use Rattle.page_file.specs.declared.gate.Gate.TheVariants.{Open};
 ghost use Rattle.page_cache.specs.Cache.{Grows, IsBroken, IsFull, IsHeld, IsHonest, IsLive};
 ghost use Rattle.page_cache.specs.Cache.{IsPageMap, IsUnchanged, KeepsMap};
 ghost use Rattle.page_cache.specs.Cache.{device_of, free_count_of, free_of, gate_of, given, looks_of};
-ghost use Rattle.page_cache.specs.Cache.{next_of, pages};
+ghost use Rattle.page_cache.specs.Cache.{next_of, pages, touched_of};
 ghost use Rattle.page_cache.specs.Calls.{Asks, Changes, IsLookedAt};
 ghost use Rattle.page_cache.specs.Keeps.{KeepsBlocks};
 ghost use Rattle.page_cache.specs.Loan.{EndsLookedAt};
@@ -82,8 +82,7 @@ impl<D: BlockDevice, A: Allocator + Copy> PageCache<D, A> {
     /// Changes a live page in memory, and holds it. The gate has to be open. A number outside 2 to the last
     /// one given out is `Damaged` with that number, without a call of the device.
     ///
-    /// After a refusal the page is still live and may hold any bytes; all others are as before. On an
-    /// honest device that is `Memory` or `Device`.
+    /// After a refusal, which on an honest device is `Memory` or `Device`, the map is as before.
     #[tactic(auto, using(crate::specs::Calls::counted_by_end))]
     pub fn put(&mut self, n: u32, bytes: &[u8; 4096]) -> Result<(), Fault>
         requires { gate_of self.old ≡ Open }
@@ -99,6 +98,8 @@ impl<D: BlockDevice, A: Allocator + Copy> PageCache<D, A> {
         ensures grows { Grows 0 self.old self.new }
         ensures looks { looks_of self.new ≡ looks_of self.old }
         ensures holds { OnOk result (IsHeld self.new n) }
+        ensures refused { OnErr result (KeepsMap self.old self.new) }
+        ensures touched { touched_of self.new ≡ (touched_of self.old || is_ok result) }
         ensures outside { (n < 2) ⊎ (next_of self.old ≤ n) →
             (result ≡ Err (fault.Damaged n)) × IsUnchanged self.old self.new }
         ensures faults { IsHonest self.old → 2 ≤ n → n < next_of self.old → IfErr result IsOfDevice }
@@ -131,7 +132,8 @@ impl<D: BlockDevice, A: Allocator + Copy> PageCache<D, A> {
         ensures refused { IsPageMap self.old →
             OnErr result ((n : ℕ) × (pages self.old n ≡ None) × SameBut n (pages self.old) (pages self.new)) }
         ensures kept { OnErr result (free_count_of self.new ≡ free_count_of self.old →
-            KeepsMap self.old self.new) }
+            KeepsMap self.old self.new × (touched_of self.new ≡ touched_of self.old)) }
+        ensures touched { OnOk result (touched_of self.new ≡ true) }
         ensures sound { IsPageMap self.old → IsPageMap self.new }
         ensures number { IfOk result (λ n. (3 ≤ n) × (n < next_of self.new)) }
         ensures next { (next_of self.old ≤ next_of self.new) × (next_of self.new ≤ next_of self.old + 1) }
@@ -147,7 +149,10 @@ impl<D: BlockDevice, A: Allocator + Copy> PageCache<D, A> {
         // The block of the page that is given out next is read and written below, so that page is not held.
         let first = self.file.first_free();
         self.release(first)?;
-        self.file.allocate()
+        let free = self.file.free_count();
+        let allocated = self.file.allocate();
+        self.touched |= allocated.is_ok() | (self.file.free_count() != free);
+        allocated
     }
 
     /// Frees a live page other than the catalog: it is no longer live. The gate has to be open. A number
@@ -166,8 +171,10 @@ impl<D: BlockDevice, A: Allocator + Copy> PageCache<D, A> {
         ensures next { next_of self.new ≡ next_of self.old }
         ensures grows { Grows 0 self.old self.new }
         ensures looks { looks_of self.new ≡ looks_of self.old }
+        ensures touched { 3 ≤ n → n < next_of self.old → touched_of self.new ≡ true }
         ensures outside { (n < 3) ⊎ (next_of self.old ≤ n) →
-            (result ≡ Err (fault.Damaged n)) × IsUnchanged self.old self.new }
+            (result ≡ Err (fault.Damaged n)) × IsUnchanged self.old self.new
+            × (touched_of self.new ≡ touched_of self.old) }
         ensures faults { IsPageMap self.old → IsLive self.old n → ¬ (n ≡ 2) → IfErr result IsOfDevice }
         ensures other_faults { IfErr result (λ f. IsOfDevice f ⊎ IsDamage f) }
     {
@@ -175,6 +182,7 @@ impl<D: BlockDevice, A: Allocator + Copy> PageCache<D, A> {
             return Err(Fault::Damaged(n));
         }
         self.forget(n);
+        self.touched = true;
         self.file.free(n)
     }
 

@@ -1,10 +1,11 @@
 -- The goals of `PageCache::allocate` that are proved by hand.
 use Rattle.std.proofs.Common.{inl, inr, ◌≡◌, ◌∙◌, ℕ, ◌≤◌, ◌<◌, length, Option, Some, None, is_some, IsSome}
-use Rattle.std.proofs.Common.{ap, refl, sym, subst, arith, ⊎_elim}
+use Rattle.std.proofs.Common.{◌||◌, ap, eqb, not, refl, sym, subst, arith, ⊎_elim}
 use Rattle.block_bytes.specs.Numbers.{zeros}
 use Rattle.block_device.specs.Device.{Blocks, block_at}
 use Rattle.page_file.specs.Fault.{IsOfDevice}
 use Rattle.page_file.specs.File as below
+use Rattle.page_file.specs.Laws.{the_gate_is_kept_in_turn}
 use Rattle.page_file.specs.Pages.{HasGiven, MayHaveGiven, SameBut, TakesFirst, free_page_link, free_pages_of}
 use Rattle.page_file.specs.Pages.{given_pages, next_given, page_of}
 use Rattle.page_file.specs.Reused.{all_live, chain_refused, chain_stays, chain_unchanged, given_is_zeros}
@@ -14,6 +15,7 @@ use Rattle.page_file.specs.declared.fault.Fault.TheVariants as fault
 use Rattle.page_file.specs.declared.file.PageFile.{PageFile}
 use Rattle.page_file.specs.declared.header.Header.{Header}
 use Rattle.page_cache.specs.Cache.{IsHonest, blocks_behind, blocks_of}
+use Rattle.page_cache.specs.Calls.{counted_by_end, fault_in, faults_behind}
 use Rattle.page_cache.specs.Frames.{changed_pages, frame_at, laid_over, newer_bytes}
 use Rattle.page_cache.specs.Keeps.{KeepsBlocks}
 use Rattle.page_cache.specs.Laid.{length-laid}
@@ -22,7 +24,8 @@ use Rattle.page_cache.specs.declared.cache.PageCache.{PageCache}
 use Rattle.page_cache.specs.declared.frame.Frame.{Frame}
 use Rattle.page_cache.proofs.Behind.{map_from, map_kept}
 use Rattle.page_cache.proofs.Kept.{kept_below}
-use Rattle.page_cache.proofs.Results.{either, if_err_map, if_ok_both, on_err_given, on_err_map}
+use Rattle.page_cache.proofs.Results.{either, if_err_map, if_ok_both, none_lost, on_err_and, on_err_given, on_err_map}
+use Rattle.page_cache.proofs.Results.{stays_unless_lost}
 use Rattle.page_cache.proofs.Reused.{either_given, first_same, gives_behind, may_behind}
 use Rattle.page_cache.proofs.cache.PageCache.allocate.Goals as goal
 
@@ -90,19 +93,19 @@ module _ {D A : Type 0} {m : _} (old mid : PageCache D A m) (file : PageFile D m
 
 pub invariant_of-self : goal.invariant_of-self
 invariant_of-self g c =
-    let mid = c.release.new.self in let new = c.allocate.new.self in
+    let mid = c.release.new.self in let new = c.allocate-allocated.new.self in
     let first = c.first_free-first.ensures
     ∙ ap (λ (x : Header). x.first) (sym c.release.ensures.kept.header) in
     let kept =
-    kept_below mid.file new (frame_at mid.frames.entries) c.allocate.ensures.next.0
-    c.allocate.ensures.gate.gate c.allocate.ensures.gate.honest.1
+    kept_below mid.file new (frame_at mid.frames.entries) c.allocate-allocated.ensures.next.0
+    c.allocate-allocated.ensures.gate.gate c.allocate-allocated.ensures.gate.honest.1
     (λ h n f is clean.
     let apart : n ≡ next_given mid.file.header
     → ⊥ = λ e. let none =
     at_given c.args.self.now mid new c.release.ensures.kept c.first_free-first.result first
     c.in_ok-release.ensures.gone in let some = sym (ap (frame_at mid.frames.entries) e) ∙ is in
     absurd (let bad = sym none ∙ some in cc) in
-    either c.allocate.result (c.allocate.ensures.gives h) (c.allocate.ensures.may_give h)
+    either c.allocate-allocated.result (c.allocate-allocated.ensures.gives h) (c.allocate-allocated.ensures.may_give h)
     (λ gives. given_stays (blocks_of mid) (below.blocks_of new) mid.file.header new.header mid.file.sound
     (mid.file.room h) gives n apart)
     (λ may. given_refused (blocks_of mid) (below.blocks_of new) mid.file.header new.header mid.file.sound
@@ -117,12 +120,12 @@ invariant_of-self g c =
 
 pub returns-clause-fresh : goal.returns-clause-fresh
 returns-clause-fresh g c = λ map.
-    let old = c.args.self.now in let mid = c.release.new.self in let new = c.allocate.new.self in
+    let old = c.args.self.now in let mid = c.release.new.self in let new = c.allocate-allocated.new.self in
     let h = map.honest in let k = c.release.ensures.kept in
     let first = c.first_free-first.ensures ∙ ap (λ (x : Header). x.first) (sym k.header) in
     let gone = c.in_ok-release.ensures.gone in
     let X = blocks_behind old in let Y = after old mid new k c.first_free-first.result first gone in
-    if_ok_both c.allocate.result c.allocate.ensures.which (c.allocate.ensures.gives (k.gate.honest.0 h))
+    if_ok_both c.allocate-allocated.result c.allocate-allocated.ensures.which (c.allocate-allocated.ensures.gives (k.gate.honest.0 h))
     (λ n is given. subst
     (λ (i : ℕ). (page_of X old.file.header i ≡ None) × (page_of Y new.header i ≡ Some zeros)
     × SameBut i (page_of X old.file.header) (page_of Y new.header))
@@ -139,12 +142,12 @@ returns-clause-fresh g c = λ map.
 
 pub returns-clause-taken : goal.returns-clause-taken
 returns-clause-taken g c = λ map.
-    let old = c.args.self.now in let mid = c.release.new.self in let new = c.allocate.new.self in
+    let old = c.args.self.now in let mid = c.release.new.self in let new = c.allocate-allocated.new.self in
     let h = map.honest in let k = c.release.ensures.kept in
     let first = c.first_free-first.ensures ∙ ap (λ (x : Header). x.first) (sym k.header) in
     let gone = c.in_ok-release.ensures.gone in
     let X = blocks_behind old in let Y = after old mid new k c.first_free-first.result first gone in
-    if_ok_both c.allocate.result c.allocate.ensures.which (c.allocate.ensures.gives (k.gate.honest.0 h))
+    if_ok_both c.allocate-allocated.result c.allocate-allocated.ensures.which (c.allocate-allocated.ensures.gives (k.gate.honest.0 h))
     (λ n is given. subst
     (λ (i : ℕ). TakesFirst i (free_pages_of X old.file.header) old.file.header.next
     (free_pages_of Y new.header) new.header.next)
@@ -155,12 +158,12 @@ returns-clause-taken g c = λ map.
 
 pub returns-clause-given_others : goal.returns-clause-given_others
 returns-clause-given_others g c = λ h.
-    let old = c.args.self.now in let mid = c.release.new.self in let new = c.allocate.new.self in
+    let old = c.args.self.now in let mid = c.release.new.self in let new = c.allocate-allocated.new.self in
     let k = c.release.ensures.kept in
     let first = c.first_free-first.ensures ∙ ap (λ (x : Header). x.first) (sym k.header) in
     let gone = c.in_ok-release.ensures.gone in
     let X = blocks_behind old in let Y = after old mid new k c.first_free-first.result first gone in
-    if_ok_both c.allocate.result c.allocate.ensures.which (c.allocate.ensures.gives (k.gate.honest.0 h))
+    if_ok_both c.allocate-allocated.result c.allocate-allocated.ensures.which (c.allocate-allocated.ensures.gives (k.gate.honest.0 h))
     (λ n is given. subst
     (λ (i : ℕ). SameBut i (given_pages X old.file.header.next) (given_pages Y new.header.next))
     (sym (which old mid new k c.first_free-first.result first gone n is))
@@ -170,12 +173,12 @@ returns-clause-given_others g c = λ h.
 
 pub returns-clause-given_refused : goal.returns-clause-given_refused
 returns-clause-given_refused g c = λ h.
-    let old = c.args.self.now in let mid = c.release.new.self in let new = c.allocate.new.self in
+    let old = c.args.self.now in let mid = c.release.new.self in let new = c.allocate-allocated.new.self in
     let k = c.release.ensures.kept in
     let first = c.first_free-first.ensures ∙ ap (λ (x : Header). x.first) (sym k.header) in
     let gone = c.in_ok-release.ensures.gone in
     let X = blocks_behind old in let Y = after old mid new k c.first_free-first.result first gone in
-    on_err_map c.allocate.result (c.allocate.ensures.may_give (k.gate.honest.0 h))
+    on_err_map c.allocate-allocated.result (c.allocate-allocated.ensures.may_give (k.gate.honest.0 h))
     (λ given. (
       next_given old.file.header,
       given_refused X Y old.file.header new.header old.file.sound
@@ -185,12 +188,12 @@ returns-clause-given_refused g c = λ h.
 
 pub returns-clause-refused : goal.returns-clause-refused
 returns-clause-refused g c = λ map.
-    let old = c.args.self.now in let mid = c.release.new.self in let new = c.allocate.new.self in
+    let old = c.args.self.now in let mid = c.release.new.self in let new = c.allocate-allocated.new.self in
     let h = map.honest in let k = c.release.ensures.kept in
     let first = c.first_free-first.ensures ∙ ap (λ (x : Header). x.first) (sym k.header) in
     let gone = c.in_ok-release.ensures.gone in
     let X = blocks_behind old in let Y = after old mid new k c.first_free-first.result first gone in
-    on_err_map c.allocate.result (c.allocate.ensures.may_give (k.gate.honest.0 h))
+    on_err_map c.allocate-allocated.result (c.allocate-allocated.ensures.may_give (k.gate.honest.0 h))
     (λ given. (
       next_given old.file.header,
       none_before X Y old.file.header new.header old.file.sound
@@ -202,19 +205,22 @@ returns-clause-refused g c = λ map.
 
 pub returns-clause-kept : goal.returns-clause-kept
 returns-clause-kept g c =
-    let old = c.args.self.now in let mid = c.release.new.self in let new = c.allocate.new.self in
+    let old = c.args.self.now in let mid = c.release.new.self in let new = c.allocate-allocated.new.self in
     let k = c.release.ensures.kept in
     let first = c.first_free-first.ensures ∙ ap (λ (x : Header). x.first) (sym k.header) in
     let gone = c.in_ok-release.ensures.gone in
     let X = blocks_behind old in let Y = after old mid new k c.first_free-first.result first gone in
-    on_err_given c.allocate.result c.allocate.ensures.refused_next c.allocate.ensures.may_give
-    (λ next may_give. λ count.
+    on_err_and c.allocate-allocated.result c.allocate-allocated.ensures.refused_next
+    c.allocate-allocated.ensures.may_give
+    (stays_unless_lost mid.touched c.is_ok.result c.free_count.result c.free_count-free.result
+    c.allocate-allocated.result c.is_ok.ensures.value)
+    (λ next may_give stays. λ count.
     let roomy : IsHonest old
     → old.file.header.next ≤ length X = room old mid new k c.first_free-first.result first gone in
     let may_of : IsHonest old
     → MayHaveGiven X Y old.file.header new.header =
     λ h. may old mid new k c.first_free-first.result first gone h (may_give (k.gate.honest.0 h)) in
-    record {
+    (record {
       next = next ∙ ap (λ (x : Header). x.next) k.header;
       free_count = count;
       pages_stay =
@@ -223,28 +229,48 @@ returns-clause-kept g c =
           λ h n. given_unchanged X Y old.file.header new.header old.file.sound (roomy h) (may_of h) count n;
       sound = (
         λ p. record {
-          honest = c.allocate.ensures.gate.honest.0 (k.gate.honest.0 p.honest);
+          honest = c.allocate-allocated.ensures.gate.honest.0 (k.gate.honest.0 p.honest);
           free = chain_refused X Y old.file.header new.header old.file.sound (roomy p.honest) p.free
               (may_of p.honest);
         },
-        λ p. let h = k.gate.honest.1 (c.allocate.ensures.gate.honest.1 p.honest) in record {
+        λ p. let h = k.gate.honest.1 (c.allocate-allocated.ensures.gate.honest.1 p.honest) in record {
           honest = h;
           free = chain_unchanged X Y old.file.header new.header old.file.sound (roomy h) (may_of h) count
               p.free;
         },
       );
-    })
+    },
+    stays (c.free_count.ensures ∙ count ∙ sym (ap (λ (x : Header). x.count) k.header)
+    ∙ sym c.free_count-free.ensures) ∙ k.touched))
+
+pub returns-clause-changes : goal.returns-clause-changes
+returns-clause-changes g c =
+    let old = c.args.self.now in let mid = c.release.new.self in let new = c.allocate-allocated.new.self in
+    let k = c.release.ensures.kept in let r = c.allocate-allocated.result in record {
+      gate = the_gate_is_kept_in_turn old.file mid.file new k.gate c.allocate-allocated.ensures.gate;
+      next = omega (arith, c.allocate-allocated.ensures.next.0, ap (λ (x : Header). x.next) k.header);
+      capacity = k.capacity;
+      looks = omega (arith, k.looks);
+      touched = λ was. ap (λ t. t || (c.is_ok.result || not (eqb c.free_count.result c.free_count-free.result)))
+          (k.touched ∙ was);
+      untouched = λ none. none_lost mid.touched c.is_ok.result c.free_count.result c.free_count-free.result r
+          c.is_ok.ensures.value none (on_err_map r (returns-clause-kept g c)
+          (λ kept. λ same. (kept (sym c.free_count.ensures ∙ same ∙ c.free_count-free.ensures
+          ∙ ap (λ (x : Header). x.count) k.header)).0));
+      faults = counted_by_end _ _ r c.allocate-allocated.ensures.cause
+          ∙ ap (faults_behind (fault_in r)) c.in_ok-release.ensures.cause.ok;
+    }
 
 pub returns-clause-sound : goal.returns-clause-sound
 returns-clause-sound g c = λ map.
-    let old = c.args.self.now in let mid = c.release.new.self in let new = c.allocate.new.self in
+    let old = c.args.self.now in let mid = c.release.new.self in let new = c.allocate-allocated.new.self in
     let h = map.honest in let k = c.release.ensures.kept in
     let first = c.first_free-first.ensures ∙ ap (λ (x : Header). x.first) (sym k.header) in
     let gone = c.in_ok-release.ensures.gone in
     let X = blocks_behind old in let Y = after old mid new k c.first_free-first.result first gone in record {
-      honest = c.allocate.ensures.gate.honest.0 (k.gate.honest.0 h);
-      free = either c.allocate.result (c.allocate.ensures.gives (k.gate.honest.0 h))
-          (c.allocate.ensures.may_give (k.gate.honest.0 h))
+      honest = c.allocate-allocated.ensures.gate.honest.0 (k.gate.honest.0 h);
+      free = either c.allocate-allocated.result (c.allocate-allocated.ensures.gives (k.gate.honest.0 h))
+          (c.allocate-allocated.ensures.may_give (k.gate.honest.0 h))
           (λ given. chain_stays X Y old.file.header new.header old.file.sound
           (room old mid new k c.first_free-first.result first gone h) map.free
           (gives old mid new k c.first_free-first.result first gone h given))
@@ -257,16 +283,16 @@ pub returns-clause-all_live : goal.returns-clause-all_live
 returns-clause-all_live g c = λ is n low below.
     let old = c.args.self.now in let header = c.release.ensures.kept.header in
     all_live (blocks_behind old) old.file.header
-    (sym (ap (λ (x : Header). x.count) header) ∙ (c.allocate.ensures.full is).0.1) n low
-    (omega (arith, below, (c.allocate.ensures.full is).0.0, ap (λ (x : Header). x.next) header))
+    (sym (ap (λ (x : Header). x.count) header) ∙ (c.allocate-allocated.ensures.full is).0.1) n low
+    (omega (arith, below, (c.allocate-allocated.ensures.full is).0.0, ap (λ (x : Header). x.next) header))
 
 pub returns-clause-faults : goal.returns-clause-faults
 returns-clause-faults g c = λ map.
-    let old = c.args.self.now in let mid = c.release.new.self in let new = c.allocate.new.self in
+    let old = c.args.self.now in let mid = c.release.new.self in let new = c.allocate-allocated.new.self in
     let h = map.honest in let k = c.release.ensures.kept in
     let first = c.first_free-first.ensures ∙ ap (λ (x : Header). x.first) (sym k.header) in
     let gone = c.in_ok-release.ensures.gone in
-    if_err_map c.allocate.result (c.allocate.ensures.damaged (k.gate.honest.0 h))
+    if_err_map c.allocate-allocated.result (c.allocate-allocated.ensures.damaged (k.gate.honest.0 h))
     (λ f is. ⊎_elim
     (λ (device : IsOfDevice f). inl device)
     (λ rest. ⊎_elim
@@ -281,11 +307,11 @@ returns-clause-faults g c = λ map.
 
 pub returns-clause-damaged : goal.returns-clause-damaged
 returns-clause-damaged g c = λ h.
-    let old = c.args.self.now in let mid = c.release.new.self in let new = c.allocate.new.self in
+    let old = c.args.self.now in let mid = c.release.new.self in let new = c.allocate-allocated.new.self in
     let k = c.release.ensures.kept in
     let first = c.first_free-first.ensures ∙ ap (λ (x : Header). x.first) (sym k.header) in
     let gone = c.in_ok-release.ensures.gone in
-    if_err_map c.allocate.result (c.allocate.ensures.damaged (k.gate.honest.0 h))
+    if_err_map c.allocate-allocated.result (c.allocate-allocated.ensures.damaged (k.gate.honest.0 h))
     (λ f is. ⊎_elim
     (λ (device : IsOfDevice f). inl device)
     (λ rest. ⊎_elim
@@ -295,7 +321,7 @@ returns-clause-damaged g c = λ h.
       some = subst (λ (x : Header). 0 < x.count) k.header broken.some;
       no_link = sym (same_link old mid new k c.first_free-first.result first gone h) ∙ broken.no_link;
       map = the_map_is_kept_in_turn old mid _ k.gate.honest.0 (map_kept old mid k)
-          (map_from mid _ broken.header c.allocate.ensures.gate.honest
+          (map_from mid _ broken.header c.allocate-allocated.ensures.gate.honest
           (λ h2. ap (laid_over (changed_pages mid.frames.entries)) broken.blocks));
     })))
     rest)

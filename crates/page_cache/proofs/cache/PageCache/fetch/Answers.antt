@@ -28,7 +28,7 @@ returns-clause-kept g c =
     (keeps_in_turn c.make_room.new.self c.blank.new.self c.hold.new.self
     (keeps_same c.make_room.new.self c.blank.new.self c.blank.ensures.same)
     (keeps_in_turn c.blank.new.self _ c.hold.new.self
-    (keeps_blocks_below c.blank.new.self _ refl refl c.read.ensures.gate c.read.ensures.header
+    (keeps_blocks_below c.blank.new.self _ refl refl refl c.read.ensures.gate c.read.ensures.header
     c.read.ensures.blocks) (c.hold.ensures.kept refl absent)))
 
 pub returns-in_err-read-clause-kept : goal.returns-in_err-read-clause-kept
@@ -36,5 +36,5 @@ returns-in_err-read-clause-kept g c =
     keeps_in_turn c.args.self.now c.make_room.new.self _ c.make_room.ensures.kept
     (keeps_in_turn c.make_room.new.self c.blank.new.self _
     (keeps_same c.make_room.new.self c.blank.new.self c.blank.ensures.same)
-    (keeps_blocks_below c.blank.new.self _ refl refl c.read.ensures.gate c.read.ensures.header
+    (keeps_blocks_below c.blank.new.self _ refl refl refl c.read.ensures.gate c.read.ensures.header
     c.read.ensures.blocks))

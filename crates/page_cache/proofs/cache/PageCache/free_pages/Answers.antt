@@ -19,6 +19,7 @@ returns-clause-asks g c =
           (map_by_file c.write_all.new.self _ none none c.free_pages.ensures.map);
       capacity = c.write_all.ensures.kept.capacity;
       looks = omega (arith, c.write_all.ensures.kept.looks);
+      touched = c.write_all.ensures.kept.touched;
       faults = counted_by_end _ _ c.free_pages.result c.free_pages.ensures.cause
           ∙ ap (faults_behind (fault_in c.free_pages.result)) c.in_ok-write_all.ensures.cause.ok;
     }

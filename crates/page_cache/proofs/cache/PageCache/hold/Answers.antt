@@ -68,14 +68,14 @@ returns-in_default-clause-first g c =
     ∙ first-put c.args.self.now.frames c.args.n c.args.frame
 
 pub returns-in-Some-clause-kept : goal.returns-in-Some-clause-kept
-returns-in-Some-clause-kept g c = λ clean none. held_clean c.args.self.now _ c.args.n c.args.frame refl refl
+returns-in-Some-clause-kept g c = λ clean none. held_clean c.args.self.now _ c.args.n c.args.frame refl refl refl
     (λ k. ap (λ d. frame_at d.entries k) c.in_ok-old.ensures.entries
     ∙ lookup-put c.args.self.now.frames c.args.n k c.args.frame c.len-count.ensures.valid.0
     c.requires.room) (ap (λ d. d.cap) c.in_ok-old.ensures.entries) clean none
 
 pub returns-in_default-clause-kept : goal.returns-in_default-clause-kept
 returns-in_default-clause-kept g c =
-    λ clean none. held_clean c.args.self.now _ c.args.n c.args.frame refl refl
+    λ clean none. held_clean c.args.self.now _ c.args.n c.args.frame refl refl refl
     (λ k. ap (λ d. frame_at d.entries k) c.in_ok-old.ensures.entries
     ∙ lookup-put c.args.self.now.frames c.args.n k c.args.frame c.len-count.ensures.valid.0
     c.requires.room) (ap (λ d. d.cap) c.in_ok-old.ensures.entries) clean none

@@ -15,6 +15,7 @@ returns-clause-looked_at g c =
         capacity = c.load.ensures.kept.capacity;
         looks = omega
             (arith, c.saturating_add-self.ensures, c.load.ensures.kept.looks, c.load.new.self.counted);
+        touched = c.load.ensures.kept.touched;
         faults = c.in_ok-load.ensures.cause.ok;
       };
       looks = c.saturating_add-self.ensures ∙ ap one_more c.load.ensures.kept.looks;
@@ -30,6 +31,7 @@ returns-in_err-load-clause-looked_at g c = record {
     map = map_kept c.args.self.now c.load.new.self c.load.ensures.kept;
     capacity = c.load.ensures.kept.capacity;
     looks = omega (arith, c.load.ensures.kept.looks);
+    touched = c.load.ensures.kept.touched;
     faults = search rules;
   };
   looks = search rules;

@@ -1,5 +1,5 @@
 -- The goals of `PageCache::over` that are proved by hand.
-use Rattle.std.proofs.Common.{None, ap}
+use Rattle.std.proofs.Common.{None, false, ap}
 use Rattle.page_cache.specs.Frames.{changed_pages}
 use Rattle.page_cache.proofs.Behind.{given_below, lies_below, map_below, pages_below}
 use Rattle.page_cache.proofs.cache.PageCache.over.Goals as goal
@@ -12,6 +12,7 @@ returns-in-Ok-clause-pages g c =
       frames = c.in-Ok.frames;
       spare = None;
       looks = 0;
+      touched = false;
       within = c.result-1.given.0;
       true_to = c.result-1.given.1.0;
       behind_the_gate = c.result-1.given.1.1.0;
@@ -26,6 +27,7 @@ returns-in-Ok-clause-given g c =
       frames = c.in-Ok.frames;
       spare = None;
       looks = 0;
+      touched = false;
       within = c.result-1.given.0;
       true_to = c.result-1.given.1.0;
       behind_the_gate = c.result-1.given.1.1.0;
@@ -40,6 +42,7 @@ returns-in-Ok-clause-sound g c =
       frames = c.in-Ok.frames;
       spare = None;
       looks = 0;
+      touched = false;
       within = c.result-1.given.0;
       true_to = c.result-1.given.1.0;
       behind_the_gate = c.result-1.given.1.1.0;
@@ -54,6 +57,7 @@ returns-in-Ok-clause-lies g c =
       frames = c.in-Ok.frames;
       spare = None;
       looks = 0;
+      touched = false;
       within = c.result-1.given.0;
       true_to = c.result-1.given.1.0;
       behind_the_gate = c.result-1.given.1.1.0;

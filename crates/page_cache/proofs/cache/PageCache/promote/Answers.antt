@@ -25,6 +25,7 @@ returns-clause-same g c = let cache = c.args.self.now in record {
   frames = λ k. ap (λ d. frame_at d.entries k) c.promote.ensures.entries
       ∙ lookup-promoted c.args.n k cache.frames.entries c.len-count.ensures.valid.0;
   looks = refl;
+  touched = refl;
   capacity = ap (λ d. d.cap) c.promote.ensures.entries;
 }
 

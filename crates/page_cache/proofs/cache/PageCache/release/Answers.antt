@@ -19,6 +19,7 @@ returns-in_err-write_back-clause-kept g c =
           (c.write_back.ensures.torn h);
       looks = refl;
       capacity = refl;
+      touched = refl;
     }
 
 pub returns-clause-kept : goal.returns-clause-kept
@@ -37,4 +38,5 @@ returns-clause-kept g c =
           ∙ c.in_ok-write_back.ensures.block h);
       looks = c.forget.ensures.looks;
       capacity = c.forget.ensures.capacity;
+      touched = c.forget.ensures.touched;
     }
