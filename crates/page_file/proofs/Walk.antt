@@ -7,6 +7,7 @@ use Rattle.std.proofs.lemmas.Bool.Decides.{nat_tests}
 use Rattle.std.proofs.lemmas.Bool.{cases_eq}
 use Rattle.std.proofs.lemmas.List.{append_assoc, append-nil, length-append}
 use Rattle.block_device.specs.Device.{Blocks, block_at}
+use Rattle.page_file.specs.Breaks.{some_free}
 use Rattle.page_file.specs.Chains.{chain_opened}
 use Rattle.page_file.specs.Laws.{no_call_keeps_the_gate, no_call_keeps_the_map, the_gate_is_kept_in_turn}
 use Rattle.page_file.specs.Laws.{the_map_is_kept_in_turn}
@@ -22,9 +23,6 @@ use Rattle.page_file.specs.declared.header.Header.{Header}
 
 none_free : (h : Header) → is_sound h ≡ true → h.count ≡ 0 → h.first ≡ 0
 none_free h e none = grind (arith, nat_tests)
-
-some_free : (h : Header) → is_sound h ≡ true → 0 < h.count → (3 ≤ h.first) × (h.first < h.next)
-some_free h e some = (grind (arith, nat_tests), grind (arith, nat_tests))
 
 linked_end : (left next link : ℕ) → may_link left next link ≡ true → 0 < left → left - 1 ≡ 0 → link ≡ 0
 linked_end left next link e some none = grind (arith, nat_tests)
