@@ -3,19 +3,22 @@
 -- docs/FORMAT.md is refused here.
 use Rattle.block_device.specs.Moments.{brings_nothing}
 use Rattle.std.proofs.Common.{◌≡◌, ◌∙◌, ℕ, zero, suc, List, [], ◌∷◌, Option, Some, None, true, false, eqb}
+use Rattle.std.proofs.Common.{◌-◌}
 use Rattle.std.proofs.Common.{if◌then◌else◌, refl, sym, ap, subst, arith, inl, inr, lit<, ⊎_elim, drop, map}
 use Rattle.std.specs.List.{IsDistinct}
+use Rattle.std.specs.Prelude.{IsSome, slice_get}
 use Rattle.std.proofs.lemmas.Bool.Decides.{nat_tests}
 use Rattle.block_bytes.specs.Numbers.{zeros, number_at}
 use Rattle.block_device.specs.Device.{Blocks, block_at, written, no_recovery}
 use Rattle.block_device.specs.Outcomes.{repeated_block}
+use Rattle.page_file.specs.Breaks.{a_sound_chain_breaks_nowhere}
 use Rattle.page_file.specs.Chains.{a_chain_is_distinct}
 use Rattle.page_file.specs.File.{IsHonest, IsPageMap, KeepsGate, KeepsMap, LiesIn, blocks_of, gate_of}
 use Rattle.page_file.specs.File.{next_of, pages}
 use Rattle.page_file.specs.Layout.{gate_block}
 use Rattle.page_file.specs.Opening.{gate_checks, header_checks, failed_check, IsRefused}
 use Rattle.page_file.specs.Pages.{chain, free_pages_of, is_live, page_of, given_pages, pages_in, next_in}
-use Rattle.page_file.specs.Pages.{IsChain, HasFreeChain, IsSoundMap, SameBut}
+use Rattle.page_file.specs.Pages.{BreaksAt, IsChain, HasFreeChain, IsSoundMap, SameBut, free_page_link}
 use Rattle.page_file.specs.Reading.{shut-gate}
 use Rattle.page_file.specs.Stops.{SameButGate, StopSince, StopNow, GateAside, TornFrom, IsOpen, AllLeave}
 use Rattle.page_file.specs.Stops.{AddsOnly}
@@ -93,6 +96,36 @@ a_page_of_another_kind_is_not_free h = absurd (omega (arith, h.2))
 a_sound_map : IsSoundMap blocks
 unfolding number_at
 a_sound_map = two_free_pages_in_a_row
+
+-- page 4 names another one, where the count has it as the last
+a_chain_longer_than_the_count_breaks : BreaksAt blocks (numbers 6 4 1) 4
+unfolding number_at
+a_chain_longer_than_the_count_breaks = record {
+  before = 0;
+  counted = omega arith;
+  linked = λ i k less. absurd (omega (arith, less));
+  leads = refl;
+  broken = refl;
+}
+
+-- page 3, to which page 4 leads, names none, where the count has one more
+a_chain_shorter_than_the_count_breaks : BreaksAt blocks (numbers 6 4 3) 3
+unfolding number_at
+a_chain_shorter_than_the_count_breaks = record {
+  before = 1;
+  counted = omega arith;
+  linked = λ i k less at.
+      let first : i ≡ 0 = omega (arith, less) in
+      let there : Some 4 ≡ Some k = sym (ap (slice_get (4 ∷ 3 ∷ [])) first) ∙ at in let is : 4 ≡ k = cc in
+      subst (λ (j : ℕ). IsSome (free_page_link (3 - j) 6 (block_at k blocks))) (sym first)
+      (subst (λ (n : ℕ). IsSome (free_page_link 3 6 (block_at n blocks))) is refl);
+  leads = refl;
+  broken = refl;
+}
+
+a_sound_chain_has_no_break : (n : ℕ) → BreaksAt blocks (numbers 6 4 2) n → ⊥
+a_sound_chain_has_no_break n h =
+    a_sound_chain_breaks_nowhere blocks (numbers 6 4 2) n two_free_pages_in_a_row h
 
 -- page 3 names itself
 a_cycle_is_no_chain : (next count : ℕ) → IsChain (gate ∷ [] ∷ [] ∷ free 3 ∷ []) next count 3 → ⊥

@@ -14,6 +14,7 @@ pub mod Live
 pub mod Given
 pub mod Settled
 pub mod Reused
+pub mod Breaks
 pub mod Prefix
 pub mod Frames
 pub mod Aside

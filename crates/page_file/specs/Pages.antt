@@ -1,6 +1,6 @@
 -- The map of live pages that blocks and a header stand for (our rule, docs/FORMAT.md, "Pages").
 use Rattle.std.specs.Prelude.{◌≡◌, ◌⊎◌, ◌≤◌, ◌<◌, ◌+◌, ◌-◌, ◌==◌, ℕ, zero, suc, List, [], ◌∷◌, Option, Some}
-use Rattle.std.specs.Prelude.{None, Bool, ◌&&◌, not, nat_le, nat_lt, eqb, if◌then◌else◌}
+use Rattle.std.specs.Prelude.{None, Bool, ◌&&◌, not, nat_le, nat_lt, eqb, if◌then◌else◌, slice_get, IsSome}
 use Rattle.std.specs.Set.{is_member}
 use Rattle.block_device.specs.Device.{Blocks, Torn, block_at, written}
 use Rattle.block_bytes.specs.Numbers.{zeros}
@@ -116,3 +116,17 @@ is_free_page count next block = kind_of block == free_kind && may_link count nex
 
 abbrev pub free_page_link : ℕ → ℕ → List ℕ → Option ℕ
 free_page_link count next block = if is_free_page count next block then Some (link_of block) else None
+
+-- the first so many pages of the chain are free pages in their places, each of which names the next
+abbrev pub LinkOn : Blocks → Header → ℕ → Type 0
+LinkOn blocks h many = (i k : ℕ) → i < many → slice_get (free_pages_of blocks h) i ≡ Some k
+    → IsSome (free_page_link (h.count - i) h.next (block_at k blocks))
+
+-- The chain of free pages breaks at page n: those before n link on and lead to it, and n is no free page in
+-- its place (our rule, docs/FORMAT.md, "Pages").
+pub record BreaksAt (blocks : Blocks) (h : Header) (n : ℕ) : Type 0 where
+  pub before : ℕ
+  pub counted : before < h.count
+  pub linked : LinkOn blocks h before
+  pub leads : slice_get (free_pages_of blocks h) before ≡ Some n
+  pub broken : free_page_link (h.count - before) h.next (block_at n blocks) ≡ None

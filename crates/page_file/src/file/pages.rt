@@ -9,8 +9,8 @@ ghost use Rattle.page_file.specs.File.{device_of, blocks_of, free_of, header_of,
 ghost use Rattle.page_file.specs.File.{Grows, IsFull, next_of, pages, given, IsLive, IsPageMap, KeepsGate};
 ghost use Rattle.page_file.specs.File.{KeepsMap};
 ghost use Rattle.page_file.specs.Layout.{free_block};
-ghost use Rattle.page_file.specs.Pages.{HasGiven, MayHaveGiven, SameBut, TakesFirst, free_page_link};
-ghost use Rattle.page_file.specs.Pages.{may_link};
+ghost use Rattle.page_file.specs.Pages.{BreaksAt, HasGiven, MayHaveGiven, SameBut, TakesFirst, may_link};
+ghost use Rattle.page_file.specs.Pages.{free_page_link};
 ghost use Rattle.page_file.specs.Pages.{next_given, with_one_free, with_one_given, with_one_taken};
 ghost use Rattle.page_file.specs.declared.fault.Fault.TheVariants as fault;
 ghost use Rattle.page_file.specs.declared.gate.Gate.TheVariants.{Open};
@@ -200,6 +200,9 @@ impl<D: BlockDevice> PageFile<D> {
         ensures pages { IsHonest self.old → IfOk result (λ found. found.items ≡ free_of self.old) }
         ensures sound { IsHonest self.old → OnOk result (IsPageMap self.old) }
         ensures faults { IsPageMap self.old → IfErr result IsOfDevice }
+        ensures damaged { IsHonest self.old →
+            IfErr result (λ f. IsOfDevice f ⊎
+            ((n : ℕ) × (f ≡ fault.Damaged n) × BreaksAt (blocks_of self.old) (header_of self.old) n)) }
         ensures other_faults { IfErr result (λ f. IsOfDevice f ⊎ IsDamage f) }
         ensures cause { HasCause (D.faults (device_of self.old)) (D.faults (device_of self.new)) result }
     {
