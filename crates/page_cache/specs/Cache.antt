@@ -1,5 +1,6 @@
 -- What a cache of pages stands for, and what calls keep of it: the words that callers use.
 use Rattle.std.specs.Prelude.{◌≡◌, ◌<◌, ◌↔◌, ℕ, List, Bool, Option, None, IsSome, length}
+use Rattle.std.specs.Map.{keys_of}
 use Rattle.block_device.specs.Device.{Blocks, block_at}
 use Rattle.page_file.specs.File as below
 use Rattle.page_file.specs.Opening.{failed_check}
@@ -64,6 +65,10 @@ IsLive cache n = IsSome (pages cache n)
 -- the page of this number is held in memory
 abbrev pub IsHeld : {D A : Type 0} {m : _} → PageCache D A m → ℕ → Type 0
 IsHeld cache n = IsSome (frame_at cache.frames.entries n)
+
+-- the numbers of the pages that are held, the one used last first
+abbrev pub held_pages : {D A : Type 0} {m : _} → PageCache D A m → List ℕ
+held_pages cache = keys_of cache.frames.entries
 
 -- how many pages are held, and how many may be
 abbrev pub held_of : {D A : Type 0} {m : _} → PageCache D A m → ℕ

@@ -7,6 +7,7 @@ use Rattle.page_file.specs.Fault.{HasCause, faults_after}
 use Rattle.page_file.specs.declared.fault.Fault.{Fault}
 use Rattle.page_cache.specs.Cache.{IsHeld, KeepsGate, KeepsMap, capacity_of, device_of, looks_of, next_of}
 use Rattle.page_cache.specs.Cache.{touched_of}
+use Rattle.page_cache.specs.Uses.{Uses}
 use Rattle.page_cache.specs.Laws.{no_call_keeps_the_gate, no_call_keeps_the_map, the_gate_is_kept_in_turn}
 use Rattle.page_cache.specs.Laws.{the_map_is_kept_in_turn}
 use Rattle.page_cache.specs.declared.cache.PageCache.{PageCache}
@@ -66,6 +67,7 @@ pub record IsLookedAt {D A : Type 0} {m : _} {T : Type 0} (old new : PageCache D
   pub asks : Asks old new result
   pub looks : looks_of new ≡ looks_after result (looks_of old)
   pub holds : OnOk result (IsHeld new n)
+  pub uses : Uses old new n result
   pub held : IsHeld old n → device_of new ≡ device_of old
   pub outside : (n < 2) ⊎ (next_of old ≤ n) → device_of new ≡ device_of old
 

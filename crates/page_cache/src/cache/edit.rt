@@ -9,9 +9,11 @@ ghost use Rattle.page_file.specs.Pages.{SameBut};
 ghost use Rattle.page_file.specs.declared.fault.Fault.TheVariants as fault;
 ghost use Rattle.page_file.specs.declared.gate.Gate.TheVariants.{Open};
 ghost use Rattle.page_cache.specs.Cache.{Grows, IsHeld, IsHonest, IsLive, IsPageMap, IsUnchanged, KeepsMap};
-ghost use Rattle.page_cache.specs.Cache.{device_of, gate_of, given, looks_of, next_of, pages, touched_of};
+ghost use Rattle.page_cache.specs.Cache.{device_of, gate_of, given, held_pages, looks_of, next_of, pages};
+ghost use Rattle.page_cache.specs.Cache.{touched_of};
 ghost use Rattle.page_cache.specs.Calls.{Changes};
 ghost use Rattle.page_cache.specs.Frames.{frame_at};
+ghost use Rattle.page_cache.specs.Uses.{Uses};
 
 use crate::cache::PageCache;
 use crate::frame::Frame;
@@ -57,6 +59,7 @@ impl<D: BlockDevice, A: Allocator + Copy> PageCache<D, A> {
         ensures grows { Grows 0 self.old self.new }
         ensures looks { looks_of self.new ≡ looks_of self.old }
         ensures holds { OnOk result (IsHeld self.new n) }
+        ensures uses { Uses self.old self.new n result }
         ensures touched { touched_of self.new ≡ (touched_of self.old || is_ok result) }
         ensures outside { (n < 2) ⊎ (next_of self.old ≤ n) →
             IsErrOf result (fault.Damaged n) × (device_of self.new ≡ device_of self.old) }
@@ -91,6 +94,7 @@ impl<D: BlockDevice, A: Allocator + Copy> PageCache<D, A> {
         ensures grows { Grows 0 self.old self.new }
         ensures looks { looks_of self.new ≡ looks_of self.old }
         ensures holds { OnOk result (IsHeld self.new n) }
+        ensures uses { Uses self.old self.new n result }
         ensures touched { touched_of self.new ≡ (touched_of self.old || is_ok result) }
         ensures outside { (n < 2) ⊎ (next_of self.old ≤ n) →
             (result ≡ Err (fault.Damaged n)) × IsUnchanged self.old self.new }
@@ -127,6 +131,7 @@ impl<D: BlockDevice, A: Allocator + Copy> PageCache<D, A> {
             × FnOnceReturnsAtMut F.FnOnce change old.bytes.value result new.bytes.value
             × ((k : ℕ) → frame_at self.new.frames.entries k
             ≡ (if k == n then Some new else frame_at self.old.frames.entries k)) }
+        ensures held { held_pages self.new ≡ held_pages self.old }
         ensures file { self.new.file ≡ self.old.file }
         ensures looks { self.new.looks ≡ self.old.looks }
         ensures touched { self.new.touched ≡ true }

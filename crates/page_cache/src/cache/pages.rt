@@ -15,6 +15,7 @@ ghost use Rattle.page_cache.specs.Cache.{next_of, pages, touched_of};
 ghost use Rattle.page_cache.specs.Calls.{Asks, Changes, IsLookedAt};
 ghost use Rattle.page_cache.specs.Keeps.{KeepsBlocks};
 ghost use Rattle.page_cache.specs.Loan.{EndsLookedAt};
+ghost use Rattle.page_cache.specs.Uses.{Uses};
 
 use crate::cache::PageCache;
 use block_device::BlockDevice;
@@ -63,6 +64,7 @@ impl<D: BlockDevice, A: Allocator + Copy> PageCache<D, A> {
     pub(crate) fn load(&mut self, n: u32) -> Result<(), Fault>
         ensures kept { KeepsBlocks self.old self.new }
         ensures first { OnOk result (option_map (λ e. e.0) (slice_get self.new.frames.entries 0) ≡ Some n) }
+        ensures uses { Uses self.old self.new n result }
         ensures held { IsHeld self.old n → (self.new.file ≡ self.old.file) × IsOk result }
         ensures outside { (n < 2) ⊎ (next_of self.old ≤ n) →
             (result ≡ Err (fault.Damaged n)) × (self.new.file ≡ self.old.file) }
@@ -98,6 +100,7 @@ impl<D: BlockDevice, A: Allocator + Copy> PageCache<D, A> {
         ensures grows { Grows 0 self.old self.new }
         ensures looks { looks_of self.new ≡ looks_of self.old }
         ensures holds { OnOk result (IsHeld self.new n) }
+        ensures uses { Uses self.old self.new n result }
         ensures refused { OnErr result (KeepsMap self.old self.new) }
         ensures touched { touched_of self.new ≡ (touched_of self.old || is_ok result) }
         ensures outside { (n < 2) ⊎ (next_of self.old ≤ n) →
@@ -134,6 +137,7 @@ impl<D: BlockDevice, A: Allocator + Copy> PageCache<D, A> {
         ensures kept { OnErr result (free_count_of self.new ≡ free_count_of self.old →
             KeepsMap self.old self.new × (touched_of self.new ≡ touched_of self.old)) }
         ensures touched { OnOk result (touched_of self.new ≡ true) }
+        ensures holds { (n : ℕ) × ((k : ℕ) → ¬ (k ≡ n) → IsHeld self.old k → IsHeld self.new k) }
         ensures sound { IsPageMap self.old → IsPageMap self.new }
         ensures number { IfOk result (λ n. (3 ≤ n) × (n < next_of self.new)) }
         ensures next { (next_of self.old ≤ next_of self.new) × (next_of self.new ≤ next_of self.old + 1) }
@@ -171,6 +175,7 @@ impl<D: BlockDevice, A: Allocator + Copy> PageCache<D, A> {
         ensures next { next_of self.new ≡ next_of self.old }
         ensures grows { Grows 0 self.old self.new }
         ensures looks { looks_of self.new ≡ looks_of self.old }
+        ensures holds { (k : ℕ) → ¬ (k ≡ n) → IsHeld self.old k → IsHeld self.new k }
         ensures touched { 3 ≤ n → n < next_of self.old → touched_of self.new ≡ true }
         ensures outside { (n < 3) ⊎ (next_of self.old ≤ n) →
             (result ≡ Err (fault.Damaged n)) × IsUnchanged self.old self.new

@@ -1,11 +1,12 @@
 -- The goals of `PageCache::change_held` that are proved by hand.
-use Rattle.std.proofs.Common.{◌≡◌, ◌∙◌, Some, true, false, ap, refl, subst}
+use Rattle.std.proofs.Common.{◌≡◌, ◌∙◌, Some, nat_eq, true, false, ap, refl, subst}
 use Rattle.std.specs.Box.{with_value}
 use Rattle.block_device.specs.Device.{IsBlock}
 use Rattle.page_cache.specs.Frames.{frame_at}
 use Rattle.page_cache.specs.declared.frame.Frame.{Frame}
 use Rattle.page_cache.proofs.Kept.{kept_put}
 use Rattle.page_cache.proofs.Lookups.{lookup-set}
+use Rattle.std.proofs.lemmas.Map.{keys-set_value}
 use Rattle.page_cache.proofs.cache.PageCache.change_held.Goals as goal
 
 pub invariant_of-self : goal.invariant_of-self
@@ -43,3 +44,6 @@ returns-clause-frames g c = λ old is.
       },
       λ k. lookup-set c.args.n k c.args.self.now.frames.entries after c.requires.held,
     )
+
+pub returns-clause-held : goal.returns-clause-held
+returns-clause-held g c = keys-set_value (nat_eq c.args.n) c.args.self.now.frames.entries _

@@ -5,6 +5,8 @@ use Rattle.page_cache.proofs.Lookups.{first-put, lookup-put}
 use Rattle.page_cache.specs.Cache.{blocks_of}
 use Rattle.page_cache.proofs.Behind.{held_clean}
 use Rattle.page_cache.proofs.Kept.{kept_put, laid_changed}
+use Rattle.std.specs.Map.{keys_of}
+use Rattle.page_cache.proofs.Uses.{keys_put}
 use Rattle.page_cache.proofs.cache.PageCache.hold.Goals as goal
 
 pub invariant_of-self-in-Some : goal.invariant_of-self-in-Some
@@ -97,3 +99,11 @@ returns-in_default-clause-written g c =
     (λ k. ap (λ d. frame_at d.entries k) c.in_ok-old.ensures.entries
     ∙ lookup-put c.args.self.now.frames c.args.n k c.args.frame c.len-count.ensures.valid.0
     c.requires.room)
+
+pub returns-in-Some-clause-held : goal.returns-in-Some-clause-held
+returns-in-Some-clause-held g c = λ none. ap (λ d. keys_of d.entries) c.in_ok-old.ensures.entries
+    ∙ keys_put c.args.self.now.frames c.args.n c.args.frame (c.requires.room none) none
+
+pub returns-in_default-clause-held : goal.returns-in_default-clause-held
+returns-in_default-clause-held g c = λ none. ap (λ d. keys_of d.entries) c.in_ok-old.ensures.entries
+    ∙ keys_put c.args.self.now.frames c.args.n c.args.frame (c.requires.room none) none

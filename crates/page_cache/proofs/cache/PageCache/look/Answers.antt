@@ -4,6 +4,7 @@ use Rattle.block_device.specs.Device.{one_more}
 use Rattle.page_file.specs.File as below
 use Rattle.page_cache.proofs.Behind.{given_held, looked_at, map_kept}
 use Rattle.page_cache.proofs.Lookups.{first-found}
+use Rattle.page_cache.proofs.Uses.{uses_refused}
 use Rattle.page_cache.proofs.cache.PageCache.look.Goals as goal
 
 pub returns-clause-looked_at : goal.returns-clause-looked_at
@@ -20,6 +21,7 @@ returns-clause-looked_at g c =
       };
       looks = c.saturating_add-self.ensures ∙ ap one_more c.load.ensures.kept.looks;
       holds = ap is_some found.2;
+      uses = record { used = c.in_ok-load.ensures.uses.used; refused = tt };
       held = λ h. ap (λ f. below.device_of f) (c.load.ensures.held h).0;
       outside = λ o. ap (λ f. below.device_of f) (c.load.ensures.outside o).1;
     }
@@ -36,6 +38,8 @@ returns-in_err-load-clause-looked_at g c = record {
   };
   looks = search rules;
   holds = search rules;
+  uses = uses_refused c.args.self.now c.load.new.self c.args.n c.in_err-load.field-0.0 c.from_residual.result
+      c.from_residual.ensures.1 c.in_err-load.ensures.uses.refused;
   held = λ h. ap (λ f. below.device_of f) (c.load.ensures.held h).0;
   outside = λ o. ap (λ f. below.device_of f) (c.load.ensures.outside o).1;
 }

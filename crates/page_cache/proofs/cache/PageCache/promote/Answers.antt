@@ -3,6 +3,8 @@ use Rattle.std.proofs.Common.{◌∙◌, sym, ap, refl, option_map, slice_get}
 use Rattle.page_cache.specs.Frames.{frame_at}
 use Rattle.page_cache.proofs.Lookups.{first-promoted, lookup-promoted}
 use Rattle.page_cache.proofs.Kept.{kept_same}
+use Rattle.std.specs.Map.{keys_of}
+use Rattle.page_cache.proofs.Uses.{promoted_none, used_held}
 use Rattle.page_cache.proofs.cache.PageCache.promote.Goals as goal
 
 pub invariant_of-self : goal.invariant_of-self
@@ -33,3 +35,14 @@ pub returns-clause-first : goal.returns-clause-first
 returns-clause-first g c =
     λ is. ap (λ d. option_map (λ e. e.0) (slice_get d.entries 0)) c.promote.ensures.entries
     ∙ first-promoted c.args.n c.args.self.now.frames.entries (sym c.promote.ensures.value ∙ is)
+
+pub returns-clause-used : goal.returns-clause-used
+returns-clause-used g c = λ is. let cache = c.args.self.now in
+    ap (λ d. keys_of d.entries) c.promote.ensures.entries
+    ∙ used_held cache.frames.cap c.args.n cache.frames.entries c.len-count.ensures.valid.0
+    c.len-count.ensures.valid.1 (sym c.promote.ensures.value ∙ is)
+
+pub returns-clause-absent : goal.returns-clause-absent
+returns-clause-absent g c = λ no.
+    ap (λ d. keys_of d.entries) c.promote.ensures.entries
+    ∙ ap keys_of (promoted_none c.args.n c.args.self.now.frames.entries (sym c.promote.ensures.value ∙ no))

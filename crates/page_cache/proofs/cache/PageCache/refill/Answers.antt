@@ -1,18 +1,22 @@
 -- The goals of `PageCache::refill` that are proved by hand.
-use Rattle.std.proofs.Common.{◌∙◌, ◌<◌, ◌≤◌, ◌||◌, Some, ap, arith, is_some, refl, subst, sym}
+use Rattle.std.proofs.Common.{inr, ◌≡◌, ◌∙◌, ◌∷◌, ◌<◌, ◌≤◌, ◌||◌, Some, ap, arith, is_some, refl, subst, sym}
+use Rattle.std.specs.Map.{keys_of}
 use Rattle.block_device.specs.Device.{IsBlock}
 use Rattle.page_file.specs.Fault.{faults_after}
 use Rattle.page_file.specs.File as below
 use Rattle.page_file.specs.declared.file.PageFile.{PageFile}
 use Rattle.page_file.specs.declared.header.Header.{Header}
-use Rattle.page_cache.specs.Cache.{device_of}
+use Rattle.page_cache.specs.Cache.{device_of, held_pages}
 use Rattle.page_cache.specs.Calls.{asks_changes, changes_and_refuses, no_call_changes}
+use Rattle.page_cache.specs.Frames.{frame_at}
 use Rattle.page_cache.specs.Keeps.{SameFrames}
+use Rattle.page_cache.specs.Uses.{with_room}
 use Rattle.page_cache.proofs.Behind.{kept_asks, keeps_in_turn, keeps_same, map_kept, map_through}
 use Rattle.page_cache.proofs.Lookups.{first-found}
 use Rattle.page_cache.proofs.Putting.{given_others_there, given_there, held_within, held_written, live_there}
 use Rattle.page_cache.proofs.Putting.{others_there, sound_there, there}
 use Rattle.page_cache.proofs.Results.{either, no_device, on_err_all, on_err_map, on_ok_map, unset_by_err}
+use Rattle.page_cache.proofs.Uses.{not_held, used_absent}
 use Rattle.page_cache.proofs.cache.PageCache.refill.Goals as goal
 
 -- ---- the page is held
@@ -276,3 +280,24 @@ returns-clause-sound g c = λ map live.
     (λ h. subst (λ (f : PageFile _ _). below.IsHonest f) (sym c.hold-held.ensures.file) (keeps.gate.honest.0 h)))
     (λ (same : SameFrames mid c.hold-held.new.self).
     (map_through old mid _ keeps same.file same.frames).sound.0 map)
+
+pub returns-clause-uses : goal.returns-clause-uses
+returns-clause-uses g c =
+    let old = c.args.self.now in let mid = c.promote.new.self in let cap = old.frames.cap in
+    let was = not_held (frame_at old.frames.entries c.args.n) (sym c.promote.ensures.answer ∙ c.if-promote.false) in
+    let room : held_pages c.blank.new.self ≡ with_room cap (held_pages old) =
+    ap (λ d. keys_of d.entries) c.blank.ensures.frames ∙ c.in_ok-make_room.ensures.held
+    ∙ ap (with_room mid.frames.cap) (c.promote.ensures.absent c.if-promote.false)
+    ∙ ap (λ k. with_room k (held_pages old)) c.promote.ensures.same.capacity in
+    let absent = ap (λ f. frame_at f.entries c.args.n) c.blank.ensures.frames
+    ∙ c.make_room.ensures.absent c.args.n (c.promote.ensures.same.frames c.args.n ∙ was) in record {
+      used = on_ok_map c.hold-held.result (c.hold-held.ensures.held absent)
+          (λ is. is ∙ ap (λ l. c.args.n ∷ l) room ∙ used_absent cap c.args.n old.frames.entries
+          (omega (
+            arith,
+            c.in_ok-make_room.ensures.room,
+            c.make_room.ensures.kept.capacity,
+            c.promote.ensures.same.capacity,
+          )) was);
+      refused = on_err_map c.hold-held.result c.hold-held.ensures.refused_held (λ same. inr (same ∙ room));
+    }

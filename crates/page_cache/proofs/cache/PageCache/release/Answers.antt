@@ -1,5 +1,6 @@
 -- The goals of `PageCache::release` that are proved by hand.
-use Rattle.std.proofs.Common.{◌∙◌, is_some, sym, ap, refl, arith, subst}
+use Rattle.std.proofs.Common.{◌∙◌, None, cond, is_some, sym, ap, refl, arith, subst}
+use Rattle.std.proofs.lemmas.Bool.{ne_eqb}
 use Rattle.page_file.specs.File as below
 use Rattle.page_file.specs.declared.file.PageFile.{PageFile}
 use Rattle.page_cache.specs.Frames.{frame_at}
@@ -40,3 +41,8 @@ returns-clause-kept g c =
       capacity = c.forget.ensures.capacity;
       touched = c.forget.ensures.touched;
     }
+
+pub returns-clause-others : goal.returns-clause-others
+returns-clause-others g c = λ k ne held.
+    ap is_some (c.forget.ensures.frames k
+    ∙ ap (λ y. cond y None (frame_at c.args.self.now.frames.entries k)) (ne_eqb k c.args.n ne)) ∙ held
