@@ -1,13 +1,11 @@
 -- The pages that are held, where one is used, let go or brought in.
-use Rattle.std.proofs.Common.{inl, inr, ◌≡◌, ◌∙◌, ℕ, zero, suc, ◌-◌, ◌<◌, ◌≤◌, Bool, true, false, not, cond}
-use Rattle.std.proofs.Common.{List, [], ◌∷◌, length, take, slice_get, Option, Some, None, is_some, IsSome}
-use Rattle.std.proofs.Common.{option_map, nat_eq, refl, sym, ap, arith, subst, ⊎_elim, ◌⊎◌}
-use Rattle.std.specs.Cmp.{nat_eq_equiv}
+use Rattle.std.proofs.Common.{inl, inr, ◌≡◌, ◌∙◌, ℕ, zero, suc, ◌-◌, ◌<◌, ◌≤◌, true, false, not, cond}
+use Rattle.std.proofs.Common.{List, [], ◌∷◌, length, take, slice_get, Option, Some, None, is_some}
+use Rattle.std.proofs.Common.{option_map, nat_eq, refl, sym, ap, arith, ⊎_elim, ◌⊎◌}
 use Rattle.std.specs.List.{IsDistinct, filter}
 use Rattle.std.specs.Map.{lookup, lookup_entry, remove_entry, keys_of}
 use Rattle.std.specs.Option.{option_map_or}
 use Rattle.std.proofs.lemmas.Bool.{eqb-true, eq-eqb}
-use Rattle.std.proofs.lemmas.Bool.Decides.{eqb_tells}
 use Rattle.std.proofs.lemmas.List.{take_all}
 use Rattle.std.proofs.lemmas.Map.Entries.{length-keys_of}
 use Rattle.std.proofs.lemmas.Map.Keys.{IsDistinct-tail}

@@ -4,6 +4,7 @@ use Rattle.std.specs.Map.{keys_of}
 use Rattle.block_device.specs.Device.{Blocks, block_at}
 use Rattle.page_file.specs.File as below
 use Rattle.page_file.specs.Opening.{failed_check}
+use Rattle.page_file.specs.Pages as breaks_at
 use Rattle.page_file.specs.Pages.{HasFreeChain, IsSoundMap, free_page_link, free_pages_of, given_pages}
 use Rattle.page_file.specs.Pages.{next_in, page_of, pages_in}
 use Rattle.page_file.specs.declared.fault.Fault.{Fault}
@@ -127,6 +128,10 @@ pub record IsUnchanged {D A : Type 0} {m : _} (old new : PageCache D A m) : Type
   pub sound : IsPageMap old ↔ IsPageMap new
   pub looks : looks_of new ≡ looks_of old
   pub capacity : capacity_of new ≡ capacity_of old
+
+-- the chain of free pages breaks at page n, behind what is held
+abbrev pub BreaksAt : {D A : Type 0} {m : _} → PageCache D A m → ℕ → Type 0
+BreaksAt cache n = breaks_at.BreaksAt (blocks_behind cache) (below.header_of cache.file) n
 
 -- The fault says that the first free page is damaged: there is one, and its bytes are not those of a free
 -- page as the format has it. The map stays.

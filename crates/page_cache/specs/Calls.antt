@@ -1,6 +1,7 @@
 -- What each call keeps of the cache that it works on: one word for calls that ask, and one for calls that
 -- change.
-use Rattle.std.proofs.Common.{◌≡◌, ◌∙◌, ℕ, ◌≤◌, Bool, true, false, Option, None, Some, ap, refl, subst, sym, arith}
+use Rattle.std.proofs.Common.{◌≡◌, ◌∙◌, ℕ, ◌≤◌, Bool, true, false, Option, None, Some, ap, refl, subst, sym}
+use Rattle.std.proofs.Common.{arith}
 use Rattle.std.specs.Prelude.{◌⊎◌, ◌<◌, Result, Ok, Err, IsErrAnd, OnOk}
 use Rattle.block_device.specs.Device.{one_more}
 use Rattle.page_file.specs.Fault.{HasCause, faults_after}
@@ -33,9 +34,9 @@ pub record AsksUntil {D A : Type 0} {m : _} (old new : PageCache D A m) (end : O
   pub touched : touched_of new ≡ touched_of old
   pub faults : m.faults (device_of new) ≡ faults_behind end (m.faults (device_of old))
 
--- Pages were changed, given out or freed, and it ended so: gate and moment stay, capacity and honesty, no look
--- and no page number is taken back, and the faults are counted as above. What was touched stays so, and where
--- no page is touched, the map stays.
+-- Pages were changed, given out or freed, and it ended so: gate and moment stay, capacity and honesty, no
+-- look and no page number is taken back, and the faults are counted as above. What was touched stays so, and
+-- where no page is touched, the map stays.
 pub record ChangesUntil {D A : Type 0} {m : _} (old new : PageCache D A m) (end : Option Fault)
     : Type 0 where
   pub gate : KeepsGate old new
@@ -60,8 +61,8 @@ abbrev pub looks_after : {T : Type 0} → Result T Fault → ℕ → ℕ
 looks_after (Ok _) before = one_more before
 looks_after (Err _) before = before
 
--- Page n was asked for, and lent or refused: the look is counted where it is lent, which is then held. A page
--- that was held, and a number of no page given out, need no call of the device.
+-- Page n was asked for, and lent or refused: the look is counted where it is lent, which is then held, and
+-- the one used last. A page that was held, and a number of no page given out, need no call of the device.
 pub record IsLookedAt {D A : Type 0} {m : _} {T : Type 0} (old new : PageCache D A m) (n : ℕ)
     (result : Result T Fault) : Type 0 where
   pub asks : Asks old new result

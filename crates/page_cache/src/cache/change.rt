@@ -1,10 +1,11 @@
 //! The gate opened for a change, and what was put synced.
-ghost use Rattle.std.specs.Prelude.{◌≡◌, ◌⊎◌, ◌↔◌, false, IsOk, IfErr, OnOk, OnErr};
+ghost use Rattle.std.specs.Prelude.{◌≡◌, ◌⊎◌, ◌↔◌, ℕ, false, IsOk, IfErr, OnOk, OnErr};
 ghost use Rattle.block_device.specs.Device.{LeavesOnly, Only};
 ghost use Rattle.page_file.specs.Fault.{HasCause, IsDamage, IsOfDevice};
 ghost use Rattle.page_file.specs.Stops.{SameButGate};
 ghost use Rattle.page_file.specs.declared.gate.Gate.TheVariants.{Open, Unsure};
-ghost use Rattle.page_cache.specs.Cache.{IsHonest, IsUnchanged, IsWritten, KeepsGate, KeepsMap, blocks_of};
+ghost use Rattle.page_cache.specs.Cache.{IsHeld, IsHonest, IsUnchanged, IsWritten, KeepsGate, KeepsMap};
+ghost use Rattle.page_cache.specs.Cache.{blocks_of};
 ghost use Rattle.page_cache.specs.Cache.{capacity_of, device_of, gate_of, looks_of, touched_of};
 ghost use Rattle.page_cache.specs.Calls.{Asks};
 
@@ -42,13 +43,14 @@ impl<D: BlockDevice, A: Allocator + Copy> PageCache<D, A> {
     }
 
     /// Writes what was put and is not yet on the device, and syncs: after an `Ok` a stop leaves the blocks as
-    /// they are. The gate and the map stay.
+    /// they are. The gate and the map stay, and so do the pages that are held.
     ///
     /// On an honest device a refusal is `Memory` or `Device`; on another one a page may be damaged.
     #[tactic(auto, using(crate::specs::Calls::counted_by_end))]
     pub fn flush(&mut self) -> Result<(), Fault>
         ensures asks { Asks self.old self.new result }
         ensures written { IsHonest self.old → OnOk result (IsWritten self.new) }
+        ensures holds { (k : ℕ) → IsHeld self.old k → IsHeld self.new k }
         ensures durable { IsHonest self.old →
             OnOk result (Only (blocks_of self.new) (D.may_leave (device_of self.new))) }
         ensures looks { looks_of self.new ≡ looks_of self.old }

@@ -8,7 +8,7 @@ ghost use Rattle.page_file.specs.Fault.{HasCause, IsOfDevice, IsDamage};
 ghost use Rattle.page_file.specs.Pages.{SameBut, TakesFirst};
 ghost use Rattle.page_file.specs.declared.fault.Fault.TheVariants as fault;
 ghost use Rattle.page_file.specs.declared.gate.Gate.TheVariants.{Open};
-ghost use Rattle.page_cache.specs.Cache.{Grows, IsBroken, IsFull, IsHeld, IsHonest, IsLive};
+ghost use Rattle.page_cache.specs.Cache.{Grows, BreaksAt, IsBroken, IsFull, IsHeld, IsHonest, IsLive};
 ghost use Rattle.page_cache.specs.Cache.{IsPageMap, IsUnchanged, KeepsMap};
 ghost use Rattle.page_cache.specs.Cache.{device_of, free_count_of, free_of, gate_of, given, looks_of};
 ghost use Rattle.page_cache.specs.Cache.{next_of, pages, touched_of};
@@ -195,12 +195,16 @@ impl<D: BlockDevice, A: Allocator + Copy> PageCache<D, A> {
     /// free pages as the format has it (docs/FORMAT.md, "Pages"), with the number of the page at which it
     /// ends to be one.
     ///
-    /// What was put is written first, and no page is held afterwards. Map and gate stay.
+    /// What was put is written first. Map and gate stay, and so do the pages that are held.
     #[tactic(auto, using(crate::specs::Calls::counted_by_end))]
     pub fn free_pages<H: Allocator>(&mut self, alloc: H) -> Result<Vec<u32, H>, Fault>
         ensures asks { Asks self.old self.new result }
         ensures pages { IsHonest self.old → IfOk result (λ found. found.items ≡ free_of self.old) }
         ensures sound { IsHonest self.old → OnOk result (IsPageMap self.old) }
+        ensures holds { (k : ℕ) → IsHeld self.old k → IsHeld self.new k }
+        ensures damaged { IsHonest self.old →
+            IfErr result (λ f. IsOfDevice f ⊎
+            ((n : ℕ) × (f ≡ fault.Damaged n) × BreaksAt self.old n)) }
         ensures looks { looks_of self.new ≡ looks_of self.old }
         ensures faults { IsPageMap self.old → IfErr result IsOfDevice }
         ensures other_faults { IfErr result (λ f. IsOfDevice f ⊎ IsDamage f) }

@@ -1,11 +1,12 @@
 //! The gate shut after a change, and a cache closed.
-ghost use Rattle.std.specs.Prelude.{◌≡◌, ◌⊎◌, ◌↔◌, Ok, IsOk, IfOk, IfErr, OnOk, OnErr};
+ghost use Rattle.std.specs.Prelude.{◌≡◌, ◌⊎◌, ◌↔◌, ℕ, Ok, IsOk, IfOk, IfErr, OnOk, OnErr};
 ghost use Rattle.block_device.specs.Device.{LeavesOnly, Only};
 ghost use Rattle.page_file.specs.Fault.{HasCause, IsDamage, IsOfDevice, faults_after};
 ghost use Rattle.page_file.specs.Opening.{IsRefused};
 ghost use Rattle.page_file.specs.Stops.{SameButGate};
 ghost use Rattle.page_file.specs.declared.gate.Gate.TheVariants.{Shut, Open, Unsure};
-ghost use Rattle.page_cache.specs.Cache.{IsHonest, IsUnchanged, KeepsMap, LiesIn, blocks_of, capacity_of};
+ghost use Rattle.page_cache.specs.Cache.{IsHeld, IsHonest, IsUnchanged, KeepsMap, LiesIn, blocks_of};
+ghost use Rattle.page_cache.specs.Cache.{capacity_of};
 ghost use Rattle.page_cache.specs.Cache.{device_of};
 ghost use Rattle.page_cache.specs.Cache.{gate_of, looks_of};
 
@@ -17,7 +18,7 @@ use std::alloc::Allocator;
 impl<D: BlockDevice, A: Allocator + Copy> PageCache<D, A> {
     /// Shuts the gate after all that was put. With the gate open the pages and the header are written and
     /// synced, and then the gate is written shut and synced; with it unsure the gate alone; with it shut
-    /// nothing is written. The cache stays usable.
+    /// nothing is written. The cache stays usable, and what is held stays held.
     ///
     /// After a refusal the gate is unsure, or open as before. On an honest device that is `Memory` or
     /// `Device`. The map stays.
@@ -30,6 +31,7 @@ impl<D: BlockDevice, A: Allocator + Copy> PageCache<D, A> {
         ensures was_unsure { IsHonest self.old → gate_of self.old ≡ Unsure →
             SameButGate (blocks_of self.new) (blocks_of self.old) }
         ensures map { KeepsMap self.old self.new }
+        ensures holds { (k : ℕ) → IsHeld self.old k → IsHeld self.new k }
 
         // A stop leaves blocks that opening refuses, or those that are read afterwards, the gate aside, in
         // which the map lies.

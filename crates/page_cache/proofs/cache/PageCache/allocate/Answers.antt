@@ -24,7 +24,7 @@ use Rattle.page_cache.specs.declared.cache.PageCache.{PageCache}
 use Rattle.page_cache.specs.declared.frame.Frame.{Frame}
 use Rattle.page_cache.proofs.Behind.{map_from, map_kept}
 use Rattle.page_cache.proofs.Kept.{kept_below}
-use Rattle.page_cache.proofs.Results.{either, if_err_map, if_ok_both, none_lost, on_err_and, on_err_given, on_err_map}
+use Rattle.page_cache.proofs.Results.{either, if_err_map, if_ok_both, none_lost, on_err_and, on_err_map}
 use Rattle.page_cache.proofs.Results.{stays_unless_lost}
 use Rattle.page_cache.proofs.Reused.{either_given, first_same, gives_behind, may_behind}
 use Rattle.page_cache.proofs.cache.PageCache.allocate.Goals as goal
@@ -219,29 +219,30 @@ returns-clause-kept g c =
     → old.file.header.next ≤ length X = room old mid new k c.first_free-first.result first gone in
     let may_of : IsHonest old
     → MayHaveGiven X Y old.file.header new.header =
-    λ h. may old mid new k c.first_free-first.result first gone h (may_give (k.gate.honest.0 h)) in
-    (record {
-      next = next ∙ ap (λ (x : Header). x.next) k.header;
-      free_count = count;
-      pages_stay =
-          λ h n. pages_unchanged X Y old.file.header new.header old.file.sound (roomy h) (may_of h) count n;
-      given_stay =
-          λ h n. given_unchanged X Y old.file.header new.header old.file.sound (roomy h) (may_of h) count n;
-      sound = (
-        λ p. record {
-          honest = c.allocate-allocated.ensures.gate.honest.0 (k.gate.honest.0 p.honest);
-          free = chain_refused X Y old.file.header new.header old.file.sound (roomy p.honest) p.free
-              (may_of p.honest);
-        },
-        λ p. let h = k.gate.honest.1 (c.allocate-allocated.ensures.gate.honest.1 p.honest) in record {
-          honest = h;
-          free = chain_unchanged X Y old.file.header new.header old.file.sound (roomy h) (may_of h) count
-              p.free;
-        },
-      );
-    },
-    stays (c.free_count.ensures ∙ count ∙ sym (ap (λ (x : Header). x.count) k.header)
-    ∙ sym c.free_count-free.ensures) ∙ k.touched))
+    λ h. may old mid new k c.first_free-first.result first gone h (may_give (k.gate.honest.0 h)) in (
+      record {
+        next = next ∙ ap (λ (x : Header). x.next) k.header;
+        free_count = count;
+        pages_stay =
+            λ h n. pages_unchanged X Y old.file.header new.header old.file.sound (roomy h) (may_of h) count n;
+        given_stay =
+            λ h n. given_unchanged X Y old.file.header new.header old.file.sound (roomy h) (may_of h) count n;
+        sound = (
+          λ p. record {
+            honest = c.allocate-allocated.ensures.gate.honest.0 (k.gate.honest.0 p.honest);
+            free = chain_refused X Y old.file.header new.header old.file.sound (roomy p.honest) p.free
+                (may_of p.honest);
+          },
+          λ p. let h = k.gate.honest.1 (c.allocate-allocated.ensures.gate.honest.1 p.honest) in record {
+            honest = h;
+            free = chain_unchanged X Y old.file.header new.header old.file.sound (roomy h) (may_of h) count
+                p.free;
+          },
+        );
+      },
+      stays (c.free_count.ensures ∙ count ∙ sym (ap (λ (x : Header). x.count) k.header)
+          ∙ sym c.free_count-free.ensures) ∙ k.touched,
+    ))
 
 pub returns-clause-changes : goal.returns-clause-changes
 returns-clause-changes g c =

@@ -3,8 +3,9 @@ use Rattle.std.proofs.Common.{◌∙◌, None, cond, is_some, sym, ap, refl, ari
 use Rattle.std.proofs.lemmas.Bool.{ne_eqb}
 use Rattle.page_file.specs.File as below
 use Rattle.page_file.specs.declared.file.PageFile.{PageFile}
+use Rattle.page_file.specs.declared.header.Header.{Header}
 use Rattle.page_cache.specs.Frames.{frame_at}
-use Rattle.page_cache.proofs.Kept.{laid_refused, laid_without}
+use Rattle.page_cache.proofs.Kept.{kept_back, laid_refused, laid_without}
 use Rattle.page_cache.proofs.cache.PageCache.release.Goals as goal
 
 pub returns-in_err-write_back-clause-kept : goal.returns-in_err-write_back-clause-kept
@@ -46,3 +47,19 @@ pub returns-clause-others : goal.returns-clause-others
 returns-clause-others g c = λ k ne held.
     ap is_some (c.forget.ensures.frames k
     ∙ ap (λ y. cond y None (frame_at c.args.self.now.frames.entries k)) (ne_eqb k c.args.n ne)) ∙ held
+
+pub invariant_of-self-2 : goal.invariant_of-self-2
+invariant_of-self-2 g c =
+    let cache = c.args.self.now in let n = c.args.n in
+    let kept =
+    kept_back cache.file c.write_back.new.file (frame_at cache.frames.entries) n c.in-Some.frame.now
+    (sym c.in-Some.ensures) c.write_back.ensures.gate
+    (ap (λ (x : Header). x.next) c.write_back.ensures.header) (λ same. (c.write_back.ensures.quiet same).0)
+    c.write_back.ensures.others
+    (record { within = cache.within; true_to = cache.true_to; behind_the_gate = cache.behind_the_gate }) in
+    record {
+      within = kept.within;
+      true_to = kept.true_to;
+      behind_the_gate = kept.behind_the_gate;
+      counted = cache.counted;
+    }

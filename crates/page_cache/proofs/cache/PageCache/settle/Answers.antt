@@ -1,5 +1,5 @@
 -- The goals of `PageCache::settle` that are proved by hand.
-use Rattle.std.proofs.Common.{◌≡◌, ◌∙◌, ℕ, ap, sym, subst, ⊎_elim}
+use Rattle.std.proofs.Common.{◌≡◌, ◌∙◌, ap, sym, subst, ⊎_elim}
 use Rattle.page_file.specs.File as below
 use Rattle.page_file.specs.Laws.{is_open}
 use Rattle.page_file.specs.Stops.{SameButGate}
@@ -7,11 +7,12 @@ use Rattle.page_file.specs.declared.file.PageFile.{PageFile}
 use Rattle.page_file.specs.declared.gate.Gate.{Gate}
 use Rattle.page_file.specs.declared.gate.Gate.TheVariants.{Shut, Open, Unsure}
 use Rattle.page_cache.specs.Cache.{device_of, gate_of}
-use Rattle.page_cache.specs.Frames.{changed_pages}
+use Rattle.page_cache.specs.Frames.{frame_at}
 use Rattle.page_cache.specs.Laws.{the_map_is_kept_in_turn}
 use Rattle.page_cache.proofs.Behind.{lies_below, map_by_file, map_kept, none_changed, unchanged}
 use Rattle.page_cache.proofs.Results.{on_ok_map}
 use Rattle.page_cache.proofs.Stops.{stops_refused, stops_settled}
+use Rattle.page_cache.proofs.Kept.{kept_clean}
 use Rattle.page_cache.proofs.cache.PageCache.settle.Goals as goal
 
 shut_not_open : (x : Gate) → x ≡ Shut → x ≡ Open → ⊥
@@ -22,7 +23,7 @@ unsure_not_open x a b = let e = sym a ∙ b in cc
 
 pub returns-clause-map : goal.returns-clause-map
 returns-clause-map g c =
-    let none = λ (k : ℕ). ap (λ es. changed_pages es k) c.in_ok-write_all.ensures.empty in
+    let none = c.in_ok-write_all.ensures.clean in
     the_map_is_kept_in_turn c.args.self.now c.write_all.new.self _ c.write_all.ensures.kept.gate.honest.0
     (map_kept c.args.self.now c.write_all.new.self c.write_all.ensures.kept)
     (map_by_file c.write_all.new.self _ none none c.settle.ensures.map)
@@ -30,13 +31,13 @@ returns-clause-map g c =
 pub returns-clause-lies : goal.returns-clause-lies
 returns-clause-lies g c = λ h.
     on_ok_map c.settle.result (c.settle.ensures.lies (c.write_all.ensures.kept.gate.honest.0 h))
-    (λ lies. (lies_below _ (λ k. ap (λ es. changed_pages es k) c.in_ok-write_all.ensures.empty) _).1 lies)
+    (λ lies. (lies_below _ c.in_ok-write_all.ensures.clean _).1 lies)
 
 pub returns-clause-stops : goal.returns-clause-stops
 returns-clause-stops g c = λ h.
     let d = g.met.D.BlockDevice in let old = c.args.self.now in
     stops_settled old _ c.write_all.new.self.file
-    (λ k. ap (λ es. changed_pages es k) c.in_ok-write_all.ensures.empty) h
+    c.in_ok-write_all.ensures.clean h
     (λ b left. d.only_now (device_of old) b h left) c.write_all.ensures.kept.gate
     (λ closed. (c.write_all.ensures.quiet closed).0)
     (c.settle.ensures.stops (c.write_all.ensures.kept.gate.honest.0 h))
@@ -47,7 +48,7 @@ returns-clause-was_shut g c = λ shut.
     let quiet = c.write_all.ensures.quiet closed in
     let still = c.settle.ensures.was_shut (ap (λ (f : PageFile _ _). below.gate_of f) quiet.0 ∙ shut) in (
       unchanged old _ (still.0 ∙ quiet.0)
-          (λ k. ap (λ es. changed_pages es k) c.in_ok-write_all.ensures.empty
+          (λ k. c.in_ok-write_all.ensures.clean k
           ∙ sym (none_changed old closed k)) c.write_all.ensures.kept.looks c.write_all.ensures.kept.capacity,
       still.1,
     )
@@ -69,3 +70,17 @@ returns-in_err-write_all-clause-stops g c = λ h.
     (λ (closed : ¬ (gate_of old ≡ Open)). let quiet = c.in_err-write_all.ensures.quiet closed in
     absurd (let never = quiet.1 in cc))
     (is_open (gate_of old))
+
+pub invariant_of-self : goal.invariant_of-self
+invariant_of-self g c =
+    let mid = c.write_all.new.self in
+    let kept =
+    kept_clean mid.file c.settle.new.self (frame_at mid.frames.entries) c.settle.ensures.map.next
+    c.settle.ensures.honest.1 c.settle.ensures.map.given_stay c.in_ok-write_all.ensures.clean
+    (record { within = mid.within; true_to = mid.true_to; behind_the_gate = mid.behind_the_gate }) in
+    record {
+      within = kept.within;
+      true_to = kept.true_to;
+      behind_the_gate = kept.behind_the_gate;
+      counted = mid.counted;
+    }
