@@ -91,9 +91,9 @@ pub fn read_into<const D: usize, B: BlockDevice, A: Allocator + Copy>(
     }
 }
 
-/// Writes a node into a live page, which becomes the one that `encode` makes of it, whatever was there before.
-/// The gate has to be open. The node has at most 100 entries, and one that is no leaf has at least one, all of
-/// which refer to pages from 3 to 2^31 - 1 and have no tag.
+/// Writes a node into a live page, which becomes the one that `encode` makes of it, whatever was there
+/// before. The gate has to be open. The node has at most 100 entries, and one that is no leaf has at least
+/// one, all of which refer to pages from 3 to 2^31 - 1 and have no tag.
 ///
 /// A number outside 2 to the last one given out is `Damaged` with that number, and changes nothing. After
 /// another refusal, which on an honest device is `Memory` or `Device`, the page is still live and may hold

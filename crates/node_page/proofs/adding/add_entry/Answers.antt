@@ -1,6 +1,6 @@
 -- The node is that of the page, with the entry after the others.
-use Rattle.std.proofs.Common.{◌≡◌, ◌∙◌, ℕ, ◌<◌, ap, arith, IfSome, is_some, length, List, Option, rules, None, Some}
-use Rattle.std.proofs.Common.{subst, sym}
+use Rattle.std.proofs.Common.{◌≡◌, ◌∙◌, ℕ, ◌<◌, ap, arith, IfSome, is_some, length, List, Option, rules, None}
+use Rattle.std.proofs.Common.{Some, subst, sym}
 use Rattle.std.specs.Prelude.{IsSomeAnd}
 use Rattle.page_file.specs.Fault.{IsOfDevice}
 use Rattle.page_cache.specs.Cache.{IsHonest, pages}
