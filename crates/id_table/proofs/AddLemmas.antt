@@ -184,6 +184,7 @@ puts_from dims old mid new directory class first es page same put = record {
   low = put.low;
   fresh = sym (same put.number) ∙ put.fresh;
   bucket = put.bucket;
+  tidy = put.tidy;
   after = put.after;
   there = put.there;
   link = put.link;

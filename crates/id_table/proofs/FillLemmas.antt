@@ -18,8 +18,10 @@ use Rattle.node_page.proofs.PartLemmas.{moves_in_turn, staying_moves}
 use Rattle.id_table.specs.Changes.{AreNew, Fills, with_all}
 use Rattle.id_table.specs.Pages.{IsWholeRun, first_class, next_class}
 use Rattle.id_table.specs.Table.{IdTable, IdsStand, class_of, objects_of, part_of}
+use Rattle.id_table.specs.Tidy.{KeepsTidy}
 use Rattle.id_table.proofs.BucketLemmas.{some_object}
 use Rattle.id_table.proofs.TableLemmas.{table_there}
+use Rattle.id_table.proofs.TidyLemmas.{keep_in_turn, same_keep}
 
 with_all-append : (m : FinMap nat_cmp Object) (xs ys : List Entry)
     → with_all m (xs ++ ys) ≡ with_all (with_all m xs) ys
@@ -99,6 +101,7 @@ module _ {B A : Type 0} {m : _} where
     pub has : objects_of table ≡ with_all (objects_of t) (take count objects)
     pub rest : AreNew (objects_of table) (drop count objects)
     pub moves : Moves (pages old) (pages now) (part_of t) (part_of table)
+    pub tidy : KeepsTidy dims (pages old) (pages now)
 
   pub record Filling (dims directory : ℕ) (old now : PageCache B A m) (objects : List Entry)
       (count : ℕ) : Type 0 where
@@ -119,6 +122,7 @@ module _ {B A : Type 0} {m : _} where
       rest = new;
       moves = staying_moves (pages cache) (pages cache) (part_of t) (λ n. refl) stands.once
           (λ n here. table_there dims (pages cache) t n stands here);
+      tidy = same_keep dims (pages cache) (pages cache) (λ n. refl);
     };
   }
 
@@ -130,12 +134,14 @@ module _ {B A : Type 0} {m : _} where
       → (IsPageMap now → (t : IdTable) → t.page ≡ directory → IdsStand dims (pages now) t
       → AreNew (objects_of t) (drop count objects)
       → Fills dims (pages now) (pages new) t (take more (drop count objects)))
+      → (IsPageMap now → (t : IdTable) → t.page ≡ directory → IdsStand dims (pages now) t
+      → KeepsTidy dims (pages now) (pages new))
       → Filling dims directory old new objects (count + more)
-  fills_on {dims} {directory} {old} {now} {objects} {count} so_far more new changes sound fills = record {
+  fills_on {dims} {directory} {old} {now} {objects} {count} so_far more new changes sound adds keep = record {
     changes = changes_in_turn old now new None so_far.changes changes;
     left = λ sound_old t at stands fresh.
         let f = so_far.left sound_old t at stands fresh in
-        let filled = fills f.map_is f.table (f.page ∙ at) f.stands f.rest in
+        let filled = adds f.map_is f.table (f.page ∙ at) f.stands f.rest in
         let rest = drop count objects in
         record {
           table = filled.table;
@@ -150,6 +156,8 @@ module _ {B A : Type 0} {m : _} where
               (others_new more rest (objects_of f.table) f.rest));
           moves = moves_in_turn (pages old) (pages now) (pages new) (part_of t) (part_of f.table)
               (part_of filled.table) f.moves filled.moves;
+          tidy = keep_in_turn dims (pages old) (pages now) (pages new) f.tidy
+              (keep f.map_is f.table (f.page ∙ at) f.stands);
         };
   }
 

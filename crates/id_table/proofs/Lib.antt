@@ -1,6 +1,7 @@
 -- The files of lemmas.
 pub mod TableLemmas
 pub mod DirectoryLemmas
+pub mod TidyLemmas
 pub mod Results
 pub mod BucketLemmas
 pub mod CheckLemmas

@@ -9,11 +9,13 @@ use Rattle.node_page.specs.Parts.{Part}
 use Rattle.node_page.specs.Standing.{PageMap}
 use Rattle.id_table.specs.Changes.{with_box}
 use Rattle.id_table.specs.Table.{Bucket, IsDirectory, kept_in, bucket_in, class_of, entries_in, link_at}
+use Rattle.id_table.specs.Tidy.{IsTidyDirectory, IsTidyPage, KeepsTidy}
 
 -- a directory of empty chains
 pub record NewDirectory (dims : ℕ) (page : List ℕ) : Type 0 where
   pub spelled : IsDirectory dims page
   pub empty : (class : ℕ) → link_at class page ≡ 0
+  pub tidy : IsTidyDirectory page
 
 -- one chain of the directory has another first page
 pub record SetsLink (class first : ℕ) (old new : List ℕ) : Type 0 where
@@ -21,6 +23,7 @@ pub record SetsLink (class first : ℕ) (old new : List ℕ) : Type 0 where
   pub others : (other : ℕ) → ¬ (other ≡ class) → link_at other new ≡ link_at other old
   pub kind : number_at 1 0 new ≡ number_at 1 0 old
   pub dims_is : number_at 1 1 new ≡ number_at 1 1 old
+  pub tidy : IsTidyDirectory old → IsTidyDirectory new
 
 -- there is no bucket with room at the beginning of a chain
 abbrev pub BeginsFull : List Bucket → Type 0
@@ -35,6 +38,7 @@ pub record PutsBefore (dims : ℕ) (old new : PageMap) (directory class first : 
   pub low : 2 < number
   pub fresh : old number ≡ None
   pub bucket : bucket_in dims (new number) ≡ Some (record { next = first; entries = objects })
+  pub tidy : IsSomeAnd (new number) (IsTidyPage dims)
   pub after : List ℕ
   pub there : new directory ≡ Some after
   pub link : SetsLink class number page after
@@ -72,6 +76,7 @@ pub record Shortens (dims : ℕ) (old new : PageMap) (first : ℕ) (c : BucketCo
   pub more : 1 < length c.entries
   pub bucket : bucket_in dims (new first) ≡ Some (popped c)
   pub others : SameBut first old new
+  pub tidy : KeepsTidy dims old new
 
 -- It lost its only one: its page is no longer live, and the directory names the next one as the first of the
 -- chain.
@@ -96,6 +101,7 @@ pub record PopsLast (dims : ℕ) (old new : List ℕ) (told : Option ℕ) : Type
       → (1 < length c.entries) × (bucket_at dims new ≡ Some (popped c))
   pub only : (next : ℕ) → told ≡ Some next → (c : BucketContent) → bucket_at dims old ≡ Some c
       → (length c.entries ≡ 1) × (next ≡ c.next)
+  pub tidy : (c : BucketContent) → bucket_at dims old ≡ Some c → IsTidyPage dims old → IsTidyPage dims new
 
 -- the pages of a part are no longer live, and all others stay
 pub record Frees (old new : PageMap) (part : Part) : Type 0 where
@@ -134,3 +140,4 @@ pub record PushesRun (dims class : ℕ) (objects : List Entry) (old new : List �
   pub run : IfSome told (IsRun class objects)
   pub pushed : (c : BucketContent) → bucket_at dims old ≡ Some c → length c.entries < 100
       → IsSomeAnd told (λ count. bucket_at dims new ≡ Some (with_more c (take count objects)))
+  pub tidy : (c : BucketContent) → bucket_at dims old ≡ Some c → IsTidyPage dims old → IsTidyPage dims new

@@ -16,6 +16,7 @@ ghost use Rattle.node_page.specs.Faults.{IsNoDamage};
 ghost use Rattle.id_table.specs.Changes.{AreNew, Fills, Sets};
 ghost use Rattle.id_table.specs.Pages.{IsRun, IsWholeRun, PushesRun, PutsBefore, first_class, with_more};
 ghost use Rattle.id_table.specs.Table.{IdTable, IdsStand, bucket_in, objects_of};
+ghost use Rattle.id_table.specs.Tidy.{IsTidyPage, KeepsTidy};
 
 use crate::broken::midway;
 use crate::bucket::{has_room, write_bucket};
@@ -32,6 +33,8 @@ use std::alloc::Allocator;
 /// Adds an object to the table, which does not have its identifier: into the first page of its chain, or into
 /// a new page before that one where it is full. The gate has to be open.
 ///
+/// Pages with zeros in all bytes that they do not name stay so, and so is a new one.
+///
 /// With a sound map, where the pages stand for a table at that directory, a refusal is `Memory` or `Device`,
 /// or `NoPages` where each page number is live.
 pub fn add<const D: usize, B: BlockDevice, A: Allocator + Copy>(
@@ -46,6 +49,8 @@ pub fn add<const D: usize, B: BlockDevice, A: Allocator + Copy>(
     ensures alters { Alters cache.old cache.new result }
     ensures sound { IsPageMap cache.old → (t : IdTable) → t.page ≡ directory → IdsStand D (pages cache.old) t
         → IsPageMap cache.new }
+    ensures tidy { IsPageMap cache.old → (t : IdTable) → t.page ≡ directory → IdsStand D (pages cache.old) t
+        → OnOk result (KeepsTidy D (pages cache.old) (pages cache.new)) }
     ensures added { IsPageMap cache.old → (t : IdTable) → t.page ≡ directory → IdsStand D (pages cache.old) t
         → map.contains_key (objects_of t) id ≡ false
         → OnOk result (Sets D (pages cache.old) (pages cache.new) t id (bounds.now, tag)) }
@@ -73,6 +78,8 @@ pub(crate) fn add_run<const D: usize, B: BlockDevice, A: Allocator + Copy>(
     ensures alters { Alters cache.old cache.new result }
     ensures sound { IsPageMap cache.old → (t : IdTable) → t.page ≡ directory → IdsStand D (pages cache.old) t
         → IsPageMap cache.new }
+    ensures tidy { IsPageMap cache.old → (t : IdTable) → t.page ≡ directory → IdsStand D (pages cache.old) t
+        → OnOk result (KeepsTidy D (pages cache.old) (pages cache.new)) }
     ensures count { IfOk result (λ count. (0 < count) × (count ≤ length objects.now)) }
     ensures added { IsPageMap cache.old → (t : IdTable) → t.page ≡ directory → IdsStand D (pages cache.old) t
         → AreNew (objects_of t) objects.now
@@ -112,6 +119,8 @@ fn put_in<const D: usize, B: BlockDevice, A: Allocator + Copy>(
         → length c.entries < 100
         → IfOk result (λ count. bucket_in D (pages cache.new number)
         ≡ Some (with_more c (take count objects.now))) }
+    ensures tidy { IsHonest cache.old → (c : BucketContent) → bucket_in D (pages cache.old number) ≡ Some c
+        → OnOk result (KeepsTidy D (pages cache.old) (pages cache.new)) }
     ensures others { IsHonest cache.old → IsLive cache.old number
         → SameBut number (pages cache.old) (pages cache.new) }
     ensures sound { IsPageMap cache.old → IsLive cache.old number → IsPageMap cache.new }
@@ -164,6 +173,8 @@ fn push_run<const D: usize>(
     ensures run { IsRun class objects.now result }
     ensures pushed { (c : BucketContent) → bucket_at D page.old ≡ Some c
         → bucket_at D page.new ≡ Some (with_more c (take result objects.now)) }
+    ensures tidy { (c : BucketContent) → bucket_at D page.old ≡ Some c →
+        IsTidyPage D page.old → IsTidyPage D page.new }
 {
     let mut count = 0;
     for object in objects {

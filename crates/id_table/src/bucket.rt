@@ -12,6 +12,7 @@ ghost use Rattle.page_cache.specs.Cache.{Grows, IsHonest, IsLive, IsPageMap, gat
 ghost use Rattle.page_cache.specs.Calls.{Asks, Changes};
 ghost use Rattle.id_table.specs.Pages.{BeginsFull, IsFoundAt};
 ghost use Rattle.id_table.specs.Table.{Bucket as Linked, ChainStands, kept_in, bucket_in};
+ghost use Rattle.id_table.specs.Tidy.{IsTidyPage};
 
 use block_device::BlockDevice;
 use box_math::BBox;
@@ -156,6 +157,8 @@ pub(crate) fn write_bucket<const D: usize, B: BlockDevice, A: Allocator + Copy>(
     ensures next { next_of cache.new ≡ next_of cache.old }
     ensures written { IsHonest cache.old → IsLive cache.old number
         → OnOk result (bucket_in D (pages cache.new number) ≡ Some (content_of bucket.now)) }
+    ensures tidy { IsHonest cache.old → IsLive cache.old number
+        → OnOk result (IsSomeAnd (pages cache.new number) (IsTidyPage D)) }
     ensures live { IsHonest cache.old → IsLive cache.old number → IsLive cache.new number }
     ensures others { IsHonest cache.old → IsLive cache.old number
         → SameBut number (pages cache.old) (pages cache.new) }
@@ -168,7 +171,8 @@ pub(crate) fn write_bucket<const D: usize, B: BlockDevice, A: Allocator + Copy>(
         number,
         |page: &mut [u8; 4096]|
             requires { IsDims D × (0 < length bucket.now.entries.items) }
-            ensures { Spells D page.new (content_of bucket.entry.now) }
+            ensures spelled { Spells D page.new (content_of bucket.entry.now) }
+            ensures tidy { IsTidyPage D page.new }
         { encode(bucket, page) },
     )
 }

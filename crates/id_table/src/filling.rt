@@ -10,6 +10,7 @@ ghost use Rattle.node_page.specs.Broken.{Alters};
 ghost use Rattle.node_page.specs.Faults.{IsNoDamage};
 ghost use Rattle.id_table.specs.Changes.{AreNew, Fills};
 ghost use Rattle.id_table.specs.Table.{IdTable, IdsStand, class_of, objects_of};
+ghost use Rattle.id_table.specs.Tidy.{KeepsTidy};
 
 use crate::adding::add_run;
 use block_device::BlockDevice;
@@ -26,6 +27,8 @@ use std::alloc::Allocator;
 /// It makes at most one page more live for each object, and in that order one for each 100 objects and each
 /// remainder, also where it is refused.
 ///
+/// Pages with zeros in all bytes that they do not name stay so, and so is a new one.
+///
 /// With a sound map, where the pages stand for a table at that directory, a refusal is `Memory` or `Device`,
 /// or `NoPages` where each page number is live. It is untouched where the first object was refused so.
 pub fn fill<const D: usize, B: BlockDevice, A: Allocator + Copy>(
@@ -38,6 +41,9 @@ pub fn fill<const D: usize, B: BlockDevice, A: Allocator + Copy>(
     ensures alters { Alters cache.old cache.new result }
     ensures sound { IsPageMap cache.old → (t : IdTable) → t.page ≡ directory → IdsStand D (pages cache.old) t
         → AreNew (objects_of t) objects.now → IsPageMap cache.new }
+    ensures tidy { IsPageMap cache.old → (t : IdTable) → t.page ≡ directory → IdsStand D (pages cache.old) t
+        → AreNew (objects_of t) objects.now
+        → OnOk result (KeepsTidy D (pages cache.old) (pages cache.new)) }
     ensures filled { IsPageMap cache.old → (t : IdTable) → t.page ≡ directory → IdsStand D (pages cache.old) t
         → AreNew (objects_of t) objects.now
         → OnOk result (Fills D (pages cache.old) (pages cache.new) t objects.now) }

@@ -9,6 +9,7 @@ mod check;
 mod directory;
 mod filling;
 mod freeing;
+pub mod laws;
 mod making;
 mod places;
 mod removing;

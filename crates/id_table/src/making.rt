@@ -1,6 +1,6 @@
 //! Tables made.
 
-ghost use Rattle.std.specs.Prelude.{◌≡◌, ◌≤◌, ◌<◌, ◌⊎◌, IfOk, IfErr};
+ghost use Rattle.std.specs.Prelude.{◌≡◌, ◌≤◌, ◌<◌, ◌⊎◌, IfOk, IfErr, OnOk};
 ghost use Rattle.box_math.specs.Bounds.{IsDims};
 ghost use Rattle.page_file.specs.Fault.{IsDamage};
 ghost use Rattle.page_file.specs.declared.gate.Gate.TheVariants.{Open};
@@ -9,6 +9,7 @@ ghost use Rattle.page_cache.specs.Calls.{Changes};
 ghost use Rattle.node_page.specs.Broken.{Alters};
 ghost use Rattle.node_page.specs.Faults.{IsNoDamage};
 ghost use Rattle.id_table.specs.Changes.{Makes};
+ghost use Rattle.id_table.specs.Tidy.{KeepsTidy};
 
 use crate::broken::midway;
 use crate::directory::write_directory;
@@ -21,6 +22,8 @@ use std::alloc::Allocator;
 
 /// Makes a table of no objects, and answers the page of its directory. The gate has to be open.
 ///
+/// The new page has zeros in all bytes that it does not name.
+///
 /// With a sound map a refusal is `Memory` or `Device`, or `NoPages` where each page number is live.
 pub fn make<const D: usize, B: BlockDevice, A: Allocator + Copy>(
     cache: &mut PageCache<B, A>,
@@ -29,6 +32,7 @@ pub fn make<const D: usize, B: BlockDevice, A: Allocator + Copy>(
     requires open { gate_of cache.old ≡ Open }
     ensures alters { Alters cache.old cache.new result }
     ensures sound { IsPageMap cache.old → IsPageMap cache.new }
+    ensures tidy { IsPageMap cache.old → OnOk result (KeepsTidy D (pages cache.old) (pages cache.new)) }
     ensures made { IsPageMap cache.old
         → IfOk result (λ directory. Makes D (pages cache.old) (pages cache.new) directory) }
     ensures number { IfOk result (λ directory. (3 ≤ directory) × (directory < next_of cache.new)) }
@@ -47,6 +51,7 @@ fn make_page<const D: usize, B: BlockDevice, A: Allocator + Copy>(
     requires open { gate_of cache.old ≡ Open }
     ensures changes { Changes cache.old cache.new result }
     ensures sound { IsPageMap cache.old → IsPageMap cache.new }
+    ensures tidy { IsPageMap cache.old → OnOk result (KeepsTidy D (pages cache.old) (pages cache.new)) }
     ensures made { IsPageMap cache.old
         → IfOk result (λ directory. Makes D (pages cache.old) (pages cache.new) directory) }
     ensures number { IfOk result (λ directory. (3 ≤ directory) × (directory < next_of cache.new)) }

@@ -12,6 +12,7 @@ ghost use Rattle.page_cache.specs.Cache.{pages};
 ghost use Rattle.page_cache.specs.Calls.{Asks, Changes};
 ghost use Rattle.id_table.specs.Pages.{HasObject, IsInChain, moved};
 ghost use Rattle.id_table.specs.Table.{Bucket, ChainStands, bucket_in};
+ghost use Rattle.id_table.specs.Tidy.{IsTidyPage, KeepsTidy};
 
 use crate::bucket::place_at;
 use block_device::BlockDevice;
@@ -63,6 +64,8 @@ pub(crate) fn put_at<const D: usize, B: BlockDevice, A: Allocator + Copy>(
     ensures written { IsHonest cache.old → (c : BucketContent) → bucket_in D (pages cache.old number) ≡ Some c
         → place < length c.entries
         → OnOk result (bucket_in D (pages cache.new number) ≡ Some (replaced c place object.now)) }
+    ensures tidy { IsHonest cache.old → (c : BucketContent) → bucket_in D (pages cache.old number) ≡ Some c
+        → place < length c.entries → OnOk result (KeepsTidy D (pages cache.old) (pages cache.new)) }
     ensures live { IsHonest cache.old → IsLive cache.old number → IsLive cache.new number }
     ensures others { IsHonest cache.old → IsLive cache.old number
         → SameBut number (pages cache.old) (pages cache.new) }
@@ -75,8 +78,10 @@ pub(crate) fn put_at<const D: usize, B: BlockDevice, A: Allocator + Copy>(
         number,
         |page: &mut [u8; 4096]|
             requires { IsDims D × (place < 100) }
-            ensures { (c : BucketContent) → bucket_at D page.old ≡ Some c → place < length c.entries
+            ensures replaced { (c : BucketContent) → bucket_at D page.old ≡ Some c → place < length c.entries
                 → bucket_at D page.new ≡ Some (replaced c place object.entry.now) }
+            ensures tidy { (c : BucketContent) → bucket_at D page.old ≡ Some c → place < length c.entries
+                → IsTidyPage D page.old → IsTidyPage D page.new }
         { set_entry(page, place, object) },
     )
 }
@@ -98,6 +103,8 @@ pub(crate) fn move_at<const D: usize, B: BlockDevice, A: Allocator + Copy>(
         → bucket_in D (pages cache.old number) ≡ Some c → place < length c.entries
         → OnOk result (bucket_in D (pages cache.new number)
         ≡ Some (replaced c place (moved (slice_index_or c.entries place other) bounds.now))) }
+    ensures tidy { IsHonest cache.old → (c : BucketContent) → bucket_in D (pages cache.old number) ≡ Some c
+        → place < length c.entries → OnOk result (KeepsTidy D (pages cache.old) (pages cache.new)) }
     ensures others { IsHonest cache.old → IsLive cache.old number
         → SameBut number (pages cache.old) (pages cache.new) }
     ensures sound { IsPageMap cache.old → IsLive cache.old number → IsPageMap cache.new }
@@ -109,10 +116,12 @@ pub(crate) fn move_at<const D: usize, B: BlockDevice, A: Allocator + Copy>(
         number,
         |page: &mut [u8; 4096]|
             requires { IsDims D × (place < 100) }
-            ensures { (c : BucketContent) (other : Entry) → bucket_at D page.old ≡ Some c →
+            ensures moved { (c : BucketContent) (other : Entry) → bucket_at D page.old ≡ Some c →
                 place < length c.entries
                 → bucket_at D page.new
                 ≡ Some (replaced c place (moved (slice_index_or c.entries place other) bounds.entry.now)) }
+            ensures tidy { (c : BucketContent) → bucket_at D page.old ≡ Some c → place < length c.entries
+                → IsTidyPage D page.old → IsTidyPage D page.new }
         { set_box(page, place, bounds) },
     )
 }
@@ -122,9 +131,11 @@ pub(crate) fn move_at<const D: usize, B: BlockDevice, A: Allocator + Copy>(
 fn set_box<const D: usize>(page: &mut [u8; 4096], place: usize, bounds: &BBox<D>)
     requires dims { IsDims D }
     requires within { place < 100 }
-    ensures { (c : BucketContent) (other : Entry) → bucket_at D page.old ≡ Some c → place < length c.entries
-        → bucket_at D page.new
+    ensures moved { (c : BucketContent) (other : Entry) → bucket_at D page.old ≡ Some c →
+        place < length c.entries → bucket_at D page.new
         ≡ Some (replaced c place (moved (slice_index_or c.entries place other) bounds.now)) }
+    ensures tidy { (c : BucketContent) → bucket_at D page.old ≡ Some c → place < length c.entries
+        → IsTidyPage D page.old → IsTidyPage D page.new }
 {
     if let Some((id, (_, tag))) = entry_at::<D>(page, place) {
         set_entry(page, place, &(id, (*bounds, tag)));

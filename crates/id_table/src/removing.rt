@@ -13,6 +13,7 @@ ghost use Rattle.node_page.specs.Broken.{Alters};
 ghost use Rattle.id_table.specs.Changes.{Removes};
 ghost use Rattle.id_table.specs.Pages.{PopsLast, Shrinks, Unlinks};
 ghost use Rattle.id_table.specs.Table.{IdTable, IdsStand, bucket_in, objects_of};
+ghost use Rattle.id_table.specs.Tidy.{KeepsTidy};
 
 use crate::broken::midway;
 use crate::directory::{class_of, read_link, write_link};
@@ -28,6 +29,8 @@ use std::alloc::Allocator;
 /// Removes an object from the table, which has its identifier: the last object of the first page of its chain
 /// fills the place, and a first page that becomes empty is freed. The gate has to be open.
 ///
+/// Pages with zeros in all bytes that they do not name stay so.
+///
 /// With a sound map, where the pages stand for a table at that directory, a refusal is `Memory` or `Device`.
 #[tactic(auto, using(node_page::specs::Broken::breaks))]
 pub fn remove<const D: usize, B: BlockDevice, A: Allocator + Copy>(
@@ -40,6 +43,8 @@ pub fn remove<const D: usize, B: BlockDevice, A: Allocator + Copy>(
     ensures alters { Alters cache.old cache.new result }
     ensures sound { IsPageMap cache.old → (t : IdTable) → t.page ≡ directory → IdsStand D (pages cache.old) t
         → IsPageMap cache.new }
+    ensures tidy { IsPageMap cache.old → (t : IdTable) → t.page ≡ directory → IdsStand D (pages cache.old) t
+        → OnOk result (KeepsTidy D (pages cache.old) (pages cache.new)) }
     ensures removed { IsPageMap cache.old → (t : IdTable) → t.page ≡ directory →
         IdsStand D (pages cache.old) t
         → map.contains_key (objects_of t) id ≡ true

@@ -10,6 +10,7 @@ ghost use Rattle.page_cache.specs.Cache.{Grows, IsPageMap, KeepsMap, gate_of, pa
 ghost use Rattle.page_cache.specs.Calls.{Changes};
 ghost use Rattle.id_table.specs.Changes.{Sets, with_box};
 ghost use Rattle.id_table.specs.Table.{IdTable, IdsStand, objects_of};
+ghost use Rattle.id_table.specs.Tidy.{KeepsTidy};
 
 use crate::directory::{class_of, read_link};
 use crate::places::{move_at, place_in};
@@ -21,6 +22,8 @@ use std::alloc::Allocator;
 
 /// Gives the object with that identifier, which the table has, another box, where it lies: one page is
 /// written. Its tag stays. The gate has to be open.
+///
+/// Pages with zeros in all bytes that they do not name stay so.
 ///
 /// With a sound map, where the pages stand for a table at that directory, a refusal is `Memory` or `Device`.
 /// After one the map is as before.
@@ -37,6 +40,8 @@ pub fn update<const D: usize, B: BlockDevice, A: Allocator + Copy>(
     ensures refused { OnErr result (KeepsMap cache.old cache.new) }
     ensures sound { IsPageMap cache.old → (t : IdTable) → t.page ≡ directory → IdsStand D (pages cache.old) t
         → IsPageMap cache.new }
+    ensures tidy { IsPageMap cache.old → (t : IdTable) → t.page ≡ directory → IdsStand D (pages cache.old) t
+        → OnOk result (KeepsTidy D (pages cache.old) (pages cache.new)) }
     ensures updated { IsPageMap cache.old → (t : IdTable) → t.page ≡ directory →
         IdsStand D (pages cache.old) t
         → (kept : Object) → map.get (objects_of t) id ≡ Some kept

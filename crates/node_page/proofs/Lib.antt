@@ -7,6 +7,7 @@ pub mod Writing
 pub mod Editing
 pub mod Named
 pub mod OnePage
+pub mod TidyLemmas
 pub mod ColumnLemmas
 pub mod Examples
 pub mod StandingLemmas

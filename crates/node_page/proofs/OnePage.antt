@@ -61,7 +61,7 @@ named_bytes dims a b c kind ba bb sa sb k (inr of) =
     of.2
 
 -- a page of the kind spells what it is read as
-of_kind : (kind dims : ℕ) (page : List ℕ) (c : NodeContent) → node_of_kind kind dims page ≡ Some c
+pub of_kind : (kind dims : ℕ) (page : List ℕ) (c : NodeContent) → node_of_kind kind dims page ≡ Some c
     → (number_at 1 0 page ≡ kind) × Spells dims page c
 of_kind kind dims page c is = case (cases_eq (number_at 1 0 page) kind)
   where

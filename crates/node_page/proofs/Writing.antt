@@ -19,11 +19,11 @@ outside n at k h =
     (λ (below : k < at). inl (omega arith)) (le_or_lt at k)) (le_or_lt (at + n) k)
 
 -- a byte that is not named is after the head, and outside each entry
-unnamed_behind : (dims : ℕ) (tagged : Bool) (count k : ℕ) → (IsNamed dims tagged count k → ⊥) → 5 ≤ k
+pub unnamed_behind : (dims : ℕ) (tagged : Bool) (count k : ℕ) → (IsNamed dims tagged count k → ⊥) → 5 ≤ k
 unnamed_behind dims tagged count k unnamed =
     ⊎_elim (λ (le : 5 ≤ k). le) (λ (lt : k < 5). absurd (unnamed (inl lt))) (le_or_lt 5 k)
 
-unnamed_outside : (dims : ℕ) (tagged : Bool) (count place k : ℕ) → place < count
+pub unnamed_outside : (dims : ℕ) (tagged : Bool) (count place k : ℕ) → place < count
     → (IsNamed dims tagged count k → ⊥) → IsClearOfEntry dims tagged place 1 k
 unnamed_outside dims tagged count place k lt unnamed = record {
   bounds = record {
@@ -38,7 +38,7 @@ unnamed_outside dims tagged count place k lt unnamed = record {
       (λ among. unnamed (inr (place, lt, inr (inr (inr (has, among.0, among.1))))));
 }
 
-named_more : (dims : ℕ) (tagged : Bool) (count k : ℕ) → IsNamed dims tagged count k
+pub named_more : (dims : ℕ) (tagged : Bool) (count k : ℕ) → IsNamed dims tagged count k
     → IsNamed dims tagged (count + 1) k
 named_more dims tagged count k (inl h) = inl h
 named_more dims tagged count k (inr h) = let lt = h.1 in inr (h.0, omega arith, h.2)

@@ -4,6 +4,7 @@
 -- for its byte 0 and no tags: each is 0.
 use Rattle.std.specs.Prelude.{◌≡◌, ℕ, ◌+◌, ◌*◌, ◌^◌, ◌<◌, ◌≤◌, ◌&&◌, ◌||◌, ◌==◌, ◌⊎◌, Bool, true, nat_le}
 use Rattle.std.specs.Prelude.{nat_lt, List, [], ◌∷◌, ◌++◌, length, All, Option, Some, None, if◌then◌else◌}
+use Rattle.block_bytes.specs.Forms.{IsPageOf}
 use Rattle.block_bytes.specs.Kinds.{HasHead, node_kind, untagged_node_kind}
 use Rattle.block_bytes.specs.Numbers.{number_at, IsApart}
 use Rattle.block_bytes.specs.Places.{first_places}
@@ -160,3 +161,11 @@ IsNamed dims tagged count k = (k < 5) ⊎ ((place : ℕ) × (place < count) × I
 -- a byte that this page names
 abbrev pub names : ℕ → List ℕ → ℕ → Type 0
 names dims page = IsNamed dims (has_tags page) (number_at 2 2 page)
+
+-- all other bytes of the page are zero
+abbrev pub IsTidy : ℕ → List ℕ → Type 0
+IsTidy dims page = (k : ℕ) → (names dims page k → ⊥) → number_at 1 k page ≡ 0
+
+-- the page is the one that is written of a node: of the kind that has tags, and tidy
+abbrev pub IsPageOfNode : ℕ → List ℕ → NodeContent → Type 0
+IsPageOfNode dims page c = IsPageOf (node_of_kind node_kind dims) (names dims) page c

@@ -1,8 +1,8 @@
 -- The pages that trees stand in (our rule, docs/FORMAT.md, "Trees of pages").
-use Rattle.std.specs.Prelude.{◌≡◌, ℕ, ◌-◌, ◌<◌, ◌≤◌, List, Option, Some, None, ⊤}
+use Rattle.std.specs.Prelude.{◌≡◌, ℕ, ◌-◌, ◌<◌, ◌≤◌, List, Option, Some, None, IsSomeAnd, ⊤}
 use Rattle.tree_node.specs.Nodes.{NodeContent}
 use Rattle.tree_node.specs.Trees.{Row, end, more, object, child, Tree, occurs_in, row_items}
-use Rattle.node_page.specs.Layout.{node_at}
+use Rattle.node_page.specs.Layout.{IsPageOfNode, IsTidy, node_at}
 
 -- the bytes of each page that is there
 abbrev pub PageMap : Type 0
@@ -12,6 +12,14 @@ PageMap = ℕ → Option (List ℕ)
 abbrev pub node_in : ℕ → Option (List ℕ) → Option NodeContent
 node_in dims None = None
 node_in dims (Some page) = node_at dims page
+
+-- the page of this number is there, and tidy
+abbrev pub IsTidyAt : ℕ → PageMap → ℕ → Type 0
+IsTidyAt dims pages n = IsSomeAnd (pages n) (IsTidy dims)
+
+-- it is there, and the one that is written of the node
+abbrev pub HasPageOf : ℕ → PageMap → ℕ → NodeContent → Type 0
+HasPageOf dims pages n c = IsSomeAnd (pages n) (λ page. IsPageOfNode dims page c)
 
 -- a page spells the node of this level with these entries
 abbrev pub HasNode : ℕ → PageMap → ℕ → ℕ → Row → Type 0

@@ -11,8 +11,8 @@ ghost use Rattle.page_cache.specs.Calls.{Asks, AsksUntil};
 ghost use Rattle.tree_node.specs.Boxes.{least_box};
 ghost use Rattle.tree_node.specs.Nodes.{NodeContent, item_of};
 ghost use Rattle.node_page.specs.Broken.{Alters};
-ghost use Rattle.node_page.specs.Layout.{IsOfLevel, node_at, pushed};
-ghost use Rattle.node_page.specs.Standing.{node_in};
+ghost use Rattle.node_page.specs.Layout.{IsOfLevel, IsPageOfNode, IsTidy, node_at, pushed};
+ghost use Rattle.node_page.specs.Standing.{HasPageOf, IsTidyAt, node_in};
 
 use crate::broken::Broken;
 use crate::edits::push_where_room;
@@ -26,8 +26,9 @@ use tree_node::Entry;
 
 /// Adds an entry to the node of that level at a live page, in the place after the last one, where the node
 /// has some entry and fewer than the most, and answers the least box round all of them then; else it answers
-/// `None`, and has only asked for the page. The entry is written where the page lies in memory. The gate has
-/// to be open.
+/// `None`, and has only asked for the page. The entry is written where the page lies in memory: a page with
+/// zeros in all bytes that it does not name becomes the one that `encode` makes of the node with the entry.
+/// The gate has to be open.
 ///
 /// It breaks off as `read_node` is refused, untouched.
 #[tactic(auto, using(crate::specs::Broken::breaks))]
@@ -50,6 +51,9 @@ pub fn add_entry<const D: usize, B: BlockDevice, A: Allocator + Copy>(
         → IfOk result (λ some. IfSome some (λ bounds.
         (node_in D (pages cache.new page) ≡ Some (pushed c (item_of entry.now)))
         × (bounds ≡ least_box D (pushed c (item_of entry.now)).entries))) }
+    ensures is_page { IsHonest cache.old → (c : NodeContent) → node_in D (pages cache.old page) ≡ Some c
+        → IsTidyAt D (pages cache.old) page → IfOk result (λ some. IfSome some (λ bounds.
+        HasPageOf D (pages cache.new) page (pushed c (item_of entry.now)))) }
     ensures others { IsHonest cache.old → IsLive cache.old page →
         SameBut page (pages cache.old) (pages cache.new) }
     ensures sound { IsPageMap cache.old → IsLive cache.old page → IsPageMap cache.new }
@@ -66,9 +70,13 @@ pub fn add_entry<const D: usize, B: BlockDevice, A: Allocator + Copy>(
         page,
         |bytes: &mut [u8; 4096]|
             requires { IsDims D }
-            ensures { (c : NodeContent) → node_at D bytes.old ≡ Some c → length c.entries < 100
+            ensures pushed { (c : NodeContent) → node_at D bytes.old ≡ Some c → length c.entries < 100
                 → IsOfLevel c.level entry.entry.now.reference entry.entry.now.tag
                 → node_at D bytes.new ≡ Some (pushed c (item_of entry.entry.now)) }
+            ensures is_page { IsTidy D bytes.old → (c : NodeContent) → node_at D bytes.old ≡ Some c
+                → length c.entries < 100
+                → IsOfLevel c.level entry.entry.now.reference entry.entry.now.tag
+                → IsPageOfNode D bytes.new (pushed c (item_of entry.entry.now)) }
         { push_where_room(bytes, entry) },
     )?;
     Ok(Some(bounds))

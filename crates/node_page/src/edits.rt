@@ -2,9 +2,10 @@
 
 ghost use Rattle.std.specs.Prelude.{◌≡◌, ◌<◌, Some, length};
 ghost use Rattle.block_bytes.specs.Numbers.{number_at};
+ghost use Rattle.block_bytes.specs.Kinds.{node_kind};
 ghost use Rattle.box_math.specs.Bounds.{IsDims};
 ghost use Rattle.tree_node.specs.Nodes.{NodeContent, item_of};
-ghost use Rattle.node_page.specs.Layout.{IsOfLevel, node_at, pushed};
+ghost use Rattle.node_page.specs.Layout.{IsOfLevel, IsPageOfNode, IsTidy, node_at, pushed};
 
 use crate::entries::write_entry;
 use crate::head::{count_at, is_tagged};
@@ -13,13 +14,16 @@ use block_bytes::write_u16;
 use tree_node::Entry;
 
 /// Adds an entry to a node page whose count is below 100: it is written in the place after the last one, and
-/// counted. A page of format 1 becomes one with tags.
+/// counted. A page of format 1 becomes one with tags. One with zeros in all bytes that it does not name stays
+/// one.
 pub(crate) fn push_entry<const D: usize>(page: &mut [u8; 4096], entry: &Entry<D>)
     requires dims { IsDims D }
     requires room { number_at 2 2 page.old < 100 }
-    ensures { (c : NodeContent) → node_at D page.old ≡ Some c →
+    ensures pushed { (c : NodeContent) → node_at D page.old ≡ Some c →
         IsOfLevel c.level entry.now.reference entry.now.tag
         → node_at D page.new ≡ Some (pushed c (item_of entry.now)) }
+    ensures kind { (c : NodeContent) → node_at D page.old ≡ Some c → number_at 1 0 page.new ≡ node_kind }
+    ensures tidy { IsTidy D page.old → IsTidy D page.new }
 {
     add_tags::<D>(page);
     let tagged = is_tagged(page);
@@ -31,9 +35,12 @@ pub(crate) fn push_entry<const D: usize>(page: &mut [u8; 4096], entry: &Entry<D>
 /// Adds an entry to a node page as `push_entry` does, where its count is below 100.
 pub(crate) fn push_where_room<const D: usize>(page: &mut [u8; 4096], entry: &Entry<D>)
     requires { IsDims D }
-    ensures { (c : NodeContent) → node_at D page.old ≡ Some c → length c.entries < 100
+    ensures pushed { (c : NodeContent) → node_at D page.old ≡ Some c → length c.entries < 100
         → IsOfLevel c.level entry.now.reference entry.now.tag
         → node_at D page.new ≡ Some (pushed c (item_of entry.now)) }
+    ensures is_page { IsTidy D page.old → (c : NodeContent) → node_at D page.old ≡ Some c
+        → length c.entries < 100 → IsOfLevel c.level entry.now.reference entry.now.tag
+        → IsPageOfNode D page.new (pushed c (item_of entry.now)) }
 {
     if count_at(page) < 100 {
         push_entry(page, entry);

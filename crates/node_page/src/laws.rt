@@ -1,13 +1,14 @@
 //! What pages spell, and which trees stand in pages: each law is the contract of a function that does
-//! nothing, but for `a_node_comes_back`, which encodes and decodes, and `a_node_is_viewed_and_comes_back`,
-//! which looks at a page.
+//! nothing, but for `a_node_comes_back` and `a_written_page_comes_back`, which encode and decode, and
+//! `a_node_is_viewed_and_comes_back`, which looks at a page.
 
 ghost use Rattle.std.specs.Prelude.{◌≡◌, ◌⊎◌, ◌<◌, ◌≤◌, ◌^◌, ℕ, Some, IfErr, IfOk, IsErrOf};
 ghost use Rattle.std.specs.Prelude.{OnErr, OnOk, length, option_map};
+ghost use Rattle.block_bytes.specs.Numbers.{AreBytes};
 ghost use Rattle.block_device.specs.Device.{one_more};
 ghost use Rattle.box_math.specs.Bounds.{IsDims};
 ghost use Rattle.tree_node.specs.Nodes.{NodeContent, content_of};
-ghost use Rattle.node_page.specs.Layout.{IsSpellable};
+ghost use Rattle.node_page.specs.Layout.{IsPageOfNode, IsSpellable};
 ghost use Rattle.node_page.specs.PageLaws.{ReadsWhatIsSpelled, ReadsNamedBytes, SpellsNodes};
 ghost use Rattle.node_page.specs.PageLaws.{NodesHaveOnePage};
 ghost use Rattle.node_page.specs.Changes.{TreesBelowStand, TreesBesideStand, WaitersBesideStand};
@@ -25,6 +26,7 @@ ghost use Rattle.tree_node.specs.Trees.{Tree, occurs_in};
 
 use crate::lending::view_node;
 use crate::page::{decode, encode};
+use block_bytes::zero_block;
 use block_device::BlockDevice;
 use page_cache::PageCache;
 use page_file::Fault;
@@ -62,6 +64,26 @@ pub fn a_node_comes_back<const D: usize>(node: &Node<D>, page: &mut [u8; 4096]) 
 {
     encode(node, page);
     decode(page, node.level)
+}
+
+/// The page that is written of a node is the one that `encode` makes: decoded and encoded again it has the
+/// same bytes.
+pub fn a_written_page_comes_back<const D: usize>(page: &[u8; 4096], level: u8) -> Option<[u8; 4096]>
+    requires { IsDims D }
+    ensures { (c : NodeContent) → c.level ≡ level → IsPageOfNode D page.now c → result ≡ Some page.now }
+{
+    let node = decode::<D>(page, level)?;
+    let mut again = zero_block();
+    encode(&node, &mut again);
+    see_bytes(&again);
+    Some(again)
+}
+
+// The bytes of a page are bytes.
+fn see_bytes(page: &[u8; 4096])
+    ensures { AreBytes page.now }
+{
+    let _first = page[0];
 }
 
 /// At most one tree stands at a page, whose node has the level of its root.

@@ -11,8 +11,8 @@ ghost use Rattle.page_cache.specs.Cache.{Grows, IsHonest, IsLive, IsPageMap, IsU
 ghost use Rattle.page_cache.specs.Cache.{given, looks_of, next_of, pages};
 ghost use Rattle.page_cache.specs.Calls.{Asks, Changes};
 ghost use Rattle.tree_node.specs.Nodes.{NodeContent, content_of};
-ghost use Rattle.node_page.specs.Layout.{IsSpellable, node_at};
-ghost use Rattle.node_page.specs.Standing.{node_in};
+ghost use Rattle.node_page.specs.Layout.{IsPageOfNode, IsSpellable, node_at};
+ghost use Rattle.node_page.specs.Standing.{HasPageOf, node_in};
 
 use crate::page::{decode, decode_into, encode};
 use block_device::BlockDevice;
@@ -91,8 +91,9 @@ pub fn read_into<const D: usize, B: BlockDevice, A: Allocator + Copy>(
     }
 }
 
-/// Writes a node into a live page. The gate has to be open. The node has at most 100 entries, and one that is
-/// no leaf has at least one, all of which refer to pages from 3 to 2^31 - 1 and have no tag.
+/// Writes a node into a live page, which becomes the one that `encode` makes of it, whatever was there
+/// before. The gate has to be open. The node has at most 100 entries, and one that is no leaf has at least
+/// one, all of which refer to pages from 3 to 2^31 - 1 and have no tag.
 ///
 /// A number outside 2 to the last one given out is `Damaged` with that number, and changes nothing. After
 /// another refusal, which on an honest device is `Memory` or `Device`, the page is still live and may hold
@@ -108,6 +109,8 @@ pub fn write_node<const D: usize, B: BlockDevice, A: Allocator + Copy>(
     ensures changes { Changes cache.old cache.new result }
     ensures written { IsHonest cache.old → IsLive cache.old page
         → OnOk result (node_in D (pages cache.new page) ≡ Some (content_of node.now)) }
+    ensures is_page { IsHonest cache.old → IsLive cache.old page
+        → OnOk result (HasPageOf D (pages cache.new) page (content_of node.now)) }
     ensures live { IsHonest cache.old → IsLive cache.old page → IsLive cache.new page }
     ensures others { IsHonest cache.old → IsLive cache.old page →
         SameBut page (pages cache.old) (pages cache.new) }
@@ -124,7 +127,8 @@ pub fn write_node<const D: usize, B: BlockDevice, A: Allocator + Copy>(
         page,
         |bytes: &mut [u8; 4096]|
             requires { IsDims D × IsSpellable (content_of node.now) }
-            ensures { node_at D bytes.new ≡ Some (content_of node.entry.now) }
+            ensures spelled { node_at D bytes.new ≡ Some (content_of node.entry.now) }
+            ensures is_page { IsPageOfNode D bytes.new (content_of node.entry.now) }
         { encode(node, bytes) },
     )
 }

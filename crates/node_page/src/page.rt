@@ -4,7 +4,7 @@ ghost use Rattle.std.specs.Prelude.{◌≡◌, ◌≢◌, ◌==◌, ℕ, Some, A
 ghost use Rattle.block_bytes.specs.Numbers.{number_at};
 ghost use Rattle.box_math.specs.Bounds.{IsDims, IsBox};
 ghost use Rattle.tree_node.specs.Nodes.{NodeContent, content_of};
-ghost use Rattle.node_page.specs.Layout.{node_at, IsSpellable, IsNamed};
+ghost use Rattle.node_page.specs.Layout.{node_at, IsSpellable, IsNamed, IsPageOfNode};
 
 use crate::entries::{read_entry, write_entry};
 use crate::head::{count_at, has_node_head, is_tagged, write_head};
@@ -64,6 +64,7 @@ pub fn encode<const D: usize>(node: &Node<D>, page: &mut [u8; 4096])
     ensures spelled { node_at D page.new ≡ Some (content_of node.now) }
     ensures rest { (k : ℕ) → (IsNamed D (node.now.level == 0) (length node.now.entries.items) k → ⊥)
         → number_at 1 k page.new ≡ 0 }
+    ensures is_page { IsPageOfNode D page.new (content_of node.now) }
 {
     let count = node.entries.len();
     let tagged = node.level == 0;

@@ -7,15 +7,18 @@ use Rattle.page_cache.specs.Cache.{Grows, pages}
 use Rattle.page_cache.specs.Calls.{asks_in_turn}
 use Rattle.node_page.specs.Broken.{asks_and_breaks}
 use Rattle.node_page.specs.Faults.{IsNoDamage}
+use Rattle.node_page.proofs.NodeLemmas.{on_ok}
 use Rattle.id_table.specs.Changes.{Fills}
 use Rattle.id_table.specs.Pages.{IsRun, IsWholeRun, PutsBefore, with_more}
 use Rattle.id_table.specs.Table.{bucket_in, chain_at, objects_of}
+use Rattle.id_table.specs.Tidy.{KeepsTidy}
 use Rattle.id_table.proofs.AddLemmas.{puts_from}
 use Rattle.id_table.proofs.BucketLemmas.{if_err, is_there}
 use Rattle.id_table.proofs.FillLemmas.{first_new}
 use Rattle.id_table.proofs.ManyLemmas.{fills_before, fills_in_place}
-use Rattle.id_table.proofs.Results.{alters_after, broken_err, broken_if, refused_before}
+use Rattle.id_table.proofs.Results.{alters_after, broken_err, broken_if, broken_ok, ok_of, refused_before}
 use Rattle.id_table.proofs.StartLemmas.{first_is_live, starts}
+use Rattle.id_table.proofs.TidyLemmas.{keep_in_turn, puts_keep, same_keep}
 use Rattle.id_table.proofs.WalkLemmas.{begins_at}
 use Rattle.id_table.proofs.adding.add_run.Goals as goal
 
@@ -202,3 +205,44 @@ pub returns-clause-other_faults : goal.returns-clause-other_faults
 returns-clause-other_faults g c =
     broken_err c.put_alone.result c.midway-2.result (λ f. IsNoDamage c.put_alone.new.cache f ⊎ IsDamage f)
     c.midway-2.ensures c.put_alone.ensures.other_faults
+
+pub returns-then-room-clause-tidy : goal.returns-then-room-clause-tidy
+returns-then-room-clause-tidy g c = λ map t at stands.
+    let D = g.row.D in
+    let old = pages c.args.cache.now in
+    let mid = pages c.has_room.new.cache in
+    let now = pages c.put_in.new.cache in
+    let class = c.class_of-class.result in
+    let first = c.in_ok-first.first in
+    let s = starts D c.args.directory class first c.args.cache.now c.read_link.new.cache
+    c.in_ok-first.ensures.asks c.in_ok-first.ensures.link map.honest c.class_of-class.ensures.bound t at
+    stands in
+    let b = begins_at D old first (chain_at t class) s.begins (c.in_ok-room.ensures.some c.if-room.true) in
+    let asks =
+    asks_in_turn c.args.cache.now c.read_link.new.cache c.has_room.new.cache None
+    c.in_ok-first.ensures.asks c.in_ok-room.ensures.asks in
+    let stay = asks.map.pages_stay map.honest in
+    broken_ok c.put_in.result c.midway.result (KeepsTidy D old now) c.midway.ensures
+    (on_ok c.put_in.result (keep_in_turn D old mid now (same_keep D old mid stay))
+    (c.put_in.ensures.tidy (asks.gate.honest.0 map.honest) b.content
+    (ap (bucket_in D) (stay first) ∙ b.there)))
+
+pub returns-clause-tidy : goal.returns-clause-tidy
+returns-clause-tidy g c = λ map t at stands.
+    let D = g.row.D in
+    let old = pages c.args.cache.now in
+    let mid = pages c.has_room.new.cache in
+    let now = pages c.put_alone.new.cache in
+    let class = c.class_of-class.result in
+    let first = c.in_ok-first.first in
+    let asks =
+    asks_in_turn c.args.cache.now c.read_link.new.cache c.has_room.new.cache None
+    c.in_ok-first.ensures.asks c.in_ok-room.ensures.asks in
+    let stay = asks.map.pages_stay map.honest in
+    let there = stay c.args.directory ∙ ap old (sym at) ∙ stands.there in
+    broken_ok c.put_alone.result c.midway-2.result (KeepsTidy D old now) c.midway-2.ensures
+    (ok_of c.put_alone.result
+    (c.put_alone.ensures.put (asks.map.sound.0 map) stands.directory there)
+    (λ n put. keep_in_turn D old mid now (same_keep D old mid stay)
+    (puts_keep D mid now c.args.directory class first (take n c.args.objects.now) stands.directory there
+    stands.spelled put)))

@@ -1,12 +1,13 @@
 -- The goal of `push_run` that is proved by hand: an object more.
 use Rattle.std.proofs.Common.{◌≡◌, ◌∙◌, ◌+◌, ◌<◌, ◌++◌, ◌∷◌, [], Some, List, ap, arith, get_or, length, rules}
-use Rattle.std.proofs.Common.{subst, sym, take}
+use Rattle.std.proofs.Common.{inr, subst, sym, take}
 use Rattle.bucket_page.specs.Layout.{Entry}
 use Rattle.std.proofs.lemmas.List.{append_assoc, get_or_default, take_more}
 use Rattle.id_table.specs.Pages.{with_more}
 use Rattle.id_table.specs.Table.{class_of}
 use Rattle.id_table.proofs.BucketLemmas.{some_object}
 use Rattle.id_table.proofs.ManyLemmas.{AreOfClass, placed_more}
+use Rattle.id_table.proofs.TidyLemmas.{bucket_kept}
 use Rattle.id_table.proofs.adding.push_run.Goals as goal
 
 pub loop-object-preserved : goal.loop-object-preserved
@@ -35,4 +36,10 @@ loop-object-preserved g c =
           ∙ ap (λ (es : List Entry). Some (record { next = b.next; entries = es }))
           (append_assoc b.entries (take count objects) (x ∷ []))
           ∙ ap (λ (es : List Entry). Some (with_more b es)) (sym next);
+      tidy = λ b was before.
+          let so_far_is = so_far.pushed b was in
+          let held = with_more b (take count objects) in
+          bucket_kept g.row.D c.loop-object.page c.push_entry.new.page held so_far_is
+          (c.push_entry.ensures.kind held so_far_is)
+          (λ tidy. c.push_entry.ensures.tidy held so_far_is (inr tidy)) (so_far.tidy b was before);
     }

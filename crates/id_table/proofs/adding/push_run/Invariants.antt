@@ -3,6 +3,7 @@ use Rattle.std.proofs.Common.{◌≡◌, ◌<◌, Some, take}
 use Rattle.block_bytes.specs.Numbers.{number_at}
 use Rattle.bucket_page.specs.Layout.{BucketContent, bucket_at}
 use Rattle.id_table.specs.Pages.{with_more}
+use Rattle.id_table.specs.Tidy.{IsTidyPage}
 use Rattle.id_table.proofs.ManyLemmas.{AreOfClass}
 use Rattle.id_table.proofs.adding.push_run.Given as goal
 
@@ -14,4 +15,6 @@ invariant-loop-object g l = record {
   placed : AreOfClass l.class (take l.count l.objects);
   pushed : (c : BucketContent) → bucket_at g.row.D l.initial.page ≡ Some c
       → bucket_at g.row.D l.page ≡ Some (with_more c (take l.count l.objects));
+  tidy : (c : BucketContent) → bucket_at g.row.D l.initial.page ≡ Some c
+      → IsTidyPage g.row.D l.initial.page → IsTidyPage g.row.D l.page;
 }

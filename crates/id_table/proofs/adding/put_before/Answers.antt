@@ -1,11 +1,13 @@
 -- The goals of `put_before` that are proved by hand.
-use Rattle.std.proofs.Common.{◌∙◌, None, IsSome, inl, inr, ⊎_elim, sym, ap, subst, arith}
+use Rattle.std.proofs.Common.{◌∙◌, ℕ, List, Option, None, IsSome, inl, inr, ⊎_elim, sym, ap, subst, arith}
+use Rattle.std.specs.Prelude.{IsSomeAnd}
 use Rattle.page_file.specs.Fault.{IsOfDevice}
 use Rattle.page_cache.specs.Cache.{pages}
 use Rattle.page_cache.specs.Calls.{changes_and_refuses, changes_in_turn, fault_in}
 use Rattle.node_page.specs.Faults.{IsNoDamage}
 use Rattle.node_page.proofs.NodeLemmas.{at_error, on_ok}
 use Rattle.id_table.specs.Table.{bucket_in}
+use Rattle.id_table.specs.Tidy.{IsTidyPage}
 use Rattle.id_table.proofs.BucketLemmas.{apart_pages, if_err, is_there}
 use Rattle.id_table.proofs.adding.put_before.Goals as goal
 
@@ -46,6 +48,8 @@ returns-clause-put g c = λ map page there.
       fresh = fresh.0;
       bucket = ap (bucket_in g.row.D) (stays_d n (λ e. differ (sym e)))
           ∙ c.in_ok-write_bucket.ensures.written map1.honest live_n;
+      tidy = subst (λ (o : Option (List ℕ)). IsSomeAnd o (IsTidyPage g.row.D))
+          (sym (stays_d n (λ e. differ (sym e)))) (c.in_ok-write_bucket.ensures.tidy map1.honest live_n);
       after = w.0;
       there = w.1;
       link = w.2;

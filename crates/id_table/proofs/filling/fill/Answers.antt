@@ -44,7 +44,7 @@ loop-filled-preserved g c =
           subst (λ (es : List Entry). Fills g.row.D (pages c.loop-filled.cache) (pages c.add_run.new.cache) t
           (take count es)) rest
           (c.in-Ok.ensures.added map t at stands
-          (subst (λ (es : List Entry). AreNew (objects_of t) es) (sym rest) new)));
+          (subst (λ (es : List Entry). AreNew (objects_of t) es) (sym rest) new))) c.in-Ok.ensures.tidy;
       within = omega (arith, so_far.within, few, length-drop filled objects);
       grows = omega (arith, so_far.grows, c.in-Ok.ensures.grows, c.in-Ok.ensures.count.0);
       takes = λ sorted. run_takes c.args.cache.now c.loop-filled.cache c.add_run.new.cache objects filled
@@ -117,3 +117,7 @@ returns-clause-filled g c = λ map t at stands new.
 pub returns-clause-sound : goal.returns-clause-sound
 returns-clause-sound g c =
     λ map t at stands new. (c.loop-filled.invariant.filling.left map t at stands new).map_is
+
+pub returns-clause-tidy : goal.returns-clause-tidy
+returns-clause-tidy g c =
+    λ map t at stands new. (c.loop-filled.invariant.filling.left map t at stands new).tidy

@@ -1,9 +1,10 @@
 -- The goals of `make_page` that are proved by hand: a page given out and written is a table of no objects.
-use Rattle.std.proofs.Common.{None, arith}
+use Rattle.std.proofs.Common.{◌∙◌, None, arith}
 use Rattle.page_cache.specs.Calls.{changes_and_refuses, changes_in_turn}
 use Rattle.page_cache.specs.Cache.{pages}
 use Rattle.id_table.proofs.BucketLemmas.{is_there}
 use Rattle.id_table.proofs.MakingLemmas.{made}
+use Rattle.id_table.proofs.TidyLemmas.{directory_written, made_keeps}
 use Rattle.id_table.proofs.making.make_page.Goals as goal
 
 pub returns-clause-made : goal.returns-clause-made
@@ -26,3 +27,14 @@ pub returns-clause-changes : goal.returns-clause-changes
 returns-clause-changes g c =
     changes_in_turn c.args.cache.now c.allocate.new.self c.put.new.self None
     c.in_ok-directory.ensures.changes c.in_ok-put.ensures.changes
+
+pub returns-clause-tidy : goal.returns-clause-tidy
+returns-clause-tidy g c = λ sound.
+    let n = c.in_ok-directory.directory in
+    let given = c.in_ok-directory.ensures.fresh sound in
+    let now = c.allocate.ensures.sound sound in
+    let live = is_there (pages c.allocate.new.self n) _ given.1 in
+    made_keeps g.row.D (pages c.args.cache.now) (pages c.put.new.self) n c.write_directory.new.page
+    (c.in_ok-put.ensures.written now.honest live)
+    (λ k off. c.put.ensures.others now.honest live k off ∙ given.2 k off)
+    (directory_written g.row.D c.write_directory.new.page c.write_directory.ensures)

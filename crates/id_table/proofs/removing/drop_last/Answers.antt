@@ -1,11 +1,13 @@
 -- The goals of `drop_last` that are proved by hand: the first page has an object less, or was unlinked.
-use Rattle.std.proofs.Common.{◌∙◌, ap, inl, inr, sym}
+use Rattle.std.proofs.Common.{◌∙◌, ap, inl, inr, subst, sym}
 use Rattle.bucket_page.specs.Layout.{bucket_at}
 use Rattle.page_cache.specs.Cache.{pages}
 use Rattle.page_cache.specs.Laws.{a_live_page_is_given}
 use Rattle.node_page.proofs.NodeLemmas.{on_ok}
 use Rattle.id_table.specs.Table.{bucket_in}
+use Rattle.id_table.specs.Tidy.{IsTidyPage}
 use Rattle.id_table.proofs.BucketLemmas.{bytes_of_bucket, page_of_bucket}
+use Rattle.id_table.proofs.TidyLemmas.{page_keeps}
 use Rattle.id_table.proofs.removing.drop_last.Goals as goal
 
 pub returns-in-Some-clause-less : goal.returns-in-Some-clause-less
@@ -44,4 +46,9 @@ returns-in-None-clause-less g c = λ map differ links there content is.
       more = less.0;
       bucket = ap (bucket_in D) (did.2 live) ∙ ap (bucket_at D) (sym did.3.leaves) ∙ less.1;
       others = c.in_ok-emptied.ensures.others map.honest live;
+      tidy = page_keeps D (pages old) (pages c.edit.new.self) first was.0 did.0 was.1 (did.2 live)
+          (c.in_ok-emptied.ensures.others map.honest live)
+          (λ tidy. subst (IsTidyPage D) did.3.leaves
+          (did.3.met.tidy content (ap (bucket_at D) did.3.shows ∙ was.2)
+          (subst (IsTidyPage D) (sym did.3.shows) tidy)));
     })

@@ -8,6 +8,7 @@ use Rattle.node_page.specs.Broken.{asks_and_is_refused}
 use Rattle.id_table.specs.Changes.{Removes}
 use Rattle.id_table.specs.Pages.{Shrinks}
 use Rattle.id_table.specs.Table.{bucket_in, chain_at, class_of, link_at}
+use Rattle.id_table.specs.Tidy.{KeepsTidy}
 use Rattle.id_table.proofs.AddLemmas.{in_chain}
 use Rattle.id_table.proofs.BucketLemmas.{is_there, page_of_bucket, some_object}
 use Rattle.id_table.proofs.GetLemmas.{chain_is_short}
@@ -16,6 +17,7 @@ use Rattle.id_table.proofs.ReachLemmas.{reached}
 use Rattle.id_table.proofs.Results.{alters_further, broken_err, broken_ok, refused_before}
 use Rattle.id_table.proofs.ShrinkLemmas.{first_now, removes_from}
 use Rattle.id_table.proofs.StartLemmas.{starts}
+use Rattle.id_table.proofs.TidyLemmas.{keep_in_turn, same_keep, shrinks_keep}
 use Rattle.page_cache.specs.Calls.{asks_in_turn}
 use Rattle.node_page.specs.Broken.{asks_and_breaks}
 use Rattle.id_table.proofs.removing.remove.Goals as goal
@@ -187,3 +189,39 @@ returns-in_err-last-clause-alters g c =
     c.from_residual-in_err-last.result c.from_residual-in_err-last.ensures.1
     (asks_in_turn c.args.cache.now c.read_link.new.cache c.place_in.new.cache None c.in_ok-first.ensures.asks
     c.in_ok-holder.ensures.asks) c.in_err-last.ensures.asks
+
+pub returns-clause-tidy : goal.returns-clause-tidy
+returns-clause-tidy g c = λ map t at stands.
+    let D = g.row.D in
+    let old = pages c.args.cache.now in
+    let asked = pages c.last_in.new.cache in
+    let mid = pages c.put_at.new.cache in
+    let now = pages c.drop_last.new.cache in
+    let first = c.in_ok-first.first in
+    let holder = c.in_ok-holder.holder in
+    let place = c.in_ok-holder.place in
+    let r = reached D c.args.directory c.args.id first holder place c.args.cache.now c.read_link.new.cache
+    c.place_in.new.cache c.last_in.new.cache c.in_ok-first.ensures.asks
+    (λ honest p there spelled. c.in_ok-first.ensures.link honest p there spelled
+    ∙ ap (λ k. link_at k p) c.class_of-class.ensures.value)
+    c.in_ok-holder.ensures.asks c.in_ok-holder.ensures.found c.in_ok-last.ensures.asks map t at stands in
+    let others = c.in_ok-put_at.ensures.others r.map_is.honest r.holder_live in
+    let puts : PutsAt D old mid holder place c.in_ok-last.last = record {
+      others = λ k off. others k off ∙ r.stay k;
+      written =
+          λ k is within. c.in_ok-put_at.ensures.written r.map_is.honest k
+          (ap (bucket_in D) (r.stay holder) ∙ is) within;
+    } in
+    let f = first_now D old mid t c.args.id first holder place r.begin.content c.in_ok-last.last stands
+    r.link r.found r.begin.there puts in
+    let links = others c.args.directory r.holder_apart_is ∙ r.links in
+    let put = c.in_ok-put_at.ensures.tidy r.map_is.honest r.held.content
+    (ap (bucket_in D) (r.stay holder) ∙ r.held.there) r.held.within in
+    broken_ok c.drop_last.result c.midway.result (KeepsTidy D old now) c.midway.ensures
+    (on_ok c.drop_last.result
+    (λ shrinks. keep_in_turn D old mid now
+    (keep_in_turn D old asked mid (same_keep D old asked r.stay) put)
+    (shrinks_keep D mid now c.args.directory c.class_of-class.result first f.0 stands.directory links
+    stands.spelled shrinks))
+    (c.drop_last.ensures.less (c.in_ok-put_at.ensures.sound r.map_is r.holder_live) r.apart
+    stands.directory links f.0 f.1))

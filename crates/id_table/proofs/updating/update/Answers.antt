@@ -14,6 +14,7 @@ use Rattle.id_table.proofs.GetLemmas.{chain_is_short}
 use Rattle.id_table.proofs.ReachLemmas.{reached}
 use Rattle.id_table.proofs.Results.{on_err}
 use Rattle.id_table.proofs.StartLemmas.{starts}
+use Rattle.id_table.proofs.TidyLemmas.{keep_in_turn, same_keep}
 use Rattle.id_table.proofs.BucketLemmas.{some_object}
 use Rattle.id_table.proofs.PlaceLemmas.{holder_entries}
 use Rattle.id_table.proofs.UpdateLemmas.{kept_there, sets_box}
@@ -109,3 +110,21 @@ returns-clause-faults g c = λ map t at stands has.
     c.in_ok-holder.ensures.asks c.in_ok-holder.ensures.found (no_call_asks c.place_in.new.cache) map t at
     stands in
     c.move_at.ensures.faults r.map_is.honest r.holder_live
+
+pub returns-clause-tidy : goal.returns-clause-tidy
+returns-clause-tidy g c = λ map t at stands.
+    let D = g.row.D in
+    let old = pages c.args.cache.now in
+    let mid = pages c.place_in.new.cache in
+    let holder = c.in_ok-holder.holder in
+    let r = reached D c.args.directory c.args.id c.in_ok-first.first holder c.in_ok-holder.place
+    c.args.cache.now c.read_link.new.cache c.place_in.new.cache c.place_in.new.cache
+    c.in_ok-first.ensures.asks
+    (λ honest p there spelled. c.in_ok-first.ensures.link honest p there spelled
+    ∙ ap (λ k. link_at k p) c.class_of-class.ensures.value)
+    c.in_ok-holder.ensures.asks c.in_ok-holder.ensures.found (no_call_asks c.place_in.new.cache) map t at
+    stands in
+    on_ok c.move_at.result
+    (keep_in_turn D old mid (pages c.move_at.new.cache) (same_keep D old mid r.stay))
+    (c.move_at.ensures.tidy r.map_is.honest r.held.content
+    (ap (bucket_in D) (r.stay holder) ∙ r.held.there) r.held.within)

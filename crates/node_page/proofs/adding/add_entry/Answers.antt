@@ -1,44 +1,75 @@
 -- The node is that of the page, with the entry after the others.
-use Rattle.std.proofs.Common.{◌≡◌, ◌∙◌, ◌<◌, ap, arith, IfSome, is_some, length, rules, None, Some, subst}
-use Rattle.std.proofs.Common.{sym}
+use Rattle.std.proofs.Common.{◌≡◌, ◌∙◌, ℕ, ◌<◌, ap, arith, IfSome, is_some, length, List, Option, rules, None}
+use Rattle.std.proofs.Common.{Some, subst, sym}
+use Rattle.std.specs.Prelude.{IsSomeAnd}
 use Rattle.page_file.specs.Fault.{IsOfDevice}
-use Rattle.page_cache.specs.Cache.{pages}
+use Rattle.page_cache.specs.Cache.{IsHonest, pages}
 use Rattle.page_cache.specs.Calls.{asks_changes, changes_in_turn}
 use Rattle.page_cache.specs.Laws.{a_live_page_is_given, a_live_page_was_given_out}
 use Rattle.tree_node.specs.Boxes.{least_box}
-use Rattle.tree_node.specs.Nodes.{item_of}
+use Rattle.tree_node.specs.Nodes.{NodeContent, item_of}
 use Rattle.node_page.specs.Broken.{asks_and_is_refused, before, made_alters}
-use Rattle.node_page.specs.Layout.{IsOfLevel, node_at, pushed}
+use Rattle.node_page.specs.Layout.{IsOfLevel, IsPageOfNode, IsTidy, node_at, pushed}
 use Rattle.node_page.proofs.NodeLemmas.{at_error, bytes_of_node, node_of_page}
+use Rattle.node_page.proofs.TidyLemmas.{at_page}
 use Rattle.node_page.proofs.adding.add_entry.Goals as goal
 
-pub returns-clause-added : goal.returns-clause-added
-returns-clause-added g c = λ h content there.
+-- the bytes that the edit left at the page
+record Left (dims : ℕ) (new : Option (List ℕ)) (was : List ℕ) (c : NodeContent) : Type 0 where
+  now : List ℕ
+  there : new ≡ Some now
+  spelled : node_at dims now ≡ Some c
+  is_page : IsTidy dims was → IsPageOfNode dims now c
+
+left : (g : _) (c : goal.In_ok-edit g) → IsHonest c.args.cache.now → (content : NodeContent) (was : List ℕ)
+    → pages c.args.cache.now c.args.page ≡ Some was → node_at g.row.D was ≡ Some content
+    → Left g.row.D (pages c.edit.new.self c.args.page) was (pushed content (item_of c.args.entry.now))
+left g c h content was at is =
     let D = g.row.D in
     let page = c.args.page in
     let mid = c.least_with.new.cache in
-    let item = item_of c.args.entry.now in
+    let after : NodeContent = pushed content (item_of c.args.entry.now) in
     let asks = c.in_ok-bounds.ensures.asks in
-    let was = bytes_of_node D (pages c.args.cache.now page) content there in
-    let live : pages mid page ≡ Some was.0 = asks.map.pages_stay h page ∙ was.1 in
+    let there = node_of_page D (pages c.args.cache.now page) was (Some content) at is in
+    let live : pages mid page ≡ Some was = asks.map.pages_stay h page ∙ at in
     let did =
-    c.in_ok-edit.ensures.edited (asks.gate.honest.0 h) was.0 (a_live_page_is_given mid page was.0 live) in
+    c.in_ok-edit.ensures.edited (asks.gate.honest.0 h) was (a_live_page_is_given mid page was live) in
     let room = (c.in_ok-bounds.ensures.room h content there) in
     let level = c.in_ok-bounds.ensures.level h content there in
     let ran = did.3 in
-    let spelled : node_at D ran.shown.now ≡ Some content = ap (node_at D) ran.shows ∙ was.2 in
+    let spelled : node_at D ran.shown.now ≡ Some content = ap (node_at D) ran.shows ∙ is in
     let few : length content.entries < 100 =
     omega (arith, (room.0 (ap is_some c.in-Some.is)).1, c.requires.most) in
     let refers : IsOfLevel content.level c.args.entry.now.reference c.args.entry.now.tag =
     subst (λ l. IsOfLevel l c.args.entry.now.reference c.args.entry.now.tag) (sym level)
     c.requires.refers in
-    let now : node_at D did.0 ≡ Some (pushed content item) = ap (node_at D) (sym ran.leaves)
-    ∙ ran.met content spelled few refers in (
-      node_of_page D (pages c.edit.new.self page) did.0 (Some (pushed content item))
-          (did.2 (ap is_some live)) now,
+    record {
+      now = did.0;
+      there = did.2 (ap is_some live);
+      spelled = ap (node_at D) (sym ran.leaves) ∙ ran.met.0 content spelled few refers;
+      is_page =
+          λ tidy. subst (λ bytes. IsPageOfNode D bytes after) {y = did.0} ran.leaves
+          (ran.met.1 (subst (IsTidy D) (sym ran.shows) tidy) content spelled few refers);
+    }
+
+pub returns-clause-added : goal.returns-clause-added
+returns-clause-added g c = λ h content there.
+    let D = g.row.D in
+    let item = item_of c.args.entry.now in
+    let was = bytes_of_node D (pages c.args.cache.now c.args.page) content there in
+    let l = left g c h content was.0 was.1 was.2 in (
+      node_of_page D (pages c.edit.new.self c.args.page) l.now (Some (pushed content item)) l.there l.spelled,
       subst (λ o. IfSome o (λ bounds. bounds ≡ least_box D (pushed content item).entries)) c.in-Some.is
           (c.in_ok-bounds.ensures.least h content there),
     )
+
+pub returns-clause-is_page : goal.returns-clause-is_page
+returns-clause-is_page g c = λ h content there tidy.
+    let D = g.row.D in
+    let was = bytes_of_node D (pages c.args.cache.now c.args.page) content there in
+    let l = left g c h content was.0 was.1 was.2 in
+    at_page D (pages c.edit.new.self c.args.page) l.now (pushed content (item_of c.args.entry.now)) l.there
+    (l.is_page (subst (λ (o : Option (List ℕ)). IsSomeAnd o (IsTidy D)) was.1 tidy))
 
 pub returns-clause-alters : goal.returns-clause-alters
 returns-clause-alters g c = made_alters c.args.cache.now c.edit.new.self (Some c.in-Some.bounds)

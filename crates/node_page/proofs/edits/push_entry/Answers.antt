@@ -1,11 +1,15 @@
 -- The page is that with the entry after the others.
-use Rattle.std.proofs.Common.{◌≡◌, ◌∙◌, false, arith, sym}
+use Rattle.std.proofs.Common.{◌≡◌, ◌∙◌, ◌+◌, false, ap, arith, inl, sym}
+use Rattle.block_bytes.specs.Laws.{number_at-put_other}
+use Rattle.block_bytes.specs.Numbers.{number_at}
 use Rattle.tree_node.specs.Nodes.{item_of}
 use Rattle.node_page.proofs.Editing.{entry_pushed, untagged_entry}
+use Rattle.node_page.proofs.Places.{head_clear}
+use Rattle.node_page.proofs.TidyLemmas.{tidy_pushed}
 use Rattle.node_page.proofs.edits.push_entry.Goals as goal
 
-pub returns : goal.returns
-returns g c = λ content is refers.
+pub returns-clause-pushed : goal.returns-clause-pushed
+returns-clause-pushed g c = λ content is refers.
     let start = c.add_tags.new.page in
     let spelled = c.add_tags.ensures.same content is in
     let untagged : c.is_tagged-tagged.result ≡ false
@@ -18,3 +22,20 @@ returns g c = λ content is refers.
     c.write_entry.array_long (omega arith) (c.write_entry.ensures.written untagged)
     c.write_entry.ensures.is_box (λ above. ((refers above).0, (refers above).1))
     c.write_entry.ensures.others)
+
+pub returns-clause-kind : goal.returns-clause-kind
+returns-clause-kind g c = λ content is.
+    let place = c.count_at-count.result in
+    ap (number_at 1 0) c.write_u16.ensures
+    ∙ number_at-put_other 1 0 2 2 (place + 1) c.write_entry.new.page (omega (arith, c.write_entry.array_long))
+    (inl (omega arith))
+    ∙ c.write_entry.ensures.others 1 0
+    (head_clear g.row.D c.is_tagged-tagged.result place 1 0 (omega arith))
+    ∙ c.add_tags.ensures.kind content is
+
+pub returns-clause-tidy : goal.returns-clause-tidy
+returns-clause-tidy g c = λ tidy.
+    rw c.write_u16.ensures
+    (tidy_pushed g.row.D c.is_tagged-tagged.result c.count_at-count.result c.add_tags.new.page
+    c.write_entry.new.page c.is_tagged-tagged.ensures c.count_at-count.ensures c.write_entry.array_long
+    (omega arith) c.write_entry.ensures.others (c.add_tags.ensures.tidy tidy))

@@ -5,6 +5,7 @@ use Rattle.tree_node.specs.declared.node.Entry.{Entry}
 use Rattle.tree_node.specs.Nodes.{Item, item_of, content_of}
 use Rattle.node_page.specs.Layout.{IsOfLevel}
 use Rattle.node_page.proofs.Reading.{spelled}
+use Rattle.node_page.proofs.TidyLemmas.{written_page}
 use Rattle.node_page.proofs.Writing.{untagged_above, written_first, written_more, written_spells}
 use Rattle.node_page.proofs.Writing.{written_rest, written_tags}
 use Rattle.node_page.proofs.page.encode.Goals as goal
@@ -70,3 +71,11 @@ returns-clause-rest g c =
     rw (sym many)
     (written_rest g.row.D node.level (map item_of node.entries.items) c.loop-place.place
     c.loop-place.page c.loop-place.invariant (omega arith))
+
+pub returns-clause-is_page : goal.returns-clause-is_page
+returns-clause-is_page g c =
+    let node = c.args.node.now in
+    let many : length (map item_of node.entries.items) ≡ length node.entries.items =
+    length-map node.entries.items item_of in
+    written_page g.row.D node.level (map item_of node.entries.items) c.loop-place.place c.loop-place.page
+    c.loop-place.invariant (omega arith) c.requires.spellable

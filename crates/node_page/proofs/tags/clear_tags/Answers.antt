@@ -3,11 +3,17 @@ use Rattle.std.proofs.Common.{◌≡◌, ◌∙◌, ap, arith, below_more, inl, 
 use Rattle.block_bytes.specs.Laws.{number_at-put, number_at-put_other}
 use Rattle.block_bytes.specs.Numbers.{number_at}
 use Rattle.node_page.specs.Layout.{tag_place}
+use Rattle.node_page.proofs.TidyLemmas.{zeros_stay}
 use Rattle.node_page.proofs.tags.clear_tags.Goals as goal
 
 pub loop-place-init : goal.loop-place-init
 loop-place-init g c =
-    record { cleared = λ k lt. absurd (omega (arith, lt)); size = search rules; others = λ n at within. refl }
+    record {
+      cleared = λ k lt. absurd (omega (arith, lt));
+      size = search rules;
+      others = λ n at within. refl;
+      zeros = λ k none. none;
+    }
 
 pub loop-place-preserved : goal.loop-place-preserved
 loop-place-preserved g c =
@@ -28,6 +34,9 @@ loop-place-preserved g c =
           ap (number_at n at) c.write_u32.ensures
           ∙ number_at-put_other n at 4 (tag_place D place) 0 old (omega arith) (inl (omega arith))
           ∙ inv.others n at before;
+      zeros = λ k none.
+          ap (number_at 1 k) c.write_u32.ensures
+          ∙ zeros_stay (tag_place D place) k old (omega arith) (inv.zeros k none);
     }
 
 pub returns-clause-cleared : goal.returns-clause-cleared
@@ -36,3 +45,6 @@ returns-clause-cleared g c =
 
 pub returns-clause-others : goal.returns-clause-others
 returns-clause-others g c = c.loop-place.invariant.others
+
+pub returns-clause-zeros : goal.returns-clause-zeros
+returns-clause-zeros g c = c.loop-place.invariant.zeros
