@@ -410,6 +410,7 @@ module _ {B A : Type 0} {m : _} where
         map = a.map;
         capacity = a.capacity;
         looks = a.looks;
+        touched = a.touched;
         faults = a.faults ∙ sym (quiet _);
       })
 

@@ -19,7 +19,14 @@ module _ {D A : Type 0} {m : _} {S T : Type 0} (old new : PageCache D A m) (n : 
   pub no_node : (x : S) → IsLookedAt {T = S} old new n (Ok x)
       → IsReadAt {T = T} old new n (Err (fault.Damaged n))
   no_node x look = let a = look.asks in record {
-    asks = record { gate = a.gate; map = a.map; capacity = a.capacity; looks = a.looks; faults = a.faults };
+    asks = record {
+      gate = a.gate;
+      map = a.map;
+      capacity = a.capacity;
+      looks = a.looks;
+      touched = a.touched;
+      faults = a.faults;
+    };
     looks = tt;
     refused_looks = inr look.looks;
     quiet = look.outside;

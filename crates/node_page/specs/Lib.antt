@@ -8,7 +8,6 @@ pub mod StandingLaws
 pub mod Parts
 pub mod Changes
 pub mod Lists
-pub mod Broken
 pub mod Faults
 pub mod Loan
 pub mod Views

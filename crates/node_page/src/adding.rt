@@ -7,14 +7,12 @@ ghost use Rattle.page_file.specs.Fault.{IsDamage, IsOfDevice};
 ghost use Rattle.page_file.specs.Pages.{SameBut};
 ghost use Rattle.page_file.specs.declared.gate.Gate.TheVariants.{Open};
 ghost use Rattle.page_cache.specs.Cache.{Grows, IsHonest, IsLive, IsPageMap, gate_of, pages};
-ghost use Rattle.page_cache.specs.Calls.{Asks, AsksUntil};
+ghost use Rattle.page_cache.specs.Calls.{Asks, AsksUntil, Changes};
 ghost use Rattle.tree_node.specs.Boxes.{least_box};
 ghost use Rattle.tree_node.specs.Nodes.{NodeContent, item_of};
-ghost use Rattle.node_page.specs.Broken.{Alters};
 ghost use Rattle.node_page.specs.Layout.{IsOfLevel, IsPageOfNode, IsTidy, node_at, pushed};
 ghost use Rattle.node_page.specs.Standing.{HasPageOf, IsTidyAt, node_in};
 
-use crate::broken::Broken;
 use crate::edits::push_where_room;
 use crate::lending::view_node;
 use block_device::BlockDevice;
@@ -30,20 +28,20 @@ use tree_node::Entry;
 /// zeros in all bytes that it does not name becomes the one that `encode` makes of the node with the entry.
 /// The gate has to be open.
 ///
-/// It breaks off as `read_node` is refused, untouched.
-#[tactic(auto, using(crate::specs::Broken::breaks))]
+/// It is refused as `read_node` is, and has then touched no page.
+#[tactic(auto, using(page_cache::specs::Calls::changing))]
 pub fn add_entry<const D: usize, B: BlockDevice, A: Allocator + Copy>(
     cache: &mut PageCache<B, A>,
     page: u32,
     level: u8,
     entry: &Entry<D>,
     most: usize,
-) -> Result<Option<BBox<D>>, Broken>
+) -> Result<Option<BBox<D>>, Fault>
     requires dims { IsDims D }
     requires open { gate_of cache.old ≡ Open }
     requires most { most ≤ 100 }
     requires refers { IsOfLevel level entry.now.reference entry.now.tag }
-    ensures alters { Alters cache.old cache.new result }
+    ensures changes { Changes cache.old cache.new result }
     ensures room { IsHonest cache.old → (c : NodeContent) → node_in D (pages cache.old page) ≡ Some c →
         c.level ≡ level
         → IfOk result (λ bounds. IsSome bounds ↔ ((0 < length c.entries) × (length c.entries < most))) }
@@ -60,8 +58,8 @@ pub fn add_entry<const D: usize, B: BlockDevice, A: Allocator + Copy>(
     ensures full { IfOk result (λ some. IfNone some (AsksUntil cache.old cache.new None)) }
     ensures grows { Grows 0 cache.old cache.new }
     ensures faults { IsHonest cache.old → (c : NodeContent) → node_in D (pages cache.old page) ≡ Some c
-        → c.level ≡ level → IfErr result (λ b. IsOfDevice b.cause) }
-    ensures other_faults { IfErr result (λ b. IsOfDevice b.cause ⊎ IsDamage b.cause) }
+        → c.level ≡ level → IfErr result IsOfDevice }
+    ensures other_faults { IfErr result (λ f. IsOfDevice f ⊎ IsDamage f) }
 {
     let Some(bounds) = least_with(cache, page, level, entry, most)? else {
         return Ok(None);

@@ -3,7 +3,6 @@
 #![tactic(auto)]
 
 mod adding;
-mod broken;
 mod check;
 mod columns;
 mod edits;
@@ -20,7 +19,6 @@ mod view;
 mod visits;
 
 pub use adding::add_entry;
-pub use broken::Broken;
 pub use check::{TreeFacts, check_tree};
 pub use leaves::leaf_lists;
 pub use lending::view_node;

@@ -160,5 +160,27 @@ module _ {D A : Type 0} {m : _} where
       subst (λ end. ChangesUntil old new end) (sym (ends_so result f is))
       (changes_in_turn old mid new (Some f) a b)
 
+  -- calls that only asked, and then a change that is handed on, made or refused
+  pub asks_and_changes : {T : Type 0} (old mid new : PageCache D A m) (result : Result T Fault)
+      → AsksUntil old mid None → Changes mid new result → Changes old new result
+  asks_and_changes old mid new result a b =
+      changes_in_turn old mid new (fault_in result) (asks_changes old mid None a) b
+
+  -- calls that only asked, of which the last is refused: nothing was changed
+  pub asks_and_gives_up : {T : Type 0} (old mid new : PageCache D A m) (f : Fault) (result : Result T Fault)
+      → IsErrAnd result (λ e. e ≡ f) → AsksUntil old mid None → AsksUntil mid new (Some f)
+      → Changes old new result
+  asks_and_gives_up old mid new f result is a b =
+      asks_changes old new (fault_in result) (asks_and_refuses old mid new f result is a b)
+
 -- what calls in turn are proved by
 pub ruleset turns = (no_call_asks, asks_in_turn, asks_changes, changes_in_turn)
+
+-- what changes in turn are proved by
+pub ruleset changing = (
+  asks_and_changes,
+  asks_and_gives_up,
+  asks_changes,
+  changes_and_refuses,
+  changes_in_turn,
+)

@@ -1,14 +1,13 @@
 -- The node is that of the page, with the entry after the others.
-use Rattle.std.proofs.Common.{◌≡◌, ◌∙◌, ℕ, ◌<◌, ap, arith, IfSome, is_some, length, List, Option, rules, None}
+use Rattle.std.proofs.Common.{◌≡◌, ◌∙◌, ℕ, ◌<◌, ap, arith, IfSome, is_some, length, true, List, Option, None}
 use Rattle.std.proofs.Common.{Some, subst, sym}
 use Rattle.std.specs.Prelude.{IsSomeAnd}
 use Rattle.page_file.specs.Fault.{IsOfDevice}
 use Rattle.page_cache.specs.Cache.{IsHonest, pages}
-use Rattle.page_cache.specs.Calls.{asks_changes, changes_in_turn}
+use Rattle.page_cache.specs.Calls.{asks_changes, changes_and_refuses, changes_in_turn}
 use Rattle.page_cache.specs.Laws.{a_live_page_is_given, a_live_page_was_given_out}
 use Rattle.tree_node.specs.Boxes.{least_box}
 use Rattle.tree_node.specs.Nodes.{NodeContent, item_of}
-use Rattle.node_page.specs.Broken.{asks_and_is_refused, before, made_alters}
 use Rattle.node_page.specs.Layout.{IsOfLevel, IsPageOfNode, IsTidy, node_at, pushed}
 use Rattle.node_page.proofs.NodeLemmas.{at_error, bytes_of_node, node_of_page}
 use Rattle.node_page.proofs.TidyLemmas.{at_page}
@@ -71,11 +70,11 @@ returns-clause-is_page g c = λ h content there tidy.
     at_page D (pages c.edit.new.self c.args.page) l.now (pushed content (item_of c.args.entry.now)) l.there
     (l.is_page (subst (λ (o : Option (List ℕ)). IsSomeAnd o (IsTidy D)) was.1 tidy))
 
-pub returns-clause-alters : goal.returns-clause-alters
-returns-clause-alters g c = made_alters c.args.cache.now c.edit.new.self (Some c.in-Some.bounds)
-    (changes_in_turn c.args.cache.now c.least_with.new.cache c.edit.new.self None
+pub returns-clause-changes : goal.returns-clause-changes
+returns-clause-changes g c =
+    changes_in_turn c.args.cache.now c.least_with.new.cache c.edit.new.self None
     (asks_changes c.args.cache.now c.least_with.new.cache None c.in_ok-bounds.ensures.asks)
-    c.in_ok-edit.ensures.changes)
+    c.in_ok-edit.ensures.changes
 
 pub returns-in_err-edit-clause-faults : goal.returns-in_err-edit-clause-faults
 returns-in_err-edit-clause-faults g c = λ h content there level.
@@ -84,11 +83,24 @@ returns-in_err-edit-clause-faults g c = λ h content there level.
     let live : pages c.least_with.new.cache c.args.page ≡ Some was.0 = asks.map.pages_stay h c.args.page
     ∙ was.1 in
     let out = a_live_page_was_given_out c.least_with.new.cache c.args.page (ap is_some live) in
-    at_error c.from_residual-in_err-edit.result (before c.in_err-edit.field-0.0) (λ b. IsOfDevice b.cause)
-    (search rules) (c.in_err-edit.ensures.faults (asks.gate.honest.0 h) out.0 out.1)
+    at_error c.from_residual-in_err-edit.result c.in_err-edit.field-0.0 IsOfDevice
+    c.from_residual-in_err-edit.ensures.1 (c.in_err-edit.ensures.faults (asks.gate.honest.0 h) out.0 out.1)
 
-pub returns-in_err-edit-clause-alters : goal.returns-in_err-edit-clause-alters
-returns-in_err-edit-clause-alters g c =
-    asks_and_is_refused c.args.cache.now c.least_with.new.cache c.edit.new.self c.in_err-edit.field-0.0
-    c.from_residual-in_err-edit.result
-    (search rules) c.in_ok-bounds.ensures.asks c.in_err-edit.ensures.changes c.in_err-edit.ensures.refused
+pub returns-in_err-edit-clause-changes : goal.returns-in_err-edit-clause-changes
+returns-in_err-edit-clause-changes g c =
+    changes_and_refuses c.args.cache.now c.least_with.new.cache c.edit.new.self c.in_err-edit.field-0.0
+    c.from_residual-in_err-edit.result c.from_residual-in_err-edit.ensures.1
+    (asks_changes c.args.cache.now c.least_with.new.cache None c.in_ok-bounds.ensures.asks)
+    c.in_err-edit.ensures.changes
+
+pub returns-clause-room : goal.returns-clause-room
+returns-clause-room g c = λ h content there level.
+    subst (λ o. ((is_some o ≡ true) → (0 < length content.entries) × (length content.entries < c.args.most))
+    × ((0 < length content.entries) × (length content.entries < c.args.most) → is_some o ≡ true)) c.in-Some.is
+    (c.in_ok-bounds.ensures.room h content there)
+
+pub returns-clause-others : goal.returns-clause-others
+returns-clause-others g c = λ h live k other.
+    let asks = c.in_ok-bounds.ensures.asks in
+    c.in_ok-edit.ensures.others (asks.gate.honest.0 h) (ap is_some (asks.map.pages_stay h c.args.page) ∙ live) k
+    other ∙ asks.map.pages_stay h k

@@ -77,7 +77,14 @@ pub returns-then-not-fits_below-clause-asks : goal.returns-then-not-fits_below-c
 returns-then-not-fits_below-clause-asks g t c =
     let a = asks_in_turn c.args.cache.now c.loop-entry.cache c.read_node.new.cache None
     c.loop-entry.invariant.asks c.in_ok-below.ensures.asks in
-    record { gate = a.gate; map = a.map; capacity = a.capacity; looks = a.looks; faults = a.faults }
+    record {
+      gate = a.gate;
+      map = a.map;
+      capacity = a.capacity;
+      looks = a.looks;
+      touched = a.touched;
+      faults = a.faults;
+    }
 
 pub returns-in_err-add_below-clause-asks : goal.returns-in_err-add_below-clause-asks
 returns-in_err-add_below-clause-asks g t c =
