@@ -12,6 +12,7 @@ module _ {D A : Type 0} {m : _} where
     map = no_call_keeps_the_map cache;
     capacity = refl;
     looks = omega arith;
+    touched = refl;
     faults = refl;
   }
 

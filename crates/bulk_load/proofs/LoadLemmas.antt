@@ -10,7 +10,7 @@ use Rattle.tree_node.specs.Trees.{occurs_in}
 use Rattle.tree_node.specs.declared.node.Root.{Root}
 use Rattle.node_page.specs.Parts.{no_page}
 use Rattle.node_page.specs.Standing.{PageMap, RowStands}
-use Rattle.node_page.specs.declared.broken.Broken.{Broken}
+use Rattle.page_file.specs.declared.fault.Fault.{Fault}
 use Rattle.node_page.proofs.PartLemmas.{moves_same}
 use Rattle.bulk_load.specs.Levels.{PackedAt, WaitFor, pages_below}
 use Rattle.bulk_load.specs.Loads.{Loads}
@@ -61,7 +61,7 @@ loaded dims most was now items r is four p = record {
       (λ n. occurs_in n p.tree) (λ n. no_pages items n) (λ n. refl) p.moves;
 }
 
-pub all_loaded : (dims most : ℕ) (was now : PageMap) (items : List Item) (result : Result Root Broken)
+pub all_loaded : (dims most : ℕ) (was now : PageMap) (items : List Item) (result : Result Root Fault)
     → IsDims dims → 4 ≤ most
     → IfOk result (λ r. PackedAt dims most 0 was now (objects_of items) r)
     → IfOk result (λ r. Loads dims most was now items r)

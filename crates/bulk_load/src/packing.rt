@@ -11,7 +11,6 @@ ghost use Rattle.page_cache.specs.Calls.{Changes};
 ghost use Rattle.tree_node.specs.Nodes.{items_of};
 ghost use Rattle.tree_node.specs.Positions.{total};
 ghost use Rattle.tree_node.specs.Trees.{Branch};
-ghost use Rattle.node_page.specs.Broken.{Alters};
 ghost use Rattle.node_page.specs.Layout.{IsOfLevel};
 ghost use Rattle.node_page.specs.Faults.{IsNoDamage};
 ghost use Rattle.bulk_load.specs.Levels.{AreSizes, LevelPacked, LevelWritten, PackedAt, WaitFor};
@@ -21,7 +20,7 @@ ghost use Rattle.bulk_load.specs.Tiling.{joined};
 use crate::nodes::{write_new, write_parent};
 use crate::tiling::tile;
 use block_device::BlockDevice;
-use node_page::{Broken, Entry, Root};
+use node_page::{Entry, Root};
 use page_cache::PageCache;
 use page_file::Fault;
 use std::alloc::Allocator;
@@ -32,26 +31,26 @@ use tree_node::see_boxes;
 ///
 /// It lets at most one page more become live than there are objects, also where it is refused.
 ///
-/// A refusal says whether a page may have been touched; on a sound map it is `Memory`, `Device` or `NoPages`,
-/// the last only where each page number is live. The memory for the order of the objects and for the list of
+/// On a sound map a refusal is `Memory`, `Device` or `NoPages`, the last only where each page number is live.
+/// The memory for the order of the objects and for the list of
 /// the leaves is taken before the first page; the lists of the levels above grow while pages are written.
 pub fn load<const D: usize, B: BlockDevice, A: Allocator + Copy, H: Allocator + Copy>(
     alloc: H,
     cache: &mut PageCache<B, A>,
     objects: &mut [Entry<D>],
     m_max: u8,
-) -> Result<Root, Broken>
+) -> Result<Root, Fault>
     requires dims { IsDims D }
     requires open { gate_of cache.old ≡ Open }
     requires sized { (4 ≤ m_max) × (m_max ≤ 100) }
-    ensures alters { Alters cache.old cache.new result }
+    ensures changes { Changes cache.old cache.new result }
     ensures sound { IsPageMap cache.old → IsPageMap cache.new }
     ensures loaded { IsPageMap cache.old
         → IfOk result (λ root.
         Loads D m_max (pages cache.old) (pages cache.new) (items_of objects.old) root) }
     ensures all { IsPermutation objects.old objects.new }
     ensures grows { Grows (length objects.old + 1) cache.old cache.new }
-    ensures faults { IsPageMap cache.old → IfErr result (λ b. IsNoDamage cache.new b.cause) }
+    ensures faults { IsPageMap cache.old → IfErr result (IsNoDamage cache.new) }
 {
     see_boxes(objects);
     pack(alloc, cache, objects, 0, m_max)
@@ -64,33 +63,28 @@ fn pack<const D: usize, B: BlockDevice, A: Allocator + Copy, H: Allocator + Copy
     entries: &mut [Entry<D>],
     level: u8,
     m_max: u8,
-) -> Result<Root, Broken>
+) -> Result<Root, Fault>
     requires dims { IsDims D }
     requires open { gate_of cache.old ≡ Open }
     requires sized { (4 ≤ m_max) × (m_max ≤ 100) }
     requires some { 0 < level → 1 ≤ length entries.old }
     requires refers { All (λ item. IsOfLevel level item.reference item.tag) (items_of entries.old) }
     requires fits { length entries.old * 2 ^ level < 2 ^ 64 }
-    ensures alters { Alters cache.old cache.new result }
+    ensures changes { Changes cache.old cache.new result }
     ensures sound { IsPageMap cache.old → IsPageMap cache.new }
     ensures packed { IsPageMap cache.old → (bs : List Branch)
         → WaitFor D level (pages cache.old) (items_of entries.old) bs
         → IfOk result (λ root. PackedAt D m_max level (pages cache.old) (pages cache.new) bs root) }
     ensures all { IsPermutation entries.old entries.new }
     ensures grows { Grows (length entries.old + 1) cache.old cache.new }
-    ensures faults { IsPageMap cache.old → IfErr result (λ b. IsNoDamage cache.new b.cause) }
+    ensures faults { IsPageMap cache.old → IfErr result (IsNoDamage cache.new) }
 {
     if entries.len() <= usize::from(m_max) {
-        return match write_new(cache, entries, level) {
-            Ok(page) => Ok(Root { page, level }),
-            Err(cause) => Err(Broken::midway(cause)),
-        };
+        let page = write_new(cache, entries, level)?;
+        return Ok(Root { page, level });
     }
     let mut parents = pack_level(alloc, cache, entries, level, m_max)?;
-    match pack(alloc, cache, parents.as_mut_slice(), level + 1, m_max) {
-        Ok(root) => Ok(root),
-        Err(broken) => Err(Broken::midway(broken.cause)),
-    }
+    pack(alloc, cache, parents.as_mut_slice(), level + 1, m_max)
 }
 
 // Puts the entries of a level into order and writes its nodes, and answers an entry for each node.
@@ -100,13 +94,13 @@ fn pack_level<const D: usize, B: BlockDevice, A: Allocator + Copy, H: Allocator 
     entries: &mut [Entry<D>],
     level: u8,
     m_max: u8,
-) -> Result<Vec<Entry<D>, H>, Broken>
+) -> Result<Vec<Entry<D>, H>, Fault>
     requires dims { IsDims D }
     requires open { gate_of cache.old ≡ Open }
     requires sized { (4 ≤ m_max) × (m_max ≤ 100) }
     requires above { m_max < length entries.old }
     requires refers { All (λ item. IsOfLevel level item.reference item.tag) (items_of entries.old) }
-    ensures alters { Alters cache.old cache.new result }
+    ensures changes { Changes cache.old cache.new result }
     ensures sound { IsPageMap cache.old → IsPageMap cache.new }
     ensures two { IfOk result (λ parents. 2 ≤ length parents.items) }
     ensures half { IfOk result (λ parents. 2 * length parents.items ≤ length entries.old) }
@@ -118,14 +112,11 @@ fn pack_level<const D: usize, B: BlockDevice, A: Allocator + Copy, H: Allocator 
         (items_of parents.items)) }
     ensures all { IsPermutation entries.old entries.new }
     ensures grows { Grows (length entries.old / 2) cache.old cache.new }
-    ensures faults { IsPageMap cache.old → IfErr result (λ b. IsNoDamage cache.new b.cause) }
+    ensures faults { IsPageMap cache.old → IfErr result (IsNoDamage cache.new) }
 {
     let sizes = tile(alloc, entries, m_max)?;
     let parents = room_for(alloc, sizes.len())?;
-    match write_level(cache, entries, sizes.as_slice(), level, parents) {
-        Ok(parents) => Ok(parents),
-        Err(cause) => Err(Broken::midway(cause)),
-    }
+    write_level(cache, entries, sizes.as_slice(), level, parents)
 }
 
 // A list with room for so many entries, before a page is touched.

@@ -4,25 +4,26 @@ use Rattle.std.proofs.Common.{rules}
 use Rattle.std.proofs.lemmas.List.{length-map}
 use Rattle.std.proofs.lemmas.List.Sorted.{IsPermutation-refl}
 use Rattle.page_cache.specs.Cache.{pages}
+use Rattle.page_cache.proofs.Results.{if_ok_map}
+use Rattle.page_cache.specs.Calls.{changes_in_turn, fault_in}
 use Rattle.tree_node.specs.Nodes.{Item, item_of, items_of}
 use Rattle.tree_node.specs.Rows.{item_in}
 use Rattle.tree_node.specs.declared.node.Entry.{Entry}
-use Rattle.node_page.specs.Broken.{alters_and_breaks, alters_in_turn}
 use Rattle.node_page.specs.Layout.{IsOfLevel}
 use Rattle.bulk_load.specs.Levels.{PackedAt, WaitFor}
 use Rattle.bulk_load.proofs.LevelLemmas.{level_packed, root_written}
 use Rattle.bulk_load.proofs.SizeLemmas.{next_fits}
 use Rattle.bulk_load.proofs.packing.+pack.Goals as goal
 
-pub returns-in-Ok-clause-packed : goal.returns-in-Ok-clause-packed
-returns-in-Ok-clause-packed g t c = λ sound bs waits.
+pub returns-then-entries-from-clause-packed : goal.returns-then-entries-from-clause-packed
+returns-then-entries-from-clause-packed g t c = λ sound bs waits.
     root_written g.row.D c.args.m_max c.args.level (pages c.args.cache.now) (pages c.write_new.new.cache)
-    (items_of c.args.entries.now) bs (record { page = c.in-Ok.page; level = c.args.level }) waits
+    (items_of c.args.entries.now) bs (record { page = c.in_ok-page.page; level = c.args.level }) waits
     (omega (arith, length-map c.args.entries.now item_of, c.if-entries-from.true, c.from.ensures)) refl
-    (c.in-Ok.ensures.fresh sound) (c.in-Ok.ensures.others sound) (c.in-Ok.ensures.node sound)
+    (c.in_ok-page.ensures.fresh sound) (c.in_ok-page.ensures.others sound) (c.in_ok-page.ensures.node sound)
 
-pub returns-in-Err-clause-all : goal.returns-in-Err-clause-all
-returns-in-Err-clause-all g t c = IsPermutation-refl c.args.entries.now
+pub returns-in_err-page-clause-all : goal.returns-in_err-page-clause-all
+returns-in_err-page-clause-all g t c = IsPermutation-refl c.args.entries.now
 
 pub pack-requires : goal.pack-requires
 pack-requires g t c κs within =
@@ -46,7 +47,7 @@ pack-requires g t c κs within =
                 (
                   c.requires.dims,
                   (
-                    c.in_ok-parents.ensures.alters.changes.gate.gate ∙ c.requires.open,
+                    c.in_ok-parents.ensures.changes.gate.gate ∙ c.requires.open,
                     (
                       c.requires.sized,
                       (
@@ -70,13 +71,13 @@ pack-requires g t c κs within =
       ),
     )
 
-pub returns-in-Ok-pack-clause-alters : goal.returns-in-Ok-pack-clause-alters
-returns-in-Ok-pack-clause-alters g t c =
-    alters_in_turn c.args.cache.now c.pack_level.new.cache c.pack.new.cache c.in_ok-parents.parents
-    c.in-Ok-pack.root c.in_ok-parents.ensures.alters c.in-Ok-pack.ensures.alters
+pub returns-clause-changes : goal.returns-clause-changes
+returns-clause-changes g t c =
+    changes_in_turn c.args.cache.now c.pack_level.new.cache c.pack.new.cache (fault_in c.pack.result)
+    c.in_ok-parents.ensures.changes c.pack.ensures.changes
 
-pub returns-in-Ok-pack-clause-packed : goal.returns-in-Ok-pack-clause-packed
-returns-in-Ok-pack-clause-packed g t c = λ sound bs waits.
+pub returns-clause-packed : goal.returns-clause-packed
+returns-clause-packed g t c = λ sound bs waits.
     let l = c.in_ok-parents.ensures.packed sound bs waits in
     let one : suc c.args.level ≡ c.args.level + 1 = omega arith in
     let wait : WaitFor g.row.D (c.args.level + 1) (pages c.pack_level.new.cache)
@@ -85,13 +86,9 @@ returns-in-Ok-pack-clause-packed g t c = λ sound bs waits.
     (items_of es) l.parents) (sym c.as_mut_slice.ensures.value)
     (subst (λ (level : ℕ). WaitFor g.row.D level (pages c.pack_level.new.cache)
     (items_of c.in_ok-parents.parents.items) l.parents) one l.wait) in
-    let p : PackedAt g.row.D c.args.m_max (suc c.args.level) (pages c.pack_level.new.cache)
-    (pages c.pack.new.cache) l.parents c.in-Ok-pack.root =
-    subst (λ (level : ℕ). PackedAt g.row.D c.args.m_max level (pages c.pack_level.new.cache)
-    (pages c.pack.new.cache) l.parents c.in-Ok-pack.root) (sym one)
-    (c.in-Ok-pack.ensures.packed (c.in_ok-parents.ensures.sound sound) l.parents wait) in
-    level_packed g.row.D c.args.m_max c.args.level (pages c.args.cache.now) (pages c.pack_level.new.cache)
-    (pages c.pack.new.cache) bs l.runs l.parents c.in-Ok-pack.root
+    if_ok_map c.pack.result (c.pack.ensures.packed (c.in_ok-parents.ensures.sound sound) l.parents wait)
+    (λ root packs. level_packed g.row.D c.args.m_max c.args.level (pages c.args.cache.now) (pages c.pack_level.new.cache)
+    (pages c.pack.new.cache) bs l.runs l.parents root
     (omega (
       arith,
       ap length waits.are,
@@ -99,10 +96,6 @@ returns-in-Ok-pack-clause-packed g t c = λ sound bs waits.
       length-map c.args.entries.now item_of,
       c.if-entries-from.false,
       c.from.ensures,
-    )) l.tiled l.made l.moves p
-
-pub returns-clause-alters : goal.returns-clause-alters
-returns-clause-alters g t c =
-    alters_and_breaks c.args.cache.now c.pack_level.new.cache c.pack.new.cache c.in_ok-parents.parents
-    c.in-Err-pack.broken _ c.midway-in-Err-pack.ensures c.in_ok-parents.ensures.alters
-    c.in-Err-pack.ensures.alters
+    )) l.tiled l.made l.moves
+    (subst (λ (level : ℕ). PackedAt g.row.D c.args.m_max level (pages c.pack_level.new.cache)
+    (pages c.pack.new.cache) l.parents root) (sym one) packs))

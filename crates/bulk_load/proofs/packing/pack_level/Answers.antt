@@ -2,6 +2,7 @@
 use Rattle.std.proofs.Common.{◌∙◌, ℕ, List, length, refl, sym, ap, subst, arith, rules}
 use Rattle.std.proofs.lemmas.List.Sorted.{All-permutation, IsPermutation-map, length_permutation}
 use Rattle.page_cache.specs.Cache.{pages}
+use Rattle.page_cache.proofs.Results.{if_ok_map}
 use Rattle.tree_node.specs.Nodes.{Item, item_of, items_of}
 use Rattle.tree_node.specs.Positions.{total}
 use Rattle.node_page.specs.Layout.{IsOfLevel}
@@ -39,32 +40,35 @@ write_level-requires g c =
       ),
     )
 
-pub returns-in-Ok-clause-two : goal.returns-in-Ok-clause-two
-returns-in-Ok-clause-two g c =
+pub returns-clause-two : goal.returns-clause-two
+returns-clause-two g c =
     let t : TiledSizes (length c.tile.new.entries) c.in_ok-sizes.sizes.items =
     tiled_sizes c.args.m_max c.args.entries.now c.tile.new.entries c.in_ok-sizes.sizes.items
     c.requires.dims c.requires.sized.0 c.requires.sized.1 c.requires.above c.in_ok-sizes.ensures.tiled in
-    omega (arith, t.two, c.in-Ok.ensures.count, ap length c.as_slice.ensures.value)
+    if_ok_map c.write_level.result c.write_level.ensures.count
+    (λ parents count. omega (arith, t.two, count, ap length c.as_slice.ensures.value))
 
-pub returns-in-Ok-clause-half : goal.returns-in-Ok-clause-half
-returns-in-Ok-clause-half g c =
+pub returns-clause-half : goal.returns-clause-half
+returns-clause-half g c =
     let t : TiledSizes (length c.tile.new.entries) c.in_ok-sizes.sizes.items =
     tiled_sizes c.args.m_max c.args.entries.now c.tile.new.entries c.in_ok-sizes.sizes.items
     c.requires.dims c.requires.sized.0 c.requires.sized.1 c.requires.above c.in_ok-sizes.ensures.tiled in
-    omega (
+    if_ok_map c.write_level.result c.write_level.ensures.count
+    (λ parents count. omega (
       arith,
       t.half,
-      c.in-Ok.ensures.count,
+      count,
       ap length c.as_slice.ensures.value,
       length_permutation c.args.entries.now c.tile.new.entries c.tile.ensures.all,
-    )
+    ))
 
-pub returns-in-Ok-clause-packed : goal.returns-in-Ok-clause-packed
-returns-in-Ok-clause-packed g c = λ sound bs waits.
+pub returns-clause-packed : goal.returns-clause-packed
+returns-clause-packed g c = λ sound bs waits.
     let w = wait_tiled c.args.m_max c.args.level (pages c.args.cache.now) bs c.args.entries.now
     c.tile.new.entries c.in_ok-sizes.sizes.items c.in_ok-sizes.ensures.tiled waits in
-    let l = c.in-Ok.ensures.written sound w.runs (w.lengths ∙ sym c.as_slice.ensures.value) w.wait in
-    record {
+    if_ok_map c.write_level.result
+    (c.write_level.ensures.written sound w.runs (w.lengths ∙ sym c.as_slice.ensures.value) w.wait)
+    (λ parents l. record {
       runs = w.runs;
       tiled = w.tiled;
       parents = l.parents;
@@ -73,20 +77,7 @@ returns-in-Ok-clause-packed g c = λ sound bs waits.
       moves = moves_same (pages c.args.cache.now) (pages c.write_level.new.cache)
           (pages_below (joined w.runs)) (pages_below bs) (pages_below l.parents) (pages_below l.parents)
           (λ n. below_permuted bs (joined w.runs) n w.same) (λ n. refl) l.moves;
-    }
-
-pub returns-in-Ok-clause-grows : goal.returns-in-Ok-clause-grows
-returns-in-Ok-clause-grows g c =
-    let t : TiledSizes (length c.tile.new.entries) c.in_ok-sizes.sizes.items =
-    tiled_sizes c.args.m_max c.args.entries.now c.tile.new.entries c.in_ok-sizes.sizes.items
-    c.requires.dims c.requires.sized.0 c.requires.sized.1 c.requires.above c.in_ok-sizes.ensures.tiled in
-    omega (
-      arith,
-      t.half,
-      c.write_level.ensures.grows,
-      ap length c.as_slice.ensures.value,
-      length_permutation c.args.entries.now c.tile.new.entries c.tile.ensures.all,
-    )
+    })
 
 pub returns-clause-grows : goal.returns-clause-grows
 returns-clause-grows g c =
