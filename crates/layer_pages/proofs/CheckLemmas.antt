@@ -374,6 +374,7 @@ module _ {B A : Type 0} {m : _} where
         map = a.map;
         capacity = a.capacity;
         looks = a.looks;
+        touched = a.touched;
         faults = a.faults ∙ sym (quiet _);
       }
     where

@@ -5,15 +5,16 @@ ghost use Rattle.box_math.specs.Bounds.{IsDims};
 ghost use Rattle.page_file.specs.Fault.{IsDamage, IsOfDevice};
 ghost use Rattle.page_file.specs.declared.gate.Gate.TheVariants.{Open};
 ghost use Rattle.page_cache.specs.Cache.{Grows, IsPageMap, gate_of, pages};
-ghost use Rattle.node_page.specs.Broken.{Alters};
+ghost use Rattle.page_cache.specs.Calls.{Changes};
 ghost use Rattle.node_page.specs.Parts.{Moves, no_page};
 ghost use Rattle.layer_pages.specs.Layers.{CanBeRoot, IsLayerAt, LayerPages, Objects, part_of_layer};
 
 use block_device::BlockDevice;
 use condense::free_tree;
 use id_table::free_all;
-use node_page::{Broken, Root};
+use node_page::{Root};
 use page_cache::PageCache;
+use page_file::Fault;
 use std::alloc::Allocator;
 
 /// Frees all pages of a layer. The gate has to be open.
@@ -24,11 +25,11 @@ pub fn free<const D: usize, B: BlockDevice, A: Allocator + Copy>(
     cache: &mut PageCache<B, A>,
     root: Root,
     directory: u32,
-) -> Result<(), Broken>
+) -> Result<(), Fault>
     requires dims { IsDims D }
     requires open { gate_of cache.old ≡ Open }
     requires root { CanBeRoot root }
-    ensures alters { Alters cache.old cache.new result }
+    ensures changes { Changes cache.old cache.new result }
     ensures sound { IsPageMap cache.old → (l : LayerPages) (most : ℕ) (objects : Objects)
         → IsLayerAt D most (pages cache.old) root directory l objects → IsPageMap cache.new }
     ensures freed { IsPageMap cache.old → (l : LayerPages) (most : ℕ) (objects : Objects)
@@ -37,12 +38,10 @@ pub fn free<const D: usize, B: BlockDevice, A: Allocator + Copy>(
     ensures grows { Grows 0 cache.old cache.new }
     ensures faults { IsPageMap cache.old → (l : LayerPages) (most : ℕ) (objects : Objects)
         → IsLayerAt D most (pages cache.old) root directory l objects →
-        IfErr result (λ b. IsOfDevice b.cause) }
-    ensures other_faults { IfErr result (λ b. IsOfDevice b.cause ⊎ IsDamage b.cause) }
+        IfErr result IsOfDevice }
+    ensures other_faults { IfErr result (λ f. IsOfDevice f ⊎ IsDamage f) }
 {
     free_tree::<D, B, A>(cache, root)?;
-    match free_all::<D, B, A>(cache, directory) {
-        Ok(()) => Ok(()),
-        Err(broken) => Err(Broken::midway(broken.cause)),
-    }
+    free_all::<D, B, A>(cache, directory)?;
+    Ok(())
 }

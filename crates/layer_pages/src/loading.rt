@@ -7,8 +7,8 @@ ghost use Rattle.box_math.specs.Bounds.{IsBox, IsDims};
 ghost use Rattle.page_file.specs.declared.fault.Fault.TheVariants as fault;
 ghost use Rattle.page_file.specs.declared.gate.Gate.TheVariants.{Open};
 ghost use Rattle.page_cache.specs.Cache.{Grows, IsPageMap, gate_of, pages};
+ghost use Rattle.page_cache.specs.Calls.{Changes};
 ghost use Rattle.tree_node.specs.Nodes.{items_of};
-ghost use Rattle.node_page.specs.Broken.{Alters};
 ghost use Rattle.node_page.specs.Faults.{IsNoDamage};
 ghost use Rattle.layer_pages.specs.Changes.{BecomesLayer, BecomesTable, HasPacked, item_of_object};
 ghost use Rattle.layer_pages.specs.Changes.{most_filled_pages, most_loaded_pages};
@@ -18,7 +18,7 @@ use block_device::BlockDevice;
 use box_math::BBox;
 use condense::free_tree;
 use id_table::fill;
-use node_page::{Broken, Entry, Root};
+use node_page::{Entry, Root};
 use page_cache::PageCache;
 use page_file::Fault;
 use std::alloc::Allocator;
@@ -37,12 +37,12 @@ pub fn load<const D: usize, B: BlockDevice, A: Allocator + Copy, H: Allocator + 
     directory: u32,
     objects: &mut [(u64, (BBox<D>, u32))],
     m_max: u8,
-) -> Result<Root, Broken>
+) -> Result<Root, Fault>
     requires dims { IsDims D }
     requires open { gate_of cache.old ≡ Open }
     requires most { (4 ≤ m_max) × (m_max ≤ 100) }
     requires root { CanBeRoot root }
-    ensures alters { Alters cache.old cache.new result }
+    ensures changes { Changes cache.old cache.new result }
     ensures root { IfOk result CanBeRoot }
     ensures sound { IsPageMap cache.old → (l : LayerPages) (most : ℕ) (all : Objects)
         → IsLayerAt D most (pages cache.old) root directory l map.empty →
@@ -59,17 +59,15 @@ pub fn load<const D: usize, B: BlockDevice, A: Allocator + Copy, H: Allocator + 
     ensures faults { IsPageMap cache.old → (l : LayerPages) (most : ℕ) (all : Objects)
         → IsLayerAt D most (pages cache.old) root directory l map.empty →
         IsPermutation objects.old (map.entries all)
-        → IfErr result (λ b. IsNoDamage cache.new b.cause) }
+        → IfErr result (IsNoDamage cache.new) }
 {
     let mut entries = entries_of(alloc, objects)?;
     let after = bulk_load::load(alloc, cache, entries.as_mut_slice(), m_max)?;
     if !can_be_root(after) {
-        return Err(Broken::midway(Fault::Damaged(after.page)));
+        return Err(Fault::Damaged(after.page));
     }
-    match put_ids(cache, root, directory, objects) {
-        Ok(()) => Ok(after),
-        Err(broken) => Err(Broken::midway(broken.cause)),
-    }
+    put_ids(cache, root, directory, objects)?;
+    Ok(after)
 }
 
 // The objects as entries of leaves.
@@ -108,11 +106,11 @@ fn put_ids<const D: usize, B: BlockDevice, A: Allocator + Copy>(
     root: Root,
     directory: u32,
     objects: &mut [(u64, (BBox<D>, u32))],
-) -> Result<(), Broken>
+) -> Result<(), Fault>
     requires dims { IsDims D }
     requires open { gate_of cache.old ≡ Open }
     requires root { CanBeRoot root }
-    ensures alters { Alters cache.old cache.new result }
+    ensures changes { Changes cache.old cache.new result }
     ensures sound { IsPageMap cache.old → (l : LayerPages) (most : ℕ) (all : Objects)
         → IsLayerAt D most (pages cache.old) root directory l map.empty →
         IsPermutation objects.old (map.entries all)
@@ -126,7 +124,7 @@ fn put_ids<const D: usize, B: BlockDevice, A: Allocator + Copy>(
     ensures faults { IsPageMap cache.old → (l : LayerPages) (most : ℕ) (all : Objects)
         → IsLayerAt D most (pages cache.old) root directory l map.empty →
         IsPermutation objects.old (map.entries all)
-        → IfErr result (λ b. IsNoDamage cache.new b.cause) }
+        → IfErr result (IsNoDamage cache.new) }
 {
     // each page of the table is then looked at in a row
     objects.sort_unstable_by_key(
@@ -135,8 +133,6 @@ fn put_ids<const D: usize, B: BlockDevice, A: Allocator + Copy>(
         { object.0 % 1000 },
     );
     fill(cache, directory, objects)?;
-    match free_tree::<D, B, A>(cache, root) {
-        Ok(()) => Ok(()),
-        Err(broken) => Err(Broken::midway(broken.cause)),
-    }
+    free_tree::<D, B, A>(cache, root)?;
+    Ok(())
 }

@@ -6,7 +6,7 @@ ghost use Rattle.box_math.specs.Bounds.{IsDims};
 ghost use Rattle.page_file.specs.Pages.{SameBut};
 ghost use Rattle.page_file.specs.declared.gate.Gate.TheVariants.{Open};
 ghost use Rattle.page_cache.specs.Cache.{Grows, IsPageMap, gate_of, next_of, pages};
-ghost use Rattle.node_page.specs.Broken.{Alters};
+ghost use Rattle.page_cache.specs.Calls.{Changes};
 ghost use Rattle.node_page.specs.Parts.{no_page};
 ghost use Rattle.node_page.specs.Standing.{node_in};
 ghost use Rattle.node_page.specs.Faults.{IsChangeFault, IsNoDamage};
@@ -15,48 +15,42 @@ ghost use Rattle.layer_pages.specs.Layers.{CanBeRoot};
 
 use arrayvec::ArrayVec;
 use block_device::BlockDevice;
-use node_page::{Broken, Node, Root, write_node};
+use node_page::{Node, Root, write_node};
 use page_cache::PageCache;
+use page_file::Fault;
 use std::alloc::Allocator;
 
 /// Makes a layer of no objects in pages that were not live, and answers its root and the page of its
 /// directory. The gate has to be open.
 ///
-/// With a sound map a refusal is `Memory` or `Device`, or `NoPages` where each page number is live. It is
-/// untouched where no page was given out, and no free page was lost. Also after a refusal at most two more
-/// pages are live.
+/// With a sound map a refusal is `Memory` or `Device`, or `NoPages` where each page number is live. Also after
+/// a refusal at most two more pages are live.
 pub fn make<const D: usize, B: BlockDevice, A: Allocator + Copy>(
     cache: &mut PageCache<B, A>,
-) -> Result<(Root, u32), Broken>
+) -> Result<(Root, u32), Fault>
     requires dims { IsDims D }
     requires open { gate_of cache.old ≡ Open }
-    ensures alters { Alters cache.old cache.new result }
+    ensures changes { Changes cache.old cache.new result }
     ensures places { IfOk result (λ made. CanBeRoot made.0 × (3 ≤ made.1) × (made.1 < next_of cache.new)) }
     ensures sound { IsPageMap cache.old → IsPageMap cache.new }
     ensures made { IsPageMap cache.old → (most : ℕ) → IfOk result (λ made.
         BecomesLayer D most (pages cache.old) (pages cache.new) no_page made.0 made.1 map.empty IsEmptyLeaf) }
     ensures grows { Grows 2 cache.old cache.new }
-    ensures faults { IsPageMap cache.old → IfErr result (λ b. IsNoDamage cache.new b.cause) }
-    ensures other_faults { IfErr result (λ b. IsChangeFault b.cause) }
+    ensures faults { IsPageMap cache.old → IfErr result (IsNoDamage cache.new) }
+    ensures other_faults { IfErr result IsChangeFault }
 {
-    let page = match make_leaf::<D, B, A>(cache) {
-        Ok(page) => page,
-        Err(broken) => return Err(broken),
-    };
-    match id_table::make::<D, B, A>(cache) {
-        Ok(directory) => Ok((Root { page, level: 0 }, directory)),
-        Err(broken) => Err(Broken::midway(broken.cause)),
-    }
+    let page = make_leaf::<D, B, A>(cache)?;
+    let directory = id_table::make::<D, B, A>(cache)?;
+    Ok((Root { page, level: 0 }, directory))
 }
 
-// Gives out a page and writes an empty leaf into it. Where the page is refused and as many are free, the map
-// stays.
+// Gives out a page and writes an empty leaf into it.
 fn make_leaf<const D: usize, B: BlockDevice, A: Allocator + Copy>(
     cache: &mut PageCache<B, A>,
-) -> Result<u32, Broken>
+) -> Result<u32, Fault>
     requires dims { IsDims D }
     requires open { gate_of cache.old ≡ Open }
-    ensures alters { Alters cache.old cache.new result }
+    ensures changes { Changes cache.old cache.new result }
     ensures number { IfOk result (λ page. (3 ≤ page) × (page < 2 ^ 31)) }
     ensures sound { IsPageMap cache.old → IsPageMap cache.new }
     ensures fresh { IsPageMap cache.old → IfOk result (λ page. pages cache.old page ≡ None) }
@@ -65,23 +59,14 @@ fn make_leaf<const D: usize, B: BlockDevice, A: Allocator + Copy>(
     ensures others { IsPageMap cache.old →
         IfOk result (λ page. SameBut page (pages cache.old) (pages cache.new)) }
     ensures grows { Grows 1 cache.old cache.new }
-    ensures faults { IsPageMap cache.old → IfErr result (λ b. IsNoDamage cache.new b.cause) }
-    ensures other_faults { IfErr result (λ b. IsChangeFault b.cause) }
+    ensures faults { IsPageMap cache.old → IfErr result (IsNoDamage cache.new) }
+    ensures other_faults { IfErr result IsChangeFault }
 {
     let leaf: Node<D> = Node {
         level: 0,
         entries: ArrayVec::new(),
     };
-    let free = cache.free_count();
-    let page = match cache.allocate() {
-        Ok(page) => page,
-        Err(cause) => {
-            let touched = cache.free_count() != free;
-            return Err(Broken { cause, touched });
-        }
-    };
-    match write_node(cache, page, &leaf) {
-        Ok(()) => Ok(page),
-        Err(cause) => Err(Broken::midway(cause)),
-    }
+    let page = cache.allocate()?;
+    write_node(cache, page, &leaf)?;
+    Ok(page)
 }

@@ -5,7 +5,7 @@ ghost use Rattle.std.specs.FinMap as map;
 ghost use Rattle.box_math.specs.Bounds.{IsDims};
 ghost use Rattle.page_file.specs.declared.gate.Gate.TheVariants.{Open};
 ghost use Rattle.page_cache.specs.Cache.{Grows, IsPageMap, gate_of, pages};
-ghost use Rattle.node_page.specs.Broken.{Alters};
+ghost use Rattle.page_cache.specs.Calls.{Changes};
 ghost use Rattle.node_page.specs.Faults.{IsChangeFault, IsNoDamage};
 ghost use Rattle.condense.specs.Removed.{IsRefused, most_removal_pages};
 ghost use Rattle.layer_pages.specs.Changes.{BecomesLayer, HasRemoved};
@@ -14,8 +14,9 @@ ghost use Rattle.layer_pages.specs.Layers.{CanBeRoot, IsLayerAt, LayerPages, Obj
 use block_device::BlockDevice;
 use box_math::BBox;
 use condense::{Kept, remove_with};
-use node_page::{Broken, Root};
+use node_page::{Root};
 use page_cache::PageCache;
+use page_file::Fault;
 use reinsert::Waiting;
 use std::alloc::Allocator;
 
@@ -24,10 +25,10 @@ use std::alloc::Allocator;
 /// from the identifier table. The gate has to be open.
 ///
 /// With a sound map, where the pages stand for a layer at that root and directory, a refusal is `Memory` or
-/// `Device`, or `NoPages` where each page number is live. One that is not `touched` leaves the map as it was;
-/// each one of the table is touched, since the tree was changed before it. Where the layer does not have the
-/// object with that box and that tag, that is `Damaged` with the root's page, untouched, unless memory or the
-/// device refused before. Also after a refusal at most `most_removal_pages` more pages are live.
+/// `Device`, or `NoPages` where each page number is live. One that touched no page leaves the map as it was.
+/// Where the layer does not have the object with that box and that tag, that is `Damaged` with the root's
+/// page, and no page is touched, unless memory or the device refused before. Also after a refusal at most
+/// `most_removal_pages` more pages are live.
 pub fn remove<const D: usize, B: BlockDevice, A: Allocator + Copy>(
     cache: &mut PageCache<B, A>,
     root: Root,
@@ -38,12 +39,12 @@ pub fn remove<const D: usize, B: BlockDevice, A: Allocator + Copy>(
     m_max: u8,
     waiting: &mut Waiting<D>,
     kept: &mut Kept<D>,
-) -> Result<Root, Broken>
+) -> Result<Root, Fault>
     requires dims { IsDims D }
     requires open { gate_of cache.old ≡ Open }
     requires most { (4 ≤ m_max) × (m_max ≤ 100) }
     requires root { CanBeRoot root }
-    ensures alters { Alters cache.old cache.new result }
+    ensures changes { Changes cache.old cache.new result }
     ensures root { IfOk result CanBeRoot }
     ensures sound { IsPageMap cache.old → (l : LayerPages) (objects : Objects)
         → IsLayerAt D m_max (pages cache.old) root directory l objects →
@@ -57,13 +58,13 @@ pub fn remove<const D: usize, B: BlockDevice, A: Allocator + Copy>(
     ensures absent { IsPageMap cache.old → (l : LayerPages) (objects : Objects)
         → IsLayerAt D m_max (pages cache.old) root directory l objects →
         ¬ (map.get objects id ≡ Some (bounds.now, tag))
-        → IsRefused root.page result }
+        → IsRefused cache.old cache.new root.page result }
     ensures grows { Grows most_removal_pages cache.old cache.new }
     ensures faults { IsPageMap cache.old → (l : LayerPages) (objects : Objects)
         → IsLayerAt D m_max (pages cache.old) root directory l objects →
         map.get objects id ≡ Some (bounds.now, tag)
-        → IfErr result (λ b. IsNoDamage cache.new b.cause) }
-    ensures other_faults { IfErr result (λ b. IsChangeFault b.cause) }
+        → IfErr result (IsNoDamage cache.new) }
+    ensures other_faults { IfErr result IsChangeFault }
 {
     let after = remove_with(
         cache,
@@ -75,8 +76,6 @@ pub fn remove<const D: usize, B: BlockDevice, A: Allocator + Copy>(
         waiting,
         kept,
     )?;
-    match id_table::remove::<D, B, A>(cache, directory, id) {
-        Ok(()) => Ok(after),
-        Err(broken) => Err(Broken::midway(broken.cause)),
-    }
+    id_table::remove::<D, B, A>(cache, directory, id)?;
+    Ok(after)
 }

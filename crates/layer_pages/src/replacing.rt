@@ -5,7 +5,7 @@ ghost use Rattle.std.specs.FinMap as map;
 ghost use Rattle.box_math.specs.Bounds.{IsDims};
 ghost use Rattle.page_file.specs.declared.gate.Gate.TheVariants.{Open};
 ghost use Rattle.page_cache.specs.Cache.{Grows, IsPageMap, gate_of, pages};
-ghost use Rattle.node_page.specs.Broken.{Alters};
+ghost use Rattle.page_cache.specs.Calls.{Changes};
 ghost use Rattle.node_page.specs.Faults.{IsChangeFault, IsNoDamage};
 ghost use Rattle.condense.specs.Removed.{IsRefused};
 ghost use Rattle.layer_pages.specs.Changes.{BecomesLayer, HasReplaced, most_replaced_pages};
@@ -14,8 +14,9 @@ ghost use Rattle.layer_pages.specs.Layers.{CanBeRoot, IsLayerAt, LayerPages, Obj
 use block_device::BlockDevice;
 use box_math::BBox;
 use condense::{Kept, remove_with};
-use node_page::{Broken, Entry, Root};
+use node_page::{Entry, Root};
 use page_cache::PageCache;
+use page_file::Fault;
 use reinsert::{Waiting, insert_with};
 use std::alloc::Allocator;
 
@@ -25,11 +26,10 @@ use std::alloc::Allocator;
 /// has to be open.
 ///
 /// With a sound map, where the pages stand for a layer at that root and directory, a refusal is `Memory` or
-/// `Device`, or `NoPages` where each page number is live. One that is not `touched` leaves the map as it was;
-/// each one of the insertion and of the table is touched, since the object was removed before them. Where the
-/// layer does not have the object with the box `old` and that tag, that is `Damaged` with the root's page,
-/// untouched, unless memory or the device refused before. Also after a refusal at most `most_replaced_pages`
-/// more pages are live.
+/// `Device`, or `NoPages` where each page number is live. One that touched no page leaves the map as it was.
+/// Where the layer does not have the object with the box `old` and that tag, that is `Damaged` with the root's
+/// page, and no page is touched, unless memory or the device refused before. Also after a refusal at most
+/// `most_replaced_pages` more pages are live.
 pub fn replace<const D: usize, B: BlockDevice, A: Allocator + Copy>(
     cache: &mut PageCache<B, A>,
     root: Root,
@@ -41,12 +41,12 @@ pub fn replace<const D: usize, B: BlockDevice, A: Allocator + Copy>(
     m_max: u8,
     waiting: &mut Waiting<D>,
     kept: &mut Kept<D>,
-) -> Result<Root, Broken>
+) -> Result<Root, Fault>
     requires dims { IsDims D }
     requires open { gate_of cache.old ≡ Open }
     requires most { (4 ≤ m_max) × (m_max ≤ 100) }
     requires root { CanBeRoot root }
-    ensures alters { Alters cache.old cache.new result }
+    ensures changes { Changes cache.old cache.new result }
     ensures root { IfOk result CanBeRoot }
     ensures sound { IsPageMap cache.old → (l : LayerPages) (objects : Objects)
         → IsLayerAt D m_max (pages cache.old) root directory l objects →
@@ -62,13 +62,13 @@ pub fn replace<const D: usize, B: BlockDevice, A: Allocator + Copy>(
     ensures absent { IsPageMap cache.old → (l : LayerPages) (objects : Objects)
         → IsLayerAt D m_max (pages cache.old) root directory l objects →
         ¬ (map.get objects id ≡ Some (old.now, tag))
-        → IsRefused root.page result }
+        → IsRefused cache.old cache.new root.page result }
     ensures grows { Grows most_replaced_pages cache.old cache.new }
     ensures faults { IsPageMap cache.old → (l : LayerPages) (objects : Objects)
         → IsLayerAt D m_max (pages cache.old) root directory l objects →
         map.get objects id ≡ Some (old.now, tag)
-        → IfErr result (λ b. IsNoDamage cache.new b.cause) }
-    ensures other_faults { IfErr result (λ b. IsChangeFault b.cause) }
+        → IfErr result (IsNoDamage cache.new) }
+    ensures other_faults { IfErr result IsChangeFault }
 {
     // a box that was looked at is known to be one
     let _ = new.low();
@@ -79,12 +79,7 @@ pub fn replace<const D: usize, B: BlockDevice, A: Allocator + Copy>(
         reference: id,
         tag,
     };
-    let after = match insert_with(cache, between, &object, 0, most, waiting) {
-        Ok(after) => after,
-        Err(broken) => return Err(Broken::midway(broken.cause)),
-    };
-    match id_table::update(cache, directory, id, new) {
-        Ok(()) => Ok(after),
-        Err(fault) => Err(Broken::midway(fault)),
-    }
+    let after = insert_with(cache, between, &object, 0, most, waiting)?;
+    id_table::update(cache, directory, id, new)?;
+    Ok(after)
 }

@@ -3,8 +3,8 @@ use Rattle.std.proofs.Common.{◌≡◌, ◌∙◌, true, false, None, sym, ap, 
 use Rattle.std.specs.Prelude.{◌↔◌, Result, Ok, Err, OnOk, IfErr, IsErrAnd}
 use Rattle.block_device.specs.Device.{Blocks, LeavesOnly}
 use Rattle.catalog_page.specs.Layout.{records_of}
-use Rattle.node_page.specs.Broken.{Alters, before, cause_in}
-use Rattle.node_page.specs.declared.broken.Broken.{Broken}
+use Rattle.live_layers.specs.Broken.{before, cause_in, told_by}
+use Rattle.live_layers.specs.declared.broken.Broken.{Broken}
 use Rattle.page_cache.specs.Cache.{IsHonest, IsUnchanged, KeepsMap, blocks_of, device_of, gate_of}
 use Rattle.page_cache.specs.Calls.{ChangesUntil, faults_behind}
 use Rattle.page_cache.specs.declared.cache.PageCache.{PageCache}
@@ -46,6 +46,7 @@ module _ {D A : Type 0} {m : _} {T : Type 0} where
     rests = λ ts honest rests. rests;
     opened = tt;
     broke_open = λ (never : false ≡ true). absurd (cc);
+    told = λ (never : false ≡ true). absurd (cc);
     stays_open = λ open'. open';
     honest = (λ h. h, λ h. h);
     next = omega arith;
@@ -74,6 +75,9 @@ module _ {D A : Type 0} {m : _} {T : Type 0} where
     broke_open =
         if_err result (λ b quiet touched. absurd (let no : true ≡ false = sym touched ∙ quiet in cc))
         untouched;
+    told =
+        if_err result (λ b quiet touched. absurd (let no : true ≡ false = sym touched ∙ quiet in cc))
+        untouched;
     stays_open = λ open'. (was_open open').gate ∙ open';
     honest = honest;
     next = omega (arith, map.next);
@@ -89,6 +93,7 @@ module _ {D A : Type 0} {m : _} {T : Type 0} where
     rests = λ ts honest rests closed. absurd (closed (changes.gate.gate ∙ begun.opened));
     opened = changes.gate.gate ∙ begun.opened;
     broke_open = tt;
+    told = tt;
     stays_open = λ open'. changes.gate.gate ∙ begun.opened;
     honest = (λ h. changes.gate.honest.0 (begun.honest.0 h), λ h. begun.honest.1 (changes.gate.honest.1 h));
     next = omega (arith, begun.next, changes.next);
@@ -96,22 +101,20 @@ module _ {D A : Type 0} {m : _} {T : Type 0} where
   }
 
   -- or half changed
-  begun_and_broke : {R S : Type 0} (old mid new : PageCache D A m) (x : R) (b : Broken)
-      (result : Result T Broken) → IsErrAnd result (λ e. e ≡ b) → Begins old mid (Ok x)
-      → Alters {T = S} mid new (Err b) → Begins old new result
-  begun_and_broke old mid new x b result is begun alters = handed_on old new b result is (record {
+  begun_and_broke : {R : Type 0} (old mid new : PageCache D A m) (x : R) (f : Fault)
+      (result : Result T Broken) → IsErrAnd result (λ e. e ≡ told_by new f) → Begins old mid (Ok x)
+      → ChangesUntil mid new (Some f) → Begins old new result
+  begun_and_broke old mid new x f result is begun changes = handed_on old new (told_by new f) result is (record {
     stops = λ ts honest rests. pages_written old mid new ts (begun.honest.0 honest) begun.opened
-        (begun.stops ts honest rests) alters.changes.gate;
-    rests = λ ts honest rests closed. absurd (closed (alters.changes.gate.gate ∙ begun.opened));
+        (begun.stops ts honest rests) changes.gate;
+    rests = λ ts honest rests closed. absurd (closed (changes.gate.gate ∙ begun.opened));
     opened = tt;
-    broke_open = λ touched. alters.changes.gate.gate ∙ begun.opened;
-    stays_open = λ open'. alters.changes.gate.gate ∙ begun.opened;
-    honest = (
-      λ h. alters.changes.gate.honest.0 (begun.honest.0 h),
-      λ h. begun.honest.1 (alters.changes.gate.honest.1 h),
-    );
-    next = omega (arith, begun.next, alters.changes.next);
-    faults = alters.changes.faults ∙ ap (faults_after b.cause) begun.faults;
+    broke_open = λ touched. changes.gate.gate ∙ begun.opened;
+    told = λ touched. touched;
+    stays_open = λ open'. changes.gate.gate ∙ begun.opened;
+    honest = (λ h. changes.gate.honest.0 (begun.honest.0 h), λ h. begun.honest.1 (changes.gate.honest.1 h));
+    next = omega (arith, begun.next, changes.next);
+    faults = changes.faults ∙ ap (faults_after f) begun.faults;
   })
 
   -- ---- of layers
@@ -140,21 +143,21 @@ module _ {D A : Type 0} {m : _} {T : Type 0} where
   }
 
   -- it was, and pages were half changed, or changed
-  pub broke_behind : {R S : Type 0} (old mid new : Layers D A m) {x : R} (b : Broken)
-      (result : Result T Broken) → IsErrAnd result (λ e. e ≡ b) → IsSameBut mid new
+  pub broke_behind : {R : Type 0} (old mid new : Layers D A m) {x : R} (f : Fault)
+      (result : Result T Broken) → IsErrAnd result (λ e. e ≡ told_by new.cache f) → IsSameBut mid new
       → Begins old.cache mid.cache (Ok x)
       → ((t : Table) → IsSound old t → IsSound mid t) → KeepsPagesAndRecords old mid
-      → Alters {T = S} mid.cache new.cache (Err b) → BeginsChange old new result
-  broke_behind old mid new {x} b result is same begun sound keeps alters = record {
-    begins = begun_and_broke old.cache mid.cache new.cache x b result is begun alters;
+      → ChangesUntil mid.cache new.cache (Some f) → BeginsChange old new result
+  broke_behind old mid new {x} f result is same begun sound keeps changes = record {
+    begins = begun_and_broke old.cache mid.cache new.cache x f result is begun changes;
     untouched =
-        λ t was. the_err result b (λ e. e.touched ≡ false → IsSound new t) is
-        (λ quiet. sound_kept mid new t (alters.untouched quiet) same.0 same.1 (λ w. sym same.2 ∙ w)
+        λ t was. the_err result (told_by new.cache f) (λ e. e.touched ≡ false → IsSound new t) is
+        (λ quiet. sound_kept mid new t (changes.untouched quiet) same.0 same.1 (λ w. sym same.2 ∙ w)
         (sound t was));
-    kept = the_err result b (λ e. e.touched ≡ false → KeepsPagesAndRecords old new) is
+    kept = the_err result (told_by new.cache f) (λ e. e.touched ≡ false → KeepsPagesAndRecords old new) is
         (λ quiet. stays_in_turn old mid new begun.honest.0 keeps
         (record {
-          map = alters.untouched quiet;
+          map = changes.untouched quiet;
           records = ap records_of same.0;
           written = λ was. same.2 ∙ was;
         }));

@@ -3,9 +3,9 @@ use Rattle.std.proofs.Common.{◌≡◌, ◌∙◌, ℕ, Bool, true, false, cond
 use Rattle.std.proofs.Common.{subst, inl, inr, ⊎_elim}
 use Rattle.std.specs.Prelude.{Result, Ok, Err, OnErr, OnOk, IfErr}
 use Rattle.block_device.specs.Moments.{leaves_then}
-use Rattle.node_page.specs.Broken.{cause_in}
-use Rattle.node_page.specs.declared.broken.Broken.{Broken}
-use Rattle.page_cache.specs.Cache.{IsHonest, KeepsGate, device_of, gate_of}
+use Rattle.live_layers.specs.Broken.{cause_in}
+use Rattle.live_layers.specs.declared.broken.Broken.{Broken}
+use Rattle.page_cache.specs.Cache.{IsHonest, KeepsGate, device_of, gate_of, touched_of}
 use Rattle.page_cache.specs.Calls.{faults_behind}
 use Rattle.page_file.specs.Fault.{IsOfDevice, faults_after}
 use Rattle.page_file.specs.declared.fault.Fault.{Fault}
@@ -20,7 +20,8 @@ use Rattle.store_law.specs.Lawful.{IsFault}
 use Rattle.tree_node.specs.Trees.{Tree}
 use Rattle.live_layers.specs.Begun.{Begins, BeginsChange}
 use Rattle.live_layers.specs.Changes.{ChangeLeaves, GoesOn, IsBegun, IsChange, IsChangeBy, IsChanged}
-use Rattle.live_layers.specs.Changes.{IsFaultOfChange, KeepsInChange, KeepsInQuestion, OnRefused, Rose}
+use Rattle.live_layers.specs.Changes.{IsFaultOfChange, KeepsInChange, KeepsInQuestion, OnBroken, OnRefused}
+use Rattle.live_layers.specs.Changes.{Rose}
 use Rattle.live_layers.specs.Faults.{HasUnmadeCause, as_refusal, change_of, is_plain}
 use Rattle.live_layers.specs.Image.{IsRefusedOrImageOf}
 use Rattle.live_layers.specs.Inserting.{IsAllowedOr}
@@ -64,6 +65,7 @@ module _ {D A : Type 0} {m : _} {T : Type 0} (old new : Layers D A m) where
       → KeepsInChange old new (Err (unmade.Refused r))
   refused_keeps r keeps = record {
     refused = keeps.trees;
+    touched = tt;
     goes_on = keeps.goes_on;
     written = keeps.trees.written;
     stays_open = λ open'. keeps.gate.gate ∙ open';
@@ -88,6 +90,7 @@ module _ {D A : Type 0} {m : _} {T : Type 0} (old new : Layers D A m) where
   unbegun_keeps keeps =
       record {
         refused = tt;
+        touched = tt;
         goes_on = tt;
         written = tt;
         stays_open = λ open'. keeps.gate.gate ∙ open';
@@ -164,6 +167,17 @@ refused_so P Q (Err b) f kept = untouched b.touched kept
     untouched true kept = tt
     untouched false kept = f (kept refl)
 
+-- it is said to have broken off only where a page was touched
+broken_so : (P : Type 0) (made : Result (Unit {0}) Broken) → IfErr made (λ b. b.touched ≡ true → P)
+    → OnBroken (change_of made) P
+broken_so P (Ok u) told = tt
+broken_so P (Err b) told = by_touch b.touched told
+  where
+    by_touch : (touched : Bool) → (touched ≡ true → P)
+        → OnBroken (Err (cond touched (unmade.Broken b.cause) (unmade.Refused (as_refusal b.cause)))) P
+    by_touch true told = told refl
+    by_touch false told = tt
+
 -- what broke off before a page was touched is answered by its fault
 begun_goes_on : (made : Result (Unit {0}) Broken) → GoesOn (change_of made)
 begun_goes_on (Ok u) = tt
@@ -186,6 +200,7 @@ module _ {D A : Type 0} {m : _} {T : Type 0} (old mid new : Layers D A m) {x : T
     refused =
         refused_so (KeepsPagesAndRecords mid new) (KeepsPagesAndRecords old new) made
         (stays_in_turn old mid new asked.gate.honest.0 asked.trees) begun.kept;
+    touched = broken_so (touched_of new.cache ≡ true) made begun.begins.told;
     goes_on = begun_goes_on made;
     written =
         unmade_so (IsWritten mid → IsWritten new) (IsWritten old → IsWritten new) made

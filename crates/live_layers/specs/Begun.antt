@@ -2,9 +2,9 @@
 -- gate").
 use Rattle.std.specs.Prelude.{◌≡◌, ◌≤◌, ◌↔◌, true, false, List, Result, OnErr, OnOk, IfErr}
 use Rattle.block_device.specs.Device.{LeavesOnly}
-use Rattle.node_page.specs.Broken.{cause_in}
-use Rattle.node_page.specs.declared.broken.Broken.{Broken}
-use Rattle.page_cache.specs.Cache.{IsHonest, device_of, gate_of, next_of}
+use Rattle.live_layers.specs.Broken.{cause_in}
+use Rattle.live_layers.specs.declared.broken.Broken.{Broken}
+use Rattle.page_cache.specs.Cache.{IsHonest, device_of, gate_of, next_of, touched_of}
 use Rattle.page_cache.specs.Calls.{faults_behind}
 use Rattle.page_cache.specs.declared.cache.PageCache.{PageCache}
 use Rattle.page_file.specs.declared.gate.Gate.TheVariants.{Open}
@@ -14,9 +14,10 @@ use Rattle.live_layers.specs.Keeping.{IsSound, IsWritten, RestLeavesOneOf}
 use Rattle.live_layers.specs.Staying.{KeepsPagesAndRecords}
 use Rattle.live_layers.specs.declared.layers.Layers.{Layers}
 
--- A change was begun, and then made or broken off. A stop leaves what one at rest leaves. Where pages may be
--- changed the gate is open, and one that was open stays so. Honesty stays, no page number is taken back, and
--- the count of the device's faults rises by one where it was the cause.
+-- A change was begun, and then made or broken off. A stop leaves what one at rest leaves. Where a page was
+-- touched the gate is open, and one that was open stays so; that a page was touched is said only where one
+-- was. Honesty stays, no page number is taken back, and the count of the device's faults rises by one where it
+-- was the cause.
 pub record Begins {D A : Type 0} {m : _} {T : Type 0} (old new : PageCache D A m)
     (result : Result T Broken) : Type 0 where
   pub stops : (ts : List Table) → IsHonest old → RestLeavesOneOf old ts
@@ -24,6 +25,7 @@ pub record Begins {D A : Type 0} {m : _} {T : Type 0} (old new : PageCache D A m
   pub rests : (ts : List Table) → IsHonest old → RestLeavesOneOf old ts → RestLeavesOneOf new ts
   pub opened : OnOk result (gate_of new ≡ Open)
   pub broke_open : IfErr result (λ b. b.touched ≡ true → gate_of new ≡ Open)
+  pub told : IfErr result (λ b. b.touched ≡ true → touched_of new ≡ true)
   pub stays_open : gate_of old ≡ Open → gate_of new ≡ Open
   pub honest : IsHonest old ↔ IsHonest new
   pub next : next_of old ≤ next_of new

@@ -1,8 +1,8 @@
 -- What calls do to live layers. A change is made, refused with the table as it was, or broken off half way; a
 -- question is answered or refused.
-use Rattle.std.specs.Prelude.{◌≡◌, ◌⊎◌, false, List, Result, Ok, Err, OnErr, IfErr}
+use Rattle.std.specs.Prelude.{◌≡◌, ◌⊎◌, false, true, List, Result, Ok, Err, OnErr, IfErr}
 use Rattle.block_device.specs.Device.{HasRisen, LeavesOnly}
-use Rattle.page_cache.specs.Cache.{IsHonest, KeepsGate, device_of, gate_of}
+use Rattle.page_cache.specs.Cache.{IsHonest, KeepsGate, device_of, gate_of, touched_of}
 use Rattle.page_file.specs.declared.fault.Fault.{Fault}
 use Rattle.page_file.specs.declared.fault.Fault.TheVariants as fault
 use Rattle.page_file.specs.declared.gate.Gate.TheVariants.{Open}
@@ -70,17 +70,23 @@ abbrev pub OnRefused : Result (Unit {0}) Unmade → Type 0 → Type 0
 OnRefused (Err (unmade.Refused r)) P = P
 OnRefused result P = Unit {0}
 
+-- of a change that broke off half way
+abbrev pub OnBroken : Result (Unit {0}) Unmade → Type 0 → Type 0
+OnBroken (Err (unmade.Broken f)) P = P
+OnBroken result P = Unit {0}
+
 -- a refusal that is answered so is none of a store that failed
 abbrev pub GoesOn : Result (Unit {0}) Unmade → Type 0
 GoesOn (Err (unmade.Refused r)) = is_end r ≡ false
 GoesOn result = Unit {0}
 
 -- What a change keeps of any layers: pages and records, so each tree, where it was refused, which is not as
--- by a store that failed; what was written, where it was not made; an open gate; honesty; and the count of
+-- by a store that failed, and it breaks off half way only where a page was touched; what was written, where it was not made; an open gate; honesty; and the count of
 -- the device's faults, which rises by one where its failure ended the change.
 pub record KeepsInChange {D A : Type 0} {m : _} (old new : Layers D A m)
     (result : Result (Unit {0}) Unmade) : Type 0 where
   pub refused : OnRefused result (KeepsPagesAndRecords old new)
+  pub touched : OnBroken result (touched_of new.cache ≡ true)
   pub goes_on : GoesOn result
   pub written : OnErr result (IsWritten old → IsWritten new)
   pub stays_open : gate_of old.cache ≡ Open → gate_of new.cache ≡ Open

@@ -1,7 +1,7 @@
 -- What a change that broke off leaves, and the refusals that faults of a file are.
 use Rattle.std.specs.Prelude.{ℕ, ◌≡◌, Bool, true, false, if◌then◌else◌, Result, Ok, Err, OnOk, IfErr}
 use Rattle.block_device.specs.Device.{one_more}
-use Rattle.node_page.specs.declared.broken.Broken.{Broken}
+use Rattle.live_layers.specs.declared.broken.Broken.{Broken}
 use Rattle.page_file.specs.Fault.{faults_after}
 use Rattle.page_file.specs.declared.fault.Fault.{Fault}
 use Rattle.page_file.specs.declared.fault.Fault.TheVariants as fault

@@ -2,6 +2,7 @@
 pub mod Catalog
 pub mod Layers
 pub mod Image
+pub mod Broken
 pub mod Faults
 pub mod Keeping
 pub mod Changes

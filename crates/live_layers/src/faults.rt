@@ -3,8 +3,8 @@
 ghost use Rattle.std.specs.Prelude.{◌≡◌};
 ghost use Rattle.live_layers.specs.Faults as faults;
 
+use crate::broken::Broken;
 use crate::unmade::Unmade;
-use node_page::Broken;
 use page_file::Fault;
 use plain_table::Refusal;
 

@@ -2,6 +2,7 @@
 //! a cache (docs/FORMAT.md).
 #![tactic(auto)]
 
+mod broken;
 mod catalog;
 mod faults;
 pub mod laws;

@@ -439,7 +439,14 @@ module _ {B A : Type 0} {m : _} where
       let n = no_call_asks now in
       asks_and_refuses old now now f result is a
       (subst (λ (x : Fault). AsksUntil now now (Some x)) (sym memory)
-      (record { gate = n.gate; map = n.map; capacity = n.capacity; looks = n.looks; faults = refl }))
+      (record {
+        gate = n.gate;
+        map = n.map;
+        capacity = n.capacity;
+        looks = n.looks;
+        touched = n.touched;
+        faults = refl;
+      }))
 
   -- the root waits
   pub begins : (dims k : ℕ) (root : Root) (point : List ℤ) (cache : PageCache B A m) (queue : List Candidate)

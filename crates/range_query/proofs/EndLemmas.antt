@@ -19,5 +19,6 @@ module _ {B A : Type 0} {m : _} where
         map = asks.map;
         capacity = asks.capacity;
         looks = asks.looks;
+        touched = asks.touched;
         faults = asks.faults;
       }))

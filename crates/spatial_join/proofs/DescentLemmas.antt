@@ -210,6 +210,7 @@ module _ {B A : Type 0} {m : _} where
         map = none.map;
         capacity = none.capacity;
         looks = none.looks;
+        touched = none.touched;
         faults = sym (ap (λ e. faults_after e (m.faults (device_of now))) memory);
       })
     where

@@ -10,11 +10,11 @@ ghost use Rattle.live_layers.specs.Begun.{BeginsChange};
 ghost use Rattle.live_layers.specs.Keeping.{ChangesTree, Finds, IsSound, cache_of, records_in};
 ghost use Rattle.live_layers.specs.Rules.{HasFilled};
 
+use crate::broken::Broken;
 use crate::layers::Layers;
 use block_device::BlockDevice;
 use box_math::BBox;
 use layer_pages::load;
-use node_page::Broken;
 use std::alloc::Allocator;
 
 impl<B: BlockDevice, A: Allocator + Copy> Layers<B, A> {
@@ -47,14 +47,17 @@ impl<B: BlockDevice, A: Allocator + Copy> Layers<B, A> {
         self.begin()?;
         let located = self.locate(place);
         let count = objects.len() as u64;
-        let root = load(
+        let root = match load(
             self.alloc,
             &mut self.cache,
             located.root,
             located.directory,
             objects,
             located.fanout,
-        )?;
+        ) {
+            Ok(root) => root,
+            Err(fault) => return Err(self.broken_by(fault)),
+        };
         self.note(place, root, count);
         self.object_count += count;
         Ok(())

@@ -2,23 +2,23 @@
 use Rattle.std.proofs.Common.{sym, subst}
 use Rattle.page_file.specs.Fault.{IsOfDevice}
 use Rattle.page_cache.specs.Cache.{pages}
-use Rattle.node_page.specs.declared.broken.Broken.{Broken}
+use Rattle.node_page.proofs.NodeLemmas.{at_error}
 use Rattle.node_page.specs.Parts.{no_page}
 use Rattle.layer_pages.proofs.FreeLemmas.{layer_freed}
 use Rattle.layer_pages.proofs.LayerLemmas.{ids_still, root_of}
 use Rattle.layer_pages.proofs.freeing.free.Goals as goal
 
-pub returns-in-Ok-clause-sound : goal.returns-in-Ok-clause-sound
-returns-in-Ok-clause-sound g c = λ sound l most objects is.
+pub returns-clause-sound : goal.returns-clause-sound
+returns-clause-sound g c = λ sound l most objects is.
     let m = pages c.args.cache.now in
     let at = root_of g.row.D most m c.args.root c.args.directory l objects is in
     let freed = c.in_ok-free_tree.ensures.freed sound l.tree at is.tree.stands in
-    c.in-Ok.ensures.sound (c.free_tree.ensures.sound sound l.tree at is.tree.stands) l.ids is.directory_is
+    c.in_ok-free_all.ensures.sound (c.free_tree.ensures.sound sound l.tree at is.tree.stands) l.ids is.directory_is
     (ids_still g.row.D most m c.args.root c.args.directory l objects is (pages c.free_tree.new.cache)
     no_page freed)
 
-pub returns-in-Ok-clause-freed : goal.returns-in-Ok-clause-freed
-returns-in-Ok-clause-freed g c = λ sound l most objects is.
+pub returns-clause-freed : goal.returns-clause-freed
+returns-clause-freed g c = λ sound l most objects is.
     let m = pages c.args.cache.now in
     let mid = pages c.free_tree.new.cache in
     let at = root_of g.row.D most m c.args.root c.args.directory l objects is in
@@ -26,24 +26,25 @@ returns-in-Ok-clause-freed g c = λ sound l most objects is.
     let stand = ids_still g.row.D most m c.args.root c.args.directory l objects is mid no_page freed in
     layer_freed g.row.D most m mid (pages c.free_all.new.cache) c.args.root c.args.directory l objects is
     freed
-    (c.in-Ok.ensures.freed (c.free_tree.ensures.sound sound l.tree at is.tree.stands) l.ids is.directory_is
+    (c.in_ok-free_all.ensures.freed (c.free_tree.ensures.sound sound l.tree at is.tree.stands) l.ids is.directory_is
     stand)
 
-pub returns-in-Err-clause-sound : goal.returns-in-Err-clause-sound
-returns-in-Err-clause-sound g c = λ sound l most objects is.
+pub returns-in_err-free_all-clause-sound : goal.returns-in_err-free_all-clause-sound
+returns-in_err-free_all-clause-sound g c = λ sound l most objects is.
     let m = pages c.args.cache.now in
     let at = root_of g.row.D most m c.args.root c.args.directory l objects is in
     let freed = c.in_ok-free_tree.ensures.freed sound l.tree at is.tree.stands in
-    c.in-Err.ensures.sound (c.free_tree.ensures.sound sound l.tree at is.tree.stands) l.ids is.directory_is
+    c.in_err-free_all.ensures.sound (c.free_tree.ensures.sound sound l.tree at is.tree.stands) l.ids is.directory_is
     (ids_still g.row.D most m c.args.root c.args.directory l objects is (pages c.free_tree.new.cache)
     no_page freed)
 
-pub returns-in-Err-clause-faults : goal.returns-in-Err-clause-faults
-returns-in-Err-clause-faults g c = λ sound l most objects is.
+pub returns-in_err-free_all-clause-faults : goal.returns-in_err-free_all-clause-faults
+returns-in_err-free_all-clause-faults g c = λ sound l most objects is.
     let m = pages c.args.cache.now in
     let at = root_of g.row.D most m c.args.root c.args.directory l objects is in
     let freed = c.in_ok-free_tree.ensures.freed sound l.tree at is.tree.stands in
-    subst (λ (b : Broken). IsOfDevice b.cause) (sym c.midway.ensures)
-    (c.in-Err.ensures.faults (c.free_tree.ensures.sound sound l.tree at is.tree.stands) l.ids is.directory_is
+    at_error c.from_residual-in_err-free_all.result c.in_err-free_all.field-0.0 IsOfDevice
+    c.from_residual-in_err-free_all.ensures.1
+    (c.in_err-free_all.ensures.faults (c.free_tree.ensures.sound sound l.tree at is.tree.stands) l.ids is.directory_is
     (ids_still g.row.D most m c.args.root c.args.directory l objects is (pages c.free_tree.new.cache)
     no_page freed))

@@ -3,13 +3,11 @@ use Rattle.std.proofs.Common.{ℕ, None, ⊎_elim, inl, inr, sym, subst, arith}
 use Rattle.std.specs.FinMap as map
 use Rattle.box_math.specs.Objects.{Object}
 use Rattle.page_cache.specs.Cache.{pages}
-use Rattle.page_cache.specs.Calls.{changes_in_turn}
-use Rattle.node_page.specs.Broken.{alters_and_breaks, made_alters}
-use Rattle.node_page.specs.declared.broken.Broken.{Broken}
+use Rattle.page_cache.specs.Calls.{changes_and_refuses, changes_in_turn}
+use Rattle.node_page.proofs.NodeLemmas.{at_error}
 use Rattle.node_page.proofs.RootedLemmas.{loose}
 use Rattle.id_table.specs.Table.{part_of}
 use Rattle.node_page.specs.Faults.{IsChangeFault, IsNoDamage}
-use Rattle.reinsert.proofs.BrokenLemmas.{at_broken}
 use Rattle.layer_pages.specs.Changes.{BecomesLayer, HasInserted}
 use Rattle.layer_pages.specs.Layers.{IsLayerAt, part_of_layer}
 use Rattle.layer_pages.proofs.MadeLemmas.{absent_meanwhile, branch, can_insert, entry_has_shape}
@@ -25,8 +23,8 @@ returns-in_err-after-clause-faults g c = λ sound l objects at.
     let is =
     subst (λ (most : ℕ). IsLayerAt D most m c.args.root c.args.directory l objects) (sym c.from.ensures)
     at in
-    at_broken c.from_residual.result c.in_err-after.field-0.0
-    (λ (b : Broken). IsNoDamage c.insert_with.new.cache b.cause) c.from_residual.ensures.1
+    at_error c.from_residual.result c.in_err-after.field-0.0
+    (IsNoDamage c.insert_with.new.cache) c.from_residual.ensures.1
     (c.in_err-after.ensures.faults sound l.tree
     (branch D c.from.result m c.args.root c.args.directory l objects is id kept) (part_of l.ids)
     (can_insert D c.from.result m c.args.root c.args.directory l objects is id kept)
@@ -34,13 +32,13 @@ returns-in_err-after-clause-faults g c = λ sound l objects at.
     (entry_has_shape D c.from.result m c.args.root c.args.directory l objects is id kept
     c.low.ensures.is_box))
 
-pub returns-in-Ok-clause-alters : goal.returns-in-Ok-clause-alters
-returns-in-Ok-clause-alters g c = made_alters c.args.cache.now c.add.new.cache c.in_ok-after.after
-    (changes_in_turn c.args.cache.now c.insert_with.new.cache c.add.new.cache None
-    c.in_ok-after.ensures.alters.changes c.in-Ok.ensures.alters.changes)
+pub returns-clause-changes : goal.returns-clause-changes
+returns-clause-changes g c = 
+    changes_in_turn c.args.cache.now c.insert_with.new.cache c.add.new.cache None
+    c.in_ok-after.ensures.changes c.in_ok-add.ensures.changes
 
-pub returns-in-Ok-clause-sound : goal.returns-in-Ok-clause-sound
-returns-in-Ok-clause-sound g c = λ sound l objects at.
+pub returns-clause-sound : goal.returns-clause-sound
+returns-clause-sound g c = λ sound l objects at.
     let D = g.row.D in
     let m = pages c.args.cache.now in
     let id = c.args.object.now.reference in
@@ -52,12 +50,12 @@ returns-in-Ok-clause-sound g c = λ sound l objects at.
     c.in_ok-after.ensures.inserted sound l.tree
     (branch D c.from.result m c.args.root c.args.directory l objects is id kept) (part_of l.ids)
     (can_insert D c.from.result m c.args.root c.args.directory l objects is id kept) in
-    c.in-Ok.ensures.sound to.0 l.ids is.directory_is
+    c.in_ok-add.ensures.sound to.0 l.ids is.directory_is
     (ids_meanwhile D c.from.result m c.args.root c.args.directory l objects is id kept
     (pages c.insert_with.new.cache) c.in_ok-after.after to.1)
 
-pub returns-in-Ok-clause-inserted : goal.returns-in-Ok-clause-inserted
-returns-in-Ok-clause-inserted g c = λ sound l objects at absent.
+pub returns-clause-inserted : goal.returns-clause-inserted
+returns-clause-inserted g c = λ sound l objects at absent.
     let D = g.row.D in
     let m = pages c.args.cache.now in
     let mid = pages c.insert_with.new.cache in
@@ -76,20 +74,21 @@ returns-in-Ok-clause-inserted g c = λ sound l objects at absent.
     let none =
     absent_meanwhile D c.from.result m c.args.root c.args.directory l objects is id kept mid
     c.in_ok-after.after to.1 absent in
-    let added = c.in-Ok.ensures.added to.0 l.ids is.directory_is stand none in
+    let added = c.in_ok-add.ensures.added to.0 l.ids is.directory_is stand none in
     subst (λ (most : ℕ). BecomesLayer D most m (pages c.add.new.cache) (part_of_layer l) c.in_ok-after.after
     c.args.directory (map.insert objects id kept) (HasInserted D most l id kept)) c.from.ensures
     (layer_inserted D c.from.result m c.args.root c.args.directory l objects is id kept mid
     c.in_ok-after.after to.1 (pages c.add.new.cache) added
     (omega (arith, c.requires.most.0, c.from.ensures)) c.low.ensures.is_box absent)
 
-pub returns-in-Err-clause-alters : goal.returns-in-Err-clause-alters
-returns-in-Err-clause-alters g c =
-    alters_and_breaks c.args.cache.now c.insert_with.new.cache c.add.new.cache c.in_ok-after.after
-    c.in-Err.broken _ c.midway.ensures c.in_ok-after.ensures.alters c.in-Err.ensures.alters
+pub returns-in_err-add-clause-changes : goal.returns-in_err-add-clause-changes
+returns-in_err-add-clause-changes g c =
+    changes_and_refuses c.args.cache.now c.insert_with.new.cache c.add.new.cache
+    c.in_err-add.field-0.0 c.from_residual-in_err-add.result c.from_residual-in_err-add.ensures.1
+    c.in_ok-after.ensures.changes c.in_err-add.ensures.changes
 
-pub returns-in-Err-clause-faults : goal.returns-in-Err-clause-faults
-returns-in-Err-clause-faults g c = λ sound l objects at.
+pub returns-in_err-add-clause-faults : goal.returns-in_err-add-clause-faults
+returns-in_err-add-clause-faults g c = λ sound l objects at.
     let D = g.row.D in
     let m = pages c.args.cache.now in
     let id = c.args.object.now.reference in
@@ -104,11 +103,13 @@ returns-in-Err-clause-faults g c = λ sound l objects at.
     let stand =
     ids_meanwhile D c.from.result m c.args.root c.args.directory l objects is id kept
     (pages c.insert_with.new.cache) c.in_ok-after.after to.1 in
-    subst (λ (b : Broken). IsNoDamage c.add.new.cache b.cause) (sym c.midway.ensures)
-    (c.in-Err.ensures.faults to.0 l.ids is.directory_is stand)
+    at_error c.from_residual-in_err-add.result c.in_err-add.field-0.0 (IsNoDamage c.add.new.cache)
+    c.from_residual-in_err-add.ensures.1
+    (c.in_err-add.ensures.faults to.0 l.ids is.directory_is stand)
 
-pub returns-in-Err-clause-other_faults : goal.returns-in-Err-clause-other_faults
-returns-in-Err-clause-other_faults g c =
-    subst (λ (b : Broken). IsChangeFault b.cause) (sym c.midway.ensures)
+pub returns-in_err-add-clause-other_faults : goal.returns-in_err-add-clause-other_faults
+returns-in_err-add-clause-other_faults g c =
+    at_error c.from_residual-in_err-add.result c.in_err-add.field-0.0 IsChangeFault
+    c.from_residual-in_err-add.ensures.1
     (⊎_elim (λ quiet. ⊎_elim inl (λ full. inr (inl full.0)) quiet) (λ damaged. inr (inr damaged))
-    c.in-Err.ensures.other_faults)
+    c.in_err-add.ensures.other_faults)

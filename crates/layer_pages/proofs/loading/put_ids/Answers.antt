@@ -7,12 +7,10 @@ use Rattle.std.proofs.lemmas.List.Sorted.{IsNonDecreasingBy-from_sort_by_key, Is
 use Rattle.std.proofs.lemmas.List.Sorted.{IsPermutation-trans, length_permutation}
 use Rattle.bucket_page.specs.Layout.{Entry}
 use Rattle.page_cache.specs.Cache.{Grows, pages}
-use Rattle.page_cache.specs.Calls.{changes_in_turn}
-use Rattle.node_page.specs.Broken.{alters_and_breaks, made_alters}
-use Rattle.node_page.specs.declared.broken.Broken.{Broken}
+use Rattle.page_cache.specs.Calls.{changes_and_refuses, changes_in_turn}
+use Rattle.node_page.proofs.NodeLemmas.{at_error}
 use Rattle.id_table.specs.Table.{class_of}
 use Rattle.node_page.specs.Faults.{IsNoDamage}
-use Rattle.reinsert.proofs.BrokenLemmas.{at_broken}
 use Rattle.layer_pages.specs.Changes.{most_filled_pages}
 use Rattle.layer_pages.specs.Layers.{Objects}
 use Rattle.layer_pages.proofs.LayerLemmas.{root_of}
@@ -30,17 +28,17 @@ returns-in_err-fill-clause-faults g c = λ sound l most all is same.
     let fresh =
     all_new g.row.D most (pages c.args.cache.now) c.args.root c.args.directory l is sorted all
     (still_all _ sorted all c.sort_unstable_by_key.ensures.permutation same) in
-    at_broken c.from_residual.result c.in_err-fill.field-0.0
-    (λ (b : Broken). IsNoDamage c.fill.new.cache b.cause) c.from_residual.ensures.1
+    at_error c.from_residual.result c.in_err-fill.field-0.0
+    (IsNoDamage c.fill.new.cache) c.from_residual.ensures.1
     (c.in_err-fill.ensures.faults sound l.ids is.directory_is is.ids fresh)
 
-pub returns-in-Ok-clause-alters : goal.returns-in-Ok-clause-alters
-returns-in-Ok-clause-alters g c = made_alters c.args.cache.now c.free_tree.new.cache tt
-    (changes_in_turn c.args.cache.now c.fill.new.cache c.free_tree.new.cache None
-    c.in_ok-fill.ensures.alters.changes c.in-Ok.ensures.alters.changes)
+pub returns-clause-changes : goal.returns-clause-changes
+returns-clause-changes g c = 
+    changes_in_turn c.args.cache.now c.fill.new.cache c.free_tree.new.cache None
+    c.in_ok-fill.ensures.changes c.in_ok-free_tree.ensures.changes
 
-pub returns-in-Ok-clause-sound : goal.returns-in-Ok-clause-sound
-returns-in-Ok-clause-sound g c = λ sound l most all is same.
+pub returns-clause-sound : goal.returns-clause-sound
+returns-clause-sound g c = λ sound l most all is same.
     let m = pages c.args.cache.now in
     let sorted = c.sort_unstable_by_key.new.self in
     let still = still_all _ sorted all c.sort_unstable_by_key.ensures.permutation same in
@@ -51,8 +49,8 @@ returns-in-Ok-clause-sound g c = λ sound l most all is same.
     (tree_still g.row.D most m c.args.root c.args.directory l is sorted all still (pages c.fill.new.cache)
     filled)
 
-pub returns-in-Ok-clause-put : goal.returns-in-Ok-clause-put
-returns-in-Ok-clause-put g c = λ sound l most all is same.
+pub returns-clause-put : goal.returns-clause-put
+returns-clause-put g c = λ sound l most all is same.
     let m = pages c.args.cache.now in
     let mid = pages c.fill.new.cache in
     let sorted = c.sort_unstable_by_key.new.self in
@@ -61,25 +59,27 @@ returns-in-Ok-clause-put g c = λ sound l most all is same.
     let filled = c.in_ok-fill.ensures.filled sound l.ids is.directory_is is.ids fresh in
     table_left g.row.D most m c.args.root c.args.directory l is sorted all still mid filled
     (pages c.free_tree.new.cache)
-    (c.in-Ok.ensures.freed (c.fill.ensures.sound sound l.ids is.directory_is is.ids fresh) l.tree
+    (c.in_ok-free_tree.ensures.freed (c.fill.ensures.sound sound l.ids is.directory_is is.ids fresh) l.tree
     (root_of g.row.D most m c.args.root c.args.directory l map.empty is)
     (tree_still g.row.D most m c.args.root c.args.directory l is sorted all still mid filled))
 
-pub returns-in-Err-clause-alters : goal.returns-in-Err-clause-alters
-returns-in-Err-clause-alters g c =
-    alters_and_breaks c.args.cache.now c.fill.new.cache c.free_tree.new.cache c.in_ok-fill.field-0
-    c.in-Err.broken _ c.midway.ensures c.in_ok-fill.ensures.alters c.in-Err.ensures.alters
+pub returns-in_err-free_tree-clause-changes : goal.returns-in_err-free_tree-clause-changes
+returns-in_err-free_tree-clause-changes g c =
+    changes_and_refuses c.args.cache.now c.fill.new.cache c.free_tree.new.cache
+    c.in_err-free_tree.field-0.0 c.from_residual-in_err-free_tree.result c.from_residual-in_err-free_tree.ensures.1
+    c.in_ok-fill.ensures.changes c.in_err-free_tree.ensures.changes
 
-pub returns-in-Err-clause-faults : goal.returns-in-Err-clause-faults
-returns-in-Err-clause-faults g c = λ sound l most all is same.
+pub returns-in_err-free_tree-clause-faults : goal.returns-in_err-free_tree-clause-faults
+returns-in_err-free_tree-clause-faults g c = λ sound l most all is same.
     let m = pages c.args.cache.now in
     let sorted = c.sort_unstable_by_key.new.self in
     let still = still_all _ sorted all c.sort_unstable_by_key.ensures.permutation same in
     let fresh = all_new g.row.D most m c.args.root c.args.directory l is sorted all still in
     let filled = c.in_ok-fill.ensures.filled sound l.ids is.directory_is is.ids fresh in
-    subst (λ (b : Broken). IsNoDamage c.free_tree.new.cache b.cause) (sym c.midway.ensures)
+    at_error c.from_residual-in_err-free_tree.result c.in_err-free_tree.field-0.0 (IsNoDamage c.free_tree.new.cache)
+    c.from_residual-in_err-free_tree.ensures.1
     (inl
-    (c.in-Err.ensures.faults (c.fill.ensures.sound sound l.ids is.directory_is is.ids fresh) l.tree
+    (c.in_err-free_tree.ensures.faults (c.fill.ensures.sound sound l.ids is.directory_is is.ids fresh) l.tree
     (root_of g.row.D most m c.args.root c.args.directory l map.empty is)
     (tree_still g.row.D most m c.args.root c.args.directory l is sorted all still (pages c.fill.new.cache)
     filled) c.requires.root.page.0))
@@ -94,8 +94,8 @@ returns-in_err-fill-clause-grows g c =
     (λ a r q k. search rules)) in
     omega (arith, filled, length_permutation _ _ c.sort_unstable_by_key.ensures.permutation)
 
-pub returns-in-Ok-clause-grows : goal.returns-in-Ok-clause-grows
-returns-in-Ok-clause-grows g c =
+pub returns-clause-grows : goal.returns-clause-grows
+returns-clause-grows g c =
     let class : Entry → ℕ = λ o. class_of o.0 in
     let filled : Grows (most_filled_pages (length c.sort_unstable_by_key.new.self)) c.args.cache.now
     c.fill.new.cache =
@@ -109,8 +109,8 @@ returns-in-Ok-clause-grows g c =
       c.free_tree.ensures.grows,
     )
 
-pub returns-in-Err-clause-grows : goal.returns-in-Err-clause-grows
-returns-in-Err-clause-grows g c =
+pub returns-in_err-free_tree-clause-grows : goal.returns-in_err-free_tree-clause-grows
+returns-in_err-free_tree-clause-grows g c =
     let class : Entry → ℕ = λ o. class_of o.0 in
     let filled : Grows (most_filled_pages (length c.sort_unstable_by_key.new.self)) c.args.cache.now
     c.fill.new.cache =

@@ -6,13 +6,11 @@ use Rattle.box_math.specs.Objects.{Object}
 use Rattle.page_file.specs.Fault.{IsOfDevice}
 use Rattle.page_file.specs.declared.fault.Fault.TheVariants as fault
 use Rattle.page_cache.specs.Cache.{pages}
-use Rattle.page_cache.specs.Calls.{changes_in_turn}
-use Rattle.node_page.specs.Broken.{alters_and_breaks, made_alters}
-use Rattle.node_page.specs.declared.broken.Broken.{Broken}
+use Rattle.page_cache.specs.Calls.{changes_and_refuses, changes_in_turn}
+use Rattle.node_page.proofs.NodeLemmas.{at_error}
 use Rattle.id_table.specs.Table.{part_of}
 use Rattle.node_page.specs.Faults.{IsChangeFault, IsNoDamage}
 use Rattle.reinsert.proofs.FaultLemmas.{one_more}
-use Rattle.reinsert.proofs.BrokenLemmas.{at_broken}
 use Rattle.condense.proofs.RemoveLemmas.{refused_so}
 use Rattle.layer_pages.specs.Changes.{BecomesLayer, HasRemoved}
 use Rattle.layer_pages.specs.Layers.{IsLayerAt, part_of_layer}
@@ -42,20 +40,20 @@ returns-in_err-after-clause-faults g c = λ sound l objects at there.
     let is =
     subst (λ (most : ℕ). IsLayerAt D most m c.args.root c.args.directory l objects) (sym c.from.ensures)
     at in
-    at_broken c.from_residual.result c.in_err-after.field-0.0
-    (λ (b : Broken). IsNoDamage c.remove_with.new.cache b.cause) c.from_residual.ensures.1
+    at_error c.from_residual.result c.in_err-after.field-0.0
+    (IsNoDamage c.remove_with.new.cache) c.from_residual.ensures.1
     (c.in_err-after.ensures.faults sound l.tree (part_of l.ids)
     (can_remove D c.from.result m c.args.root c.args.directory l objects is) is.tree.shape is.boxes
     (in_a_leaf D c.from.result m c.args.root c.args.directory l objects is c.args.id
     (c.args.bounds.now, c.args.tag) there))
 
-pub returns-in-Ok-clause-alters : goal.returns-in-Ok-clause-alters
-returns-in-Ok-clause-alters g c = made_alters c.args.cache.now c.remove.new.cache c.in_ok-after.after
-    (changes_in_turn c.args.cache.now c.remove_with.new.cache c.remove.new.cache None
-    c.in_ok-after.ensures.alters.changes c.in-Ok.ensures.alters.changes)
+pub returns-clause-changes : goal.returns-clause-changes
+returns-clause-changes g c = 
+    changes_in_turn c.args.cache.now c.remove_with.new.cache c.remove.new.cache None
+    c.in_ok-after.ensures.changes c.in_ok-remove.ensures.changes
 
-pub returns-in-Ok-clause-sound : goal.returns-in-Ok-clause-sound
-returns-in-Ok-clause-sound g c = λ sound l objects at.
+pub returns-clause-sound : goal.returns-clause-sound
+returns-clause-sound g c = λ sound l objects at.
     let D = g.row.D in
     let m = pages c.args.cache.now in
     let is =
@@ -64,12 +62,12 @@ returns-in-Ok-clause-sound g c = λ sound l objects at.
     let to =
     c.in_ok-after.ensures.removed sound l.tree (part_of l.ids)
     (can_remove D c.from.result m c.args.root c.args.directory l objects is) in
-    c.in-Ok.ensures.sound to.0 l.ids is.directory_is
+    c.in_ok-remove.ensures.sound to.0 l.ids is.directory_is
     (ids_between D c.from.result m c.args.root c.args.directory l objects is c.args.id
     (c.args.bounds.now, c.args.tag) (pages c.remove_with.new.cache) c.in_ok-after.after to.1)
 
-pub returns-in-Ok-clause-removed : goal.returns-in-Ok-clause-removed
-returns-in-Ok-clause-removed g c = λ sound l objects at there.
+pub returns-clause-removed : goal.returns-clause-removed
+returns-clause-removed g c = λ sound l objects at there.
     let D = g.row.D in
     let m = pages c.args.cache.now in
     let mid = pages c.remove_with.new.cache in
@@ -85,7 +83,7 @@ returns-in-Ok-clause-removed g c = λ sound l objects at there.
     ids_between D c.from.result m c.args.root c.args.directory l objects is id kept mid
     c.in_ok-after.after to.1 in
     let removed =
-    c.in-Ok.ensures.removed to.0 l.ids is.directory_is stand
+    c.in_ok-remove.ensures.removed to.0 l.ids is.directory_is stand
     (in_table D c.from.result m c.args.root c.args.directory l objects is id kept there) in
     subst (λ (most : ℕ). BecomesLayer D most m (pages c.remove.new.cache) (part_of_layer l)
     c.in_ok-after.after c.args.directory (map.remove objects id) (HasRemoved D most l id kept))
@@ -94,8 +92,8 @@ returns-in-Ok-clause-removed g c = λ sound l objects at there.
     c.in_ok-after.after to.1 (pages c.remove.new.cache) removed
     (omega (arith, c.requires.most.0, c.from.ensures)) there)
 
-pub returns-in-Ok-clause-absent : goal.returns-in-Ok-clause-absent
-returns-in-Ok-clause-absent g c = λ sound l objects at absent.
+pub returns-clause-absent : goal.returns-clause-absent
+returns-clause-absent g c = λ sound l objects at absent.
     let D = g.row.D in
     let m = pages c.args.cache.now in
     let is =
@@ -106,13 +104,14 @@ returns-in-Ok-clause-absent g c = λ sound l objects at absent.
     (in_no_leaf D c.from.result m c.args.root c.args.directory l objects is c.args.id
     (c.args.bounds.now, c.args.tag) absent))
 
-pub returns-in-Err-clause-alters : goal.returns-in-Err-clause-alters
-returns-in-Err-clause-alters g c =
-    alters_and_breaks c.args.cache.now c.remove_with.new.cache c.remove.new.cache c.in_ok-after.after
-    c.in-Err.broken _ c.midway.ensures c.in_ok-after.ensures.alters c.in-Err.ensures.alters
+pub returns-in_err-remove-clause-changes : goal.returns-in_err-remove-clause-changes
+returns-in_err-remove-clause-changes g c =
+    changes_and_refuses c.args.cache.now c.remove_with.new.cache c.remove.new.cache
+    c.in_err-remove.field-0.0 c.from_residual-in_err-remove.result c.from_residual-in_err-remove.ensures.1
+    c.in_ok-after.ensures.changes c.in_err-remove.ensures.changes
 
-pub returns-in-Err-clause-absent : goal.returns-in-Err-clause-absent
-returns-in-Err-clause-absent g c = λ sound l objects at absent.
+pub returns-in_err-remove-clause-absent : goal.returns-in_err-remove-clause-absent
+returns-in_err-remove-clause-absent g c = λ sound l objects at absent.
     let D = g.row.D in
     let m = pages c.args.cache.now in
     let is =
@@ -123,8 +122,8 @@ returns-in-Err-clause-absent g c = λ sound l objects at absent.
     (in_no_leaf D c.from.result m c.args.root c.args.directory l objects is c.args.id
     (c.args.bounds.now, c.args.tag) absent))
 
-pub returns-in-Err-clause-faults : goal.returns-in-Err-clause-faults
-returns-in-Err-clause-faults g c = λ sound l objects at there.
+pub returns-in_err-remove-clause-faults : goal.returns-in_err-remove-clause-faults
+returns-in_err-remove-clause-faults g c = λ sound l objects at there.
     let D = g.row.D in
     let m = pages c.args.cache.now in
     let id = c.args.id in
@@ -138,12 +137,14 @@ returns-in-Err-clause-faults g c = λ sound l objects at there.
     let stand =
     ids_between D c.from.result m c.args.root c.args.directory l objects is id kept
     (pages c.remove_with.new.cache) c.in_ok-after.after to.1 in
-    subst (λ (b : Broken). IsNoDamage c.remove.new.cache b.cause) (sym c.midway.ensures)
+    at_error c.from_residual-in_err-remove.result c.in_err-remove.field-0.0 (IsNoDamage c.remove.new.cache)
+    c.from_residual-in_err-remove.ensures.1
     (inl
-    (c.in-Err.ensures.faults to.0 l.ids is.directory_is stand
+    (c.in_err-remove.ensures.faults to.0 l.ids is.directory_is stand
     (in_table D c.from.result m c.args.root c.args.directory l objects is id kept there)))
 
-pub returns-in-Err-clause-other_faults : goal.returns-in-Err-clause-other_faults
-returns-in-Err-clause-other_faults g c =
-    subst (λ (b : Broken). IsChangeFault b.cause) (sym c.midway.ensures)
-    (one_more _ _ _ c.in-Err.ensures.other_faults)
+pub returns-in_err-remove-clause-other_faults : goal.returns-in_err-remove-clause-other_faults
+returns-in_err-remove-clause-other_faults g c =
+    at_error c.from_residual-in_err-remove.result c.in_err-remove.field-0.0 IsChangeFault
+    c.from_residual-in_err-remove.ensures.1
+    (one_more _ _ _ c.in_err-remove.ensures.other_faults)

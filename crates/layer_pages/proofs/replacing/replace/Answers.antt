@@ -5,14 +5,12 @@ use Rattle.std.specs.Prelude.{◌⊎◌}
 use Rattle.page_file.specs.Fault.{IsOfDevice}
 use Rattle.page_file.specs.declared.fault.Fault.TheVariants as fault
 use Rattle.page_cache.specs.Cache.{pages}
-use Rattle.page_cache.specs.Calls.{changes_in_turn}
+use Rattle.page_cache.specs.Calls.{changes_and_refuses, changes_in_turn}
 use Rattle.tree_node.specs.Trees.{object}
-use Rattle.node_page.specs.Broken.{alters_and_breaks, changes_and_breaks, made_alters}
-use Rattle.node_page.specs.declared.broken.Broken.{Broken}
+use Rattle.node_page.proofs.NodeLemmas.{at_error}
 use Rattle.node_page.specs.Faults.{IsChangeFault, IsNoDamage}
 use Rattle.node_page.proofs.RootedLemmas.{loose}
 use Rattle.id_table.specs.Table.{part_of}
-use Rattle.reinsert.proofs.BrokenLemmas.{at_broken}
 use Rattle.reinsert.proofs.FaultLemmas.{one_more}
 use Rattle.condense.proofs.RemoveLemmas.{refused_so}
 use Rattle.layer_pages.specs.Changes.{BecomesLayer, HasReplaced}
@@ -45,21 +43,21 @@ returns-in_err-between-clause-faults g c = λ sound l objects at there.
     let is =
     subst (λ (most : ℕ). IsLayerAt D most m c.args.root c.args.directory l objects)
     (sym c.from-most.ensures) at in
-    at_broken c.from_residual.result c.in_err-between.field-0.0
-    (λ (b : Broken). IsNoDamage c.remove_with.new.cache b.cause) c.from_residual.ensures.1
+    at_error c.from_residual.result c.in_err-between.field-0.0
+    (IsNoDamage c.remove_with.new.cache) c.from_residual.ensures.1
     (c.in_err-between.ensures.faults sound l.tree (part_of l.ids)
     (can_remove D c.from-most.result m c.args.root c.args.directory l objects is) is.tree.shape is.boxes
     (in_a_leaf D c.from-most.result m c.args.root c.args.directory l objects is c.args.id
     (c.args.old.now, c.args.tag) there))
 
-pub returns-in-Err-clause-alters : goal.returns-in-Err-clause-alters
-returns-in-Err-clause-alters g c =
-    alters_and_breaks c.args.cache.now c.remove_with.new.cache c.insert_with.new.cache
-    c.in_ok-between.between c.in-Err.broken _ c.midway.ensures c.in_ok-between.ensures.alters
-    c.in-Err.ensures.alters
+pub returns-in_err-after-clause-changes : goal.returns-in_err-after-clause-changes
+returns-in_err-after-clause-changes g c =
+    changes_and_refuses c.args.cache.now c.remove_with.new.cache c.insert_with.new.cache
+    c.in_err-after.field-0.0 c.from_residual-in_err-after.result c.from_residual-in_err-after.ensures.1
+    c.in_ok-between.ensures.changes c.in_err-after.ensures.changes
 
-pub returns-in-Err-clause-absent : goal.returns-in-Err-clause-absent
-returns-in-Err-clause-absent g c = λ sound l objects at absent.
+pub returns-in_err-after-clause-absent : goal.returns-in_err-after-clause-absent
+returns-in_err-after-clause-absent g c = λ sound l objects at absent.
     let D = g.row.D in
     let m = pages c.args.cache.now in
     let is =
@@ -70,8 +68,8 @@ returns-in-Err-clause-absent g c = λ sound l objects at absent.
     (in_no_leaf D c.from-most.result m c.args.root c.args.directory l objects is c.args.id
     (c.args.old.now, c.args.tag) absent))
 
-pub returns-in-Err-clause-faults : goal.returns-in-Err-clause-faults
-returns-in-Err-clause-faults g c = λ sound l objects at there.
+pub returns-in_err-after-clause-faults : goal.returns-in_err-after-clause-faults
+returns-in_err-after-clause-faults g c = λ sound l objects at there.
     let D = g.row.D in
     let m = pages c.args.cache.now in
     let is =
@@ -85,26 +83,28 @@ returns-in-Err-clause-faults g c = λ sound l objects at there.
     shape_between D c.from-most.result m c.args.root c.args.directory l objects is four c.args.id
     (c.args.old.now, c.args.tag) (c.args.new.now, c.args.tag) (pages c.remove_with.new.cache)
     c.in_ok-between.between to.1 in
-    subst (λ (b : Broken). IsNoDamage c.insert_with.new.cache b.cause) (sym c.midway.ensures)
-    (c.in-Err.ensures.faults to.0 to.1.new (object (c.args.new.now, c.args.tag) c.args.id) (part_of l.ids)
+    at_error c.from_residual-in_err-after.result c.in_err-after.field-0.0 (IsNoDamage c.insert_with.new.cache)
+    c.from_residual-in_err-after.ensures.1
+    (c.in_err-after.ensures.faults to.0 to.1.new (object (c.args.new.now, c.args.tag) c.args.id) (part_of l.ids)
     (can_insert_between D c.from-most.result m c.args.root c.args.directory l objects is four c.args.id
     (c.args.old.now, c.args.tag) (c.args.new.now, c.args.tag) (pages c.remove_with.new.cache)
     c.in_ok-between.between to.1) (loose D c.from-most.result to.1.new shape.0) shape.1
     (entry_has_shape D c.from-most.result m c.args.root c.args.directory l objects is c.args.id
     (c.args.new.now, c.args.tag) c.low.ensures.is_box))
 
-pub returns-in-Err-clause-other_faults : goal.returns-in-Err-clause-other_faults
-returns-in-Err-clause-other_faults g c =
-    subst (λ (b : Broken). IsChangeFault b.cause) (sym c.midway.ensures) c.in-Err.ensures.other_faults
+pub returns-in_err-after-clause-other_faults : goal.returns-in_err-after-clause-other_faults
+returns-in_err-after-clause-other_faults g c =
+    at_error c.from_residual-in_err-after.result c.in_err-after.field-0.0 IsChangeFault
+    c.from_residual-in_err-after.ensures.1 c.in_err-after.ensures.other_faults
 
-pub returns-in-Ok-update-clause-alters : goal.returns-in-Ok-update-clause-alters
-returns-in-Ok-update-clause-alters g c = made_alters c.args.cache.now c.update.new.cache c.in-Ok.after
-    (changes_in_turn c.args.cache.now c.insert_with.new.cache c.update.new.cache None
+pub returns-clause-changes : goal.returns-clause-changes
+returns-clause-changes g c =
+    changes_in_turn c.args.cache.now c.insert_with.new.cache c.update.new.cache None
     (changes_in_turn c.args.cache.now c.remove_with.new.cache c.insert_with.new.cache None
-    c.in_ok-between.ensures.alters.changes c.in-Ok.ensures.alters.changes) c.in-Ok-update.ensures.changes)
+    c.in_ok-between.ensures.changes c.in_ok-after.ensures.changes) c.in_ok-update.ensures.changes
 
-pub returns-in-Ok-update-clause-sound : goal.returns-in-Ok-update-clause-sound
-returns-in-Ok-update-clause-sound g c = λ sound l objects at there.
+pub returns-clause-sound : goal.returns-clause-sound
+returns-clause-sound g c = λ sound l objects at there.
     let D = g.row.D in
     let m = pages c.args.cache.now in
     let is =
@@ -115,7 +115,7 @@ returns-in-Ok-update-clause-sound g c = λ sound l objects at there.
     c.in_ok-between.ensures.removed sound l.tree (part_of l.ids)
     (can_remove D c.from-most.result m c.args.root c.args.directory l objects is) in
     let into =
-    c.in-Ok.ensures.inserted to.0 to.1.new (object (c.args.new.now, c.args.tag) c.args.id)
+    c.in_ok-after.ensures.inserted to.0 to.1.new (object (c.args.new.now, c.args.tag) c.args.id)
     (part_of l.ids)
     (can_insert_between D c.from-most.result m c.args.root c.args.directory l objects is four c.args.id
     (c.args.old.now, c.args.tag) (c.args.new.now, c.args.tag) (pages c.remove_with.new.cache)
@@ -123,11 +123,11 @@ returns-in-Ok-update-clause-sound g c = λ sound l objects at there.
     let stand =
     ids_unchanged D c.from-most.result m c.args.root c.args.directory l objects is four c.args.id
     (c.args.old.now, c.args.tag) (c.args.new.now, c.args.tag) (pages c.remove_with.new.cache)
-    c.in_ok-between.between to.1 (pages c.insert_with.new.cache) c.in-Ok.after into.1 in
-    c.in-Ok-update.ensures.sound into.0 l.ids is.directory_is stand
+    c.in_ok-between.between to.1 (pages c.insert_with.new.cache) c.in_ok-after.after into.1 in
+    c.in_ok-update.ensures.sound into.0 l.ids is.directory_is stand
 
-pub returns-in-Ok-update-clause-replaced : goal.returns-in-Ok-update-clause-replaced
-returns-in-Ok-update-clause-replaced g c = λ sound l objects at there.
+pub returns-clause-replaced : goal.returns-clause-replaced
+returns-clause-replaced g c = λ sound l objects at there.
     let D = g.row.D in
     let m = pages c.args.cache.now in
     let is =
@@ -138,7 +138,7 @@ returns-in-Ok-update-clause-replaced g c = λ sound l objects at there.
     c.in_ok-between.ensures.removed sound l.tree (part_of l.ids)
     (can_remove D c.from-most.result m c.args.root c.args.directory l objects is) in
     let into =
-    c.in-Ok.ensures.inserted to.0 to.1.new (object (c.args.new.now, c.args.tag) c.args.id)
+    c.in_ok-after.ensures.inserted to.0 to.1.new (object (c.args.new.now, c.args.tag) c.args.id)
     (part_of l.ids)
     (can_insert_between D c.from-most.result m c.args.root c.args.directory l objects is four c.args.id
     (c.args.old.now, c.args.tag) (c.args.new.now, c.args.tag) (pages c.remove_with.new.cache)
@@ -146,22 +146,22 @@ returns-in-Ok-update-clause-replaced g c = λ sound l objects at there.
     let stand =
     ids_unchanged D c.from-most.result m c.args.root c.args.directory l objects is four c.args.id
     (c.args.old.now, c.args.tag) (c.args.new.now, c.args.tag) (pages c.remove_with.new.cache)
-    c.in_ok-between.between to.1 (pages c.insert_with.new.cache) c.in-Ok.after into.1 in
+    c.in_ok-between.between to.1 (pages c.insert_with.new.cache) c.in_ok-after.after into.1 in
     let set =
-    c.in-Ok-update.ensures.updated into.0 l.ids is.directory_is stand (c.args.old.now, c.args.tag)
+    c.in_ok-update.ensures.updated into.0 l.ids is.directory_is stand (c.args.old.now, c.args.tag)
     (kept_in_table D c.from-most.result m c.args.root c.args.directory l objects is c.args.id
     (c.args.old.now, c.args.tag) there) in
-    subst (λ (most : ℕ). BecomesLayer D most m (pages c.update.new.cache) (part_of_layer l) c.in-Ok.after
+    subst (λ (most : ℕ). BecomesLayer D most m (pages c.update.new.cache) (part_of_layer l) c.in_ok-after.after
     c.args.directory (map.insert objects c.args.id (c.args.new.now, c.args.tag))
     (HasReplaced D most l c.args.id (c.args.old.now, c.args.tag) (c.args.new.now, c.args.tag)))
     c.from-most.ensures
     (layer_replaced D c.from-most.result m c.args.root c.args.directory l objects is four c.args.id
     (c.args.old.now, c.args.tag) (c.args.new.now, c.args.tag) (pages c.remove_with.new.cache)
-    c.in_ok-between.between to.1 (pages c.insert_with.new.cache) c.in-Ok.after into.1
+    c.in_ok-between.between to.1 (pages c.insert_with.new.cache) c.in_ok-after.after into.1
     (pages c.update.new.cache) set c.low.ensures.is_box there)
 
-pub returns-in-Ok-update-clause-absent : goal.returns-in-Ok-update-clause-absent
-returns-in-Ok-update-clause-absent g c = λ sound l objects at absent.
+pub returns-clause-absent : goal.returns-clause-absent
+returns-clause-absent g c = λ sound l objects at absent.
     let D = g.row.D in
     let m = pages c.args.cache.now in
     let is =
@@ -172,15 +172,15 @@ returns-in-Ok-update-clause-absent g c = λ sound l objects at absent.
     (in_no_leaf D c.from-most.result m c.args.root c.args.directory l objects is c.args.id
     (c.args.old.now, c.args.tag) absent))
 
-pub returns-in-Err-update-clause-alters : goal.returns-in-Err-update-clause-alters
-returns-in-Err-update-clause-alters g c =
-    changes_and_breaks c.args.cache.now c.insert_with.new.cache c.update.new.cache c.in-Err-update.fault _
-    c.midway-in-Err-update.ensures
+pub returns-in_err-update-clause-changes : goal.returns-in_err-update-clause-changes
+returns-in_err-update-clause-changes g c =
+    changes_and_refuses c.args.cache.now c.insert_with.new.cache c.update.new.cache
+    c.in_err-update.field-0.0 c.from_residual-in_err-update.result c.from_residual-in_err-update.ensures.1
     (changes_in_turn c.args.cache.now c.remove_with.new.cache c.insert_with.new.cache None
-    c.in_ok-between.ensures.alters.changes c.in-Ok.ensures.alters.changes) c.in-Err-update.ensures.changes
+    c.in_ok-between.ensures.changes c.in_ok-after.ensures.changes) c.in_err-update.ensures.changes
 
-pub returns-in-Err-update-clause-absent : goal.returns-in-Err-update-clause-absent
-returns-in-Err-update-clause-absent g c = λ sound l objects at absent.
+pub returns-in_err-update-clause-absent : goal.returns-in_err-update-clause-absent
+returns-in_err-update-clause-absent g c = λ sound l objects at absent.
     let D = g.row.D in
     let m = pages c.args.cache.now in
     let is =
@@ -191,8 +191,8 @@ returns-in-Err-update-clause-absent g c = λ sound l objects at absent.
     (in_no_leaf D c.from-most.result m c.args.root c.args.directory l objects is c.args.id
     (c.args.old.now, c.args.tag) absent))
 
-pub returns-in-Err-update-clause-faults : goal.returns-in-Err-update-clause-faults
-returns-in-Err-update-clause-faults g c = λ sound l objects at there.
+pub returns-in_err-update-clause-faults : goal.returns-in_err-update-clause-faults
+returns-in_err-update-clause-faults g c = λ sound l objects at there.
     let D = g.row.D in
     let m = pages c.args.cache.now in
     let is =
@@ -203,7 +203,7 @@ returns-in-Err-update-clause-faults g c = λ sound l objects at there.
     c.in_ok-between.ensures.removed sound l.tree (part_of l.ids)
     (can_remove D c.from-most.result m c.args.root c.args.directory l objects is) in
     let into =
-    c.in-Ok.ensures.inserted to.0 to.1.new (object (c.args.new.now, c.args.tag) c.args.id)
+    c.in_ok-after.ensures.inserted to.0 to.1.new (object (c.args.new.now, c.args.tag) c.args.id)
     (part_of l.ids)
     (can_insert_between D c.from-most.result m c.args.root c.args.directory l objects is four c.args.id
     (c.args.old.now, c.args.tag) (c.args.new.now, c.args.tag) (pages c.remove_with.new.cache)
@@ -211,13 +211,15 @@ returns-in-Err-update-clause-faults g c = λ sound l objects at there.
     let stand =
     ids_unchanged D c.from-most.result m c.args.root c.args.directory l objects is four c.args.id
     (c.args.old.now, c.args.tag) (c.args.new.now, c.args.tag) (pages c.remove_with.new.cache)
-    c.in_ok-between.between to.1 (pages c.insert_with.new.cache) c.in-Ok.after into.1 in
-    subst (λ (b : Broken). IsNoDamage c.update.new.cache b.cause) (sym c.midway-in-Err-update.ensures)
-    (inl (c.in-Err-update.ensures.faults into.0 l.ids is.directory_is stand
+    c.in_ok-between.between to.1 (pages c.insert_with.new.cache) c.in_ok-after.after into.1 in
+    at_error c.from_residual-in_err-update.result c.in_err-update.field-0.0 (IsNoDamage c.update.new.cache)
+    c.from_residual-in_err-update.ensures.1
+    (inl (c.in_err-update.ensures.faults into.0 l.ids is.directory_is stand
     (in_table D c.from-most.result m c.args.root c.args.directory l objects is c.args.id
     (c.args.old.now, c.args.tag) there)))
 
-pub returns-in-Err-update-clause-other_faults : goal.returns-in-Err-update-clause-other_faults
-returns-in-Err-update-clause-other_faults g c =
-    subst (λ (b : Broken). IsChangeFault b.cause) (sym c.midway-in-Err-update.ensures)
-    (one_more _ _ _ c.in-Err-update.ensures.other_faults)
+pub returns-in_err-update-clause-other_faults : goal.returns-in_err-update-clause-other_faults
+returns-in_err-update-clause-other_faults g c =
+    at_error c.from_residual-in_err-update.result c.in_err-update.field-0.0 IsChangeFault
+    c.from_residual-in_err-update.ensures.1
+    (one_more _ _ _ c.in_err-update.ensures.other_faults)

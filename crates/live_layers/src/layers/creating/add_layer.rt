@@ -4,7 +4,7 @@ ghost use Rattle.std.specs.Prelude.{◌≡◌, ◌≤◌, ◌<◌, ℕ, IfErr, I
 ghost use Rattle.std.specs.FinMap as map;
 ghost use Rattle.layer_pages.specs.Changes.{BecomesLayer, IsEmptyLeaf};
 ghost use Rattle.layer_pages.specs.Layers.{CanBeRoot};
-ghost use Rattle.node_page.specs.Broken.{Alters};
+ghost use Rattle.page_cache.specs.Calls.{Changes};
 ghost use Rattle.page_file.specs.Fault.{IsOfDevice};
 ghost use Rattle.node_page.specs.Faults.{IsNoDamage};
 ghost use Rattle.node_page.specs.Parts.{no_page};
@@ -15,13 +15,15 @@ ghost use Rattle.live_layers.specs.Begun.{BeginsChange};
 ghost use Rattle.live_layers.specs.Creating.{BringsTree, MayBeLayer, new_layer};
 ghost use Rattle.live_layers.specs.Keeping.{Belongs, IsSound, cache_of, records_in};
 
+use crate::broken::Broken;
 use crate::layers::Layers;
 use crate::names::name_of;
 use block_device::BlockDevice;
 use catalog_page::LayerRecord;
 use layer_pages::make;
-use node_page::{Broken, Root};
+use node_page::Root;
 use page_cache::PageCache;
+use page_file::Fault;
 use std::alloc::Allocator;
 
 impl<B: BlockDevice, A: Allocator + Copy> Layers<B, A> {
@@ -45,7 +47,10 @@ impl<B: BlockDevice, A: Allocator + Copy> Layers<B, A> {
         ensures begins { BeginsChange self.old self.new result }
     {
         self.begin()?;
-        let (root, directory) = make_pages(&mut self.cache, dims)?;
+        let (root, directory) = match make_pages(&mut self.cache, dims) {
+            Ok(made) => made,
+            Err(fault) => return Err(self.broken_by(fault)),
+        };
         let record = LayerRecord {
             name: name_of(name),
             dims,
@@ -65,17 +70,17 @@ impl<B: BlockDevice, A: Allocator + Copy> Layers<B, A> {
 fn make_pages<B: BlockDevice, A: Allocator + Copy>(
     cache: &mut PageCache<B, A>,
     dims: u8,
-) -> Result<(Root, u32), Broken>
+) -> Result<(Root, u32), Fault>
     requires dims { is_dims dims ≡ true }
     requires open { gate_of cache.old ≡ Open }
-    ensures alters { Alters cache.old cache.new result }
+    ensures changes { Changes cache.old cache.new result }
     ensures places { IfOk result (λ made. CanBeRoot made.0 × (3 ≤ made.1) × (made.1 < next_of cache.new)) }
     ensures sound { IsPageMap cache.old → IsPageMap cache.new }
     ensures made { IsPageMap cache.old → (most : ℕ) → IfOk result (λ made.
         BecomesLayer dims most (pages cache.old) (pages cache.new) no_page made.0 made.1 map.empty
         IsEmptyLeaf) }
     ensures grows { Grows 2 cache.old cache.new }
-    ensures faults { IsPageMap cache.old → IfErr result (λ b. IsNoDamage cache.new b.cause) }
+    ensures faults { IsPageMap cache.old → IfErr result (IsNoDamage cache.new) }
 {
     if dims == 2 {
         make::<2, B, A>(cache)

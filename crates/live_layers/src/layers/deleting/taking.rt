@@ -9,13 +9,13 @@ ghost use Rattle.live_layers.specs.Begun.{BeginsChange};
 ghost use Rattle.live_layers.specs.Keeping.{ChangesTree, Finds, IsSound, cache_of, records_in};
 ghost use Rattle.live_layers.specs.Rules.{HasLost};
 
+use crate::broken::Broken;
 use crate::layers::Layers;
 use crate::rooms::{Room, take_kept, take_waiting};
 use block_device::BlockDevice;
 use box_math::BBox;
 use condense::Kept;
 use layer_pages::remove;
-use node_page::Broken;
 use reinsert::Waiting;
 use std::alloc::Allocator;
 
@@ -48,7 +48,7 @@ impl<B: BlockDevice, A: Allocator + Copy> Layers<B, A> {
         let mut kept = take_kept(kept_room, self.alloc)?;
         self.begin()?;
         let located = self.locate(place);
-        let root = remove(
+        let root = match remove(
             &mut self.cache,
             located.root,
             located.directory,
@@ -58,7 +58,10 @@ impl<B: BlockDevice, A: Allocator + Copy> Layers<B, A> {
             located.fanout,
             &mut waiting,
             &mut kept,
-        )?;
+        ) {
+            Ok(root) => root,
+            Err(fault) => return Err(self.broken_by(fault)),
+        };
         let count = self.count_at(place).saturating_sub(1);
         self.note(place, root, count);
         self.object_count = self.object_count.saturating_sub(1);

@@ -4,7 +4,7 @@ ghost use Rattle.std.specs.Prelude.{◌≡◌, ◌<◌, ℕ, List, IfErr, OnOk, 
 ghost use Rattle.std.specs.FinMap as map;
 ghost use Rattle.box_math.specs.Bounds.{IsDims};
 ghost use Rattle.layer_pages.specs.Layers.{CanBeRoot, IsLayerAt, LayerPages, Objects, part_of_layer};
-ghost use Rattle.node_page.specs.Broken.{Alters};
+ghost use Rattle.page_cache.specs.Calls.{Changes};
 ghost use Rattle.page_file.specs.Fault.{IsOfDevice};
 ghost use Rattle.node_page.specs.Parts.{Moves, no_page};
 ghost use Rattle.page_cache.specs.Cache.{IsPageMap, gate_of, pages};
@@ -15,12 +15,13 @@ ghost use Rattle.live_layers.specs.Begun.{BeginsChange};
 ghost use Rattle.live_layers.specs.Dropping.{KeepsOtherTrees};
 ghost use Rattle.live_layers.specs.Keeping.{Finds, IsSound, cache_of, records_in};
 
+use crate::broken::Broken;
 use crate::layers::Layers;
 use crate::located::Located;
 use block_device::BlockDevice;
 use layer_pages::free;
-use node_page::Broken;
 use page_cache::PageCache;
+use page_file::Fault;
 use std::alloc::Allocator;
 
 impl<B: BlockDevice, A: Allocator + Copy> Layers<B, A> {
@@ -38,7 +39,10 @@ impl<B: BlockDevice, A: Allocator + Copy> Layers<B, A> {
         self.begin()?;
         let located = self.locate(place);
         let count = self.count_at(place);
-        free_pages(&mut self.cache, &located)?;
+        match free_pages(&mut self.cache, &located) {
+            Ok(()) => (),
+            Err(fault) => return Err(self.broken_by(fault)),
+        }
         self.records.remove(place);
         self.object_count = self.object_count.saturating_sub(count);
         self.written = false;
@@ -50,11 +54,11 @@ impl<B: BlockDevice, A: Allocator + Copy> Layers<B, A> {
 fn free_pages<B: BlockDevice, A: Allocator + Copy>(
     cache: &mut PageCache<B, A>,
     located: &Located,
-) -> Result<(), Broken>
+) -> Result<(), Fault>
     requires dims { IsDims located.now.dims }
     requires open { gate_of cache.old ≡ Open }
     requires root { CanBeRoot located.now.root }
-    ensures alters { Alters cache.old cache.new result }
+    ensures changes { Changes cache.old cache.new result }
     ensures sound { IsPageMap cache.old → (l : LayerPages) (most : ℕ) (objects : Objects)
         → IsLayerAt located.now.dims most (pages cache.old) located.now.root located.now.directory l objects
         → IsPageMap cache.new }
@@ -63,7 +67,7 @@ fn free_pages<B: BlockDevice, A: Allocator + Copy>(
         → OnOk result (Moves (pages cache.old) (pages cache.new) (part_of_layer l) no_page) }
     ensures faults { IsPageMap cache.old → (l : LayerPages) (most : ℕ) (objects : Objects)
         → IsLayerAt located.now.dims most (pages cache.old) located.now.root located.now.directory l objects
-        → IfErr result (λ b. IsOfDevice b.cause) }
+        → IfErr result IsOfDevice }
 {
     if located.dims == 2 {
         free::<2, B, A>(cache, located.root, located.directory)

@@ -9,12 +9,13 @@ ghost use Rattle.live_layers.specs.Begun.{BeginsChange};
 ghost use Rattle.live_layers.specs.Keeping.{ChangesTree, Finds, IsSound, cache_of, records_in};
 ghost use Rattle.live_layers.specs.Rules.{HasGained};
 
+use crate::broken::Broken;
 use crate::layers::Layers;
 use crate::rooms::{Room, take_waiting};
 use block_device::BlockDevice;
 use box_math::BBox;
 use layer_pages::insert;
-use node_page::{Broken, Entry};
+use node_page::Entry;
 use reinsert::Waiting;
 use std::alloc::Allocator;
 
@@ -52,14 +53,17 @@ impl<B: BlockDevice, A: Allocator + Copy> Layers<B, A> {
             reference: id,
             tag,
         };
-        let root = insert(
+        let root = match insert(
             &mut self.cache,
             located.root,
             located.directory,
             &object,
             located.fanout,
             &mut waiting,
-        )?;
+        ) {
+            Ok(root) => root,
+            Err(fault) => return Err(self.broken_by(fault)),
+        };
         let count = self.count_at(place).saturating_add(1);
         self.note(place, root, count);
         self.object_count += 1;

@@ -9,13 +9,13 @@ ghost use Rattle.live_layers.specs.Begun.{BeginsChange};
 ghost use Rattle.live_layers.specs.Keeping.{ChangesTree, Finds, IsSound, cache_of, records_in};
 ghost use Rattle.live_layers.specs.Rules.{HasMoved};
 
+use crate::broken::Broken;
 use crate::layers::Layers;
 use crate::rooms::{Room, take_kept, take_waiting};
 use block_device::BlockDevice;
 use box_math::BBox;
 use condense::Kept;
 use layer_pages::replace;
-use node_page::Broken;
 use reinsert::Waiting;
 use std::alloc::Allocator;
 
@@ -50,7 +50,7 @@ impl<B: BlockDevice, A: Allocator + Copy> Layers<B, A> {
         let mut kept = take_kept(kept_room, self.alloc)?;
         self.begin()?;
         let located = self.locate(place);
-        let root = replace(
+        let root = match replace(
             &mut self.cache,
             located.root,
             located.directory,
@@ -61,7 +61,10 @@ impl<B: BlockDevice, A: Allocator + Copy> Layers<B, A> {
             located.fanout,
             &mut waiting,
             &mut kept,
-        )?;
+        ) {
+            Ok(root) => root,
+            Err(fault) => return Err(self.broken_by(fault)),
+        };
         let count = self.count_at(place);
         self.note(place, root, count);
         *waiting_room = Some(waiting);

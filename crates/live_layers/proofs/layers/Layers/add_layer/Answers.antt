@@ -1,9 +1,10 @@
 -- The pages are made, and the record is in its place; or the change was refused, or broke off.
-use Rattle.std.proofs.Common.{length, refl, ap, arith}
+use Rattle.std.proofs.Common.{Err, length, refl, ap, arith}
 use Rattle.catalog_page.specs.Layout.{records_of}
 use Rattle.catalog_page.specs.declared.layer_record.LayerRecord.{LayerRecord}
 use Rattle.layer_pages.specs.Changes.{IsEmptyLeaf}
 use Rattle.page_cache.specs.Laws.{numbers_are_few}
+use Rattle.live_layers.specs.Broken.{told_by}
 use Rattle.live_layers.proofs.CountLemmas.{no_page_wanted}
 use Rattle.live_layers.proofs.BegunLemmas.{broke_behind, made_behind, not_opened}
 use Rattle.live_layers.proofs.CreateLemmas.{brings_before, made_record, one_more_may_be, put_in, sound_made}
@@ -16,32 +17,33 @@ returns-in_err-begin-clause-begins g c =
     not_opened c.args.self.now c.begin.new.self c.in_err-begin.field-0.0 c.from_residual.result
     c.from_residual.ensures.1 c.in_err-begin.ensures.begins c.begin.ensures.sound c.begin.ensures.keeps
 
-pub returns-in_err-root-clause-begins : goal.returns-in_err-root-clause-begins
-returns-in_err-root-clause-begins g c =
-    broke_behind c.args.self.now c.begin.new.self _ c.in_err-root.field-0.0
-    c.from_residual-in_err-root.result c.from_residual-in_err-root.ensures.1 (refl, refl, refl)
+pub returns-in-Err-clause-begins : goal.returns-in-Err-clause-begins
+returns-in-Err-clause-begins g c =
+    broke_behind c.args.self.now c.begin.new.self _ c.in-Err.fault
+    (Err c.broken_by.result) c.broken_by.ensures (refl, refl, refl)
     c.in_ok-begin.ensures.begins c.begin.ensures.sound c.begin.ensures.keeps
-    c.in_err-root.ensures.alters
+    c.in-Err.ensures.changes
 
 pub returns-in_err-begin-clause-faults : goal.returns-in_err-begin-clause-faults
 returns-in_err-begin-clause-faults g c =
     λ t sound. the_err c.from_residual.result c.in_err-begin.field-0.0 _ c.from_residual.ensures.1
     c.in_err-begin.ensures.faults
 
-pub returns-in_err-root-clause-faults : goal.returns-in_err-root-clause-faults
-returns-in_err-root-clause-faults g c = λ t sound.
+pub returns-in-Err-clause-faults : goal.returns-in-Err-clause-faults
+returns-in-Err-clause-faults g c = λ t sound.
     let before = c.begin.ensures.sound t sound in
-    the_err c.from_residual-in_err-root.result c.in_err-root.field-0.0 _ c.from_residual-in_err-root.ensures.1
+    the_err (Err c.broken_by.result) (told_by c.make_pages.new.cache c.in-Err.fault) _
+    c.broken_by.ensures
     (no_page_wanted c.begin.new.self t before
     (omega (arith, c.requires.room, ap length c.begin.ensures.keeps.records)) 2 c.make_pages.new.cache _
     (omega (arith)) c.make_pages.ensures.grows
-    (c.in_err-root.ensures.faults before.map))
+    (c.in-Err.ensures.faults before.map))
 
 pub invariant_of-self-2 : goal.invariant_of-self-2
 invariant_of-self-2 g c =
     let items = c.begin.new.self.records.items in
-    let root = c.in_ok-root.root in
-    let directory = c.in_ok-root.directory in
+    let root = c.in-Ok.root in
+    let directory = c.in-Ok.directory in
     let r : LayerRecord =
     record {
       name = c.name_of.result;
@@ -56,12 +58,12 @@ invariant_of-self-2 g c =
     let records =
     put_in items c.insert.new.self.items c.args.place r row c.insert.ensures.items
     (λ i. made_record (c.name_of.ensures i) c.args.dims c.args.fanout root directory) in
-    let made = c.in_ok-root.ensures.places in
+    let made = c.in-Ok.ensures.places in
     let few = numbers_are_few c.make_pages.new.cache in
     record {
       are_layers =
           one_more_may_be (records_of c.begin.new.self.records) c.args.place c.args.name.now c.args.dims
-          c.args.fanout c.in_ok-root.root c.in_ok-root.directory c.requires.may_be made.0 made.1
+          c.args.fanout c.in-Ok.root c.in-Ok.directory c.requires.may_be made.0 made.1
           (omega (arith, made.2, few.1)) (records_of c.insert.new.self) records c.begin.new.self.are_layers;
     }
 
@@ -70,8 +72,8 @@ returns-clause-added g c = λ t sound belongs.
     let kept = c.begin.new.self in
     let before = c.begin.ensures.sound t sound in
     let items = c.begin.new.self.records.items in
-    let root = c.in_ok-root.root in
-    let directory = c.in_ok-root.directory in
+    let root = c.in-Ok.root in
+    let directory = c.in-Ok.directory in
     let r : LayerRecord =
     record {
       name = c.name_of.result;
@@ -87,18 +89,18 @@ returns-clause-added g c = λ t sound belongs.
     put_in items c.insert.new.self.items c.args.place r row c.insert.ensures.items
     (λ i. made_record (c.name_of.ensures i) c.args.dims c.args.fanout root directory) in
     sound_made kept _ t c.args.name.now c.args.place before belongs c.args.dims c.args.fanout
-    c.requires.may_be c.in_ok-root.root c.in_ok-root.directory
-    (c.in_ok-root.ensures.made before.map c.args.fanout)
-    c.in_ok-root.ensures.places.0 c.in_ok-root.ensures.alters.changes.next records
-    (c.in_ok-root.ensures.sound before.map) refl refl
+    c.requires.may_be c.in-Ok.root c.in-Ok.directory
+    (c.in-Ok.ensures.made before.map c.args.fanout)
+    c.in-Ok.ensures.places.0 c.in-Ok.ensures.changes.next records
+    (c.in-Ok.ensures.sound before.map) refl refl
 
 pub returns-clause-tree : goal.returns-clause-tree
 returns-clause-tree g c = λ t sound belongs.
     let kept = c.begin.new.self in
     let before = c.begin.ensures.sound t sound in
     let items = c.begin.new.self.records.items in
-    let root = c.in_ok-root.root in
-    let directory = c.in_ok-root.directory in
+    let root = c.in-Ok.root in
+    let directory = c.in-Ok.directory in
     let r : LayerRecord =
     record {
       name = c.name_of.result;
@@ -116,11 +118,11 @@ returns-clause-tree g c = λ t sound belongs.
     brings_before c.args.self.now kept _ c.args.name.now IsEmptyLeaf
     (c.begin.ensures.keeps.map.pages_stay sound.map.honest) c.begin.ensures.keeps.records
     (tree_made kept _ t c.args.name.now c.args.place before belongs c.args.dims c.args.fanout
-    c.requires.may_be c.in_ok-root.root c.in_ok-root.directory
-    (c.in_ok-root.ensures.made before.map c.args.fanout)
-    c.in_ok-root.ensures.places.0 c.in_ok-root.ensures.alters.changes.next records)
+    c.requires.may_be c.in-Ok.root c.in-Ok.directory
+    (c.in-Ok.ensures.made before.map c.args.fanout)
+    c.in-Ok.ensures.places.0 c.in-Ok.ensures.changes.next records)
 
 pub returns-clause-begins : goal.returns-clause-begins
 returns-clause-begins g c =
     made_behind c.args.self.now c.begin.new.self _ c.make_pages.new.cache refl c.in_ok-begin.ensures.begins
-    c.in_ok-root.ensures.alters.changes
+    c.in-Ok.ensures.changes

@@ -1,9 +1,10 @@
 -- The object is in the tree and in the table, and the record says so; or the change was refused, or broke
 -- off.
-use Rattle.std.proofs.Common.{refl, inl, arith}
+use Rattle.std.proofs.Common.{Err, refl, inl, arith}
 use Rattle.box_math.specs.Objects.{Object}
 use Rattle.plain_table.specs.Table.{layer_at}
 use Rattle.layer_pages.specs.Changes.{most_inserted_pages}
+use Rattle.live_layers.specs.Broken.{told_by}
 use Rattle.live_layers.proofs.CountLemmas.{no_page_wanted}
 use Rattle.live_layers.specs.Rules.{HasGained}
 use Rattle.live_layers.proofs.AddLemmas.{sound_added, stands_at, tree_added}
@@ -23,12 +24,12 @@ returns-in_err-begin-clause-begins g c =
     c.from_residual-in_err-begin.ensures.1 c.in_err-begin.ensures.begins c.begin.ensures.sound
     c.begin.ensures.keeps
 
-pub returns-in_err-root-clause-begins : goal.returns-in_err-root-clause-begins
-returns-in_err-root-clause-begins g c =
-    broke_behind c.args.self.now c.begin.new.self _ c.in_err-root.field-0.0
-    c.from_residual-in_err-root.result c.from_residual-in_err-root.ensures.1 (refl, refl, refl)
+pub returns-in-Err-clause-begins : goal.returns-in-Err-clause-begins
+returns-in-Err-clause-begins g c =
+    broke_behind c.args.self.now c.begin.new.self _ c.in-Err.fault
+    (Err c.broken_by.result) c.broken_by.ensures (refl, refl, refl)
     c.in_ok-begin.ensures.begins c.begin.ensures.sound c.begin.ensures.keeps
-    c.in_err-root.ensures.alters
+    c.in-Err.ensures.changes
 
 pub returns-in_err-waiting-clause-faults : goal.returns-in_err-waiting-clause-faults
 returns-in_err-waiting-clause-faults g c =
@@ -40,18 +41,19 @@ returns-in_err-begin-clause-faults g c =
     λ t name sound finds dims. the_err c.from_residual-in_err-begin.result _ _
     c.from_residual-in_err-begin.ensures.1 c.in_err-begin.ensures.faults
 
-pub returns-in_err-root-clause-faults : goal.returns-in_err-root-clause-faults
-returns-in_err-root-clause-faults g c = λ t name sound finds dims.
+pub returns-in-Err-clause-faults : goal.returns-in-Err-clause-faults
+returns-in-Err-clause-faults g c = λ t name sound finds dims.
     let kept = c.begin.new.self in
     let before = c.begin.ensures.sound t sound in
     let located = c.locate-located.result in
     let by = c.locate-located.ensures.by_record in
     let id = c.args.id in
     let at = stands_at kept t name c.args.place before finds located by g.row.D dims in
-    the_err c.from_residual-in_err-root.result c.in_err-root.field-0.0 _ c.from_residual-in_err-root.ensures.1
+    the_err (Err c.broken_by.result) (told_by c.insert.new.cache c.in-Err.fault) _
+    c.broken_by.ensures
     (no_page_wanted kept t before c.locate-located.ensures.few most_inserted_pages c.insert.new.cache _
     (omega (arith)) c.insert.ensures.grows
-    (c.in_err-root.ensures.faults before.map (reading kept t name c.args.place before finds).pages
+    (c.in-Err.ensures.faults before.map (reading kept t name c.args.place before finds).pages
     (layer_at t name).objects at))
 
 pub returns-clause-added : goal.returns-clause-added
@@ -65,13 +67,13 @@ returns-clause-added g c = λ t name sound finds dims absent.
     let at = stands_at kept t name c.args.place before finds located by g.row.D dims in
     let l = (reading kept t name c.args.place before finds).pages in
     let objects = (layer_at t name).objects in
-    let became = c.in_ok-root.ensures.inserted before.map l objects at absent in
+    let became = c.in-Ok.ensures.inserted before.map l objects at absent in
     sound_added kept t name c.args.place before finds located by g.row.D dims id object absent
-    c.insert.new.cache c.in_ok-root.root became _ c.note.ensures.cache c.count_at.result
+    c.insert.new.cache c.in-Ok.root became _ c.note.ensures.cache c.count_at.result
     c.saturating_add-count.result c.count_at.ensures
-    c.saturating_add-count.ensures c.in_ok-root.ensures.root c.in_ok-root.ensures.alters.changes.next
+    c.saturating_add-count.ensures c.in-Ok.ensures.root c.in-Ok.ensures.changes.next
     (omega (arith, c.requires.room, c.begin.ensures.count)) c.note.ensures.records
-    (c.in_ok-root.ensures.sound before.map l objects at) (omega (arith, c.note.ensures.count))
+    (c.in-Ok.ensures.sound before.map l objects at) (omega (arith, c.note.ensures.count))
     c.note.ensures.written
 
 pub returns-clause-tree : goal.returns-clause-tree
@@ -85,16 +87,16 @@ returns-clause-tree g c = λ t name sound finds dims absent.
     let at = stands_at kept t name c.args.place before finds located by g.row.D dims in
     let l = (reading kept t name c.args.place before finds).pages in
     let objects = (layer_at t name).objects in
-    let became = c.in_ok-root.ensures.inserted before.map l objects at absent in
+    let became = c.in-Ok.ensures.inserted before.map l objects at absent in
     changes_before c.args.self.now kept _ name (HasGained (layer_at t name) id object)
     (c.begin.ensures.keeps.map.pages_stay sound.map.honest) c.begin.ensures.keeps.records
     (tree_added kept t name c.args.place before finds located by g.row.D dims id object absent
-    c.insert.new.cache c.in_ok-root.root became _ c.note.ensures.cache c.count_at.result
+    c.insert.new.cache c.in-Ok.root became _ c.note.ensures.cache c.count_at.result
     c.saturating_add-count.result c.count_at.ensures
-    c.saturating_add-count.ensures c.in_ok-root.ensures.root c.in_ok-root.ensures.alters.changes.next
+    c.saturating_add-count.ensures c.in-Ok.ensures.root c.in-Ok.ensures.changes.next
     (omega (arith, c.requires.room, c.begin.ensures.count)) c.note.ensures.records)
 
 pub returns-clause-begins : goal.returns-clause-begins
 returns-clause-begins g c =
     made_behind c.args.self.now c.begin.new.self _ c.insert.new.cache c.note.ensures.cache
-    c.in_ok-begin.ensures.begins c.in_ok-root.ensures.alters.changes
+    c.in_ok-begin.ensures.begins c.in-Ok.ensures.changes

@@ -1,7 +1,7 @@
 -- The gate is opened, was open, or is not opened; the pages stay.
 use Rattle.std.proofs.Common.{refl}
 use Rattle.std.specs.Prelude.{Ok, Err}
-use Rattle.node_page.specs.Broken.{before}
+use Rattle.live_layers.specs.Broken.{before}
 use Rattle.page_cache.specs.Cache.{device_of}
 use Rattle.live_layers.proofs.BegunLemmas.{gate_begun, handed_on}
 use Rattle.live_layers.proofs.KeepLemmas.{sound_kept}

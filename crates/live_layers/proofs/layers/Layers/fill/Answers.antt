@@ -1,7 +1,8 @@
 -- The tree is packed and the table filled, and the record says so; or the change was refused, or broke off.
-use Rattle.std.proofs.Common.{length, refl, arith}
+use Rattle.std.proofs.Common.{Err, length, refl, arith}
 use Rattle.plain_table.specs.Table.{layer_at}
 use Rattle.layer_pages.specs.Changes.{most_loaded_pages}
+use Rattle.live_layers.specs.Broken.{told_by}
 use Rattle.live_layers.proofs.CountLemmas.{no_page_wanted_by_load}
 use Rattle.live_layers.specs.Rules.{HasFilled}
 use Rattle.live_layers.proofs.BegunLemmas.{broke_behind, made_behind, not_opened}
@@ -15,20 +16,20 @@ returns-in_err-begin-clause-begins g c =
     not_opened c.args.self.now c.begin.new.self c.in_err-begin.field-0.0 c.from_residual.result
     c.from_residual.ensures.1 c.in_err-begin.ensures.begins c.begin.ensures.sound c.begin.ensures.keeps
 
-pub returns-in_err-root-clause-begins : goal.returns-in_err-root-clause-begins
-returns-in_err-root-clause-begins g c =
-    broke_behind c.args.self.now c.begin.new.self _ c.in_err-root.field-0.0
-    c.from_residual-in_err-root.result c.from_residual-in_err-root.ensures.1 (refl, refl, refl)
+pub returns-in-Err-clause-begins : goal.returns-in-Err-clause-begins
+returns-in-Err-clause-begins g c =
+    broke_behind c.args.self.now c.begin.new.self _ c.in-Err.fault
+    (Err c.broken_by.result) c.broken_by.ensures (refl, refl, refl)
     c.in_ok-begin.ensures.begins c.begin.ensures.sound c.begin.ensures.keeps
-    c.in_err-root.ensures.alters
+    c.in-Err.ensures.changes
 
 pub returns-in_err-begin-clause-faults : goal.returns-in_err-begin-clause-faults
 returns-in_err-begin-clause-faults g c =
     λ t name all sound finds dims none same. the_err c.from_residual.result _ _ c.from_residual.ensures.1
     c.in_err-begin.ensures.faults
 
-pub returns-in_err-root-clause-faults : goal.returns-in_err-root-clause-faults
-returns-in_err-root-clause-faults g c = λ t name all sound finds dims none same.
+pub returns-in-Err-clause-faults : goal.returns-in-Err-clause-faults
+returns-in-Err-clause-faults g c = λ t name all sound finds dims none same.
     let kept = c.begin.new.self in
     let count = length c.args.objects.now in
     let before = c.begin.ensures.sound t sound in
@@ -36,11 +37,12 @@ returns-in_err-root-clause-faults g c = λ t name all sound finds dims none same
     let empty_there =
     stands_empty kept t name c.args.place before finds located c.locate-located.ensures.by_record g.row.D
     dims none in
-    the_err c.from_residual-in_err-root.result c.in_err-root.field-0.0 _ c.from_residual-in_err-root.ensures.1
+    the_err (Err c.broken_by.result) (told_by c.load.new.cache c.in-Err.fault) _
+    c.broken_by.ensures
     (no_page_wanted_by_load kept t before c.locate-located.ensures.few (most_loaded_pages count) count
     c.load.new.cache _ (omega (arith, c.requires.room, c.begin.ensures.count)) (omega (arith))
     c.load.ensures.grows
-    (c.in_err-root.ensures.faults before.map (reading kept t name c.args.place before finds).pages
+    (c.in-Err.ensures.faults before.map (reading kept t name c.args.place before finds).pages
     located.fanout all empty_there same))
 
 pub returns-clause-filled : goal.returns-clause-filled
@@ -51,12 +53,12 @@ returns-clause-filled g c = λ t name all sound finds dims none same.
     let by = c.locate-located.ensures.by_record in
     let l = (reading kept t name c.args.place before finds).pages in
     let empty_there = stands_empty kept t name c.args.place before finds located by g.row.D dims none in
-    let became = c.in_ok-root.ensures.loaded before.map l located.fanout all empty_there same in
+    let became = c.in-Ok.ensures.loaded before.map l located.fanout all empty_there same in
     sound_filled kept t name c.args.place before finds located by g.row.D dims none c.args.objects.now all
-    same c.load.new.cache c.in_ok-root.root became _ c.note.ensures.cache
-    c.in_ok-root.ensures.root c.in_ok-root.ensures.alters.changes.next
+    same c.load.new.cache c.in-Ok.root became _ c.note.ensures.cache
+    c.in-Ok.ensures.root c.in-Ok.ensures.changes.next
     (omega (arith, c.requires.room, c.begin.ensures.count)) c.note.ensures.records
-    (c.in_ok-root.ensures.sound before.map l located.fanout all empty_there same)
+    (c.in-Ok.ensures.sound before.map l located.fanout all empty_there same)
     (omega (arith, c.note.ensures.count)) c.note.ensures.written
 
 pub returns-clause-tree : goal.returns-clause-tree
@@ -67,15 +69,15 @@ returns-clause-tree g c = λ t name all sound finds dims none same.
     let by = c.locate-located.ensures.by_record in
     let l = (reading kept t name c.args.place before finds).pages in
     let empty_there = stands_empty kept t name c.args.place before finds located by g.row.D dims none in
-    let became = c.in_ok-root.ensures.loaded before.map l located.fanout all empty_there same in
+    let became = c.in-Ok.ensures.loaded before.map l located.fanout all empty_there same in
     changes_before c.args.self.now kept _ name (HasFilled (layer_at t name) c.args.objects.now)
     (c.begin.ensures.keeps.map.pages_stay sound.map.honest) c.begin.ensures.keeps.records
     (tree_filled kept t name c.args.place before finds located by g.row.D dims none c.args.objects.now all
-    same c.load.new.cache c.in_ok-root.root became _ c.note.ensures.cache
-    c.in_ok-root.ensures.root c.in_ok-root.ensures.alters.changes.next
+    same c.load.new.cache c.in-Ok.root became _ c.note.ensures.cache
+    c.in-Ok.ensures.root c.in-Ok.ensures.changes.next
     (omega (arith, c.requires.room, c.begin.ensures.count)) c.note.ensures.records)
 
 pub returns-clause-begins : goal.returns-clause-begins
 returns-clause-begins g c =
     made_behind c.args.self.now c.begin.new.self _ c.load.new.cache c.note.ensures.cache
-    c.in_ok-begin.ensures.begins c.in_ok-root.ensures.alters.changes
+    c.in_ok-begin.ensures.begins c.in-Ok.ensures.changes

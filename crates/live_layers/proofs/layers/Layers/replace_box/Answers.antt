@@ -1,8 +1,9 @@
 -- The object has the other box in the tree and in the table, and the record says so; or the change was
 -- refused, or broke off.
-use Rattle.std.proofs.Common.{refl, arith}
+use Rattle.std.proofs.Common.{Err, refl, arith}
 use Rattle.plain_table.specs.Table.{layer_at}
 use Rattle.layer_pages.specs.Changes.{most_replaced_pages}
+use Rattle.live_layers.specs.Broken.{told_by}
 use Rattle.live_layers.proofs.CountLemmas.{no_page_wanted}
 use Rattle.live_layers.specs.Rules.{HasMoved}
 use Rattle.live_layers.proofs.AddLemmas.{stands_at}
@@ -28,24 +29,25 @@ returns-in_err-begin-clause-begins g c =
     c.from_residual-in_err-begin.ensures.1 c.in_err-begin.ensures.begins c.begin.ensures.sound
     c.begin.ensures.keeps
 
-pub returns-in_err-root-clause-begins : goal.returns-in_err-root-clause-begins
-returns-in_err-root-clause-begins g c =
-    broke_behind c.args.self.now c.begin.new.self _ c.in_err-root.field-0.0
-    c.from_residual-in_err-root.result c.from_residual-in_err-root.ensures.1 (refl, refl, refl)
+pub returns-in-Err-clause-begins : goal.returns-in-Err-clause-begins
+returns-in-Err-clause-begins g c =
+    broke_behind c.args.self.now c.begin.new.self _ c.in-Err.fault
+    (Err c.broken_by.result) c.broken_by.ensures (refl, refl, refl)
     c.in_ok-begin.ensures.begins c.begin.ensures.sound c.begin.ensures.keeps
-    c.in_err-root.ensures.alters
+    c.in-Err.ensures.changes
 
-pub returns-in_err-root-clause-faults : goal.returns-in_err-root-clause-faults
-returns-in_err-root-clause-faults g c = λ t name sound finds dims there.
+pub returns-in-Err-clause-faults : goal.returns-in-Err-clause-faults
+returns-in-Err-clause-faults g c = λ t name sound finds dims there.
     let kept = c.begin.new.self in
     let before = c.begin.ensures.sound t sound in
     let at =
     stands_at kept t name c.args.place before finds c.locate-located.result
     c.locate-located.ensures.by_record g.row.D dims in
-    the_err c.from_residual-in_err-root.result c.in_err-root.field-0.0 _ c.from_residual-in_err-root.ensures.1
+    the_err (Err c.broken_by.result) (told_by c.replace.new.cache c.in-Err.fault) _
+    c.broken_by.ensures
     (no_page_wanted kept t before c.locate-located.ensures.few most_replaced_pages c.replace.new.cache _
     (omega (arith)) c.replace.ensures.grows
-    (c.in_err-root.ensures.faults before.map (reading kept t name c.args.place before finds).pages
+    (c.in-Err.ensures.faults before.map (reading kept t name c.args.place before finds).pages
     (layer_at t name).objects at there))
 
 pub returns-clause-replaced : goal.returns-clause-replaced
@@ -58,11 +60,11 @@ returns-clause-replaced g c = λ t name sound finds dims there.
     let l = (reading kept t name c.args.place before finds).pages in
     let objects = (layer_at t name).objects in
     sound_moved kept t name c.args.place before finds located by g.row.D dims c.args.id
-    (c.args.known.now, c.args.tag) c.args.bounds.now there c.replace.new.cache c.in_ok-root.root
-    (c.in_ok-root.ensures.replaced before.map l objects at there) _ c.note.ensures.cache
-    c.count_at-count.result c.count_at-count.ensures c.in_ok-root.ensures.root
-    c.in_ok-root.ensures.alters.changes.next c.note.ensures.records
-    (c.in_ok-root.ensures.sound before.map l objects at there) c.note.ensures.count c.note.ensures.written
+    (c.args.known.now, c.args.tag) c.args.bounds.now there c.replace.new.cache c.in-Ok.root
+    (c.in-Ok.ensures.replaced before.map l objects at there) _ c.note.ensures.cache
+    c.count_at-count.result c.count_at-count.ensures c.in-Ok.ensures.root
+    c.in-Ok.ensures.changes.next c.note.ensures.records
+    (c.in-Ok.ensures.sound before.map l objects at there) c.note.ensures.count c.note.ensures.written
 
 pub returns-clause-tree : goal.returns-clause-tree
 returns-clause-tree g c = λ t name sound finds dims there.
@@ -75,12 +77,12 @@ returns-clause-tree g c = λ t name sound finds dims there.
     changes_before c.args.self.now kept _ name (HasMoved (layer_at t name) c.args.id c.args.bounds.now)
     (c.begin.ensures.keeps.map.pages_stay sound.map.honest) c.begin.ensures.keeps.records
     (tree_moved kept t name c.args.place before finds located by g.row.D dims c.args.id
-    (c.args.known.now, c.args.tag) c.args.bounds.now there c.replace.new.cache c.in_ok-root.root
-    (c.in_ok-root.ensures.replaced before.map l (layer_at t name).objects at there) _ c.note.ensures.cache
-    c.count_at-count.result c.count_at-count.ensures c.in_ok-root.ensures.root
-    c.in_ok-root.ensures.alters.changes.next c.note.ensures.records)
+    (c.args.known.now, c.args.tag) c.args.bounds.now there c.replace.new.cache c.in-Ok.root
+    (c.in-Ok.ensures.replaced before.map l (layer_at t name).objects at there) _ c.note.ensures.cache
+    c.count_at-count.result c.count_at-count.ensures c.in-Ok.ensures.root
+    c.in-Ok.ensures.changes.next c.note.ensures.records)
 
 pub returns-clause-begins : goal.returns-clause-begins
 returns-clause-begins g c =
     made_behind c.args.self.now c.begin.new.self _ c.replace.new.cache c.note.ensures.cache
-    c.in_ok-begin.ensures.begins c.in_ok-root.ensures.alters.changes
+    c.in_ok-begin.ensures.begins c.in-Ok.ensures.changes

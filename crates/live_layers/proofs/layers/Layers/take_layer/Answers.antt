@@ -1,7 +1,8 @@
 -- The pages are free, and the record is out; or the change was refused, or broke off.
-use Rattle.std.proofs.Common.{length, ap, arith, refl}
+use Rattle.std.proofs.Common.{Err, length, ap, arith, refl}
 use Rattle.catalog_page.specs.Layout.{records_of}
 use Rattle.plain_table.specs.Table.{layer_at}
+use Rattle.live_layers.specs.Broken.{told_by}
 use Rattle.live_layers.proofs.AddLemmas.{stands_at}
 use Rattle.live_layers.proofs.BegunLemmas.{broke_behind, made_behind, not_opened}
 use Rattle.live_layers.proofs.DropLemmas.{keeps_before, one_less_may_be, sound_less, taken_out, trees_left}
@@ -14,15 +15,15 @@ returns-in_err-begin-clause-begins g c =
     not_opened c.args.self.now c.begin.new.self c.in_err-begin.field-0.0 c.from_residual.result
     c.from_residual.ensures.1 c.in_err-begin.ensures.begins c.begin.ensures.sound c.begin.ensures.keeps
 
-pub returns-in_err-free_pages-clause-begins : goal.returns-in_err-free_pages-clause-begins
-returns-in_err-free_pages-clause-begins g c =
-    broke_behind c.args.self.now c.begin.new.self _ c.in_err-free_pages.field-0.0
-    c.from_residual-in_err-free_pages.result c.from_residual-in_err-free_pages.ensures.1
+pub returns-in-Err-clause-begins : goal.returns-in-Err-clause-begins
+returns-in-Err-clause-begins g c =
+    broke_behind c.args.self.now c.begin.new.self _ c.in-Err.fault
+    (Err c.broken_by.result) c.broken_by.ensures
     (refl, refl, refl) c.in_ok-begin.ensures.begins c.begin.ensures.sound c.begin.ensures.keeps
-    c.in_err-free_pages.ensures.alters
+    c.in-Err.ensures.changes
 
-pub returns-in_err-free_pages-clause-faults : goal.returns-in_err-free_pages-clause-faults
-returns-in_err-free_pages-clause-faults g c = λ t name sound finds.
+pub returns-in-Err-clause-faults : goal.returns-in-Err-clause-faults
+returns-in-Err-clause-faults g c = λ t name sound finds.
     let kept = c.begin.new.self in
     let before = c.begin.ensures.sound t sound in
     let located = c.locate-located.result in
@@ -30,9 +31,9 @@ returns-in_err-free_pages-clause-faults g c = λ t name sound finds.
     let at =
     stands_at kept t name c.args.place before finds located c.locate-located.ensures.by_record
     located.dims dims in
-    the_err c.from_residual-in_err-free_pages.result c.in_err-free_pages.field-0.0 _
-    c.from_residual-in_err-free_pages.ensures.1
-    (c.in_err-free_pages.ensures.faults before.map (reading kept t name c.args.place before finds).pages
+    the_err (Err c.broken_by.result) (told_by c.free_pages.new.cache c.in-Err.fault) _
+    c.broken_by.ensures
+    (c.in-Err.ensures.faults before.map (reading kept t name c.args.place before finds).pages
     located.fanout (layer_at t name).objects at)
 
 pub invariant_of-self-2 : goal.invariant_of-self-2
@@ -58,10 +59,10 @@ returns-clause-taken g c = λ t name sound finds.
     let objects = (layer_at t name).objects in
     let records = taken_out kept.records.items c.remove.new.self.items c.args.place c.remove.ensures.items in
     sound_less kept _ t name c.args.place before finds
-    (c.in_ok-free_pages.ensures.freed before.map l located.fanout objects at)
-    c.in_ok-free_pages.ensures.alters.changes.next records c.count_at-count.result
+    (c.in-Ok.ensures.freed before.map l located.fanout objects at)
+    c.in-Ok.ensures.changes.next records c.count_at-count.result
     c.count_at-count.ensures
-    (c.in_ok-free_pages.ensures.sound before.map l located.fanout objects at) c.saturating_sub-self.ensures
+    (c.in-Ok.ensures.sound before.map l located.fanout objects at) c.saturating_sub-self.ensures
     refl
 
 pub returns-clause-others : goal.returns-clause-others
@@ -78,10 +79,10 @@ returns-clause-others g c = λ t name sound finds.
     keeps_before c.args.self.now kept _ name (c.begin.ensures.keeps.map.pages_stay sound.map.honest)
     c.begin.ensures.keeps.records
     (trees_left kept _ t name c.args.place before finds
-    (c.in_ok-free_pages.ensures.freed before.map l located.fanout (layer_at t name).objects at)
-    c.in_ok-free_pages.ensures.alters.changes.next records)
+    (c.in-Ok.ensures.freed before.map l located.fanout (layer_at t name).objects at)
+    c.in-Ok.ensures.changes.next records)
 
 pub returns-clause-begins : goal.returns-clause-begins
 returns-clause-begins g c =
     made_behind c.args.self.now c.begin.new.self _ c.free_pages.new.cache refl c.in_ok-begin.ensures.begins
-    c.in_ok-free_pages.ensures.alters.changes
+    c.in-Ok.ensures.changes
