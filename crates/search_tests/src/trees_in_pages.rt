@@ -7,7 +7,7 @@ ghost use Rattle.page_file.specs.declared.gate.Gate.TheVariants.{Open};
 use arrayvec::ArrayVec;
 use block_device::MemoryDevice;
 use box_math::BBox;
-use node_page::{Broken, Entry, Node, Root, add_entry, leaf_lists, read_node, write_node};
+use node_page::{Entry, Node, Root, add_entry, leaf_lists, read_node, write_node};
 use page_file::Fault;
 use refusing::Refusing;
 use std::alloc::Global;
@@ -85,7 +85,7 @@ fn a_node_is_written_and_read(rt: HostRuntime) -> Result<(), Fail> {
 
 // Adds object 9 with the box (4,4) to (5,6) and the tag 8 to a leaf of fewer than three, and answers the
 // least box round all.
-fn add_to_leaf(cache: &mut Cache, page: u32) -> Result<Option<BBox<2>>, Broken>
+fn add_to_leaf(cache: &mut Cache, page: u32) -> Result<Option<BBox<2>>, Fault>
     requires { gate_of cache.old ≡ Open }
     ensures { gate_of cache.new ≡ Open }
 {
@@ -110,8 +110,7 @@ fn an_entry_is_added_where_there_is_room_and_an_entry(rt: HostRuntime) -> Result
     assert!(rt; leaf.entries[1].tag == 6 && leaf.entries[2].tag == 8);
     let (full, empty) = (add_to_leaf(&mut cache, 4)?, add_to_leaf(&mut cache, 6)?);
     assert!(rt; full.is_none() && empty.is_none());
-    let no_leaf = Broken::from(Fault::Damaged(5));
-    assert!(rt; add_to_leaf(&mut cache, 5) == Err(no_leaf));
+    assert!(rt; add_to_leaf(&mut cache, 5) == Err(Fault::Damaged(5)));
     Ok(())
 }
 

@@ -7,7 +7,7 @@ ghost use Rattle.page_file.specs.declared.gate.Gate.TheVariants.{Open};
 use crate::scene::{file_with, leaves_are, line, open_cache};
 use box_math::BBox;
 use condense::{Kept, free_tree, remove, remove_with};
-use node_page::{Broken, read_node};
+use node_page::read_node;
 use page_file::Fault;
 use reinsert::Waiting;
 use std::alloc::Global;
@@ -27,7 +27,7 @@ fn five_points(alloc: Global) -> Result<Cache, Fault>
 }
 
 // Removes the point at that place of the line, if it has the identifier. All points have the tag 0.
-fn take(alloc: Global, cache: &mut Cache, id: u64, x: i32) -> Result<Root, Broken>
+fn take(alloc: Global, cache: &mut Cache, id: u64, x: i32) -> Result<Root, Fault>
     requires { gate_of cache.old ≡ Open }
     ensures { gate_of cache.new ≡ Open }
 {
@@ -73,13 +73,11 @@ fn the_box_above_a_leaf_that_stays_is_made_least(rt: HostRuntime) -> Result<(), 
 #[test]
 fn an_object_that_is_not_there_changes_nothing(rt: HostRuntime) -> Result<(), Fail> {
     let mut cache = five_points(rt.alloc())?;
-    let absent = Err(Broken {
-        cause: Fault::Damaged(5),
-        touched: false,
-    });
+    let absent = Err(Fault::Damaged(5));
     assert!(rt; take(rt.alloc(), &mut cache, 9, 0) == absent);
     assert!(rt; take(rt.alloc(), &mut cache, 1, 1) == absent);
     assert!(rt; remove(rt.alloc(), &mut cache, FIVE, 1, &at(0), 1, 4) == absent);
+    assert!(rt; !cache.is_touched());
     let are = leaves_are(rt.alloc(), &mut cache, FIVE, &[&[1, 2], &[3, 4, 5]])?;
     assert!(rt; are);
     Ok(())

@@ -1,5 +1,5 @@
 //! Growths and calls of the device refused in turn: an insertion, a removal and the freeing of a tree say why
-//! they broke off, and leave the tree as it was where they say that no page was touched.
+//! they broke off, and leave the tree as it was where the cache says that no page was touched.
 
 ghost use Rattle.std.specs.Prelude.{◌≡◌};
 ghost use Rattle.page_cache.specs.Cache.{gate_of};
@@ -8,7 +8,7 @@ ghost use Rattle.page_file.specs.declared.gate.Gate.TheVariants.{Open};
 use crate::scene::{file_with, leaves_are, line, open_cache, point};
 use block_device::{BlockDevice, FuseDevice, FuseMode, MemoryDevice};
 use condense::{free_tree, remove};
-use node_page::{Broken, Root};
+use node_page::Root;
 use page_cache::PageCache;
 use page_file::Fault;
 use refusing::Refusing;
@@ -46,7 +46,7 @@ fn make<B: BlockDevice, A: Allocator + Copy>(
     alloc: A,
     cache: &mut PageCache<B, A>,
     call: Call,
-) -> Result<(), Broken>
+) -> Result<(), Fault>
     requires { gate_of cache.old ≡ Open }
 {
     match call {
@@ -88,16 +88,16 @@ impl Refusals {
         alloc: Global,
         cache: &mut PageCache<B, A>,
         call: Call,
-        broken: Broken,
+        fault: Fault,
         cause: Fault,
     ) -> Result<bool, Fault> {
-        if broken.touched {
+        if cache.is_touched() {
             self.touched = self.touched.wrapping_add(1);
-            return Ok(broken.cause == cause);
+            return Ok(fault == cause);
         }
         self.untouched = self.untouched.wrapping_add(1);
         let is_as_it_was = is_as_it_was(alloc, cache, call)?;
-        Ok(is_as_it_was && broken.cause == cause)
+        Ok(is_as_it_was && fault == cause)
     }
 }
 
@@ -115,10 +115,10 @@ fn refused_growths(alloc: Global, call: Call) -> Result<Option<Refusals>, Fault>
         heap.refuse_from(k);
         let answer = make(&heap, &mut cache, call);
         let refused = heap.relent();
-        let Err(broken) = answer else {
+        let Err(fault) = answer else {
             return Ok(Some(refusals));
         };
-        let is_told = refusals.count(alloc, &mut cache, call, broken, Fault::Memory)?;
+        let is_told = refusals.count(alloc, &mut cache, call, fault, Fault::Memory)?;
         if !(refused && is_told) {
             return Ok(None);
         }
@@ -138,10 +138,10 @@ fn failed_calls(alloc: Global, call: Call) -> Result<Option<Refusals>, Fault> {
         let Ok(mut cache) = open_cache(alloc, fuse) else {
             continue;
         };
-        let Err(broken) = make(alloc, &mut cache, call) else {
+        let Err(fault) = make(alloc, &mut cache, call) else {
             return Ok(Some(refusals));
         };
-        let is_told = refusals.count(alloc, &mut cache, call, broken, Fault::Device)?;
+        let is_told = refusals.count(alloc, &mut cache, call, fault, Fault::Device)?;
         if !is_told {
             return Ok(None);
         }

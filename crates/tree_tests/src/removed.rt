@@ -6,7 +6,7 @@ ghost use Rattle.page_file.specs.declared.gate.Gate.TheVariants.{Open};
 
 use crate::scene::{Dice, Spread, add_tree, is_whole, tag_for};
 use condense::{Kept, remove_with};
-use node_page::{Broken, Entry, Root};
+use node_page::{Entry, Root};
 use page_file::Fault;
 use reinsert::{Waiting, insert_with};
 use std::alloc::Global;
@@ -51,7 +51,7 @@ impl Scene {
     }
 
     // Inserts an object.
-    fn add(&mut self, object: Entry<2>) -> Result<(), Broken> {
+    fn add(&mut self, object: Entry<2>) -> Result<(), Fault> {
         let most = usize::from(self.m_max);
         self.root = insert_with(
             &mut self.cache,
@@ -61,12 +61,12 @@ impl Scene {
             most,
             &mut self.waiting,
         )?;
-        self.objects.push(object).map_err(Fault::from)?;
+        self.objects.push(object)?;
         Ok(())
     }
 
     // Removes an object by chance, if there is one.
-    fn take(&mut self) -> Result<Option<Entry<2>>, Broken> {
+    fn take(&mut self) -> Result<Option<Entry<2>>, Fault> {
         let place = usize::try_from(self.dice.roll(0x7fff_ffff)).unwrap_or(0);
         if self.objects.is_empty() {
             return Ok(None);
@@ -87,7 +87,7 @@ impl Scene {
     }
 
     // Makes a change by chance: half are insertions, and a quarter each are moves and removals.
-    fn change(&mut self, reference: u64) -> Result<(), Broken> {
+    fn change(&mut self, reference: u64) -> Result<(), Fault> {
         let bounds = self.dice.bounds(Spread::Uniform, 0x3ff);
         match self.dice.roll(3) {
             0 => match self.take()? {
@@ -107,7 +107,7 @@ impl Scene {
     }
 
     // Makes a part of the changes. New objects have references from that number on.
-    fn changes(&mut self, first: u64) -> Result<(), Broken> {
+    fn changes(&mut self, first: u64) -> Result<(), Fault> {
         for turn in 0..PART {
             self.change(first.saturating_add(turn))?;
         }
@@ -115,7 +115,7 @@ impl Scene {
     }
 
     // Makes a part of the removals.
-    fn removals(&mut self) -> Result<(), Broken> {
+    fn removals(&mut self) -> Result<(), Fault> {
         for _ in 0..PART {
             self.take()?;
         }

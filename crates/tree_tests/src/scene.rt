@@ -8,7 +8,7 @@ use arrayvec::ArrayVec;
 use block_device::{BlockDevice, MemoryDevice};
 use box_math::BBox;
 use bulk_load::load;
-use node_page::{Broken, Entry, Node, Root, check_tree, leaf_lists, write_node};
+use node_page::{Entry, Node, Root, check_tree, leaf_lists, write_node};
 use page_cache::PageCache;
 use page_file::{Fault, open_pages};
 use reinsert::{Waiting, insert_with};
@@ -41,7 +41,7 @@ pub fn insert_all<const D: usize>(
     root: Root,
     entries: &[Entry<D>],
     m_max: u8,
-) -> Result<Root, Broken>
+) -> Result<Root, Fault>
     requires open { gate_of cache.old ≡ Open }
     requires dims { (2 ≤ D) × (D ≤ 3) }
     requires most { (4 ≤ m_max) × (m_max ≤ 100) }
@@ -71,10 +71,7 @@ pub fn insert_tree<const D: usize>(
 {
     let mut waiting = Waiting::make(alloc)?;
     let root = add_tree::<D>(cache)?;
-    match insert_all(cache, &mut waiting, root, entries, m_max) {
-        Ok(root) => Ok(root),
-        Err(broken) => Err(broken.cause),
-    }
+    insert_all(cache, &mut waiting, root, entries, m_max)
 }
 
 /// The device of a file whose one tree was made by inserting these entries, four to a node, and its root.
@@ -111,10 +108,7 @@ pub fn load_boxes(
     ensures open { gate_of cache.new ≡ Open }
 {
     let mut objects = boxes(alloc, spread, count)?;
-    match load(alloc, cache, objects.as_mut_slice(), m_max) {
-        Ok(root) => Ok(root),
-        Err(broken) => Err(broken.cause),
-    }
+    load(alloc, cache, objects.as_mut_slice(), m_max)
 }
 
 /// Whether a tree of the shape stands at the root, with these objects, whose references ascend.
