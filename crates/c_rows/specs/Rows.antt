@@ -39,6 +39,8 @@ pair_of pair = record { first = pair.0; second = pair.1 }
 
 -- the object that a row gives to a layer of so many axes, for a load
 abbrev pub object_in : ℕ → Row → ℕ × RawBox × ℕ
-object_in axes row =
-    (row.id, if axes == 2 then raw.Two (take 2 row.low) (take 2 row.high) else raw.Three row.low row.high,
-    row.tag)
+object_in axes row = (
+  row.id,
+  if axes == 2 then raw.Two (take 2 row.low) (take 2 row.high) else raw.Three row.low row.high,
+  row.tag,
+)

@@ -7,7 +7,7 @@ use Rattle.c_session.proofs.session.Session.load.Goals as goal
 pub returns-in-Ok : goal.returns-in-Ok
 returns-in-Ok g c =
     let changes =
-        subst (λ objects. Changes c.in-Some.store c.load.new.self (Load c.args.layer.now objects)
-        c.load.result) (c.as_slice.ensures.value ∙ c.in-Ok.ensures) c.load.ensures.changes in
+    subst (λ objects. Changes c.in-Some.store c.load.new.self (Load c.args.layer.now objects)
+    c.load.result) (c.as_slice.ensures.value ∙ c.in-Ok.ensures) c.load.ensures.changes in
     inl (changed c.args.self.now _ c.load.new.self _ c.load.result c.number_of.new.detail c.number_of.result
-        c.in-Some.is c.if-self.false changes c.number_of.ensures.detail c.number_of.ensures.number)
+    c.in-Some.is c.if-self.false changes c.number_of.ensures.detail c.number_of.ensures.number)

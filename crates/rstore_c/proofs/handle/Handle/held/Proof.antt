@@ -58,12 +58,12 @@ back 𝓛 h us rb ro b o e w =
 pub held_spec : {M : Type 1} → statement M
 held_spec 𝓤 𝓛 𝓜 𝓡 wired =
     let c = f.clauses 𝓛 𝓜.mem 𝓡.returns in let W = walk_of 𝓛 f.ended stayed c in
-        let 𝓣 = tables 𝓤 𝓛.H 𝓜 𝓡 𝓡.env in
+    let 𝓣 = tables 𝓤 𝓛.H 𝓜 𝓡 𝓡.env in
     proved 𝓛 f.ended stayed c 𝓜 𝓡 (Goes-spent_ref 𝓛 1 (0 ∷ []) tt (plain (λ _. R)), tt)
     f.Key.name code.function (code.unfolded 𝓤 𝓛.H 𝓜 𝓡 wired)
     (λ κs. (mut_vals, tt)) (λ κs. (mut_Tells (named 0) κs.0 R, tt)) (λ κs qs bounds a _ are.
     let κ = κs.0 in let q = qs.0 in let rb = a.0.ref_ptr.0 in let ro = a.0.ref_ptr.1 in
-        let γ = a.0.ghost_name in let h = a.0.now in let vs = mut_vals a.0 in
+    let γ = a.0.ghost_name in let h = a.0.now in let vs = mut_vals a.0 in
     let y : W.Ghost = ((κs, qs, bounds, a, (vs, tt)), tt) in
     qed 𝓛 (((‵ (flft κ q) ⊛ ‵ ftrue) ⊛ ‵ ((MutRef (named 0) κ R).own_val a.0 vs) ⊛ ‵ ftrue) ∷ ‵ ftrue ∷ []) ∵
     split ! $ split ! $ move ! (2 ∷ []) $ split ! $ keep ! (0 ∷ 2 ∷ []) $
@@ -77,7 +77,7 @@ held_spec 𝓤 𝓛 𝓜 𝓡 wired =
     -- [the value; what the fields own; the struct's cell; the open borrow, in three entries]
     first ! $ blocks ! $
     sets ! (of_opd ! (load ! (through ! refl (fld ! refl (stop !))) (look_in ! 2 (sub ! 0 refl (whole !)))))
-        refl (tt, tt) $
+    refl (tt, tt) $
     sets ! (of_opd ! (get ! refl)) refl (tt, tt) $
     sets_last ! (addr ! (through ! refl (stop !))) refl (tt, tt) $
     exec ! 𝓣.C 𝓣.Λ (env code.Mir.locals l) (after 1 (code.function).body) (at_ret _ (W.post y)) $
@@ -85,15 +85,15 @@ held_spec 𝓤 𝓛 𝓜 𝓡 wired =
     rewrite ! 2 Cell (sym word) refl $
     move ! (1 ∷ 2 ∷ []) $ fjoin ! $ move ! (2 ∷ 3 ∷ 4 ∷ 1 ∷ 0 ∷ []) $ group ! 5 $
     use1 𝓛 (later
-        (some (λ (γ' : GName). ‵
-        ((MutRef (named 0) κ S).own_val (record { ref_ptr = (b, o); ghost_name = γ'; now = h.value })
-        (vptr b o ∷ [])) ⊛ ‵ (flft κ q) ⊛ ‵ (follows R S γ γ' (with h)))))
+    (some (λ (γ' : GName). ‵
+    ((MutRef (named 0) κ S).own_val (record { ref_ptr = (b, o); ghost_name = γ'; now = h.value })
+    (vptr b o ∷ [])) ⊛ ‵ (flft κ q) ⊛ ‵ (follows R S γ γ' (with h)))))
     (lends_Part 𝓛 R S (with h) (named 0) κ q rb ro b o γ (sem 𝓛 (Rest h us rb ro)) (back 𝓛 h us rb ro b o e)
-        (R.coded.code h) (R.coded.code h) h.value) $ await ! tt $ pick ! (λ γ'.
+    (R.coded.code h) (R.coded.code h) h.value) $ await ! tt $ pick ! (λ γ'.
     returns ! (look_at ! 0 refl) $ free_all ! refl $ keep ! (0 ∷ []) $ split ! $ move ! (1 ∷ []) $ split ! $
     -- [the token; the way back; the result]
     suffices ! _
-        (ends_at 𝓛 f.ended stayed c y (vptr b o)
-        (record { ref_ptr = (b, o); ghost_name = γ'; now = h.value }) (tt, tt) (tt, tt)) $
+    (ends_at 𝓛 f.ended stayed c y (vptr b o)
+    (record { ref_ptr = (b, o); ghost_name = γ'; now = h.value }) (tt, tt) (tt, tt)) $
     move ! (2 ∷ 0 ∷ 1 ∷ []) $ nothing ! $ nothing ! $ fjoin ! $ join ! $ nothing ! $ move ! (2 ∷ 0 ∷ []) $
-        join ! $ join ! $ frame ! $ says ! refl $ done !))))))
+    join ! $ join ! $ frame ! $ says ! refl $ done !))))))
