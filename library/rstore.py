@@ -281,6 +281,8 @@ _POINTS = {2: struct.Struct("=ii"), 3: struct.Struct("=iii")}
 _WINDOW, _INSIDE, _AROUND, _POINT = range(4)
 _EXISTING, _CREATE, _READ_ONLY = range(3)
 _WHOLE = (-(1 << 31), (1 << 31) - 1)
+# With a scale a number that is so near to a whole one counts as it, so that 0.1 times 10^7 is a million.
+_EPSILON = 1e-6
 
 
 def _load_library() -> ctypes.CDLL:
@@ -436,7 +438,8 @@ class Layer:
 
     **scale**: with `scale=n` coordinates are decimal numbers, which are stored as whole ones, n times as large: 10_000_000
     for degrees is a centimetre. A box that is stored or asked for is rounded outwards, each low down and each high up, and
-    a point down. So no object is missed that meets, lies in or encloses what was asked for by the numbers as given; one
+    a point down, but what is off a whole number by a millionth counts as it: so decimal numbers of as many places as n has
+    zeros are exact. No object is missed that meets, lies in or encloses what was asked for by the numbers as given; one
     that is off by less than 1/n may be found, too. Boxes in answers are the rounded ones. Numbers of more than
     (2^31 - 1) / n are refused by `Misuse`. The scale is not kept in the file: give the same one each time."""
 
@@ -460,11 +463,11 @@ class Layer:
         dims, scale = self.dims, self.scale
         if len(box) != 2 * dims:
             raise struct.error("another number of axes than the layer")
-        lows = [math.floor(x * scale) for x in box[:dims]]
-        return _BOXES[dims].pack(*lows, *[math.ceil(x * scale) for x in box[dims:]])
+        lows = [math.floor(x * scale + _EPSILON) for x in box[:dims]]
+        return _BOXES[dims].pack(*lows, *[math.ceil(x * scale - _EPSILON) for x in box[dims:]])
 
     def _scaled_point(self, *point: Number) -> bytes:
-        return _POINTS[self.dims].pack(*[math.floor(x * self.scale) for x in point])
+        return _POINTS[self.dims].pack(*[math.floor(x * self.scale + _EPSILON) for x in point])
 
     def _refuse(self, numbers: Any, what: str, wanted: int) -> Error:
         """What to raise of numbers that could not be packed."""
@@ -730,13 +733,17 @@ class Layer:
         squared = self.scale * self.scale
         return [(id, (high << 64 | low) / squared) for id, low, high in found]
 
-    def _near(self, numbers: bytes, k: int) -> "Iterator[tuple[int, ...]]":
-        at, count = c_void_p(), c_size_t()
+    def _near(self, numbers: bytes, k: int) -> "list[tuple[int, int, int]]":
+        """Identifiers and squared distances, each in two halves, the lower first."""
+        store = self._store
         with self._lock:
-            error = self._lib.rstore_nearest(self._store._open, self._c_name, k, numbers, self.dims, byref(at), byref(count))
+            error = store._nearest(
+                store._handle, self._c_name, c_uint64(k), numbers, self._axes, store._at_at, store._count_at
+            )
             if error:
-                raise self._store._error(error, self.name)
-        return _NEAR.iter_unpack(self._store._taken(at, count.value, _NEAR.size))
+                raise store._error(error, self.name)
+            rows = store._taken(store._at, store._count.value, _NEAR.size)
+        return list(_NEAR.iter_unpack(rows))
 
     def _nearest_ids(self, numbers: bytes, k: int) -> "list[int]":
         return [id for id, _, _ in self._near(numbers, k)]
@@ -767,8 +774,9 @@ class Store:
 
     def __init__(self, path: Union[str, os.PathLike[str]], create: bool, read_only: bool, cache: int) -> None:
         self._lib = _library()
-        # a function of its own, with no argument types: its arguments are made once
+        # functions of its own, with no argument types: their arguments are made once
         self._range_into: Callable[..., int] = self._lib["rstore_range_into"]
+        self._nearest: Callable[..., int] = self._lib["rstore_nearest"]
         self._handle: Optional[c_void_p] = None
         self._lock = threading.Lock()
         self._room = (_CRow * _ROOM)()
@@ -776,6 +784,8 @@ class Store:
         self._room_at, self._room_size = c_void_p(ctypes.addressof(self._room)), c_size_t(_ROOM)
         self._count = c_size_t()
         self._count_at = byref(self._count)
+        self._at = c_void_p()
+        self._at_at = byref(self._at)
         self.path = os.fspath(path)
         handle = c_void_p()
         if create and read_only:

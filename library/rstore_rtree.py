@@ -14,8 +14,9 @@ What is other, each told by a clear error where it would matter:
 
 - **Coordinates are kept as whole numbers of 32 bits, times a scale**: 10_000_000 unless `Index(.., scale=n)` or
   `rstore_rtree.SCALE = n` says otherwise. Within that a decimal number of at most seven places is exact; of others boxes are
-  rounded outwards, so that nothing is missed, and what is off by less than 1/scale may be found, too. A number beyond
-  2^31 / scale, 214.7 at that scale, is an `RTreeError`: give a smaller scale, as 1_000 for metres. `bbox` shows what is kept.
+  rounded outwards, so that nothing is missed, and what is off by less than 1/scale may be found, too. `nearest` measures
+  from the nearest such number. A number beyond 2^31 / scale, 214.7 at that scale, is an `RTreeError`: give a smaller scale,
+  as 1_000 for metres. `bbox` shows what is kept.
 - **An identifier is unique**: a second insertion of it is an `RTreeError`.
 - **Objects are kept beside an index in memory, and not pickled** (with the box as it was given, for `bbox`): an object for an
   index in a file is an `RTreeError`.
@@ -46,6 +47,9 @@ RT_Linear, RT_Quadratic, RT_Star = 0, 1, 2
 RT_Memory, RT_Disk, RT_Custom = 0, 1, 2
 
 _LAYER = "rtree"
+_NO_OBJECTS = "rstore_rtree keeps no objects in a file: keep them by their identifiers elsewhere"
+_EPSILON = rstore._EPSILON
+_low, _high = math.floor, math.ceil
 _BIGGEST = sys.float_info.max
 
 
@@ -107,6 +111,7 @@ class Index:
             raise RTreeError("an index has two or three dimensions")
         self.interleaved = bool(kwargs.get("interleaved", True))
         self._scale = int(kwargs.get("scale") or SCALE)
+        self._pack = rstore._BOXES[self._dims].pack
         # of entries with an object: it, and the box that was given
         self._objects: "dict[int, tuple[Any, tuple[float, ...]]]" = {}
         self._negative = False
@@ -150,32 +155,43 @@ class Index:
 
     # Coordinates.
 
-    def _numbers(self, coordinates: Any) -> bytes:
+    def _whole(self, coordinates: Any) -> "tuple[int, ...]":
         """A box as it is stored, the lows rounded down and the highs up."""
-        dims, scale = self._dims, self._scale
+        scale = self._scale
         try:
             box = tuple(coordinates)
         except TypeError:
             raise TypeError("Bounds must be a sequence") from None
         if not self.interleaved:
             box = tuple(Index.interleave(box))
-        if len(box) == dims:
+        if len(box) == self._dims:
             box += box
-        if len(box) != 2 * dims:
-            raise RTreeError("Coordinates must be in the form (minx, miny, maxx, maxy) or (x, y) for 2D indexes")
-        for low, high in zip(box, box[dims:]):
-            if not low <= high:
-                raise RTreeError("Coordinates must not have minimums more than maximums")
         try:
-            floor, ceil = math.floor, math.ceil
-            if dims == 2:
+            if len(box) == 4 and self._dims == 2:
                 a, b, c, d = box
-                return _PACK_2(floor(a * scale), floor(b * scale), ceil(c * scale), ceil(d * scale))
-            return _PACK_3(*[floor(x * scale) for x in box[:3]], *[ceil(x * scale) for x in box[3:]])
-        except (struct.error, OverflowError, ValueError):
-            raise RTreeError(
-                f"a coordinate of {box} is beyond the scale {scale}, at most {(1 << 31) / scale:g}: give Index(scale=..)"
-            ) from None
+                if a <= c and b <= d:
+                    return _low(a * scale + _EPSILON), _low(b * scale + _EPSILON), _high(c * scale - _EPSILON), _high(d * scale - _EPSILON)
+            elif len(box) == 6 and self._dims == 3:
+                a, b, c, d, e, f = box
+                if a <= d and b <= e and c <= f:
+                    lows = [_low(x * scale + _EPSILON) for x in box[:3]]
+                    return (*lows, *[_high(x * scale - _EPSILON) for x in box[3:]])
+            else:
+                raise RTreeError("Coordinates must be in the form (minx, miny, maxx, maxy) or (x, y) for 2D indexes")
+        except (OverflowError, ValueError):
+            raise self._beyond(box) from None
+        raise RTreeError("Coordinates must not have minimums more than maximums")
+
+    def _beyond(self, box: Any) -> RTreeError:
+        most = (1 << 31) / self._scale
+        return RTreeError(f"a coordinate of {box} is beyond the scale {self._scale}, at most {most:g}: give Index(scale=..)")
+
+    def _numbers(self, coordinates: Any) -> bytes:
+        """The same in bytes."""
+        try:
+            return self._pack(*self._whole(coordinates))
+        except struct.error:
+            raise self._beyond(coordinates) from None
 
     def _given(self, coordinates: Any) -> "tuple[float, ...]":
         """A box as it was given, the lows and then the highs."""
@@ -239,7 +255,7 @@ class Index:
         >>> idx.insert(4321, (34.3776829412, 26.7375853734, 49.3776829412, 41.7375853734), obj=42)
         """
         if obj is not None and self._in_file:
-            raise RTreeError("rstore_rtree keeps no objects in a file: keep them by their identifiers elsewhere")
+            raise RTreeError(_NO_OBJECTS)
         numbers, key = self._numbers(coordinates), self._key(id)
         layer = self._layer
         try:
@@ -274,20 +290,26 @@ class Index:
             for entry in stream:
                 self.insert(*entry)
             return
-        layer, form, unpack = self._layer, self._layer._form, self._layer._unpack_box
-        data, objects = bytearray(), {}
+        pack, whole = self._layer._form.pack, self._whole
+        rows, objects, negative = [], {}, False
+        add = rows.append
         for id, coordinates, obj in stream:
-            key = self._key(id)
+            if id < 0:
+                id, negative = id + (1 << 64), True
             if obj is not None:
-                if self._in_file:
-                    raise RTreeError("rstore_rtree keeps no objects in a file: keep them by their identifiers elsewhere")
-                objects[key] = (obj, self._given(coordinates))
-            data += form.pack(key, *unpack(self._numbers(coordinates)), 0)
+                objects[id] = (obj, self._given(coordinates))
+            try:
+                add(pack(id, *whole(coordinates), 0))
+            except struct.error:
+                raise self._beyond(coordinates) from None
+        if objects and self._in_file:
+            raise RTreeError(_NO_OBJECTS)
         try:
-            layer.load_rows(data)
+            self._layer.load_rows(b"".join(rows))
         except rstore.DuplicateInLoad as error:
             raise RTreeError(f"the identifier {error.detail} comes twice: in rstore_rtree they are unique") from None
         self._objects.update(objects)
+        self._negative = self._negative or negative
         self._bounds = None
 
     # Questions.
@@ -344,26 +366,74 @@ class Index:
         >>> [item.object for item in hits]
         [42]
         """
+        point = self._point(coordinates)
+        if point is not None:
+            keys = self._near_point(point, num_results)
+            if objects:
+                return self._items([self._layer.row(key) for key in keys], objects)
+            return iter(self._back(keys) if self._negative else keys)
         box = self._layer._unpack_box(self._numbers(coordinates))
-        found = self._near_rows(box, min(num_results, len(self._layer), 1_000_000))
+        found = self._near_rows(box, min(num_results, len(self._layer)))
         if objects:
             scale = self._scale
             return self._items([(key, tuple(x / scale for x in near), 0) for _, key, near in found], objects)
         return iter(self._back([key for _, key, _ in found]))
 
+    def _point(self, coordinates: Any) -> Optional[bytes]:
+        """A point that is asked for, rounded to the nearest numbers; None where it is a box."""
+        dims, scale = self._dims, self._scale
+        point = coordinates if len(coordinates) == dims else tuple(coordinates)
+        if len(point) == 2 * dims:
+            box = point if self.interleaved else Index.interleave(point)
+            if box[:dims] != box[dims:]:
+                return None
+            point = box[:dims]
+        elif len(point) != dims:
+            return None
+        try:
+            if dims == 2:
+                x, y = point
+                return _POINT_2(_low(x * scale + 0.5), _low(y * scale + 0.5))
+            return _POINT_3(*[_low(x * scale + 0.5) for x in point])
+        except (struct.error, OverflowError, ValueError):
+            raise self._beyond(point) from None
+
+    def _near_point(self, point: bytes, k: int) -> "list[int]":
+        """The k nearest to a point, and those as near as the last of them."""
+        if k < 1:
+            return []
+        asked = k + 1
+        while True:
+            self._most(asked)
+            near = self._layer._near(point, asked)
+            if len(near) <= k:
+                return [id for id, _, _ in near]
+            last = near[k - 1][1:]
+            if len(near) < asked or near[-1][1:] != last:
+                break
+            asked *= 2
+        while near[k:] and near[k][1:] == last:
+            k += 1
+        return [id for id, _, _ in near[:k]]
+
+    def _most(self, asked: int) -> None:
+        if asked > 1_000_000:
+            raise RTreeError("rstore_rtree gives the nearest million at most")
+
     def _near_rows(self, box: "tuple[int, ...]", k: int) -> "list[tuple[int, int, tuple[int, ...]]]":
         """Squared distances, identifiers and boxes of the k nearest entries and those as near as the last of them."""
         if k < 1:
             return []
+        self._most(k)
         layer, dims = self._layer, self._dims
         # The k nearest to the middle bound how far away the k nearest to the box are.
-        middle = _POINTS[dims](*[(box[a] + box[a + dims]) // 2 for a in range(dims)])
+        middle = rstore._POINTS[dims].pack(*[(box[a] + box[a + dims]) // 2 for a in range(dims)])
         bound = max(_squared(box, layer._unpack_box(layer._numbers_of(key)), dims) for key in layer._nearest_ids(middle, k))
         reach = math.isqrt(bound) + 1
         low, high = rstore._WHOLE
         lows = [max(x - reach, low) for x in box[:dims]]
         highs = [min(x + reach, high) for x in box[dims:]]
-        rows = layer._rows(rstore._WINDOW, _PACKS[dims](*lows, *highs), None)
+        rows = layer._rows(rstore._WINDOW, self._pack(*lows, *highs), None)
         found = sorted((_squared(box, near, dims), key, near) for key, near in rows.numbers())
         last = found[k - 1][0]
         return [row for row in found if row[0] <= last]
@@ -456,9 +526,7 @@ class Index:
 
 Rtree = Index
 
-_PACK_2, _PACK_3 = rstore._BOXES[2].pack, rstore._BOXES[3].pack
-_PACKS = {2: _PACK_2, 3: _PACK_3}
-_POINTS = {2: rstore._POINTS[2].pack, 3: rstore._POINTS[3].pack}
+_POINT_2, _POINT_3 = rstore._POINTS[2].pack, rstore._POINTS[3].pack
 
 
 def _squared(one: Sequence[int], other: Sequence[int], dims: int) -> int:

@@ -105,6 +105,7 @@ fn a_journal_is_asked_for(rt: HostRuntime) -> Result<(), Fail> {
         ask_journal(&mut input, &mut output, JournalWish::Open),
         Err(OpenError::Refused)
     );
+    assert_eq!(rt; output.len(), 30);
     assert_eq!(rt; [output[0], output[10], output[20]], [b'x', b'm', b'o']);
     Ok(())
 }

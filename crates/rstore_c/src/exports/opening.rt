@@ -1,8 +1,8 @@
 //! The calls that open, close and keep a store.
-ghost use Rattle.std.specs.Prelude.{◌≡◌};
+ghost use Rattle.std.specs.Prelude.{◌≡◌, [], None};
 ghost use Rattle.plain_table.specs.Answers.{done_answer, layers_answer};
 ghost use Rattle.plain_table.specs.Commands.Command.{Check, Layers};
-ghost use Rattle.c_session.specs.Calls.{AsksBy, CommitsBy, HasListed, TellsBy};
+ghost use Rattle.c_session.specs.Calls.{AsksBy, ClosesBy, CommitsBy, HasListed, TellsBy};
 ghost use Rattle.c_session.specs.Keeping.{as_it_is};
 
 use crate::files::{self, Streams, Unopened};
@@ -96,7 +96,13 @@ pub extern "C" fn rstore_c_close(
     input: Stdin,
     output: Stdout,
     handle: &mut Handle,
-) -> u32 {
+) -> u32
+    ensures closes { (device : _) × ClosesBy handle.old.value.session (result, device) }
+    ensures closed { handle.new.value.session.store ≡ None }
+    ensures boxes { handle.new.value.session.boxes.items ≡ [] }
+    ensures near { handle.new.value.session.near.items ≡ [] }
+    ensures pairs { handle.new.value.session.pairs.items ≡ [] }
+{
     let session = &mut handle.held().session;
     let read_only = session.is_read_only();
     let (number, device) = session.close(alloc);
