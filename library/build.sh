@@ -15,11 +15,32 @@ if [ -n "$missing" ]; then
   exit 1
 fi
 kit="$(dirname "$(rt doc)")"
-# The proved code, anew where a source that it may be made of is newer.
 built="$crates/rstore_c/out/librstore_c.a"
+
+# The library's proved code over the libraries below as `rt ci` has left them. They have no stamp that `rt lib` would take,
+# so the kit's compiler is called as `rt` calls it: it proves the one crate once more, and builds it.
+build_over_ci() {
+  local words=() name folder
+  for name in $(sed -n 's/^rstore_c staticlib: //p' "$crates/../crates.txt"); do
+    words+=(--extern "$name=$crates/$name/out/rlib/$name.rlib")
+  done
+  for folder in "$crates"/*/out/rlib; do words+=(-L "dependency=$folder"); done
+  mkdir -p "$crates/rstore_c/out"
+  cd "$crates/rstore_c"
+  "$kit/bin/rattle" build --crate-name rstore_c src/lib.rt --extern "std=$kit/rlibs/std.rlib" -L "dependency=$kit/rlibs" \
+    "${words[@]}" --antt-project "$kit/rattle/logic/antt-project.json" --logic-built "$kit/logic_built" \
+    --jobs "${JOBS:-1}" --links rstore_c= --crate-type staticlib --toolchain "$kit/toolchain" --backend llvm -o "$built"
+}
+
+# The proved code, anew where a source that it may be made of is newer.
 if [ ! -f "$built" ] || [ -n "$(find "$crates/../crates.txt" "$crates"/*/src "$crates"/*/specs "$crates"/*/proofs \
   -type f -newer "$built" -print -quit 2>/dev/null)" ]; then
-  (cd "$crates/rstore_c" && rt lib --jobs "${JOBS:-1}" >&2)
+  if [ -d "$crates/layer_store/out/rlib/layer_store.rlib" ] && [ ! -f "$crates/layer_store/out/rlib/stamp" ]; then
+    (build_over_ci >&2)
+  else
+    (cd "$crates/rstore_c" && rt lib --jobs "${JOBS:-1}" >&2)
+  fi
+  touch "$built"
 fi
 work="$(mktemp -d)"
 trap 'rm -rf "$work"' EXIT
