@@ -1,6 +1,6 @@
 -- A call that asked the store is told as the definitions say.
-use Rattle.std.proofs.Common.{ℕ, ◌≡◌, ◌⊎◌, inl, inr, Bool, true, false, Option, None, Some, Result, Ok, Err}
-use Rattle.std.proofs.Common.{List, refl, sym, ap, subst, ◌≤◌, ◌++◌, map, take, drop, min, length, arith}
+use Rattle.std.proofs.Common.{ℕ, ◌≡◌, inr, false, Option, Some, Result, Ok, Err}
+use Rattle.std.proofs.Common.{List, ap, subst, ◌≤◌, ◌++◌, map, take, drop, min, length, arith}
 use Rattle.plain_table.specs.Commands.{Command}
 use Rattle.plain_table.specs.Step.{Answer}
 use Rattle.plain_table.specs.declared.refusal.Refusal.{Refusal}

@@ -1,5 +1,5 @@
 use Rattle.c_session.proofs.Steps.{asked, refused}
-use Rattle.std.proofs.Common.{Ok, Err, refl, ap}
+use Rattle.std.proofs.Common.{Ok, refl}
 use Rattle.plain_table.specs.Answers.{pairs_answer}
 use Rattle.c_session.specs.Keeping.{with_pairs}
 use Rattle.c_session.proofs.session.Session.join.Goals as goal

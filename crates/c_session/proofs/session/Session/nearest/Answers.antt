@@ -1,5 +1,5 @@
 use Rattle.c_session.proofs.Steps.{asked_with, refused_with}
-use Rattle.std.proofs.Common.{Ok, Err, refl, sym, ◌∙◌}
+use Rattle.std.proofs.Common.{Ok, refl, sym, ◌∙◌}
 use Rattle.plain_table.specs.Answers.{distances_answer}
 use Rattle.c_session.specs.Keeping.{with_near}
 use Rattle.c_session.proofs.session.Session.nearest.Goals as goal
