@@ -1,0 +1,2 @@
+-- The lemma files.
+mod Arrays

@@ -1,0 +1,5 @@
+-- The files of definitions.
+pub mod Boxes
+pub mod Numbers
+pub mod Rows
+pub mod Layers

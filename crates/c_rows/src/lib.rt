@@ -1,0 +1,14 @@
+//! Boxes, queries and rows as C has them: numbers in arrays, and structs of plain numbers.
+#![tactic(auto)]
+
+mod boxes;
+mod layers;
+mod numbers;
+mod objects;
+mod rows;
+
+pub use boxes::{raw_box, raw_point, raw_query};
+pub use layers::{Layer, layer_row, write_layers};
+pub use numbers::{number_of, tell};
+pub use objects::objects_of;
+pub use rows::{Near, Pair, Row, near_row, object_row, write_nearest, write_objects, write_pairs};

@@ -1,0 +1,14 @@
+use Rattle.c_session.proofs.Steps.{told}
+use Rattle.std.proofs.Common.{Ok, Err, refl}
+use Rattle.plain_table.specs.Answers.{object_answer}
+use Rattle.c_session.proofs.session.Session.get.Goals as goal
+
+pub returns-in-Ok : goal.returns-in-Ok
+returns-in-Ok g c =
+    told c.args.self.now _ c.get.new.self _ (object_answer c.args.id) _ (Ok (c.in-Ok.bounds, c.in-Ok.tag)) _
+    _ c.in-Some.is c.in-Ok.ensures.answers refl c.object_row.ensures refl
+
+pub returns-in-Err : goal.returns-in-Err
+returns-in-Err g c =
+    told c.args.self.now _ c.get.new.self _ (object_answer c.args.id) _ (Err c.in-Err.refusal) _ _
+    c.in-Some.is c.in-Err.ensures.answers c.tell.ensures.detail refl c.tell.ensures.number

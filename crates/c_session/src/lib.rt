@@ -1,0 +1,9 @@
+//! A store as who holds it from outside Rattle calls it: each call answers by a number, and what a question
+//! answered is kept until it is fetched, by rows of plain numbers.
+#![tactic(auto)]
+
+mod session;
+#[cfg(test)]
+mod tests;
+
+pub use session::{BAD_NUMBERS, CLOSED, READ_ONLY, Session};

@@ -1,0 +1,6 @@
+//! The functions that C calls. Each answers 0 or a number of `number`. A `Global` and a stream take no
+//! argument of C's, and a slice is a pointer that is not null and then a length.
+
+mod changes;
+mod opening;
+mod questions;

@@ -1,0 +1,25 @@
+//! What lies behind a handle.
+
+use c_session::Session;
+use device_pair::TwoDevices;
+use file_device::FileDevice;
+use journaled_file::JournaledOver;
+use std::alloc::Global;
+use std::rt::{Stdin, Stdout};
+use stream_file::StreamFile;
+
+/// A file and its journal, by the streams that C serves.
+pub type Pair = TwoDevices<
+    FileDevice<StreamFile<Stdin, Stdout>>,
+    FileDevice<StreamFile<Stdin, Stdout>>,
+>;
+
+/// The device that a store lies on.
+pub type Device = JournaledOver<Pair, Global>;
+
+/// A session over a store in a file.
+#[derive(Drop)]
+pub struct Held {
+    /// The session.
+    pub session: Session<Device>,
+}

@@ -1,0 +1,168 @@
+//! A file by its streams.
+ghost use Rattle.std.specs.Prelude.{◌≡◌, ◌≤◌, [], true, false, IsErr, IfOk};
+
+use crate::request::{FileSide, outcome, send};
+use file_device::DiskFile;
+use std::io::{self, ErrorKind, Read, Write};
+
+/// A file of a store, or its journal, by the streams of who serves both.
+///
+/// A file of `none` begins with two blocks of zeros, reads as zeros, and takes two blocks more, which it
+/// forgets: so a store that is only read has a journal that can be opened and have no entry, and asks no
+/// stream for it.
+#[derive(Drop)]
+pub struct StreamFile<I, O> {
+    input: I,
+    output: O,
+    side: FileSide,
+    size: u64,
+    // whether there is no file
+    none: bool,
+    // whether a sync has failed
+    lost: bool,
+}
+
+impl<I: Read + Drop, O: Write + Drop> StreamFile<I, O> {
+    /// The file that the streams serve on a side, whose size is asked for.
+    pub fn over(input: I, output: O, side: FileSide) -> io::Result<StreamFile<I, O>>
+        ensures { IfOk result (λ file. (file.lost ≡ false) × (file.none ≡ false)) }
+    {
+        let mut file = StreamFile {
+            input,
+            output,
+            side,
+            size: 0,
+            none: false,
+            lost: false,
+        };
+        file.size = file.asked_size()?;
+        Ok(file)
+    }
+
+    /// The journal that a store has which is only read.
+    pub fn none(input: I, output: O) -> StreamFile<I, O>
+        ensures none { result.none ≡ true }
+        ensures size { result.size ≡ 8192 }
+    {
+        StreamFile {
+            input,
+            output,
+            side: FileSide::Journal,
+            size: 8192,
+            none: true,
+            lost: false,
+        }
+    }
+
+    // Asks for the size.
+    fn asked_size(&mut self) -> io::Result<u64>
+        ensures lost { self.new.lost ≡ self.old.lost }
+        ensures none { self.new.none ≡ self.old.none }
+    {
+        send(&mut self.output, b's', self.side, 0)?;
+        let mut bytes = [0; 8];
+        self.input.read_exact(&mut bytes)?;
+        outcome(&mut self.input)?;
+        Ok(u64::from_le_bytes(bytes))
+    }
+
+    // Asks for 4096 bytes to be written.
+    fn put(&mut self, at: u64, from: &[u8; 4096]) -> io::Result<()> {
+        send(&mut self.output, b'w', self.side, at)?;
+        self.output.write_all(from)?;
+        outcome(&mut self.input)
+    }
+
+    // Takes a block of a file that is none, unless it has four.
+    fn forget(&mut self, at: u64) -> io::Result<()>
+        ensures lost { self.new.lost ≡ self.old.lost }
+        ensures none { self.new.none ≡ self.old.none }
+        ensures few { self.old.size ≤ 16384 → self.new.size ≤ 16384 }
+    {
+        if at > 12288 {
+            return Err(io::Error::from(ErrorKind::ReadOnlyFilesystem));
+        }
+        self.size = self.size.max(at + 4096);
+        Ok(())
+    }
+
+    // Has the disk take what was written.
+    fn settle(&mut self) -> io::Result<()> {
+        send(&mut self.output, b'y', self.side, 0)?;
+        outcome(&mut self.input)
+    }
+
+    // A sync that failed may have lost what was written, so each one after it fails.
+    fn sync_unless_lost(&mut self) -> io::Result<()>
+        ensures lost { self.old.lost ≡ true → IsErr result }
+        ensures loses { IsErr result → self.new.lost ≡ true }
+    {
+        if self.lost {
+            return Err(io::Error::from(ErrorKind::BrokenPipe));
+        }
+        let answer = self.settle();
+        self.lost = answer.is_err();
+        answer
+    }
+}
+
+impl<I: Read + Drop, O: Write + Drop> DiskFile for StreamFile<I, O> {
+    ghost bytes = { λ _. [] };
+
+    ghost is_kept = { λ _. ⊥ };
+
+    ghost may_leave = { λ _ _. ⊥ };
+
+    ghost moment = { λ _. 0 };
+
+    ghost left_since = { λ _ _ _. ⊥ };
+
+    fn size(&self) -> io::Result<u64> {
+        Ok(self.size)
+    }
+
+    fn read_at(&mut self, at: u64, into: &mut [u8; 4096]) -> io::Result<()> {
+        if self.none {
+            *into = [0; 4096];
+            return Ok(());
+        }
+        send(&mut self.output, b'r', self.side, at)?;
+        self.input.read_exact(into)?;
+        outcome(&mut self.input)
+    }
+
+    // A write that failed may have made the file longer, so its size is asked for.
+    fn write_at(&mut self, at: u64, from: &[u8; 4096]) -> io::Result<()> {
+        if self.none {
+            return self.forget(at);
+        }
+        let answer = self.put(at, from);
+        if answer.is_ok() {
+            self.size = self.size.max(at.saturating_add(4096));
+        } else if let Ok(size) = self.asked_size() {
+            self.size = size;
+        }
+        answer
+    }
+
+    fn sync(&mut self) -> io::Result<()> {
+        if self.none {
+            return Ok(());
+        }
+        self.sync_unless_lost()
+    }
+
+    ghost bytes_fit = { λ _ _ never. absurd never };
+
+    ghost shown_counts = { λ _ _ never. absurd never };
+
+    ghost no_longer = { λ _ _ _ never. absurd never };
+
+    ghost whole = { λ _ _ never. absurd never };
+
+    ghost counts_now = { λ _ _ _ never. absurd never };
+
+    ghost only_now = { λ _ _ never. absurd never };
+
+    ghost since_earlier = { λ _ _ _ _ never. absurd never };
+}

@@ -1,0 +1,87 @@
+//! Requests, and how they went.
+ghost use Rattle.std.specs.Prelude.{◌≡◌, OnOk, true};
+ghost use Rattle.std.specs.Io.KnownBytes.{Appends};
+ghost use Rattle.stream_file.specs.Requests.{number_of, request_bytes};
+
+use file_device::OpenError;
+use std::io::{self, ErrorKind, Read, Write};
+
+/// Which of the two files is asked.
+#[derive(Clone, Copy, Debug, PartialEq, Eq)]
+pub enum FileSide {
+    /// The file of a store.
+    Base,
+    /// Its journal.
+    Journal,
+}
+
+/// What is asked of the journal as a file.
+#[derive(Clone, Copy, Debug, PartialEq, Eq)]
+pub enum JournalWish {
+    /// To open the one that is there.
+    Open,
+    /// To open it, or make an empty one where there is none.
+    Make,
+    /// To remove it. One that is open stays open.
+    Remove,
+}
+
+impl FileSide {
+    // Its number in a request.
+    fn number(self) -> u8
+        ensures { result ≡ number_of self }
+    {
+        match self {
+            FileSide::Base => 0,
+            FileSide::Journal => 1,
+        }
+    }
+}
+
+/// Sends a request: a letter, the file's number, and a place in the file, least byte first.
+pub(crate) fn send<O: Write>(output: &mut O, letter: u8, side: FileSide, at: u64) -> io::Result<()>
+    ensures { OnOk result
+        (Appends (O.contents output.old) (O.contents output.new) (request_bytes letter side at)) }
+{
+    let [a, b, c, d, e, f, g, h] = at.to_le_bytes();
+    output.write_all(&[letter, side.number(), a, b, c, d, e, f, g, h])
+}
+
+/// Reads how a request went: a byte, which is 0 where it was done.
+pub(crate) fn outcome<I: Read>(input: &mut I) -> io::Result<()> {
+    match answer(input)? {
+        0 => Ok(()),
+        _ => Err(io::Error::from(ErrorKind::Other)),
+    }
+}
+
+// One byte.
+fn answer<I: Read>(input: &mut I) -> io::Result<u8> {
+    let mut byte = [1];
+    input.read_exact(&mut byte)?;
+    Ok(byte[0])
+}
+
+/// Asks for the journal to be opened, made or removed. Who serves the streams locks what it opens, in the way
+/// in which `file_device::open_file` does, and refuses in its words.
+pub fn ask_journal<I: Read, O: Write>(
+    input: &mut I,
+    output: &mut O,
+    wish: JournalWish,
+) -> Result<(), OpenError> {
+    let letter = match wish {
+        JournalWish::Open => b'o',
+        JournalWish::Make => b'm',
+        JournalWish::Remove => b'x',
+    };
+    if send(output, letter, FileSide::Journal, 0).is_err() {
+        return Err(OpenError::Refused);
+    }
+    match answer(input) {
+        Ok(0) => Ok(()),
+        Ok(2) => Err(OpenError::InUse),
+        Ok(3) => Err(OpenError::NoLocks),
+        Ok(4) => Err(OpenError::Memory),
+        _ => Err(OpenError::Refused),
+    }
+}

@@ -1,0 +1,70 @@
+#!/usr/bin/env bash
+# build.sh [OUT]: builds the C library and the Python module into OUT (default library/lib): librstore.a, librstore.so,
+# rstore.h, rstore.py and rstore_rtree.py. From a fresh clone it proves all crates first, which takes hours; where their
+# out/ folders are there, a minute. CC names another compiler, JOBS how many jobs rt has.
+set -eu
+here="$(cd "$(dirname "$0")" && pwd)"
+crates="$here/../crates"
+out="${1:-$here/lib}"
+missing=""
+for tool in rt python3 ar objcopy "${CC:-cc}"; do
+  command -v "$tool" >/dev/null || missing="$missing $tool"
+done
+if [ -n "$missing" ]; then
+  echo "build.sh: missing:$missing (Debian: gcc, binutils, python3; rt is the Rattle kit's)" >&2
+  exit 1
+fi
+kit="$(dirname "$(rt doc)")"
+built="$crates/rstore_c/out/librstore_c.a"
+
+# The library's proved code over the libraries below as `rt ci` has left them. They have no stamp that `rt lib` would take,
+# so the kit's compiler is called as `rt` calls it: it proves the one crate once more, and builds it.
+build_over_ci() {
+  local words=() name folder
+  for name in $(sed -n 's/^rstore_c staticlib: //p' "$crates/../crates.txt"); do
+    words+=(--extern "$name=$crates/$name/out/rlib/$name.rlib")
+  done
+  for folder in "$crates"/*/out/rlib; do words+=(-L "dependency=$folder"); done
+  mkdir -p "$crates/rstore_c/out"
+  cd "$crates/rstore_c"
+  "$kit/bin/rattle" build --crate-name rstore_c src/lib.rt --extern "std=$kit/rlibs/std.rlib" -L "dependency=$kit/rlibs" \
+    "${words[@]}" --antt-project "$kit/rattle/logic/antt-project.json" --logic-built "$kit/logic_built" \
+    --jobs "${JOBS:-1}" --links rstore_c= --crate-type staticlib --toolchain "$kit/toolchain" --backend llvm -o "$built"
+}
+
+# The proved code, anew where a source that it may be made of is newer.
+if [ ! -f "$built" ] || [ -n "$(find "$crates/../crates.txt" "$crates"/*/src "$crates"/*/specs "$crates"/*/proofs \
+  -type f -newer "$built" -print -quit 2>/dev/null)" ]; then
+  if [ -d "$crates/layer_store/out/rlib/layer_store.rlib" ] && [ ! -f "$crates/layer_store/out/rlib/stamp" ]; then
+    (build_over_ci >&2)
+  else
+    (cd "$crates/rstore_c" && rt lib --jobs "${JOBS:-1}" >&2)
+  fi
+  touch "$built"
+fi
+work="$(mktemp -d)"
+trap 'rm -rf "$work"' EXIT
+# The proved code has its files by streams: its read(0) and write(1) get the names of rstore.c's functions, in that one
+# object. The kit's C functions that it calls (malloc, errno) come with it.
+mkdir "$work/proved" "$work/kit"
+(cd "$work/proved" && ar x "$built")
+objcopy --redefine-sym read=rstore_stream_read --redefine-sym write=rstore_stream_write "$work/proved/rstore_c.o"
+(cd "$work/kit" && ar x "$kit/c/libos_c.a" && ar x "$kit/c/liblibc_c.a")
+python3 "$here/exports.py" "$crates" >"$work/rstore_c.h"
+${CC:-cc} -std=c11 -O2 -Wall -Wextra -fPIC -I"$here" -I"$work" ${CFLAGS:-} -c "$here/rstore.c" -o "$work/rstore.o"
+# Only what rstore.h declares is seen of the shared library.
+{
+  echo '{ global:'
+  sed -n 's/^[a-z].*[ *]\(rstore_[a-z_]*\)(.*/\1;/p' "$here/rstore.h"
+  echo 'local: *; };'
+} >"$work/exports.map"
+mkdir -p "$out"
+rm -f "$out/librstore.a"
+ar rcs "$out/librstore.a" "$work/rstore.o" "$work"/proved/*.o "$work"/kit/*.o
+${CC:-cc} -shared -o "$out/librstore.so" -Wl,--version-script="$work/exports.map" -Wl,--gc-sections -Wl,-soname,librstore.so \
+  ${CFLAGS:-} "$work/rstore.o" "$work"/proved/*.o "$kit/c/libos_c.a" "$kit/c/liblibc_c.a"
+cp "$here/rstore.h" "$out/"
+for module in rstore.py rstore_rtree.py; do
+  [ ! -f "$here/$module" ] || cp "$here/$module" "$out/"
+done
+ls -l "$out" >&2

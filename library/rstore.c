@@ -1,0 +1,300 @@
+/* The C side of rstore.h, which no proof covers: it tests arguments, opens, locks and serves the files, makes arrays,
+ * and calls the proved functions of librstore_c.a. docs/LIBRARY.md tells of the streams. */
+#define _GNU_SOURCE
+#include "rstore.h"
+
+#include <errno.h>
+#include <fcntl.h>
+#include <stdbool.h>
+#include <stdlib.h>
+#include <string.h>
+#include <sys/file.h>
+#include <sys/stat.h>
+#include <unistd.h>
+
+/* What the proved code calls a Handle is the first member: the address of a session, in a block of malloc's. */
+struct rstore {
+    void *session;
+    int fd[2];      /* the file, and its journal or -1 */
+    char *journal;  /* the path of the journal, or NULL */
+    unsigned char letter, side, outcome; /* of the last request, and how it went */
+    off_t at;
+};
+
+/* The handle whose function runs, and what came with the last opening that was refused. */
+static _Thread_local rstore *serving;
+static _Thread_local uint64_t refused_detail;
+
+/* ---- files, as crates/file_device opens them; the numbers are those of OpenError in crates/stream_file */
+enum { DONE = 0, REFUSED = 1, IN_USE = 2, NO_LOCKS = 3, NO_MEMORY = 4 };
+
+/* The folder of a path, open; or -1. */
+static int folder_of(const char *path) {
+    const char *slash = strrchr(path, '/');
+    char *name = slash ? strndup(path, slash == path ? 1 : (size_t)(slash - path)) : strdup(".");
+    int fd = name ? open(name, O_RDONLY | O_CLOEXEC | O_DIRECTORY) : -1;
+    free(name);
+    return fd;
+}
+
+/* Opens a regular file and locks it, a new one with its folder synced. Its number is none of a standard stream's. */
+static int open_locked(const char *path, int how, int lock, int *fd) {
+    struct stat found;
+    int folder = how & O_CREAT ? folder_of(path) : -1;
+    if (how & O_CREAT && folder < 0) return REFUSED;
+    int made = open(path, how | O_CLOEXEC | O_NOCTTY | O_NONBLOCK, 0666), error = REFUSED;
+    if (made >= 3 && !fstat(made, &found) && S_ISREG(found.st_mode))
+        error = !flock(made, lock | LOCK_NB) ? DONE : errno == EWOULDBLOCK ? IN_USE : NO_LOCKS;
+    if (!error && folder >= 0 && fsync(folder)) error = REFUSED;
+    if (folder >= 0) close(folder);
+    if (error && made >= 0) close(made);
+    if (!error) *fd = made;
+    return error;
+}
+
+/* Opens the journal, or makes it; one that was open is closed. */
+static int open_journal(rstore *db, int how) {
+    int fd, error = db->journal ? open_locked(db->journal, O_RDWR | how, LOCK_EX, &fd) : REFUSED;
+    if (error) return error;
+    if (db->fd[1] >= 0) close(db->fd[1]);
+    db->fd[1] = fd;
+    return DONE;
+}
+
+/* Removes the journal, and syncs its folder. */
+static int remove_journal(rstore *db) {
+    int folder = db->journal ? folder_of(db->journal) : -1;
+    if (folder < 0) return REFUSED;
+    bool gone = (!unlink(db->journal) || errno == ENOENT) && !fsync(folder);
+    close(folder);
+    return gone ? DONE : REFUSED;
+}
+
+/* A block, whole, read or written; what the file lacks reads as zeros. */
+static int block(rstore *db, void *into, const void *from) {
+    int fd = db->fd[db->side];
+    for (size_t done = 0; done < 4096;) {
+        ssize_t n = into ? pread(fd, (char *)into + done, 4096 - done, db->at + (off_t)done)
+                         : pwrite(fd, (const char *)from + done, 4096 - done, db->at + (off_t)done);
+        if (n > 0) done += (size_t)n;
+        else if (n == 0 && into) { memset((char *)into + done, 0, 4096 - done); return DONE; }
+        else if (n == 0 || errno != EINTR) { if (into) memset(into, 0, 4096); return REFUSED; }
+    }
+    return DONE;
+}
+
+/* ---- the streams. In librstore_c.a the calls of read(0) and write(1) have the names of these two functions, which
+ * build.sh gives them, so they reach no standard stream. */
+/* A request of ten bytes, or after 'w' the block. */
+ssize_t rstore_stream_write(int fd, const void *bytes, size_t count) {
+    rstore *db = serving;
+    const unsigned char *b = bytes;
+    if (db && fd == 1 && count == 4096 && db->letter == 'w') {
+        db->outcome = (unsigned char)block(db, NULL, bytes);
+        return 4096;
+    }
+    if (!db || fd != 1 || count != 10 || b[1] > 1) { errno = EINVAL; return -1; }
+    uint64_t at = 0;
+    for (int k = 9; k >= 2; k--) at = at << 8 | b[k];
+    db->letter = b[0];
+    db->side = b[1];
+    db->at = (off_t)at;
+    switch (db->letter) {
+    case 'y': db->outcome = fdatasync(db->fd[db->side]) ? REFUSED : DONE; break;
+    case 'o': db->outcome = (unsigned char)open_journal(db, 0); break;
+    case 'm': db->outcome = (unsigned char)open_journal(db, O_CREAT); break;
+    case 'x': db->outcome = (unsigned char)remove_journal(db); break;
+    default: break;
+    }
+    return 10;
+}
+
+/* After 'r' the block, after 's' the size, and after each request a byte that says how it went. */
+ssize_t rstore_stream_read(int fd, void *into, size_t count) {
+    rstore *db = serving;
+    struct stat found;
+    if (db && fd == 0 && count == 1) {
+        *(unsigned char *)into = db->outcome;
+    } else if (db && fd == 0 && count == 4096 && db->letter == 'r') {
+        db->outcome = (unsigned char)block(db, into, NULL);
+    } else if (db && fd == 0 && count == 8 && db->letter == 's') {
+        db->outcome = fstat(db->fd[db->side], &found) ? REFUSED : DONE;
+        uint64_t size = db->outcome ? 0 : (uint64_t)found.st_size;
+        for (int k = 0; k < 8; k++) ((unsigned char *)into)[k] = (unsigned char)(size >> 8 * k);
+    } else { errno = EINVAL; return -1; }
+    return (ssize_t)count;
+}
+
+/* ---- the proved functions. A slice of theirs is a pointer that is not null and a length. */
+#include "rstore_c.h" /* written by exports.py, from crates/rstore_c */
+
+#define TEXT(s) (const uint8_t *)(s), strlen(s)
+#define ASK(condition) do { if (!(condition)) return RSTORE_MISUSE; } while (0)
+#define NAMED(layer) ((layer) && *(layer))
+#define AXES(axes) ((axes) == 2 || (axes) == 3)
+/* A call that may read or write the files of db, and a function that is one. */
+#define DO(call) (serving = db, (int)(call))
+#define CALL(condition, call) { ASK(condition); return DO(call); }
+
+/* ---- errors */
+const char *rstore_version(void) { return RSTORE_VERSION; }
+
+const char *rstore_errstr(int error) {
+    static const char *const refusals[] = { "ok", "not a layer name", "a layer of that name is there",
+        "no layer of that name", "a layer has two or three axes", "a fanout is 4 to 100", "there are 60 layers",
+        "a low is above its high", "another number of axes than the layer", "an object of that identifier is there",
+        "no object of that identifier", "there would be more than 2^30 objects", "the layer has objects",
+        "an identifier stands twice in the load", "a count is 1 to 1000000", "the layers have different numbers of axes",
+        "no memory", "the device failed", "a page is damaged", "the store failed", "the file was not closed",
+        "not a store", "a version that is not known", "a cache holds 8 to 4096 pages", "not a command",
+        "no page number is left" };
+    static const char *const own[] = { "cannot open the file", "the file is in use", "the store is closed",
+        "a null pointer, an empty name, or numbers that are no box, point or query", "the store is only read",
+        "the file cannot be locked", "the journal beside the file is missing, or is no journal",
+        "the journal beside the file is that of another file" };
+    if (error >= 0 && error < (int)(sizeof refusals / sizeof *refusals)) return refusals[error];
+    return error > 100 && error <= 108 ? own[error - 101] : "not an error of rstore";
+}
+
+uint64_t rstore_detail(rstore *db) { return db ? rstore_c_detail(db) : refused_detail; }
+
+/* ---- opening and closing */
+/* Opens the file, and knows the path of its journal, which lies beside the file itself and not beside a link to it. */
+static int open_files(rstore *db, const char *path, int flags) {
+    static const int numbers[] = { RSTORE_OK, RSTORE_CANNOT_OPEN, RSTORE_BUSY, RSTORE_NO_LOCKS, RSTORE_MEMORY };
+    bool reads = flags == RSTORE_READ_ONLY;
+    int how = reads ? O_RDONLY : O_RDWR | (flags == RSTORE_CREATE ? O_CREAT : 0);
+    int error = open_locked(path, how, reads ? LOCK_SH : LOCK_EX, &db->fd[0]);
+    if (error || reads) return numbers[error];
+    char *real = realpath(path, NULL);
+    if (!real) return errno == ENOMEM ? RSTORE_MEMORY : RSTORE_CANNOT_OPEN;
+    size_t length = strlen(real);
+    db->journal = malloc(length + sizeof "-journal");
+    if (db->journal) strcpy(strcpy(db->journal, real) + length, "-journal");
+    free(real);
+    return db->journal ? RSTORE_OK : RSTORE_MEMORY;
+}
+
+/* Lets go of the files, with their locks, and of the handle. */
+static int let_go(rstore *db) {
+    int failed = 0;
+    for (int side = 1; side >= 0; side--)
+        if (db->fd[side] >= 0 && close(db->fd[side])) failed = RSTORE_DEVICE;
+    free(db->journal), free(db->session), free(db);
+    serving = NULL;
+    return failed;
+}
+
+int rstore_open(const char *path, int flags, uint32_t cache, rstore **opened) {
+    refused_detail = 0;
+    ASK(opened);
+    *opened = NULL;
+    ASK(path && *path && flags >= RSTORE_EXISTING && flags <= RSTORE_READ_ONLY);
+    rstore *db = calloc(1, sizeof *db);
+    if (!db) return RSTORE_MEMORY;
+    db->fd[0] = db->fd[1] = -1;
+    int error = open_files(db, path, flags);
+    if (!error) error = DO(rstore_c_open((uint32_t)flags, cache ? cache : 1024, &db->session, &refused_detail));
+    if (error) let_go(db);
+    else *opened = db;
+    return error;
+}
+
+int rstore_close(rstore *db) {
+    if (!db) return RSTORE_OK;
+    int error = DO(rstore_c_close(db)), failed = let_go(db);
+    return error ? error : failed;
+}
+
+int rstore_commit(rstore *db) CALL(db, rstore_c_commit(db))
+int rstore_check(rstore *db) CALL(db, rstore_c_check(db))
+
+/* ---- layers and changes */
+int rstore_create_layer(rstore *db, const char *layer, uint32_t axes, uint32_t fanout)
+    CALL(db && NAMED(layer) && AXES(axes), rstore_c_create_layer(db, TEXT(layer), axes, fanout))
+int rstore_drop_layer(rstore *db, const char *layer)
+    CALL(db && NAMED(layer), rstore_c_drop_layer(db, TEXT(layer)))
+int rstore_layers(rstore *db, rstore_layer **layers, size_t *count) {
+    ASK(db && layers && count);
+    size_t found = 0;
+    rstore_layer *made = calloc(60, sizeof *made);
+    int error = made ? DO(rstore_c_layers(db, made, 60, &found)) : RSTORE_MEMORY;
+    if (error) { free(made); return error; }
+    *layers = made;
+    *count = found;
+    return RSTORE_OK;
+}
+int rstore_insert(rstore *db, const char *layer, uint64_t id, const int32_t *box, uint32_t axes, uint32_t tag)
+    CALL(db && NAMED(layer) && box && AXES(axes),
+         rstore_c_insert(db, TEXT(layer), id, box, 2 * (size_t)axes, tag))
+int rstore_move(rstore *db, const char *layer, uint64_t id, const int32_t *box, uint32_t axes)
+    CALL(db && NAMED(layer) && box && AXES(axes), rstore_c_move(db, TEXT(layer), id, box, 2 * (size_t)axes))
+int rstore_delete(rstore *db, const char *layer, uint64_t id)
+    CALL(db && NAMED(layer), rstore_c_delete(db, TEXT(layer), id))
+int rstore_load(rstore *db, const char *layer, uint32_t axes, const rstore_row *rows, size_t count) {
+    static const rstore_row none;
+    ASK(db && NAMED(layer) && AXES(axes) && (rows || count == 0) && count <= PTRDIFF_MAX / sizeof *rows);
+    return DO(rstore_c_load(db, TEXT(layer), axes, rows ? rows : &none, count));
+}
+
+/* ---- questions */
+int rstore_count(rstore *db, const char *layer, uint64_t *count)
+    CALL(db && NAMED(layer) && count, rstore_c_count(db, TEXT(layer), count))
+int rstore_get(rstore *db, const char *layer, uint64_t id, rstore_row *row)
+    CALL(db && NAMED(layer) && row, rstore_c_get(db, TEXT(layer), id, row))
+int rstore_range_into(rstore *db, const char *layer, int kind, const int32_t *numbers, uint32_t axes,
+                      const uint32_t *tag, rstore_row *rows, size_t room, size_t *count) {
+    ASK(db && NAMED(layer) && numbers && AXES(axes) && count && (rows || room == 0));
+    ASK(kind >= RSTORE_WINDOW && kind <= RSTORE_POINT && room <= PTRDIFF_MAX / sizeof *rows);
+    size_t found = 0, length = kind == RSTORE_POINT ? axes : 2 * (size_t)axes;
+    int error = DO(rstore_c_range(db, TEXT(layer), (uint32_t)kind, numbers, length, tag, tag ? *tag : 0, &found));
+    if (error) return error;
+    if (room && found) rstore_c_rows(db, 0, rows, found < room ? found : room);
+    *count = found;
+    return RSTORE_OK;
+}
+size_t rstore_more(rstore *db, size_t from, rstore_row *rows, size_t room) {
+    return db && rows && room && room <= PTRDIFF_MAX / sizeof *rows ? rstore_c_rows(db, from, rows, room) : 0;
+}
+
+/* The rows that a question has left, as an array, which the proved code takes as memory that has a value. */
+#define HAND_OUT(fetch) do { \
+        void *made = found ? calloc(found, sizeof **rows) : NULL; \
+        if (found && !made) return RSTORE_MEMORY; \
+        if (found) fetch(db, 0, made, found); \
+        *rows = made; \
+        return *count = found, RSTORE_OK; \
+    } while (0)
+
+/* The four range queries. */
+#define RANGE(name, kind) \
+    int name(rstore *db, const char *layer, const int32_t *box, uint32_t axes, const uint32_t *tag, rstore_row **rows, \
+             size_t *count) { \
+        size_t found = 0; \
+        ASK(rows && count); \
+        int error = rstore_range_into(db, layer, kind, box, axes, tag, NULL, 0, &found); \
+        if (error) return error; \
+        HAND_OUT(rstore_c_rows); \
+    }
+RANGE(rstore_window, RSTORE_WINDOW)
+RANGE(rstore_inside, RSTORE_INSIDE)
+RANGE(rstore_around, RSTORE_AROUND)
+RANGE(rstore_point, RSTORE_POINT)
+
+int rstore_nearest(rstore *db, const char *layer, uint64_t k, const int32_t *point, uint32_t axes, rstore_near **rows,
+                   size_t *count) {
+    ASK(db && NAMED(layer) && point && AXES(axes) && rows && count);
+    size_t found = 0;
+    int error = DO(rstore_c_nearest(db, TEXT(layer), k, point, axes, &found));
+    if (error) return error;
+    HAND_OUT(rstore_c_near_rows);
+}
+int rstore_join(rstore *db, const char *first, const char *second, uint64_t squared_distance, rstore_pair **rows,
+                size_t *count) {
+    ASK(db && NAMED(first) && NAMED(second) && rows && count);
+    size_t found = 0;
+    int error = DO(rstore_c_join(db, TEXT(first), TEXT(second), squared_distance, &found));
+    if (error) return error;
+    HAND_OUT(rstore_c_pair_rows);
+}
+void rstore_free(void *rows) { free(rows); }

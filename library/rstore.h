@@ -1,0 +1,213 @@
+/* rstore.h - a verified R*-tree spatial store in one file, for C and C++ (docs/LIBRARY.md).
+ *
+ * A store has up to 60 named layers. A layer has objects: an identifier (any uint64_t, once in a layer), a box of whole
+ * numbers (int32_t, in units of the caller's own) in 2 or 3 axes, and a tag (any uint32_t), by which queries choose. A
+ * box is closed: it has its low and its high on each axis, low <= high, and boxes that touch meet.
+ *
+ * ERRORS. Each function that returns int answers RSTORE_OK (0) or the number of an error; rstore_errstr has a message
+ * for each, and rstore_detail what came with it. But for RSTORE_STORE_FAILED, an error leaves the store as it was. Where
+ * a call is refused, *rows, *count and the like are not written. After RSTORE_STORE_FAILED the store refuses each call:
+ * close it, and open it again to have what was kept last. Null pointers, a number of axes other than 2 and 3, an unknown
+ * kind of query and an empty name answer RSTORE_MISUSE.
+ *
+ * WHAT IS KEPT. Changes are in the file once rstore_commit or rstore_close answered RSTORE_OK, all of them or, before,
+ * none. A process that is killed, or a machine that stops, at any moment, loses what was changed since the last of
+ * these, and nothing else: the next rstore_open brings back the table that was kept last (or that of a commit that was
+ * in progress). For that a journal stands beside the file, as FILE-journal, from rstore_open to rstore_close. After a
+ * kill the two belong together: do not copy, move or remove one without the other, until the file was opened once for
+ * writing. The file and the journal are those of the program rstore, byte for byte (docs/FORMAT.md).
+ *
+ * THE LOCK. A file is open for writing once at a time, or any number of times with RSTORE_READ_ONLY, by whatever
+ * programs: rstore_open takes the lock of the program rstore (flock), and answers RSTORE_BUSY where it is not given. A
+ * reader sees the file as it was closed last, and the writer waits for no reader: it is refused while there is one.
+ *
+ * OWNERSHIP. A handle is the caller's, from rstore_open to rstore_close, which frees it whatever it answers. Arrays of
+ * results are made by the library and freed by rstore_free. Names, paths, boxes and rows that are given are read during
+ * the call only. Messages and the version are constants.
+ *
+ * THREADS. One call at a time for a handle; a handle may go from thread to thread; handles of different files are
+ * independent. A call needs 256 KiB of stack. No call from a signal handler. No use of a handle in a forked child, which
+ * shares its lock: close it before the fork, or let the child exec (the files are closed then) or _exit.
+ *
+ * Not tested, as in most C: a pointer that is wrong and not null, a handle after its close, an array that is shorter
+ * than its count.
+ */
+#ifndef RSTORE_H
+#define RSTORE_H
+
+#include <stddef.h>
+#include <stdint.h>
+
+#ifdef __cplusplus
+extern "C" {
+#endif
+
+#define RSTORE_VERSION "0.2"
+
+/* A store that is open. */
+typedef struct rstore rstore;
+
+/* An object. With 2 axes low[2] and high[2] are 0 in results and not read in loads. */
+typedef struct rstore_row {
+    uint64_t id;
+    int32_t low[3];
+    int32_t high[3];
+    uint32_t tag;
+    uint32_t axes; /* 2 or 3 in results; not read in loads */
+} rstore_row;
+
+/* An object by its squared distance, exactly distance_high * 2^64 + distance (below 2^66). */
+typedef struct rstore_near {
+    uint64_t id;
+    uint64_t distance;
+    uint64_t distance_high;
+} rstore_near;
+
+/* An object of a first layer and one of a second. */
+typedef struct rstore_pair {
+    uint64_t first;
+    uint64_t second;
+} rstore_pair;
+
+/* A layer. */
+typedef struct rstore_layer {
+    uint64_t count;  /* objects */
+    char name[32];   /* ends in 0 */
+    uint32_t axes;   /* 2 or 3 */
+    uint32_t fanout; /* entries of a node at most, 4 to 100 */
+} rstore_layer;
+
+/* 1 to 25 are the store's refusals, by the numbers of docs/COMMANDS.md; from 101 on the library's own. */
+enum {
+    RSTORE_OK = 0,
+    RSTORE_BAD_NAME = 1,          /* a layer name is 1 to 24 of a-z, 0-9 and _, the first a letter */
+    RSTORE_LAYER_EXISTS = 2,
+    RSTORE_NO_LAYER = 3,
+    RSTORE_BAD_DIMS = 4,          /* a layer has 2 or 3 axes; a new layer of others answers RSTORE_MISUSE first */
+    RSTORE_BAD_FANOUT = 5,        /* 4 to 100 */
+    RSTORE_TOO_MANY_LAYERS = 6,   /* 60 */
+    RSTORE_BAD_BOX = 7,           /* a low is above its high */
+    RSTORE_WRONG_DIMS = 8,        /* a box or point has another number of axes than the layer */
+    RSTORE_DUPLICATE = 9,         /* an object of that identifier is there */
+    RSTORE_NO_OBJECT = 10,
+    RSTORE_TOO_MANY_OBJECTS = 11, /* 2^30 in all layers */
+    RSTORE_NOT_EMPTY = 12,        /* only an empty layer is loaded */
+    RSTORE_DUPLICATE_IN_LOAD = 13,/* rstore_detail: the least identifier that stands twice */
+    RSTORE_BAD_COUNT = 14,        /* the nearest 1 to 1,000,000 */
+    RSTORE_DIMS_DIFFER = 15,      /* the layers of a join */
+    RSTORE_MEMORY = 16,
+    RSTORE_DEVICE = 17,           /* a read, write or sync of the file failed */
+    RSTORE_DAMAGED = 18,          /* rstore_detail: the page */
+    RSTORE_STORE_FAILED = 19,     /* rstore_detail: the number of the fault, or 19 where it had failed before */
+    RSTORE_NOT_CLOSED = 20,       /* the file was changed and not closed: with RSTORE_READ_ONLY after a kill, or no journal */
+    RSTORE_NOT_A_STORE = 21,
+    RSTORE_WRONG_VERSION = 22,
+    RSTORE_BAD_CACHE = 23,        /* 8 to 4096 pages */
+    RSTORE_BAD_LINE = 24,         /* of the command language; no function answers it */
+    RSTORE_NO_PAGES = 25,
+    RSTORE_CANNOT_OPEN = 101,     /* the system refuses the file or its journal, or it is no regular file */
+    RSTORE_BUSY = 102,            /* the file is open elsewhere */
+    RSTORE_MISUSE = 104,          /* a null pointer, an empty name, or numbers that are no box, point or query */
+    RSTORE_READ_ONLY_STORE = 105, /* a change of a store that was opened with RSTORE_READ_ONLY */
+    RSTORE_NO_LOCKS = 106,        /* the system has no locks for the file */
+    RSTORE_NO_JOURNAL = 107,      /* FILE-journal is missing where the last session did not end, or is no journal */
+    RSTORE_OTHER_JOURNAL = 108    /* FILE-journal is the journal of another file */
+};
+
+/* The library's version, and a message for the number of an error. */
+const char *rstore_version(void);
+const char *rstore_errstr(int error);
+
+/* The number that came with the last error of this handle: an identifier, a page or a fault, else 0. Right after
+ * rstore_open it is 1 where the last session was cut short after a commit, and 0 else. Of NULL it is the number that came
+ * with the last rstore_open of this thread that was refused. */
+uint64_t rstore_detail(rstore *db);
+
+/* ---- opening and closing */
+
+enum {
+    RSTORE_EXISTING = 0, /* the file must be there */
+    RSTORE_CREATE = 1,   /* a file that is missing or empty becomes an empty store */
+    RSTORE_READ_ONLY = 2 /* the file is only read, and may lack the right to be written; changes are refused */
+};
+
+/* Opens the store in the file at `path`. `cache` is how many pages of 4096 bytes are held in memory, 8 to 4096; 0 is
+ * 1024. On success *db is the handle, else NULL. */
+int rstore_open(const char *path, int flags, uint32_t cache, rstore **db);
+
+/* Keeps all changes in the file and frees the handle, whatever it answers. NULL is fine. */
+int rstore_close(rstore *db);
+
+/* Keeps all changes in the file (four or five syncs, none where nothing was changed), and goes on. */
+int rstore_commit(rstore *db);
+
+/* Reads every page: RSTORE_OK only where the file is sound, RSTORE_DAMAGED where it is not. */
+int rstore_check(rstore *db);
+
+/* ---- layers */
+
+/* Makes an empty layer with 2 or 3 axes, of at most 4 to 100 entries in a node (100 is best). */
+int rstore_create_layer(rstore *db, const char *layer, uint32_t axes, uint32_t fanout);
+
+/* Takes out a layer with all its objects. */
+int rstore_drop_layer(rstore *db, const char *layer);
+
+/* All layers, ascending by name. */
+int rstore_layers(rstore *db, rstore_layer **layers, size_t *count);
+
+/* How many objects a layer has. */
+int rstore_count(rstore *db, const char *layer, uint64_t *count);
+
+/* ---- changes. A box is 2 * axes numbers: the lows, and then the highs. A point is `axes` numbers. */
+
+int rstore_insert(rstore *db, const char *layer, uint64_t id, const int32_t *box, uint32_t axes, uint32_t tag);
+
+/* Gives an object another box. It keeps its tag. */
+int rstore_move(rstore *db, const char *layer, uint64_t id, const int32_t *box, uint32_t axes);
+
+int rstore_delete(rstore *db, const char *layer, uint64_t id);
+
+/* Puts `count` objects into an empty layer at once: a packed tree, several times as fast as inserts. None or all. */
+int rstore_load(rstore *db, const char *layer, uint32_t axes, const rstore_row *rows, size_t count);
+
+/* ---- questions. *rows is an array of *count, NULL if there are none; free it by rstore_free. */
+
+/* One object. */
+int rstore_get(rstore *db, const char *layer, uint64_t id, rstore_row *row);
+
+/* The objects whose boxes meet the box (window), lie within it (inside), enclose it (around), or hold the point, each
+ * ascending by identifier; with a tag that is not NULL only those that have it. */
+int rstore_window(rstore *db, const char *layer, const int32_t *box, uint32_t axes, const uint32_t *tag,
+                  rstore_row **rows, size_t *count);
+int rstore_inside(rstore *db, const char *layer, const int32_t *box, uint32_t axes, const uint32_t *tag,
+                  rstore_row **rows, size_t *count);
+int rstore_around(rstore *db, const char *layer, const int32_t *box, uint32_t axes, const uint32_t *tag,
+                  rstore_row **rows, size_t *count);
+int rstore_point(rstore *db, const char *layer, const int32_t *point, uint32_t axes, const uint32_t *tag,
+                 rstore_row **rows, size_t *count);
+
+enum { RSTORE_WINDOW = 0, RSTORE_INSIDE = 1, RSTORE_AROUND = 2, RSTORE_POINT = 3 };
+
+/* The same for a caller with room of its own, by the kind of the query: at most `room` rows go to `rows`, and *count says
+ * how many there are. Where *count > room, rstore_more copies the rest from row `from` on, and says how many it copied,
+ * until the next such query of the handle. Rows of the array that are not asked for keep what they have. */
+int rstore_range_into(rstore *db, const char *layer, int kind, const int32_t *numbers, uint32_t axes,
+                      const uint32_t *tag, rstore_row *rows, size_t room, size_t *count);
+size_t rstore_more(rstore *db, size_t from, rstore_row *rows, size_t room);
+
+/* The k nearest to the point (1 to 1,000,000), by squared distance and then by identifier. */
+int rstore_nearest(rstore *db, const char *layer, uint64_t k, const int32_t *point, uint32_t axes, rstore_near **rows,
+                   size_t *count);
+
+/* All pairs of an object of each layer whose boxes have at most this squared distance (0: that meet), ascending by first
+ * and then by second. */
+int rstore_join(rstore *db, const char *first, const char *second, uint64_t squared_distance, rstore_pair **rows,
+                size_t *count);
+
+/* Frees an array of results. NULL is fine. */
+void rstore_free(void *rows);
+
+#ifdef __cplusplus
+}
+#endif
+#endif
