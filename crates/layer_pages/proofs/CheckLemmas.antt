@@ -36,7 +36,7 @@ use Rattle.node_page.proofs.GivenLemmas.{live_tree_is_given, tree_carried}
 use Rattle.node_page.proofs.PartLemmas.{none_or_some}
 use Rattle.node_page.proofs.Reading.{spells as node_spells}
 use Rattle.node_page.proofs.StandingLemmas.{one_tree_stands, pages_are_there}
-use Rattle.id_table.specs.Checked.{IsCheckedTable}
+use Rattle.id_table.specs.Checked.{ComesInTable, IsCheckedTable}
 use Rattle.id_table.specs.Table.{Bucket, ChainStands, IdTable, IdsStand, IsDirectory, kept_in, bucket_in}
 use Rattle.id_table.specs.Table.{class_of, entries_in, entries_of, link_at, objects_of, occurs_in_ids}
 use Rattle.id_table.specs.Table.{times_in}
@@ -45,7 +45,7 @@ use Rattle.id_table.proofs.CheckLemmas.{times-append}
 use Rattle.id_table.proofs.CheckedLemmas.{live_table_is_given, one_chain, table_carried}
 use Rattle.id_table.proofs.FreeLemmas.{stands_same}
 use Rattle.id_table.proofs.TableLemmas.{elsewhere, found_is, occurs_here, table_there}
-use Rattle.layer_pages.specs.Checked.{AreOfOneLayer, IsCheckedLayer}
+use Rattle.layer_pages.specs.Checked.{AreOfOneLayer, ComesInLayer, IsCheckedLayer, odd_page}
 use Rattle.layer_pages.specs.Layers.{IsLayerAt, LayerPages, Objects, part_of_layer}
 use Rattle.layer_pages.proofs.ObjectLemmas.{no_objects, one_entry_more, one_order, row_boxes}
 
@@ -362,6 +362,30 @@ module _ (dims most : ℕ) (m : PageMap) (root : Root) (directory count : ℕ) (
       (layer_checked dims most m root directory held listed held_pages listed_pages tree table count a.same
       a.boxes a.many)
   all_checked (Err f) list_of a = tt
+
+-- what is damaged of a tree and a table that are no layer, is of the layer
+pub comes_oddly : {T : Type 0} (dims : ℕ) (m : PageMap) (root : Root) (directory count : ℕ) (held : List Entry)
+    (result : Result T Fault)
+    → IfErr result (λ f. (f ≡ fault.Memory) ⊎ (f ≡ fault.Damaged (odd_page directory count held)))
+    → IfErr result (λ f. (n : ℕ) → f ≡ fault.Damaged n → ComesInLayer dims m root directory n)
+comes_oddly dims m root directory count held (Ok x) odd = tt
+comes_oddly dims m root directory count held (Err f) odd = λ n is. ⊎_elim
+    (λ (memory : f ≡ fault.Memory). absurd (let bad : fault.Memory ≡ fault.Damaged n = sym memory ∙ is in cc))
+    (λ (damaged : f ≡ fault.Damaged (odd_page directory count held)).
+    let same : n ≡ odd_page directory count held =
+    (let both : fault.Damaged n ≡ fault.Damaged (odd_page directory count held) = sym is ∙ damaged in cc) in
+    by_count n (length held == count) same)
+    odd
+  where
+    by_count : (n : ℕ) (t : Bool) → n ≡ cond t directory 2 → ComesInLayer dims m root directory n
+    by_count n true is = inr (inr (inl is))
+    by_count n false is = inl is
+
+-- pages that agree lead to the same
+pub comes_on : (dims : ℕ) (m m' : PageMap) (directory n : ℕ) → ((k : ℕ) → m k ≡ m' k)
+    → ComesInTable dims m directory n → ComesInTable dims m' directory n
+comes_on dims m m' directory n same comes =
+    subst (λ (p : PageMap). ComesInTable dims p directory n) (λ i k. same k i) comes
 
 module _ {B A : Type 0} {m : _} where
   -- an answer that wants no page

@@ -1,12 +1,13 @@
 -- What a check of the pages of a layer finds (our rule, docs/FORMAT.md, "Trees of pages" and "Identifier
 -- tables").
-use Rattle.std.specs.Prelude.{◌≡◌, ℕ, List, ◌++◌, ◌==◌, All, IsPermutation, if◌then◌else◌, length}
+use Rattle.std.specs.Prelude.{◌≡◌, ◌⊎◌, ℕ, List, ◌++◌, ◌==◌, All, IsPermutation, if◌then◌else◌, length}
 use Rattle.std.specs.FinMap.{len}
 use Rattle.box_math.specs.Bounds.{IsBox}
 use Rattle.box_math.specs.Objects.{bounds_of}
 use Rattle.bucket_page.specs.Layout.{Entry}
 use Rattle.tree_node.specs.declared.node.Root.{Root}
-use Rattle.node_page.specs.Checked.{named_pages}
+use Rattle.id_table.specs.Checked.{ComesInTable}
+use Rattle.node_page.specs.Checked.{ComesTo, named_pages}
 use Rattle.node_page.specs.Standing.{PageMap}
 use Rattle.layer_pages.specs.Layers.{IsLayerAt, LayerPages, Objects, part_of_layer}
 
@@ -19,6 +20,12 @@ pub record IsCheckedLayer (dims most : ℕ) (pages : PageMap) (root : Root) (dir
   pub stands : IsLayerAt dims most pages root directory layer objects
   pub count_is : len objects ≡ count
   pub pages_are : (n : ℕ) → named_pages list n ≡ part_of_layer layer n
+
+-- A walk through a layer comes to the page: down the nodes of its tree, or along a chain of its table; or it is
+-- the catalog, which says how many objects the layer has.
+abbrev pub ComesInLayer : ℕ → PageMap → Root → ℕ → ℕ → Type 0
+ComesInLayer dims pages root directory last =
+    (last ≡ 2) ⊎ (ComesTo dims pages root.page last ⊎ ComesInTable dims pages directory last)
 
 -- the page of a tree of these objects and a table that are no layer of so many: that of the catalog, and
 -- where the tree has so many, that of the directory

@@ -1,6 +1,6 @@
 //! Layers checked: whether one stands.
 
-ghost use Rattle.std.specs.Prelude.{◌≡◌, ◌⊎◌, ◌+◌, ◌*◌, ◌≤◌, ◌↔◌, true, All, IfErr, IfOk, IsPermutation};
+ghost use Rattle.std.specs.Prelude.{◌≡◌, ◌⊎◌, ◌+◌, ◌*◌, ◌≤◌, ◌↔◌, ℕ, true, All, IfErr, IfOk, IsPermutation};
 ghost use Rattle.std.specs.Prelude.{IsTrue};
 ghost use Rattle.std.specs.FinMap as map;
 ghost use Rattle.box_math.specs.Bounds.{IsBox, IsDims};
@@ -9,7 +9,7 @@ ghost use Rattle.page_file.specs.Fault.{IsDamage, IsOfDevice};
 ghost use Rattle.page_file.specs.declared.fault.Fault.TheVariants as fault;
 ghost use Rattle.page_cache.specs.Cache.{IsHonest, IsPageMap, given, looks_of, next_of, pages};
 ghost use Rattle.page_cache.specs.Calls.{Asks};
-ghost use Rattle.layer_pages.specs.Checked.{AreOfOneLayer, IsCheckedLayer, odd_page};
+ghost use Rattle.layer_pages.specs.Checked.{AreOfOneLayer, ComesInLayer, IsCheckedLayer, odd_page};
 ghost use Rattle.layer_pages.specs.Layers.{IsLayerAt, LayerPages, Objects};
 
 use block_device::BlockDevice;
@@ -27,8 +27,8 @@ const CATALOG: u32 = 2;
 /// entries, and answers its pages.
 ///
 /// On an honest device it answers so only where such a layer stands there; else it is `Damaged` with the
-/// number of a page: that of the catalog where there is another count of objects, and that of the directory
-/// where the table has others than the tree. Where such a layer stands, a refusal is `Memory` or `Device`. It
+/// number of a page that a walk through the layer comes to: that of the catalog where there is another count
+/// of objects, and that of the directory where the table has others than the tree. Where such a layer stands, a refusal is `Memory` or `Device`. It
 /// makes no more than two looks for each number below the next one, whatever the pages are. Map and gate
 /// stay, also after a refusal.
 pub fn check<'a, const D: usize, B: BlockDevice, A: Allocator + Copy, H: Allocator>(
@@ -49,6 +49,8 @@ pub fn check<'a, const D: usize, B: BlockDevice, A: Allocator + Copy, H: Allocat
         → IsLayerAt D m_max (pages cache.old) root directory l objects → map.len objects ≡ count
         → IfErr result IsOfDevice }
     ensures looks { looks_of cache.new ≤ looks_of cache.old + 2 * next_of cache.old }
+    ensures damage { IsHonest cache.old → IfErr result (λ f. (n : ℕ) → f ≡ fault.Damaged n →
+        ComesInLayer D (given cache.old) root directory n) }
     ensures other_faults { IfErr result (λ f. IsOfDevice f ⊎ IsDamage f) }
 {
     let tree = check_tree::<D, B, A, &H>(alloc, cache, root, m_max)?;

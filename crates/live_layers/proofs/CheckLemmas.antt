@@ -1,16 +1,22 @@
 -- Layers that are checked one after the other, and their pages.
 use Rattle.std.proofs.Common.{◌≡◌, ◌∙◌, ℕ, ◌+◌, ◌<◌, cond, eqb, List, [], ◌∷◌, ◌++◌, length, get_or, map}
-use Rattle.std.proofs.Common.{take, refl, sym, ap, subst, arith}
+use Rattle.std.proofs.Common.{◌⊎◌, ⊥, zero, suc, Contains, inl, inr, take, refl, sym, ap, subst, arith}
 use Rattle.std.specs.FinMap.{len, len-entries}
 use Rattle.std.proofs.lemmas.List.{get_or-map, length-map, map-append, take_more}
 use Rattle.catalog_page.specs.Layout.{Record, record_of}
 use Rattle.catalog_page.specs.declared.layer_record.LayerRecord.{LayerRecord}
-use Rattle.layer_pages.specs.Checked.{IsCheckedLayer}
+use Rattle.layer_pages.specs.Checked.{ComesInLayer, IsCheckedLayer}
 use Rattle.layer_pages.specs.Layers.{IsLayerAt}
 use Rattle.node_page.specs.Checked.{named_pages}
 use Rattle.node_page.specs.Standing.{PageMap}
+use Rattle.page_cache.specs.Cache.{BreaksAt}
+use Rattle.page_cache.specs.declared.cache.PageCache.{PageCache}
+use Rattle.page_file.specs.Fault.{IsOfDevice}
+use Rattle.page_file.specs.declared.fault.Fault.{Fault}
+use Rattle.page_file.specs.declared.fault.Fault.TheVariants as fault
+use Rattle.tree_node.specs.declared.node.Root.{Root}
 use Rattle.tree_node.proofs.PositionLemmas.{total-append}
-use Rattle.live_layers.specs.Checked.{AddsLayer, AddsLayers}
+use Rattle.live_layers.specs.Checked.{AddsLayer, AddsLayers, ComesInLayers, IsFoundDamaged}
 use Rattle.live_layers.specs.Layers.{LayerStands, LayersStand, Reading, of_layer, of_layers, root_of, row_of}
 use Rattle.live_layers.proofs.FindLemmas.{no_reading}
 use Rattle.live_layers.proofs.LayerLemmas.{layer_at_stands, layer_stays, layers_stay}
@@ -121,3 +127,39 @@ all_in old new rs before now same a = subst (λ (p : PageMap). AddsLayers p rs b
 pub stand_in : (old new : PageMap) (hs : List Reading) → ((n : ℕ) → new n ≡ old n) → LayersStand old hs
     → LayersStand new hs
 stand_in old new hs same stand = layers_stay old new hs (λ n p. same n) stand
+
+-- ---- what is damaged
+
+-- a refusal of memory or the device names no page
+pub names_no_page : (f : Fault) (n : ℕ) → IsOfDevice f → f ≡ fault.Damaged n → ⊥
+names_no_page f n (inl memory) is = let no : fault.Memory ≡ fault.Damaged n = sym memory ∙ is in cc
+names_no_page f n (inr device) is = let no : fault.Device ≡ fault.Damaged n = sym device ∙ is in cc
+
+pub one_number : (n k : ℕ) → fault.Damaged n ≡ fault.Damaged k → n ≡ k
+one_number n k e = cc
+
+-- a walk through a layer is one through each layer's pages that agree
+pub comes_in_same : (dims : ℕ) (m m' : PageMap) (root : Root) (directory n : ℕ) → ((k : ℕ) → m k ≡ m' k)
+    → ComesInLayer dims m root directory n → ComesInLayer dims m' root directory n
+comes_in_same dims m m' root directory n same comes =
+    subst (λ (p : PageMap). ComesInLayer dims p root directory n) (λ i k. same k i) comes
+
+pub comes_in_all : (m m' : PageMap) (rs : List Record) (n : ℕ) → ((k : ℕ) → m k ≡ m' k)
+    → ComesInLayers m rs n → ComesInLayers m' rs n
+comes_in_all m m' rs n same comes =
+    (comes.0, comes.1, comes_in_same comes.0.dims m m' (root_of comes.0) comes.0.directory n same comes.2)
+
+pub among_records : (items : List LayerRecord) (i : ℕ) (r : LayerRecord) → i < length items
+    → r ≡ get_or items i r → Contains (map record_of items) (record_of r)
+among_records [] i r lt is = absurd (omega (arith, lt))
+among_records (x ∷ xs) zero r lt is = (0, omega arith, sym (ap record_of is))
+among_records (x ∷ xs) (suc i) r lt is =
+    let rest = among_records xs i r (omega (arith, lt)) is in (suc rest.0, omega (arith, rest.1), rest.2)
+
+module _ {D A : Type 0} {m : _} (cache : PageCache D A m) (records : List Record) where
+  -- the chain of free pages breaks there
+  pub chain_breaks : (f : Fault) (n : ℕ) → f ≡ fault.Damaged n
+      → IsOfDevice f ⊎ ((k : ℕ) × (f ≡ fault.Damaged k) × BreaksAt cache k) → IsFoundDamaged cache records n
+  chain_breaks f n is (inl of_device) = absurd (names_no_page f n of_device is)
+  chain_breaks f n is (inr breaks) =
+      inl (subst (BreaksAt cache) (one_number breaks.0 n (sym breaks.1 ∙ is)) breaks.2)

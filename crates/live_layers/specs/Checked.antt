@@ -1,16 +1,20 @@
 -- What a check of all pages finds (our rule, docs/FORMAT.md, "Opening").
-use Rattle.std.specs.Prelude.{ℕ, ◌≡◌, ◌+◌, ◌<◌, ◌≤◌, ◌⊎◌, List, map}
-use Rattle.catalog_page.specs.Layout.{Record}
+use Rattle.std.specs.Prelude.{ℕ, ◌≡◌, ◌+◌, ◌<◌, ◌≤◌, ◌⊎◌, List, [], ◌∷◌, ◌++◌, Contains, map}
+use Rattle.catalog_page.specs.Layout.{Record, records_of}
+use Rattle.layer_pages.specs.Checked.{ComesInLayer}
 use Rattle.node_page.specs.Checked.{named_pages}
 use Rattle.node_page.specs.Parts.{IsAllOf}
 use Rattle.node_page.specs.Standing.{PageMap}
+use Rattle.page_cache.specs.Cache.{BreaksAt, KeepsMap, free_of, given, next_of, pages}
+use Rattle.page_cache.specs.declared.cache.PageCache.{PageCache}
 use Rattle.page_file.specs.Fault.{IsDamage, IsOfDevice}
 use Rattle.page_file.specs.declared.fault.Fault.{Fault}
 use Rattle.plain_table.specs.Table.{Table}
 use Rattle.plain_table.specs.declared.refusal.Refusal.{Refusal}
 use Rattle.live_layers.specs.Faults.{as_refusal}
 use Rattle.live_layers.specs.Keeping.{IsSound}
-use Rattle.live_layers.specs.Layers.{LayerStands, LayersStand, Reading, in_use, of_layer, of_layers, row_of}
+use Rattle.live_layers.specs.Layers.{LayerStands, LayersStand, Reading, in_use, of_layer, of_layers, root_of}
+use Rattle.live_layers.specs.Layers.{row_of}
 use Rattle.live_layers.specs.declared.layers.Layers.{Layers}
 
 -- the layers are sound with some table
@@ -20,6 +24,11 @@ IsFoundSound kept = (t : Table) × IsSound kept t
 -- want of memory, a device that failed, or damage
 abbrev pub IsCheckRefusal : Refusal → Type 0
 IsCheckRefusal r = (f : Fault) × (r ≡ as_refusal f) × (IsOfDevice f ⊎ IsDamage f)
+
+-- a walk through one of the layers comes to the page
+abbrev pub ComesInLayers : PageMap → List Record → ℕ → Type 0
+ComesInLayers pages records n = (r : Record) × Contains records r
+    × ComesInLayer r.dims pages (root_of r) r.directory n
 
 -- the layers of the records stand in the pages, and the live pages are those in use and no others, each in
 -- one place
@@ -45,7 +54,25 @@ pub record AddsLayers (pages : PageMap) (records : List Record) (before now : Li
   pub stand : LayersStand pages layers
   pub listed : (n : ℕ) → named_pages now n ≡ named_pages before n + of_layers layers n
 
+-- page n is none that was given out, or stands not just once in the list
+abbrev pub IsOdd : ℕ → List ℕ → ℕ → Type 0
+IsOdd next list n = (n < 2) ⊎ ((next ≤ n) ⊎ ¬ (named_pages list n ≡ 1))
+
+-- What a check names as damaged: the page at which the chain of free pages breaks, one that a walk through a
+-- layer comes to, or, where all of these stand, one that does not stand in just one of them.
+abbrev pub IsFoundDamaged : {D A : Type 0} {m : _} → PageCache D A m → List Record → ℕ → Type 0
+IsFoundDamaged cache records n = BreaksAt cache n
+    ⊎ (ComesInLayers (given cache) records n
+    ⊎ ((list : List ℕ) × AddsLayers (pages cache) records (free_of cache ++ 2 ∷ []) list
+    × IsOdd (next_of cache) list n))
+
 -- the list has each page once whose number is below one, from the catalog on, and no other
 pub record NamesEach (next : ℕ) (list : List ℕ) : Type 0 where
   pub once : (n : ℕ) → 2 ≤ n → n < next → named_pages list n ≡ 1
   pub given : (n : ℕ) → 0 < named_pages list n → (2 ≤ n) × (n < next)
+
+-- the catalog, or what a check of the pages names as damaged, on a cache with the same map
+abbrev pub IsNamedDamaged : {D A : Type 0} {m : _} → Layers D A m → ℕ → Type 0
+IsNamedDamaged {D = D} {A = A} {m = m} kept n = (n ≡ 2)
+    ⊎ ((cache : PageCache D A m) × KeepsMap kept.cache cache
+    × IsFoundDamaged cache (records_of kept.records) n)

@@ -1,12 +1,14 @@
 //! All pages checked: whether the layers are sound.
 
-ghost use Rattle.std.specs.Prelude.{◌≡◌, ◌+◌, ◌*◌, ◌≤◌, ◌⊎◌, List, true, IfErr, IsTrue, OnOk, length};
+ghost use Rattle.std.specs.Prelude.{◌≡◌, ◌+◌, ◌*◌, ◌≤◌, ◌⊎◌, ℕ, List, true, IfErr, IsTrue, OnOk, length};
 ghost use Rattle.std.specs.Prelude.{map as each};
 ghost use Rattle.catalog_page.specs.Layout.{record_of};
 ghost use Rattle.page_cache.specs.Cache.{IsHonest, IsPageMap, looks_of};
 ghost use Rattle.page_cache.specs.Cache.{next_of, pages};
 ghost use Rattle.page_cache.specs.Calls.{Asks};
 ghost use Rattle.page_file.specs.Fault.{IsDamage, IsOfDevice};
+ghost use Rattle.page_file.specs.declared.fault.Fault.TheVariants.{Damaged};
+ghost use Rattle.plain_table.specs.declared.refusal.Refusal.TheVariants as refusal;
 ghost use Rattle.node_page.specs.Parts.{IsAllOf};
 ghost use Rattle.plain_table.specs.Answers.{done_answer};
 ghost use Rattle.plain_table.specs.Commands.Command.{Check};
@@ -14,7 +16,8 @@ ghost use Rattle.plain_table.specs.Table.{Table};
 ghost use Rattle.live_layers.specs.Catalog as catalog;
 ghost use Rattle.live_layers.specs.Catalog.{AreLayers, objects_named};
 ghost use Rattle.live_layers.specs.Changes.{IsAnswered, KeepsInQuestion};
-ghost use Rattle.live_layers.specs.Checked.{FindsLayers, IsCheckRefusal, IsFoundSound};
+ghost use Rattle.live_layers.specs.Checked.{FindsLayers, IsCheckRefusal, IsFoundDamaged, IsFoundSound};
+ghost use Rattle.live_layers.specs.Checked.{IsNamedDamaged};
 ghost use Rattle.live_layers.specs.Keeping.{IsSound, cache_of, records_in};
 ghost use Rattle.live_layers.specs.Layers.{LayersStand, Reading, in_use, row_of};
 ghost use Rattle.live_layers.specs.Staying.{KeepsPagesAndRecords};
@@ -39,7 +42,8 @@ use std::alloc::Allocator;
 
 impl<B: BlockDevice, A: Allocator + Copy> Layers<B, A> {
     /// Checks all pages: on an honest device it answers so only where the layers are sound with some table,
-    /// and else `Damaged` with the number of a page. Layers that are sound are refused by `Memory` or
+    /// and else `Damaged` with the number of a page: that of the catalog, one at which the chain of free pages
+    /// breaks, one that a walk through a layer comes to, or one that does not stand in just one of these. Layers that are sound are refused by `Memory` or
     /// `Device` alone.
     ///
     /// It makes at most two looks for each layer and number below the next one, and one at the catalog.
@@ -50,6 +54,8 @@ impl<B: BlockDevice, A: Allocator + Copy> Layers<B, A> {
         ensures looks { looks_of (cache_of self.new) ≤ looks_of (cache_of self.old) +
             (1 + 2 * (length (records_in self.old) * next_of (cache_of self.old))) }
         ensures refused { IfErr result IsCheckRefusal }
+        ensures damage { IsHonest (cache_of self.old) →
+            IfErr result (λ r. (n : ℕ) → r ≡ refusal.Damaged n → IsNamedDamaged self.old n) }
         ensures keeps { KeepsInQuestion self.old self.new result }
     {
         match self.check_all() {
@@ -67,6 +73,8 @@ impl<B: BlockDevice, A: Allocator + Copy> Layers<B, A> {
         ensures looks { looks_of (cache_of self.new) ≤ looks_of (cache_of self.old) +
             (1 + 2 * (length (records_in self.old) * next_of (cache_of self.old))) }
         ensures trees { KeepsPagesAndRecords self.old self.new }
+        ensures damage { IsHonest (cache_of self.old) →
+            IfErr result (λ f. (n : ℕ) → f ≡ Damaged n → IsNamedDamaged self.old n) }
         ensures faults { IfErr result (λ f. IsOfDevice f ⊎ IsDamage f) }
     {
         if !are_good(&self.records, self.cache.next_number(), self.object_count) {
@@ -104,6 +112,8 @@ fn check_pages<B: BlockDevice, A: Allocator + Copy>(
     ensures stands { IsPageMap cache.old → (hs : List Reading) → each row_of hs ≡ each record_of records.now →
         LayersStand (pages cache.old) hs → IsAllOf (pages cache.old) (in_use hs) → IfErr result IsOfDevice }
     ensures looks { looks_of cache.new ≤ looks_of cache.old + 2 * (length records.now * next_of cache.old) }
+    ensures damage { IsHonest cache.old → IfErr result (λ f. (n : ℕ) → f ≡ Damaged n →
+        IsFoundDamaged cache.old (each record_of records.now) n) }
     ensures faults { IfErr result (λ f. IsOfDevice f ⊎ IsDamage f) }
 {
     let mut found = cache.free_pages(alloc)?;

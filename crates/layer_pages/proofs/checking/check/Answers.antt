@@ -1,5 +1,5 @@
 -- The tree is checked, the table, and what they have in common.
-use Rattle.std.proofs.Common.{◌≡◌, ℕ, None, Vec, Bor, inl, sym}
+use Rattle.std.proofs.Common.{◌≡◌, ℕ, None, Vec, Bor, inl, inr, sym}
 use Rattle.page_file.specs.declared.fault.Fault.TheVariants as fault
 use Rattle.page_file.specs.Fault.{IsOfDevice}
 use Rattle.page_cache.specs.Cache.{given, pages}
@@ -7,6 +7,8 @@ use Rattle.page_cache.specs.Calls.{asks_and_refuses, asks_in_turn}
 use Rattle.node_page.proofs.NodeLemmas.{at_error}
 use Rattle.id_table.proofs.BucketLemmas.{if_err}
 use Rattle.id_table.proofs.FreeLemmas.{stands_same}
+use Rattle.layer_pages.specs.Checked.{ComesInLayer}
+use Rattle.layer_pages.proofs.CheckLemmas.{comes_oddly, comes_on}
 use Rattle.layer_pages.proofs.CheckLemmas.{all_checked, layer_given, listed_there, pairs_there, quiet_asks}
 use Rattle.layer_pages.proofs.CheckLemmas.{table_on}
 use Rattle.layer_pages.proofs.checking.check.Goals as goal
@@ -77,3 +79,25 @@ returns-clause-stands g c = λ h l objects is count_is.
     held.pages.items listed.pages.items tree table l objects given_is)
     (listed_there g.row.D c.args.m_max old c.args.root c.args.directory held.pairs.items listed.pairs.items
     held.pages.items listed.pages.items tree table l objects given_is))
+
+pub returns-in_err-tree-clause-damage : goal.returns-in_err-tree-clause-damage
+returns-in_err-tree-clause-damage g c = λ h.
+    at_error c.from_residual.result c.in_err-tree.field-0.0
+    (λ f. (n : ℕ) → f ≡ fault.Damaged n
+    → ComesInLayer g.row.D (given c.args.cache.now) c.args.root c.args.directory n) c.from_residual.ensures.1
+    (λ n is. inr (inl (c.in_err-tree.ensures.damage h n is)))
+
+pub returns-in_err-table-clause-damage : goal.returns-in_err-table-clause-damage
+returns-in_err-table-clause-damage g c = λ h.
+    let a = c.in_ok-tree.ensures.asks in
+    at_error c.from_residual-in_err-table.result c.in_err-table.field-0.0
+    (λ f. (n : ℕ) → f ≡ fault.Damaged n
+    → ComesInLayer g.row.D (given c.args.cache.now) c.args.root c.args.directory n)
+    c.from_residual-in_err-table.ensures.1
+    (λ n is. inr (inr (comes_on g.row.D (given c.check_tree.new.cache) (given c.args.cache.now)
+    c.args.directory n (λ k. a.map.given_stay h k) (c.in_err-table.ensures.damage (a.gate.honest.0 h) n is))))
+
+pub returns-clause-damage : goal.returns-clause-damage
+returns-clause-damage g c = λ h.
+    comes_oddly g.row.D (given c.args.cache.now) c.args.root c.args.directory c.args.count
+    c.in_ok-tree.tree.pairs.items c.pages_of_both.result c.pages_of_both.ensures.damage

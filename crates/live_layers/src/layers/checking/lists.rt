@@ -1,14 +1,16 @@
 //! The pages of the layers listed, while each layer is checked.
 
-ghost use Rattle.std.specs.Prelude.{◌≡◌, ◌+◌, ◌*◌, ◌≤◌, ◌⊎◌, List, IfErr, OnOk, length, map as each};
+ghost use Rattle.std.specs.Prelude.{◌≡◌, ◌+◌, ◌*◌, ◌≤◌, ◌⊎◌, ℕ, List, IfErr, OnOk, length, map as each};
 ghost use Rattle.box_math.specs.Bounds.{IsDims};
 ghost use Rattle.catalog_page.specs.Layout.{record_of};
-ghost use Rattle.page_cache.specs.Cache.{IsHonest, IsPageMap, looks_of, next_of, pages};
+ghost use Rattle.page_cache.specs.Cache.{IsHonest, IsPageMap, given, looks_of, next_of, pages};
 ghost use Rattle.page_cache.specs.Calls.{Asks};
 ghost use Rattle.page_file.specs.Fault.{IsDamage, IsOfDevice};
+ghost use Rattle.page_file.specs.declared.fault.Fault.TheVariants.{Damaged};
+ghost use Rattle.layer_pages.specs.Checked.{ComesInLayer};
 ghost use Rattle.live_layers.specs.Catalog.{AreLayers};
-ghost use Rattle.live_layers.specs.Checked.{AddsLayer, AddsLayers};
-ghost use Rattle.live_layers.specs.Layers.{LayerStands, LayersStand, Reading, row_of};
+ghost use Rattle.live_layers.specs.Checked.{AddsLayer, AddsLayers, ComesInLayers};
+ghost use Rattle.live_layers.specs.Layers.{LayerStands, LayersStand, Reading, root_of, row_of};
 
 use block_device::BlockDevice;
 use catalog_page::LayerRecord;
@@ -33,6 +35,8 @@ pub fn list_layers<B: BlockDevice, A: Allocator + Copy>(
     ensures stands { IsHonest cache.old → (hs : List Reading) → each row_of hs ≡ each record_of records.now →
         LayersStand (pages cache.old) hs → IfErr result IsOfDevice }
     ensures looks { looks_of cache.new ≤ looks_of cache.old + 2 * (length records.now * next_of cache.old) }
+    ensures damage { IsHonest cache.old → IfErr result (λ f. (n : ℕ) → f ≡ Damaged n →
+        ComesInLayers (given cache.old) (each record_of records.now) n) }
     ensures faults { IfErr result (λ f. IsOfDevice f ⊎ IsDamage f) }
 {
     for record in records {
@@ -55,6 +59,8 @@ fn list_layer<B: BlockDevice, A: Allocator + Copy>(
     ensures stands { IsHonest cache.old → (h : Reading) → h.row ≡ record_of layer.now →
         LayerStands (pages cache.old) h → IfErr result IsOfDevice }
     ensures looks { looks_of cache.new ≤ looks_of cache.old + 2 * next_of cache.old }
+    ensures damage { IsHonest cache.old → IfErr result (λ f. (n : ℕ) → f ≡ Damaged n →
+        ComesInLayer layer.now.dims (given cache.old) (root_of (record_of layer.now)) layer.now.directory n) }
     ensures faults { IfErr result (λ f. IsOfDevice f ⊎ IsDamage f) }
 {
     if layer.dims == 2 {
@@ -79,6 +85,8 @@ fn list_pages<const D: usize, B: BlockDevice, A: Allocator + Copy>(
     ensures stands { IsHonest cache.old → (h : Reading) → h.row ≡ record_of layer.now →
         LayerStands (pages cache.old) h → IfErr result IsOfDevice }
     ensures looks { looks_of cache.new ≤ looks_of cache.old + 2 * next_of cache.old }
+    ensures damage { IsHonest cache.old → IfErr result (λ f. (n : ℕ) → f ≡ Damaged n →
+        ComesInLayer layer.now.dims (given cache.old) (root_of (record_of layer.now)) layer.now.directory n) }
     ensures faults { IfErr result (λ f. IsOfDevice f ⊎ IsDamage f) }
 {
     let root = Root {

@@ -5,6 +5,7 @@ ghost use Rattle.catalog_page.specs.Layout.{record_of};
 ghost use Rattle.page_cache.specs.Cache.{IsHonest, looks_of, pages};
 ghost use Rattle.page_cache.specs.Calls.{Asks};
 ghost use Rattle.page_file.specs.Fault.{IsDamage, IsOfDevice};
+ghost use Rattle.page_file.specs.declared.fault.Fault.TheVariants.{Damaged};
 ghost use Rattle.live_layers.specs.Layers.{catalog_in};
 
 use crate::layers::CATALOG;
@@ -27,6 +28,7 @@ pub fn check_catalog<B: BlockDevice, A: Allocator + Copy>(
     ensures stands { IsHonest cache.old → (written ≡ true →
         catalog_in (pages cache.old) ≡ Some (each record_of records.now)) → IfErr result IsOfDevice }
     ensures looks { looks_of cache.new ≤ looks_of cache.old + 1 }
+    ensures damage { IsHonest cache.old → IfErr result (λ f. IsOfDevice f ⊎ (f ≡ Damaged 2)) }
     ensures faults { IfErr result (λ f. IsOfDevice f ⊎ IsDamage f) }
 {
     if !written {

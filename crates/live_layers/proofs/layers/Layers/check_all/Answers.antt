@@ -1,5 +1,5 @@
 -- The records, the catalog and the pages are checked in turn.
-use Rattle.std.proofs.Common.{◌≡◌, ◌∙◌, List, true, Some, map, refl, sym, subst}
+use Rattle.std.proofs.Common.{◌≡◌, ◌∙◌, ℕ, List, true, Some, inl, inr, map, refl, sym, subst, ⊎_elim}
 use Rattle.catalog_page.specs.Layout.{record_of, records_of}
 use Rattle.catalog_page.specs.declared.layer_record.LayerRecord.{LayerRecord}
 use Rattle.node_page.specs.Parts.{IsAllOf}
@@ -8,12 +8,14 @@ use Rattle.page_cache.specs.Cache.{next_of, pages}
 use Rattle.page_cache.specs.Calls.{asks_in_turn, fault_in}
 use Rattle.page_cache.specs.Laws.{the_map_is_kept_in_turn}
 use Rattle.live_layers.specs.Catalog.{is_good_catalog, objects_named}
-use Rattle.live_layers.specs.Checked.{FindsLayers}
+use Rattle.page_file.specs.Fault.{IsOfDevice}
+use Rattle.page_file.specs.declared.fault.Fault.TheVariants.{Damaged}
+use Rattle.live_layers.specs.Checked.{FindsLayers, IsFoundDamaged, IsNamedDamaged}
 use Rattle.live_layers.specs.Layers.{in_use}
-use Rattle.live_layers.proofs.CheckLemmas.{stand_in}
+use Rattle.live_layers.proofs.CheckLemmas.{names_no_page, one_number, stand_in}
 use Rattle.live_layers.proofs.FoundLemmas.{found_in, records_pass, sound_found}
 use Rattle.live_layers.proofs.KeepLemmas.{sound_kept}
-use Rattle.live_layers.proofs.Results.{on_ok}
+use Rattle.live_layers.proofs.Results.{if_err, on_ok, the_err}
 use Rattle.live_layers.proofs.layers.Layers.check_all.Goals as goal
 
 pub returns-then-not-are_good-clause-stands : goal.returns-then-not-are_good-clause-stands
@@ -83,3 +85,25 @@ returns-clause-sound g c = λ t sound.
     the_map_is_kept_in_turn old c.check_catalog.new.cache c.check_pages.new.cache asked.gate.honest.0
     asked.map c.check_pages.ensures.asks.map in
     sound_kept c.args.self.now _ t keeps refl refl (λ w. w) sound
+
+pub returns-in_err-check_catalog-clause-damage : goal.returns-in_err-check_catalog-clause-damage
+returns-in_err-check_catalog-clause-damage g c = λ honest.
+    let f = c.in_err-check_catalog.field-0.0 in
+    the_err c.from_residual.result f (λ e. (n : ℕ) → e ≡ Damaged n → IsNamedDamaged c.args.self.now n)
+    c.from_residual.ensures.1
+    (λ n is. ⊎_elim (λ (of_device : IsOfDevice f). absurd (names_no_page f n of_device is))
+    (λ (catalog : f ≡ Damaged 2). inl (one_number n 2 (sym is ∙ catalog)))
+    (c.in_err-check_catalog.ensures.damage honest))
+
+pub returns-clause-damage : goal.returns-clause-damage
+returns-clause-damage g c = λ honest.
+    let kept = c.args.self.now in
+    let mid = c.check_catalog.new.cache in
+    let asked = c.in_ok-check_catalog.ensures.asks in
+    if_err c.check_pages.result
+    (λ f damage. λ n is. inr (
+      mid,
+      asked.map,
+      subst (λ (xs : List LayerRecord). IsFoundDamaged mid (map record_of xs) n) c.deref-3.ensures.0
+          (damage n is),
+    )) (c.check_pages.ensures.damage (asked.gate.honest.0 honest))

@@ -1,13 +1,15 @@
 -- Each layer in turn.
-use Rattle.std.proofs.Common.{◌<◌, List, None, get_or, length, map, take, sym, subst, arith}
+use Rattle.std.proofs.Common.{◌≡◌, ◌<◌, ℕ, List, None, get_or, length, map, take, sym, subst, arith}
 use Rattle.std.proofs.lemmas.List.{take_all}
 use Rattle.catalog_page.specs.Layout.{Record, record_of}
 use Rattle.catalog_page.specs.declared.layer_record.LayerRecord.{LayerRecord}
-use Rattle.page_cache.specs.Cache.{pages}
+use Rattle.page_cache.specs.Cache.{given, pages}
 use Rattle.page_cache.specs.Calls.{asks_and_refuses, asks_in_turn}
 use Rattle.page_file.specs.Fault.{IsOfDevice}
-use Rattle.live_layers.specs.Checked.{AddsLayers}
-use Rattle.live_layers.proofs.CheckLemmas.{adds_in, adds_more, records_more, row_here, stands_here}
+use Rattle.page_file.specs.declared.fault.Fault.TheVariants.{Damaged}
+use Rattle.live_layers.specs.Checked.{AddsLayers, ComesInLayers}
+use Rattle.live_layers.specs.Layers.{root_of}
+use Rattle.live_layers.proofs.CheckLemmas.{adds_in, adds_more, among_records, comes_in_same, records_more, row_here, stands_here}
 use Rattle.live_layers.proofs.FindLemmas.{no_reading}
 use Rattle.live_layers.proofs.LocateLemmas.{dims_fit}
 use Rattle.live_layers.proofs.Results.{the_err}
@@ -66,3 +68,19 @@ returns-clause-layers g c = λ sound.
     c.args.found.now.items c.loop-record.found.items)
     (take_all c.loop-record.record-index items c.loop-record-test.false)
     (c.loop-record.invariant.layers sound)
+
+pub returns-in_err-list_layer-clause-damage : goal.returns-in_err-list_layer-clause-damage
+returns-in_err-list_layer-clause-damage g c = λ honest.
+    let asks = c.loop-record.invariant.asks in
+    let old = given c.args.cache.now in
+    let items = c.args.records.now in
+    let r = c.record-item.result in
+    the_err c.from_residual.result c.in_err-list_layer.field-0.0
+    (λ f. (n : ℕ) → f ≡ Damaged n → ComesInLayers old (map record_of items) n) c.from_residual.ensures.1
+    (λ n is. (
+      record_of r,
+      among_records items c.loop-record.record-index r c.loop-record-test.true c.record-item.is,
+      comes_in_same r.dims (given c.loop-record.cache) old (root_of (record_of r)) r.directory n
+          (λ k. asks.map.given_stay honest k)
+          (c.in_err-list_layer.ensures.damage (asks.gate.honest.0 honest) n is),
+    ))

@@ -1,8 +1,11 @@
 -- A layer that stands is not refused, and one that was checked stands.
-use Rattle.std.proofs.Common.{◌≡◌, ◌∙◌, ℕ, List, ◌++◌, ap}
+use Rattle.std.proofs.Common.{◌≡◌, ◌∙◌, ℕ, List, ◌++◌, ap, subst, sym}
 use Rattle.catalog_page.specs.Layout.{record_of}
-use Rattle.page_cache.specs.Cache.{pages}
+use Rattle.layer_pages.specs.Checked.{ComesInLayer}
+use Rattle.page_cache.specs.Cache.{given, pages}
 use Rattle.page_file.specs.Fault.{IsOfDevice}
+use Rattle.page_file.specs.declared.fault.Fault.TheVariants.{Damaged}
+use Rattle.live_layers.specs.Layers.{root_of}
 use Rattle.live_layers.proofs.CheckLemmas.{adds_layer, count_of_row, layer_of_row}
 use Rattle.live_layers.proofs.Results.{the_err}
 use Rattle.live_layers.proofs.layers.checking.lists.list_pages.Goals as goal
@@ -25,3 +28,13 @@ returns-clause-layer g c = λ map.
     let value : c.as_slice.result.now ≡ list = c.as_slice.ensures.value in
     adds_layer g.row.D (pages c.args.cache.now) (record_of c.args.layer.now) list before now c.requires.axes
     (c.in_ok-list.ensures.layer map) (added ∙ ap (λ (xs : List ℕ). before ++ xs) value)
+
+pub returns-in_err-list-clause-damage : goal.returns-in_err-list-clause-damage
+returns-in_err-list-clause-damage g c = λ honest.
+    let layer = c.args.layer.now in let old = given c.args.cache.now in
+    let root = root_of (record_of layer) in
+    the_err c.from_residual.result c.in_err-list.field-0.0
+    (λ f. (n : ℕ) → f ≡ Damaged n → ComesInLayer layer.dims old root layer.directory n)
+    c.from_residual.ensures.1
+    (λ n is. subst (λ (d : ℕ). ComesInLayer d old root layer.directory n) (sym c.requires.axes)
+    (c.in_err-list.ensures.damage honest n is))

@@ -1,7 +1,7 @@
 -- In order the list has each number once where the numbers rise by one.
-use Rattle.std.proofs.Common.{arith}
+use Rattle.std.proofs.Common.{arith, refl}
 use Rattle.std.proofs.lemmas.List.Sorted.{IsNonDecreasingBy-from_sort}
-use Rattle.live_layers.proofs.OnceLemmas.{counts_names_each, names_each_counts}
+use Rattle.live_layers.proofs.OnceLemmas.{counts_names_each, names_each_counts, odd_at, odd_end}
 use Rattle.live_layers.proofs.layers.checking.once.each_once.Goals as goal
 
 pub returns-then-page-place-clause-passes : goal.returns-then-page-place-clause-passes
@@ -25,3 +25,18 @@ returns-clause-once c =
     let sorted = c.sort_unstable.new.self in
     counts_names_each c.args.next c.args.list.now sorted c.sort_unstable.ensures.permutation
     (λ k lt. c.loop-place.invariant k (omega (arith, lt, c.loop-place-test.false))) c.if-list-next.false
+
+pub returns-then-page-place-clause-damage : goal.returns-then-page-place-clause-damage
+returns-then-page-place-clause-damage c =
+    let sorted = c.sort_unstable.new.self in
+    let odd = odd_at c.args.next c.args.list.now sorted c.sort_unstable.ensures.permutation
+    (IsNonDecreasingBy-from_sort (λ n. n) sorted c.sort_unstable.ensures.sorted) c.loop-place.place
+    c.loop-place-test.true c.loop-place.invariant c.if-page-place.true in
+    (_, refl, ?)
+
+pub returns-then-list-next-clause-damage : goal.returns-then-list-next-clause-damage
+returns-then-list-next-clause-damage c =
+    let sorted = c.sort_unstable.new.self in
+    let odd = odd_end c.args.next c.args.list.now sorted c.sort_unstable.ensures.permutation
+    (λ k lt. c.loop-place.invariant k (omega (arith, lt, c.loop-place-test.false))) in
+    (_, refl, ?)
