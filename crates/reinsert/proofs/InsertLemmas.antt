@@ -1,11 +1,12 @@
 -- One placing after the other.
 use Rattle.std.proofs.Common.{Option, Some, None, IsSome, IfSome, ◌≡◌, ◌∙◌, ℕ, zero, suc, ◌+◌, ◌-◌, ◌<◌, ◌≤◌}
 use Rattle.std.proofs.Common.{Bool, cond, eqb, List, [], ◌∷◌, ◌++◌, map, reverse, refl, sym, ap, subst}
-use Rattle.std.proofs.Common.{⊎_elim, arith}
+use Rattle.std.proofs.Common.{⊎_elim, arith, Result, Ok, Err, IfOk}
 use Rattle.std.proofs.lemmas.Bool.{cases_eq}
 use Rattle.std.proofs.lemmas.List.{map-append, reverse-append}
 use Rattle.std.specs.Option.{option_map}
 use Rattle.box_math.specs.Bounds.{Bounds}
+use Rattle.page_file.specs.declared.fault.Fault.{Fault}
 use Rattle.tree_node.specs.declared.node.Entry.{Entry}
 use Rattle.tree_node.specs.declared.node.Root.{Root}
 use Rattle.tree_node.specs.Nodes.{Item, item_of}
@@ -475,7 +476,7 @@ module _ {D : ℕ} (X : Type 0) (most : ℕ) (elsewhere : ℕ → ℕ) (m m1 : P
         at.below stand.0 stand.1 apart_here at.live fits_here r.held got.1 root at.at alone),
   )
 
-  pub first_beside : (Y : Type 0) (m2 : PageMap) (root' : Root) (beside : Entry D)
+  first_beside : (Y : Type 0) (m2 : PageMap) (root' : Root) (beside : Entry D)
       → settled.beside ≡ Some beside → root'.level ≡ root.level + 1
       → (X → Y
       × ComesIn D m1 m2 root'.page
@@ -508,6 +509,19 @@ module _ {D : ℕ} (X : Type 0) (most : ℕ) (elsewhere : ℕ → ℕ) (m m1 : P
             at.below stand.0 stand.1 apart_here at.live fits_here r.held got.1
             m2 root' (item_of beside) c.0 c.1 c.2 (ap (λ l. l + 1) at.at.level ∙ sym level) here),
       )
+
+  pub first_grown : (Y : Type 0) (m2 : PageMap) (grown : Result Root Fault) (beside : Entry D)
+      → settled.beside ≡ Some beside
+      → IfOk grown (λ root'. (root'.level ≡ root.level + 1) × (root'.level ≤ 40))
+      → (X → IfOk grown (λ root'. Y
+      × ComesIn D m1 m2 root'.page
+      (record {
+        level = root.level + 1;
+        entries = record { bounds = settled.bounds; reference = root.page; tag = 0 } ∷ item_of beside ∷ [];
+      })))
+      → IfOk grown (λ root'. Y × StepsTo D most m m2 elsewhere s root' waits1 called')
+  first_grown Y m2 (Ok root') beside is level grow = first_beside Y m2 root' beside is level.0 grow
+  first_grown Y m2 (Err f) beside is level grow = tt
 
 -- what is said of the one that is there
 pub some_says : {T : Type 0} (o : Option T) (x : T) (P : T → Type 0) → o ≡ Some x → IfSome o P → P x

@@ -5,11 +5,11 @@ ghost use Rattle.box_math.specs.Bounds.{IsDims};
 ghost use Rattle.page_file.specs.declared.fault.Fault.TheVariants as fault;
 ghost use Rattle.page_file.specs.declared.gate.Gate.TheVariants.{Open};
 ghost use Rattle.page_cache.specs.Cache.{Grows, IsPageMap, IsUnchanged, gate_of, pages};
+ghost use Rattle.page_cache.specs.Calls.{Changes};
 ghost use Rattle.tree_node.specs.Boxes.{RowHasBoxes};
 ghost use Rattle.tree_node.specs.Nodes.{item_of};
 ghost use Rattle.tree_node.specs.Shape.{HasLooseShape};
 ghost use Rattle.tree_node.specs.Trees.{Branch, Tree};
-ghost use Rattle.node_page.specs.Broken.{Alters, before};
 ghost use Rattle.node_page.specs.Layout.{IsOfLevel};
 ghost use Rattle.node_page.specs.Faults.{IsChangeFault, IsNoDamage};
 ghost use Rattle.reinsert.specs.Inserted.{CanInsert, InsertsTo, IsAt, IsRootFrom, StepsTo};
@@ -23,7 +23,6 @@ use crate::place::place;
 use crate::settled::Settled;
 use crate::waiting::{Wait, Waiting};
 use block_device::BlockDevice;
-use node_page::Broken;
 use page_cache::PageCache;
 use page_file::Fault;
 use std::alloc::Allocator;
@@ -37,10 +36,10 @@ use tree_node::{Entry, Root};
 /// leads to. Pages outside these trees stay, and those that come in were not live. The root's level does not
 /// fall.
 ///
-/// A refusal that is not `touched` leaves the map as it was; the room of what waits is taken before the first
-/// write. Where the trees have their shape, but that a root may have one entry, a refusal is of memory or of
+/// A refusal after which the cache is not touched (`is_touched`) leaves the map as it was; the room of what
+/// waits is taken before the first write. Where the trees have their shape, but that a root may have one entry, a refusal is of memory or of
 /// the device, or each page number is live (`NoPages`). A tree of level 40 takes no entry, since it could
-/// grow: its root is `Damaged`, untouched. Also after a refusal, at most `most_new_pages` more pages are
+/// grow: its root is `Damaged`, and the cache stays. Also after a refusal, at most `most_new_pages` more pages are
 /// live.
 pub fn insert_at<const D: usize, B: BlockDevice, A: Allocator + Copy, H: Allocator>(
     alloc: H,
@@ -49,14 +48,14 @@ pub fn insert_at<const D: usize, B: BlockDevice, A: Allocator + Copy, H: Allocat
     entry: &Entry<D>,
     level: u8,
     m_max: usize,
-) -> Result<Root, Broken>
+) -> Result<Root, Fault>
     requires dims { IsDims D }
     requires open { gate_of cache.old ≡ Open }
     requires most { (4 ≤ m_max) × (m_max ≤ 100) }
     requires levels { (level ≤ root.level) × (root.level ≤ 40) }
     requires root { (3 ≤ root.page) × (root.page < 2 ^ 31) }
     requires refers { IsOfLevel level entry.now.reference entry.now.tag }
-    ensures alters { Alters cache.old cache.new result }
+    ensures changes { Changes cache.old cache.new result }
     ensures grows { Grows most_new_pages cache.old cache.new }
     ensures root { IfOk result (IsRootFrom root) }
     ensures inserted { IsPageMap cache.old → (t : Tree) (branch : Branch) (elsewhere : ℕ → ℕ)
@@ -66,8 +65,8 @@ pub fn insert_at<const D: usize, B: BlockDevice, A: Allocator + Copy, H: Allocat
     ensures faults { IsPageMap cache.old → (t : Tree) (branch : Branch) (elsewhere : ℕ → ℕ)
         → CanInsert D (pages cache.old) root (item_of entry.now) level t branch elsewhere
         → HasLooseShape D m_max t → RowHasBoxes D t.row → EntryHasShape D m_max level branch →
-        IfErr result (λ b. IsNoDamage cache.new b.cause) }
-    ensures other_faults { IfErr result (λ b. IsChangeFault b.cause) }
+        IfErr result (IsNoDamage cache.new) }
+    ensures other_faults { IfErr result IsChangeFault }
 {
     let mut waiting = Waiting::make(alloc)?;
     insert_with(cache, root, entry, level, m_max, &mut waiting)
@@ -82,14 +81,14 @@ pub fn insert_with<const D: usize, B: BlockDevice, A: Allocator + Copy>(
     level: u8,
     m_max: usize,
     waiting: &mut Waiting<D>,
-) -> Result<Root, Broken>
+) -> Result<Root, Fault>
     requires dims { IsDims D }
     requires open { gate_of cache.old ≡ Open }
     requires most { (4 ≤ m_max) × (m_max ≤ 100) }
     requires levels { (level ≤ root.level) × (root.level ≤ 40) }
     requires root { (3 ≤ root.page) × (root.page < 2 ^ 31) }
     requires refers { IsOfLevel level entry.now.reference entry.now.tag }
-    ensures alters { Alters cache.old cache.new result }
+    ensures changes { Changes cache.old cache.new result }
     ensures grows { Grows most_new_pages cache.old cache.new }
     ensures root { IfOk result (IsRootFrom root) }
     ensures inserted { IsPageMap cache.old → (t : Tree) (branch : Branch) (elsewhere : ℕ → ℕ)
@@ -99,13 +98,13 @@ pub fn insert_with<const D: usize, B: BlockDevice, A: Allocator + Copy>(
     ensures faults { IsPageMap cache.old → (t : Tree) (branch : Branch) (elsewhere : ℕ → ℕ)
         → CanInsert D (pages cache.old) root (item_of entry.now) level t branch elsewhere
         → HasLooseShape D m_max t → RowHasBoxes D t.row → EntryHasShape D m_max level branch →
-        IfErr result (λ b. IsNoDamage cache.new b.cause) }
-    ensures tall { root.level ≡ 40 → (result ≡ Err (before (fault.Damaged root.page)))
+        IfErr result (IsNoDamage cache.new) }
+    ensures tall { root.level ≡ 40 → (result ≡ Err (fault.Damaged root.page))
         × IsUnchanged cache.old cache.new }
-    ensures other_faults { IfErr result (λ b. IsChangeFault b.cause) }
+    ensures other_faults { IfErr result IsChangeFault }
 {
     if root.level >= 40 {
-        return Err(Broken::from(Fault::Damaged(root.page)));
+        return Err(Fault::Damaged(root.page));
     }
     waiting.begin();
     let first = Wait {
@@ -114,16 +113,7 @@ pub fn insert_with<const D: usize, B: BlockDevice, A: Allocator + Copy>(
     };
     let mut now = place_one(cache, root, &first, m_max, waiting)?;
     'placing: while let Some(wait) = waiting.next() {
-        now = match place_one(cache, now, &wait, m_max, waiting) {
-            Ok(after) => after,
-            // pages were written by the placings before
-            Err(broken) => {
-                return Err(Broken {
-                    cause: broken.cause,
-                    touched: true,
-                });
-            }
-        };
+        now = place_one(cache, now, &wait, m_max, waiting)?;
     }
     Ok(now)
 }
@@ -135,14 +125,14 @@ fn place_one<const D: usize, B: BlockDevice, A: Allocator + Copy>(
     first: &Wait<D>,
     m_max: usize,
     waiting: &mut Waiting<D>,
-) -> Result<Root, Broken>
+) -> Result<Root, Fault>
     requires dims { IsDims D }
     requires open { gate_of cache.old ≡ Open }
     requires most { (4 ≤ m_max) × (m_max ≤ 100) }
     requires level { root.level ≤ 40 }
     requires root { (3 ≤ root.page) × (root.page < 2 ^ 31) }
     requires refers { IsOfLevel first.now.level first.now.entry.reference first.now.entry.tag }
-    ensures alters { Alters cache.old cache.new result }
+    ensures changes { Changes cache.old cache.new result }
     ensures grows { Grows most_placing_pages cache.old cache.new }
     ensures measure { measure_of waiting.new ≤ measure_of waiting.old }
     ensures root { IfOk result (IsRootFrom root) }
@@ -156,11 +146,11 @@ fn place_one<const D: usize, B: BlockDevice, A: Allocator + Copy>(
         → IsAt D (pages cache.old) root (waiting.old.waits.items ++ first.now ∷ []) waiting.old.called
         elsewhere s
         → StateHasShape D m_max s →
-        IfErr result (λ b. IsNoDamage cache.new b.cause) }
-    ensures other_faults { IfErr result (λ b. IsChangeFault b.cause) }
+        IfErr result (IsNoDamage cache.new) }
+    ensures other_faults { IfErr result IsChangeFault }
 {
     if first.level > root.level {
-        return Err(Broken::from(Fault::Damaged(root.page)));
+        return Err(Fault::Damaged(root.page));
     }
     let Settled { bounds, beside } = place(
         cache,
@@ -174,8 +164,5 @@ fn place_one<const D: usize, B: BlockDevice, A: Allocator + Copy>(
     let Some(beside) = beside else {
         return Ok(root);
     };
-    match grow(cache, root, bounds, beside) {
-        Ok(after) => Ok(after),
-        Err(fault) => Err(Broken::midway(fault)),
-    }
+    grow(cache, root, bounds, beside)
 }

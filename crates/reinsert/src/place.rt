@@ -1,6 +1,6 @@
 //! An entry placed below a node, and the nodes above settled.
 
-ghost use Rattle.std.specs.Prelude.{◌≡◌, ◌^◌, ◌+◌, ◌<◌, ◌≤◌, ◌++◌, ◌∷◌, [], Some, None, true, ℕ, List, All};
+ghost use Rattle.std.specs.Prelude.{◌≡◌, ◌^◌, ◌+◌, ◌<◌, ◌≤◌, ◌++◌, ◌∷◌, [], Some, None, ℕ, List, All};
 ghost use Rattle.std.specs.Prelude.{length};
 ghost use Rattle.std.specs.Prelude.{map};
 ghost use Rattle.std.specs.Prelude.{◌⊎◌, IfOk, IfErr, IfSome, IsTrue, OnOk};
@@ -13,7 +13,6 @@ ghost use Rattle.page_cache.specs.Calls.{Asks, Changes};
 ghost use Rattle.tree_node.specs.Nodes.{Item, NodeContent, content_of, item_of};
 ghost use Rattle.tree_node.specs.Rows.{item_in};
 ghost use Rattle.tree_node.specs.Trees.{Row, Branch};
-ghost use Rattle.node_page.specs.Broken.{Alters};
 ghost use Rattle.node_page.specs.Layout.{IsOfLevel};
 ghost use Rattle.node_page.specs.Standing.{node_in};
 ghost use Rattle.node_page.specs.Faults.{IsChangeFault, IsNoDamage};
@@ -26,7 +25,7 @@ use crate::waiting::Waiting;
 use crate::way::{Way, way_down};
 use arrayvec::ArrayVec;
 use block_device::BlockDevice;
-use node_page::{Broken, add_entry, read_into};
+use node_page::{add_entry, read_into};
 use page_cache::PageCache;
 use page_file::Fault;
 use std::alloc::Allocator;
@@ -41,13 +40,13 @@ pub(crate) fn place<const D: usize, B: BlockDevice, A: Allocator + Copy>(
     top: u8,
     m_max: usize,
     waiting: &mut Waiting<D>,
-) -> Result<Settled<D>, Broken>
+) -> Result<Settled<D>, Fault>
     requires dims { IsDims D }
     requires open { gate_of cache.old ≡ Open }
     requires most { (4 ≤ m_max) × (m_max ≤ 100) }
     requires levels { (target ≤ at.level) × (at.level ≤ top) × (top ≤ 40) }
     requires refers { IsOfLevel target entry.now.reference entry.now.tag }
-    ensures alters { Alters cache.old cache.new result }
+    ensures changes { Changes cache.old cache.new result }
     ensures grows { Grows (at.level + 1) cache.old cache.new }
     ensures measure { measure_of waiting.new ≤ measure_of waiting.old }
     ensures beside { IfOk result (λ s. IfSome s.beside (λ e. IsOfLevel (at.level + 1) e.reference e.tag)) }
@@ -59,8 +58,8 @@ pub(crate) fn place<const D: usize, B: BlockDevice, A: Allocator + Copy>(
         at.page s waiting.old.waits.items waiting.new.waits.items waiting.new.called) }
     ensures faults { IsPageMap cache.old → (row : Row) (branch : Branch) → item_in branch ≡ item_of entry.now
         → CanPlace D (pages cache.old) at.page at.level target row branch → HasFewEntries D m_max row →
-        IfErr result (λ b. IsNoDamage cache.new b.cause) }
-    ensures other_faults { IfErr result (λ b. IsChangeFault b.cause) }
+        IfErr result (IsNoDamage cache.new) }
+    ensures other_faults { IfErr result IsChangeFault }
 {
     if at.level == target {
         return put_here(cache, at, entry, top, m_max, waiting);
@@ -88,13 +87,13 @@ fn put_here<const D: usize, B: BlockDevice, A: Allocator + Copy>(
     top: u8,
     m_max: usize,
     waiting: &mut Waiting<D>,
-) -> Result<Settled<D>, Broken>
+) -> Result<Settled<D>, Fault>
     requires dims { IsDims D }
     requires open { gate_of cache.old ≡ Open }
     requires most { (4 ≤ m_max) × (m_max ≤ 100) }
     requires top { (at.level ≤ top) × (top ≤ 40) }
     requires refers { IsOfLevel at.level entry.now.reference entry.now.tag }
-    ensures alters { Alters cache.old cache.new result }
+    ensures changes { Changes cache.old cache.new result }
     ensures grows { Grows 1 cache.old cache.new }
     ensures measure { measure_of waiting.new ≤ measure_of waiting.old }
     ensures beside { IfOk result (λ s. IfSome s.beside (λ e. IsOfLevel (at.level + 1) e.reference e.tag)) }
@@ -107,8 +106,8 @@ fn put_here<const D: usize, B: BlockDevice, A: Allocator + Copy>(
         at.page s waiting.old.waits.items waiting.new.waits.items waiting.new.called) }
     ensures faults { IsPageMap cache.old → (items : List Item)
         → node_in D (pages cache.old at.page) ≡ Some (record { level = at.level; entries = items })
-        → length items ≤ m_max → IfErr result (λ b. IsNoDamage cache.new b.cause) }
-    ensures other_faults { IfErr result (λ b. IsChangeFault b.cause) }
+        → length items ≤ m_max → IfErr result (IsNoDamage cache.new) }
+    ensures other_faults { IfErr result IsChangeFault }
 {
     if let Some(bounds) = add_entry(cache, at.page, at.level, entry, m_max)? {
         return Ok(Settled {
@@ -122,10 +121,7 @@ fn put_here<const D: usize, B: BlockDevice, A: Allocator + Copy>(
     };
     read_fitting(cache, at, m_max, &mut node)?;
     node.entries.push(*entry);
-    match settle(cache, at.page, &node, top, m_max, waiting) {
-        Ok(settled) => Ok(settled),
-        Err(fault) => Err(Broken::midway(fault)),
-    }
+    settle(cache, at.page, &node, top, m_max, waiting)
 }
 
 // Reads a node of at most the most entries.
@@ -163,46 +159,8 @@ fn keeps_entries<const D: usize>(way: &Way<D>, lower: &Settled<D>) -> bool
     lower.beside.is_none() && lower.bounds == way.bounds
 }
 
-// Settles a node whose child at the place has settled, of which pages were written.
+// Reads a node whose child at the place has settled, and settles it.
 fn put_above<const D: usize, B: BlockDevice, A: Allocator + Copy>(
-    cache: &mut PageCache<B, A>,
-    at: Root,
-    place: usize,
-    lower: Settled<D>,
-    top: u8,
-    m_max: usize,
-    waiting: &mut Waiting<D>,
-) -> Result<Settled<D>, Broken>
-    requires dims { IsDims D }
-    requires open { gate_of cache.old ≡ Open }
-    requires most { (4 ≤ m_max) × (m_max ≤ 100) }
-    requires top { (at.level ≤ top) × (top ≤ 40) }
-    requires beside { IfSome lower.beside (λ e. IsOfLevel at.level e.reference e.tag) }
-    ensures alters { Alters cache.old cache.new result }
-    ensures grows { Grows 1 cache.old cache.new }
-    ensures measure { measure_of waiting.new ≤ measure_of waiting.old }
-    ensures beside { IfOk result (λ s. IfSome s.beside (λ e. IsOfLevel (at.level + 1) e.reference e.tag)) }
-    ensures settled { IsPageMap cache.old → (items : List Item) (branches : List Branch)
-        → node_in D (pages cache.old at.page) ≡ Some (record { level = at.level; entries = items })
-        → map item_in branches ≡ items_after items place lower.entry
-        → CanSettle D (pages cache.old) at.page at.level branches →
-        IfOk result (λ s. IsPageMap cache.new
-        × SettlesTo D m_max top at.level waiting.old.called branches (pages cache.old) (pages cache.new)
-        at.page s waiting.old.waits.items waiting.new.waits.items waiting.new.called) }
-    ensures touched { IfErr result (λ b. b.touched ≡ true) }
-    ensures faults { IsPageMap cache.old → (items : List Item)
-        → node_in D (pages cache.old at.page) ≡ Some (record { level = at.level; entries = items })
-        → place < length items → length items ≤ m_max → IfErr result (λ b. IsNoDamage cache.new b.cause) }
-    ensures other_faults { IfErr result (λ b. IsChangeFault b.cause) }
-{
-    match read_and_settle(cache, at, place, lower, top, m_max, waiting) {
-        Ok(settled) => Ok(settled),
-        Err(fault) => Err(Broken::midway(fault)),
-    }
-}
-
-// Reads a node whose child at the place has settled, and writes it.
-fn read_and_settle<const D: usize, B: BlockDevice, A: Allocator + Copy>(
     cache: &mut PageCache<B, A>,
     at: Root,
     place: usize,

@@ -1,17 +1,15 @@
 -- The goals of `insert_with` that are proved by hand.
-use Rattle.std.proofs.Common.{true, ◌++◌, [], ◌∷◌, List, Bool, Err, None, sym, subst, refl, arith}
+use Rattle.std.proofs.Common.{◌++◌, [], ◌∷◌, List, Bool, None, sym, subst, refl, arith}
 use Rattle.page_cache.specs.Cache.{pages}
-use Rattle.page_cache.specs.Calls.{changes_in_turn}
-use Rattle.node_page.specs.Broken.{changes_and_breaks}
+use Rattle.page_cache.specs.Calls.{changes_and_refuses, changes_in_turn}
 use Rattle.node_page.specs.Standing.{PageMap}
-use Rattle.node_page.specs.declared.broken.Broken.{Broken}
+use Rattle.node_page.proofs.NodeLemmas.{at_error}
 use Rattle.reinsert.specs.declared.waiting.Wait.{Wait}
 use Rattle.reinsert.specs.Called.{none_called}
 use Rattle.node_page.specs.Faults.{IsNoDamage, IsChangeFault}
 use Rattle.reinsert.specs.Inserted.{IsAt}
 use Rattle.reinsert.specs.Insertion.{at_first}
 use Rattle.reinsert.specs.Placing.{State}
-use Rattle.reinsert.proofs.BrokenLemmas.{at_broken, nothing_altered}
 use Rattle.reinsert.proofs.InsertLemmas.{begun, inserted_end, reached_first, reached_more}
 use Rattle.reinsert.proofs.StateLemmas.{first_has_shape, low_root, placings_keep_shape}
 use Rattle.reinsert.proofs.insert.insert_with.Goals as goal
@@ -40,14 +38,14 @@ returns-in_err-now-clause-faults g c = λ h t branch elsewhere can shape boxes e
     let at2 =
     subst (λ (cs : List Bool). IsAt D m c.args.root (c.begin.new.self.waits.items ++ first ∷ []) cs
     elsewhere s) (sym c.begin.ensures.called) at1 in
-    at_broken c.from_residual.result c.in_err-now.field-0.0
-    (λ (b : Broken). IsNoDamage c.place_one.new.cache b.cause) c.from_residual.ensures.1
+    at_error c.from_residual.result c.in_err-now.field-0.0 (IsNoDamage c.place_one.new.cache)
+    c.from_residual.ensures.1
     (c.in_err-now.ensures.faults h s elsewhere at2
     (first_has_shape D c.args.m_max c.args.level t branch can.fits shape boxes entry))
 
 pub placing-init : goal.placing-init
 placing-init g c = (
-  c.in_ok-now.ensures.alters.changes,
+  c.in_ok-now.ensures.changes,
   c.in_ok-now.ensures.root,
   omega (arith, c.in_ok-now.ensures.measure, c.begin.ensures.measure),
   omega (arith, c.in_ok-now.ensures.measure, c.begin.ensures.measure, c.in_ok-now.ensures.grows),
@@ -70,14 +68,14 @@ placing-init g c = (
       ),
 )
 
-pub returns-in-Err-clause-alters : goal.returns-in-Err-clause-alters
-returns-in-Err-clause-alters g c =
-    changes_and_breaks c.args.cache.now c.placing.cache c.place_one-in-Some.new.cache c.in-Err.broken.cause
-    (Err (record { cause = c.in-Err.broken.cause; touched = true })) refl
-    c.placing.invariant.0 c.in-Err.ensures.alters.changes
+pub returns-in_err-now-2-clause-changes : goal.returns-in_err-now-2-clause-changes
+returns-in_err-now-2-clause-changes g c =
+    changes_and_refuses c.args.cache.now c.placing.cache c.place_one-in-Some.new.cache
+    c.in_err-now-2.field-0.0 c.from_residual-in_err-now-2.result c.from_residual-in_err-now-2.ensures.1
+    c.placing.invariant.0 c.in_err-now-2.ensures.changes
 
-pub returns-in-Err-clause-faults : goal.returns-in-Err-clause-faults
-returns-in-Err-clause-faults g c = λ h t branch elsewhere can shape boxes entry.
+pub returns-in_err-now-2-clause-faults : goal.returns-in_err-now-2-clause-faults
+returns-in_err-now-2-clause-faults g c = λ h t branch elsewhere can shape boxes entry.
     let D = g.row.D in
     let m1 : PageMap = pages c.placing.cache in
     let r = c.placing.invariant.4 h t branch elsewhere can in
@@ -92,25 +90,27 @@ returns-in-Err-clause-faults g c = λ h t branch elsewhere can shape boxes entry
     placings_keep_shape D c.args.m_max elsewhere r.1.count (at_first t branch c.args.level) r.1.last
     r.1.run (omega (arith, c.requires.most))
     (first_has_shape D c.args.m_max c.args.level t branch can.fits shape boxes entry) in
-    c.in-Err.ensures.faults r.0 r.1.last elsewhere at2 last
+    at_error c.from_residual-in_err-now-2.result c.in_err-now-2.field-0.0
+    (IsNoDamage c.place_one-in-Some.new.cache) c.from_residual-in_err-now-2.ensures.1
+    (c.in_err-now-2.ensures.faults r.0 r.1.last elsewhere at2 last)
 
 pub placing-preserved : goal.placing-preserved
 placing-preserved g c = (
   changes_in_turn c.args.cache.now c.placing.cache c.place_one-in-Some.new.cache None c.placing.invariant.0
-      c.in-Ok.ensures.alters.changes,
+      c.in_ok-now-2.ensures.changes,
   record {
-    rises = omega (arith, c.placing.invariant.1.rises, c.in-Ok.ensures.root.rises);
-    low = c.in-Ok.ensures.root.low;
-    page = c.in-Ok.ensures.root.page;
+    rises = omega (arith, c.placing.invariant.1.rises, c.in_ok-now-2.ensures.root.rises);
+    low = c.in_ok-now-2.ensures.root.low;
+    page = c.in_ok-now-2.ensures.root.page;
   },
-  omega (arith, c.placing.invariant.2, c.in-Some.ensures.measure, c.in-Ok.ensures.measure),
+  omega (arith, c.placing.invariant.2, c.in-Some.ensures.measure, c.in_ok-now-2.ensures.measure),
   omega (
     arith,
     c.placing.invariant.2,
     c.placing.invariant.3,
     c.in-Some.ensures.measure,
-    c.in-Ok.ensures.measure,
-    c.in-Ok.ensures.grows,
+    c.in_ok-now-2.ensures.measure,
+    c.in_ok-now-2.ensures.grows,
   ),
   λ h t branch elsewhere can.
       let D = g.row.D in
@@ -125,10 +125,10 @@ placing-preserved g c = (
       subst (λ (cs : List Bool). IsAt D m1 c.placing.now
       (c.next.new.self.waits.items ++ c.in-Some.wait ∷ []) cs elsewhere r.1.last)
       (sym c.next.ensures.called) at1 in
-      let step = c.in-Ok.ensures.placed r.0 r.1.last elsewhere at2 in (
+      let step = c.in_ok-now-2.ensures.placed r.0 r.1.last elsewhere at2 in (
         step.0,
         reached_more D c.args.m_max elsewhere m m1 (pages c.place_one-in-Some.new.cache) s c.placing.now
-            c.in-Ok.after c.placing.waiting.waits.items c.place_one-in-Some.new.waiting.waits.items
+            c.in_ok-now-2.now c.placing.waiting.waits.items c.place_one-in-Some.new.waiting.waits.items
             c.placing.waiting.called c.place_one-in-Some.new.waiting.called r.1 step.1,
       ),
 )
@@ -144,9 +144,5 @@ returns-clause-inserted g c = λ h t branch elsewhere can.
 
 pub returns-in_err-now-clause-other_faults : goal.returns-in_err-now-clause-other_faults
 returns-in_err-now-clause-other_faults g c =
-    at_broken c.from_residual.result c.in_err-now.field-0.0 (λ (b : Broken). IsChangeFault b.cause)
+    at_error c.from_residual.result c.in_err-now.field-0.0 IsChangeFault
     c.from_residual.ensures.1 c.in_err-now.ensures.other_faults
-
-pub returns-then-root-ge40-clause-alters : goal.returns-then-root-ge40-clause-alters
-returns-then-root-ge40-clause-alters g c =
-    nothing_altered c.args.cache.now c.args.root.page c.from.result c.from.ensures

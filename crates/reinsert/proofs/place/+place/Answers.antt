@@ -1,19 +1,17 @@
 -- The goals of `place` that are proved by hand.
-use Rattle.std.proofs.Common.{rules, ◌≡◌, ◌∙◌, ◌+◌, ◌-◌, ◌<◌, [], ◌∷◌, ◌++◌, IfSome, None, Ok, Result, Some}
+use Rattle.std.proofs.Common.{rules, ◌≡◌, ◌∙◌, ◌+◌, ◌-◌, ◌<◌, [], ◌∷◌, ◌++◌, IfSome, None, Ok, Result}
 use Rattle.std.proofs.Common.{inl, refl, sym, ap, subst, arith}
+use Rattle.page_file.specs.declared.fault.Fault.{Fault}
 use Rattle.page_cache.specs.Cache.{IsPageMap, pages}
-use Rattle.page_cache.specs.Calls.{asks_changes, changes_in_turn}
-use Rattle.page_cache.specs.Laws.{the_map_is_kept_in_turn}
+use Rattle.page_cache.specs.Calls.{asks_changes, changes_and_refuses, changes_in_turn, fault_in}
 use Rattle.tree_node.specs.declared.node.Entry.{Entry}
 use Rattle.tree_node.specs.Nodes.{Item}
 use Rattle.tree_node.specs.Trees.{row_items}
 use Rattle.choose_subtree.specs.Choice.{IsChosenChild}
-use Rattle.node_page.specs.Broken.{alters_so, before, made_alters}
 use Rattle.node_page.specs.Layout.{IsOfLevel}
 use Rattle.node_page.specs.Standing.{PageMap}
-use Rattle.node_page.specs.declared.broken.Broken.{Broken}
+use Rattle.node_page.proofs.NodeLemmas.{at_error}
 use Rattle.node_page.specs.Faults.{IsNoDamage, IsChangeFault}
-use Rattle.reinsert.proofs.BrokenLemmas.{at_broken, changes_and_alters}
 use Rattle.reinsert.proofs.PlaceLemmas.{few_can, few_items, here_ok, over_ok, there_after}
 use Rattle.reinsert.proofs.AboveLemmas.{items_kept}
 use Rattle.reinsert.proofs.SettledLemmas.{items_settled}
@@ -62,22 +60,15 @@ returns-then-at-target-clause-faults g t c =
 
 pub returns-in_err-way-clause-faults : goal.returns-in_err-way-clause-faults
 returns-in_err-way-clause-faults g t c = λ h row branch item can few.
-    at_broken c.from_residual.result (before c.in_err-way.field-0.0)
-    (λ (b : Broken). IsNoDamage c.way_down.new.cache b.cause) c.from_residual.ensures.1
+    at_error c.from_residual.result c.in_err-way.field-0.0 (IsNoDamage c.way_down.new.cache)
+    c.from_residual.ensures.1
     (inl (c.in_err-way.ensures.faults h.honest (record { level = c.args.at.level; entries = row_items row })
     can.there refl (few_items g.row.D c.args.m_max row few)))
 
-pub returns-in_err-way-clause-alters : goal.returns-in_err-way-clause-alters
-returns-in_err-way-clause-alters g t c =
-    alters_so c.args.cache.now c.way_down.new.cache (before c.in_err-way.field-0.0) c.from_residual.result
-    c.from_residual.ensures.1
-    (asks_changes c.args.cache.now c.way_down.new.cache (Some c.in_err-way.field-0.0)
-    c.in_err-way.ensures.asks) (λ untouched. c.in_err-way.ensures.asks.map)
-
 pub returns-in_err-way-clause-other_faults : goal.returns-in_err-way-clause-other_faults
 returns-in_err-way-clause-other_faults g t c =
-    at_broken c.from_residual.result (before c.in_err-way.field-0.0) (λ (b : Broken). IsChangeFault b.cause)
-    c.from_residual.ensures.1 (one_more _ _ _ c.in_err-way.ensures.other_faults)
+    at_error c.from_residual.result c.in_err-way.field-0.0 IsChangeFault c.from_residual.ensures.1
+    (one_more _ _ _ c.in_err-way.ensures.other_faults)
 
 pub returns-in_err-lower-clause-faults : goal.returns-in_err-lower-clause-faults
 returns-in_err-lower-clause-faults g t c = λ h row branch item can few.
@@ -92,28 +83,22 @@ returns-in_err-lower-clause-faults g t c = λ h row branch item can few.
     (row_items row)
     (c.in_ok-way.ensures.asks.map.pages_stay h.honest) can
     (omega (arith, c.requires.levels, c.if-at-target.false)) refl is.chosen.within is.page few in
-    at_broken c.from_residual-in_err-lower.result c.in_err-lower.field-0.0
-    (λ (b : Broken). IsNoDamage c.place.new.cache b.cause) c.from_residual-in_err-lower.ensures.1
+    at_error c.from_residual-in_err-lower.result c.in_err-lower.field-0.0
+    (IsNoDamage c.place.new.cache) c.from_residual-in_err-lower.ensures.1
     (c.in_err-lower.ensures.faults (c.in_ok-way.ensures.asks.map.sound.0 h) low.0 branch item low.1 low.2)
 
-pub returns-in_err-lower-clause-alters : goal.returns-in_err-lower-clause-alters
-returns-in_err-lower-clause-alters g t c =
+pub returns-in_err-lower-clause-changes : goal.returns-in_err-lower-clause-changes
+returns-in_err-lower-clause-changes g t c =
     let old = c.args.cache.now in
     let mid = c.way_down.new.cache in
-    let new = c.place.new.cache in
-    let broken = c.in_err-lower.field-0.0 in
-    let asks = c.in_ok-way.ensures.asks in
-    alters_so old new broken c.from_residual-in_err-lower.result c.from_residual-in_err-lower.ensures.1
-    (changes_in_turn old mid new (Some broken.cause) (asks_changes old mid None asks)
-    c.in_err-lower.ensures.alters.changes)
-    (λ untouched. the_map_is_kept_in_turn old mid new asks.gate.honest.0 asks.map
-    (c.in_err-lower.ensures.alters.untouched untouched))
+    changes_and_refuses old mid c.place.new.cache c.in_err-lower.field-0.0
+    c.from_residual-in_err-lower.result c.from_residual-in_err-lower.ensures.1
+    (asks_changes old mid None c.in_ok-way.ensures.asks) c.in_err-lower.ensures.changes
 
 pub returns-in_err-lower-clause-other_faults : goal.returns-in_err-lower-clause-other_faults
 returns-in_err-lower-clause-other_faults g t c =
-    at_broken c.from_residual-in_err-lower.result c.in_err-lower.field-0.0
-    (λ (b : Broken). IsChangeFault b.cause) c.from_residual-in_err-lower.ensures.1
-    c.in_err-lower.ensures.other_faults
+    at_error c.from_residual-in_err-lower.result c.in_err-lower.field-0.0 IsChangeFault
+    c.from_residual-in_err-lower.ensures.1 c.in_err-lower.ensures.other_faults
 
 -- ---- the call below
 
@@ -161,7 +146,7 @@ returns-then-keeps_entries-clause-placed g t c = λ h row branch item can.
     let called = c.place.new.waiting.called in
     let waits = c.place.new.waiting.waits.items in
     let settled : Settled D = record { bounds = way.least; beside = None } in
-    let done : Result (Settled D) Broken = Ok settled in
+    let done : Result (Settled D) Fault = Ok settled in
     let is =
     c.in_ok-way.ensures.way h.honest (record { level = level; entries = row_items row }) can.there refl in
     let kept = c.keeps_entries.ensures c.if-keeps_entries.true in
@@ -181,14 +166,11 @@ returns-then-keeps_entries-clause-placed g t c = λ h row branch item can.
           is.few is.least refl refl refl there (λ k differs. refl),
     ))
 
-pub returns-then-keeps_entries-clause-alters : goal.returns-then-keeps_entries-clause-alters
-returns-then-keeps_entries-clause-alters g t c =
-    let old = c.args.cache.now in
-    let mid = c.way_down.new.cache in
-    let low = c.place.new.cache in
-    made_alters old low _
-    (changes_in_turn old mid low None (asks_changes old mid None c.in_ok-way.ensures.asks)
-    c.in_ok-lower.ensures.alters.changes)
+pub returns-then-keeps_entries-clause-changes : goal.returns-then-keeps_entries-clause-changes
+returns-then-keeps_entries-clause-changes g t c =
+    changes_in_turn c.args.cache.now c.way_down.new.cache c.place.new.cache None
+    (asks_changes c.args.cache.now c.way_down.new.cache None c.in_ok-way.ensures.asks)
+    c.in_ok-lower.ensures.changes
 
 -- ---- the node is settled
 
@@ -206,7 +188,7 @@ put_above-requires g t c =
         (
           c.requires.dims,
           (
-            c.in_ok-lower.ensures.alters.changes.gate.gate ∙ c.in_ok-way.ensures.asks.gate.gate
+            c.in_ok-lower.ensures.changes.gate.gate ∙ c.in_ok-way.ensures.asks.gate.gate
                 ∙ c.requires.open,
             (
               c.requires.most,
@@ -262,11 +244,11 @@ returns-clause-faults g t c = λ h row branch item can few.
     c.put_above.ensures.faults there.0 (row_items row) there.1 is.chosen.within
     (few_items g.row.D c.args.m_max row few)
 
-pub returns-clause-alters : goal.returns-clause-alters
-returns-clause-alters g t c =
+pub returns-clause-changes : goal.returns-clause-changes
+returns-clause-changes g t c =
     let old = c.args.cache.now in
     let mid = c.way_down.new.cache in
     let low = c.place.new.cache in
-    changes_and_alters old low c.put_above.new.cache c.put_above.result
+    changes_in_turn old low c.put_above.new.cache (fault_in c.put_above.result)
     (changes_in_turn old mid low None (asks_changes old mid None c.in_ok-way.ensures.asks)
-    c.in_ok-lower.ensures.alters.changes) c.put_above.ensures.alters c.put_above.ensures.touched
+    c.in_ok-lower.ensures.changes) c.put_above.ensures.changes

@@ -1,24 +1,116 @@
--- The goals of `put_above` that are proved by hand.
-use Rattle.std.proofs.Common.{Err, sym, subst}
-use Rattle.node_page.specs.declared.broken.Broken.{Broken}
-use Rattle.node_page.specs.Faults.{IsNoDamage, IsChangeFault}
-use Rattle.reinsert.proofs.BrokenLemmas.{breaks_midway}
+-- The node that is read is the one at the page.
+use Rattle.std.proofs.Common.{rules, ◌≡◌, ◌∙◌, ◌+◌, All, IfOk, IfSome, IsSome, None, List, length, map, inl}
+use Rattle.std.proofs.Common.{refl, sym, ap, subst, arith}
+use Rattle.std.proofs.lemmas.List.{length-map}
+use Rattle.page_cache.specs.Cache.{IsPageMap, pages}
+use Rattle.page_cache.specs.Calls.{asks_changes, changes_in_turn}
+use Rattle.tree_node.specs.declared.node.Entry.{Entry}
+use Rattle.tree_node.specs.Nodes.{Item, NodeContent, item_of}
+use Rattle.node_page.specs.Faults.{IsNoDamage}
+use Rattle.node_page.specs.Layout.{IsOfLevel}
+use Rattle.node_page.specs.Standing.{PageMap}
+use Rattle.node_page.proofs.NodeLemmas.{at_error}
+use Rattle.node_page.proofs.StandingLemmas.{page_of_node, same_content}
+use Rattle.reinsert.specs.Placed.{CanSettle, SettlesTo, items_after}
+use Rattle.reinsert.proofs.PlaceLemmas.{can_settle_from, settles_from}
 use Rattle.reinsert.proofs.place.put_above.Goals as goal
 
-pub returns-in-Ok-clause-settled : goal.returns-in-Ok-clause-settled
-returns-in-Ok-clause-settled g c =
-    λ h items branches there are can. c.in-Ok.ensures.settled h items branches there are can
+pub returns-in_err-read_fitting-clause-faults : goal.returns-in_err-read_fitting-clause-faults
+returns-in_err-read_fitting-clause-faults g c = λ h items there within few.
+    at_error c.from_residual.result c.in_err-read_fitting.field-0.0 (IsNoDamage c.read_fitting.new.cache)
+    c.from_residual.ensures.1 (inl (c.in_err-read_fitting.ensures.faults h.honest _ there refl few))
 
-pub returns-in-Err-clause-alters : goal.returns-in-Err-clause-alters
-returns-in-Err-clause-alters g c =
-    breaks_midway c.args.cache.now c.read_and_settle.new.cache c.in-Err.fault (Err c.midway.result)
-    c.midway.ensures c.in-Err.ensures.changes
+pub returns-then-place-len-clause-faults : goal.returns-then-place-len-clause-faults
+returns-then-place-len-clause-faults g c = λ h items there within few.
+    let m : PageMap = pages c.args.cache.now in
+    let page = c.args.at.page in
+    let read = c.in_ok-read_fitting.ensures.node h.honest (page_of_node g.row.D (m page) _ there) in
+    let same = same_content g.row.D m page _ _ there read in
+    absurd (omega (
+      arith,
+      ap (λ (x : NodeContent). length x.entries) same,
+      length-map c.read_fitting.new.node.entries.items item_of,
+      within,
+      c.if-place-len.true,
+      c.len.ensures.value,
+    ))
 
-pub returns-in-Err-clause-faults : goal.returns-in-Err-clause-faults
-returns-in-Err-clause-faults g c = λ h items there within few.
-    subst (λ (b : Broken). IsNoDamage c.read_and_settle.new.cache b.cause) (sym c.midway.ensures)
-    (c.in-Err.ensures.faults h items there within few)
+pub settle_above-requires : goal.settle_above-requires
+settle_above-requires g c =
+    let level = c.in_ok-read_fitting.ensures.level in
+    let refers : All (λ (e : Entry g.row.D). IsOfLevel c.read_fitting.new.node.level e.reference e.tag)
+    c.read_fitting.new.node.entries.items =
+    subst (λ l. All (λ (e : Entry g.row.D). IsOfLevel l e.reference e.tag)
+    c.read_fitting.new.node.entries.items) (sym level) c.in_ok-read_fitting.ensures.refers in
+    let beside : IfSome c.args.lower.beside
+    (λ (e : Entry g.row.D). IsOfLevel c.read_fitting.new.node.level e.reference e.tag) =
+    subst (λ l. IfSome c.args.lower.beside (λ (e : Entry g.row.D). IsOfLevel l e.reference e.tag))
+    (sym level) c.requires.beside in (
+      search rules,
+      (
+        search rules,
+        (
+          search rules,
+          (
+            c.requires.dims,
+            (
+              c.in_ok-read_fitting.ensures.asks.gate.gate ∙ c.requires.open,
+              (
+                c.requires.most,
+                (
+                  (omega (arith, level, c.requires.top), omega (arith, c.requires.top)),
+                  (
+                    omega (arith, c.if-place-len.false, c.len.ensures.value),
+                    (c.in_ok-read_fitting.ensures.few, (refers, beside)),
+                  ),
+                ),
+              ),
+            ),
+          ),
+        ),
+      ),
+    )
 
-pub returns-in-Err-clause-other_faults : goal.returns-in-Err-clause-other_faults
-returns-in-Err-clause-other_faults g c =
-    subst (λ (b : Broken). IsChangeFault b.cause) (sym c.midway.ensures) c.in-Err.ensures.other_faults
+pub returns-clause-changes : goal.returns-clause-changes
+returns-clause-changes g c =
+    changes_in_turn c.args.cache.now c.read_fitting.new.cache c.settle_above.new.cache _
+    (asks_changes c.args.cache.now c.read_fitting.new.cache None c.in_ok-read_fitting.ensures.asks)
+    c.settle_above.ensures.changes
+
+pub returns-clause-beside : goal.returns-clause-beside
+returns-clause-beside g c =
+    subst (λ l. IfOk c.settle_above.result
+    (λ s. IfSome s.beside (λ (e : Entry g.row.D). IsOfLevel (l + 1) e.reference e.tag)))
+    c.in_ok-read_fitting.ensures.level c.settle_above.ensures.beside
+
+pub returns-clause-settled : goal.returns-clause-settled
+returns-clause-settled g c = λ h items branches there are can.
+    let D = g.row.D in
+    let m : PageMap = pages c.args.cache.now in
+    let m0 : PageMap = pages c.read_fitting.new.cache in
+    let m' : PageMap = pages c.settle_above.new.cache in
+    let level = c.in_ok-read_fitting.ensures.level in
+    let page = c.args.at.page in
+    let read = c.in_ok-read_fitting.ensures.node h.honest (page_of_node D (m page) _ there) in
+    let same : items ≡ map item_of c.read_fitting.new.node.entries.items =
+    ap (λ (x : NodeContent). x.entries) (same_content D m page _ _ there read) in
+    let stays = c.in_ok-read_fitting.ensures.asks.map.pages_stay h.honest in
+    settles_from c.settle_above.result (IsPageMap c.settle_above.new.cache) c.args.m_max c.args.top
+    c.args.at.level c.args.waiting.now.called branches m m0 m' page c.args.waiting.now.waits.items _ _
+    stays
+    (subst (λ l. IfOk c.settle_above.result
+    (λ s. IsPageMap c.settle_above.new.cache
+    × SettlesTo D c.args.m_max c.args.top l c.args.waiting.now.called branches m0 m' page s
+    c.args.waiting.now.waits.items c.settle_above.new.waiting.waits.items
+    c.settle_above.new.waiting.called)) level
+    (c.settle_above.ensures.settled (c.in_ok-read_fitting.ensures.asks.map.sound.0 h) branches
+    (are ∙ ap (λ (es : List Item). items_after es c.args.place c.args.lower) same)
+    (subst (λ l. CanSettle D m0 page l branches) (sym level)
+    (can_settle_from D m m0 page c.args.at.level branches stays can))))
+
+pub returns-clause-faults : goal.returns-clause-faults
+returns-clause-faults g c = λ h items there within few.
+    let m : PageMap = pages c.args.cache.now in
+    let same = c.in_ok-read_fitting.ensures.asks.map.pages_stay h.honest c.args.at.page in
+    c.settle_above.ensures.faults (c.in_ok-read_fitting.ensures.asks.map.sound.0 h)
+    (subst IsSome (sym same) (page_of_node g.row.D (m c.args.at.page) _ there))

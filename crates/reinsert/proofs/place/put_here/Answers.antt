@@ -1,24 +1,22 @@
 -- The goals of `put_here` that are proved by hand.
 use Rattle.std.proofs.Common.{rules, ◌≡◌, ◌∙◌, ◌+◌, ◌++◌, [], ◌∷◌, List, map, sym, ap, subst, refl, arith}
-use Rattle.std.proofs.Common.{All, Err, Ok, Result, IfOk, IfSome, IsSome, None, Some, inl}
+use Rattle.std.proofs.Common.{All, IfOk, IfSome, IsSome, None, Some, inl}
 use Rattle.std.proofs.lemmas.List.{length-append, map-append}
 use Rattle.std.proofs.lemmas.List.Elements.{All-append}
 use Rattle.box_math.specs.Bounds.{Bounds}
-use Rattle.page_file.specs.declared.fault.Fault.{Fault}
 use Rattle.page_cache.specs.Cache.{IsPageMap, pages}
-use Rattle.page_cache.specs.Calls.{AsksUntil, asks_changes, asks_in_turn, changes_in_turn}
+use Rattle.page_cache.specs.Calls.{AsksUntil, asks_and_changes, asks_and_gives_up, asks_in_turn}
 use Rattle.tree_node.specs.Boxes.{least_box}
 use Rattle.tree_node.specs.declared.node.Entry.{Entry}
 use Rattle.tree_node.specs.Nodes.{Item, NodeContent, item_of}
 use Rattle.node_page.specs.Layout.{IsOfLevel, pushed}
 use Rattle.node_page.specs.Standing.{PageMap, node_in}
-use Rattle.node_page.specs.Broken.{alters_so, before, changes_and_breaks, made_alters}
 use Rattle.node_page.proofs.StandingLemmas.{page_of_node, same_content}
-use Rattle.node_page.specs.declared.broken.Broken.{Broken}
-use Rattle.node_page.specs.Faults.{IsNoDamage, IsChangeFault}
+use Rattle.node_page.proofs.NodeLemmas.{at_error}
+use Rattle.node_page.specs.Faults.{IsNoDamage}
 use Rattle.reinsert.specs.Placed.{CanSettle, SettlesTo}
 use Rattle.reinsert.specs.declared.settled.Settled.{Settled}
-use Rattle.reinsert.proofs.BrokenLemmas.{at_broken, at_none}
+use Rattle.reinsert.proofs.FaultLemmas.{at_none}
 use Rattle.reinsert.proofs.PlaceLemmas.{can_settle_from, settles_from}
 use Rattle.reinsert.proofs.SettledLemmas.{items_settled}
 use Rattle.reinsert.proofs.WaitLemmas.{All-one}
@@ -51,27 +49,21 @@ returns-in-Some-clause-settled g c = λ h items branches there are can.
 
 -- ---- it is read
 
-pub returns-in_err-read_fitting-clause-alters : goal.returns-in_err-read_fitting-clause-alters
-returns-in_err-read_fitting-clause-alters g c =
-    let old = c.args.cache.now in
-    let mid = c.add_entry.new.cache in
-    let new = c.read_fitting.new.cache in
-    let fault = c.in_err-read_fitting.field-0.0 in
-    let asked : AsksUntil old mid None =
+pub returns-in_err-read_fitting-clause-changes : goal.returns-in_err-read_fitting-clause-changes
+returns-in_err-read_fitting-clause-changes g c =
+    let asked : AsksUntil c.args.cache.now c.add_entry.new.cache None =
     at_none c.in_ok-bounds.field-0 _ c.in_ok-bounds.ensures.full c.in_default.not-Some in
-    let asks = asks_in_turn old mid new (Some fault) asked c.in_err-read_fitting.ensures.asks in
-    alters_so old new (before fault) c.from_residual-in_err-read_fitting.result
-    c.from_residual-in_err-read_fitting.ensures.1 (asks_changes old new (Some fault) asks)
-    (λ untouched. asks.map)
+    asks_and_gives_up c.args.cache.now c.add_entry.new.cache c.read_fitting.new.cache
+    c.in_err-read_fitting.field-0.0 c.from_residual-in_err-read_fitting.result
+    c.from_residual-in_err-read_fitting.ensures.1 asked c.in_err-read_fitting.ensures.asks
 
 pub returns-in_err-read_fitting-clause-faults : goal.returns-in_err-read_fitting-clause-faults
 returns-in_err-read_fitting-clause-faults g c = λ h items there few.
     let asked : AsksUntil c.args.cache.now c.add_entry.new.cache None =
     at_none c.in_ok-bounds.field-0 _ c.in_ok-bounds.ensures.full c.in_default.not-Some in
     let node : NodeContent = record { level = c.args.at.level; entries = items } in
-    at_broken c.from_residual-in_err-read_fitting.result (before c.in_err-read_fitting.field-0.0)
-    (λ (b : Broken). IsNoDamage c.read_fitting.new.cache b.cause)
-    c.from_residual-in_err-read_fitting.ensures.1
+    at_error c.from_residual-in_err-read_fitting.result c.in_err-read_fitting.field-0.0
+    (IsNoDamage c.read_fitting.new.cache) c.from_residual-in_err-read_fitting.ensures.1
     (inl (c.in_err-read_fitting.ensures.faults (asked.gate.honest.0 h.honest) node
     (ap (node_in g.row.D) (asked.map.pages_stay h.honest c.args.at.page) ∙ there) refl few))
 
@@ -118,25 +110,24 @@ settle-requires g c =
       ),
     )
 
-pub returns-in-Ok-clause-alters : goal.returns-in-Ok-clause-alters
-returns-in-Ok-clause-alters g c =
+pub returns-clause-changes : goal.returns-clause-changes
+returns-clause-changes g c =
     let old = c.args.cache.now in
     let mid = c.add_entry.new.cache in
     let read = c.read_fitting.new.cache in
     let asked : AsksUntil old mid None =
     at_none c.in_ok-bounds.field-0 _ c.in_ok-bounds.ensures.full c.in_default.not-Some in
-    made_alters old c.settle.new.cache _
-    (changes_in_turn old read c.settle.new.cache None
-    (asks_changes old read None (asks_in_turn old mid read None asked c.in_ok-read_fitting.ensures.asks))
-    c.in-Ok.ensures.changes)
+    asks_and_changes old read c.settle.new.cache c.settle.result
+    (asks_in_turn old mid read None asked c.in_ok-read_fitting.ensures.asks) c.settle.ensures.changes
 
-pub returns-in-Ok-clause-beside : goal.returns-in-Ok-clause-beside
-returns-in-Ok-clause-beside g c =
-    subst (λ l. IfSome c.in-Ok.settled.beside (λ (e : Entry g.row.D). IsOfLevel (l + 1) e.reference e.tag))
-    c.in_ok-read_fitting.ensures.level c.in-Ok.ensures.beside
+pub returns-clause-beside : goal.returns-clause-beside
+returns-clause-beside g c =
+    subst (λ l. IfOk c.settle.result
+    (λ s. IfSome s.beside (λ (e : Entry g.row.D). IsOfLevel (l + 1) e.reference e.tag)))
+    c.in_ok-read_fitting.ensures.level c.settle.ensures.beside
 
-pub returns-in-Ok-clause-settled : goal.returns-in-Ok-clause-settled
-returns-in-Ok-clause-settled g c = λ h items branches there are can.
+pub returns-clause-settled : goal.returns-clause-settled
+returns-clause-settled g c = λ h items branches there are can.
     let D = g.row.D in
     let m : PageMap = pages c.args.cache.now in
     let m0 : PageMap = pages c.read_fitting.new.cache in
@@ -158,32 +149,20 @@ returns-in-Ok-clause-settled g c = λ h items branches there are can.
     ap (λ (x : NodeContent). x.entries)
     (same_content D (pages c.add_entry.new.cache) page _ _ there' read) in
     let pushed = map-append item_of node.entries.items (c.args.entry.now ∷ []) in
-    let settled : Result (Settled D) Fault = Ok c.in-Ok.settled in
-    settles_from settled (IsPageMap c.settle.new.cache) c.args.m_max c.args.top c.args.at.level
+    settles_from c.settle.result (IsPageMap c.settle.new.cache) c.args.m_max c.args.top c.args.at.level
     c.args.waiting.now.called branches m m0 m' page c.args.waiting.now.waits.items _ _ stays
-    (subst (λ l. IfOk settled
+    (subst (λ l. IfOk c.settle.result
     (λ s. IsPageMap c.settle.new.cache
     × SettlesTo D c.args.m_max c.args.top l c.args.waiting.now.called branches m0 m' page s
     c.args.waiting.now.waits.items c.settle.new.waiting.waits.items c.settle.new.waiting.called)) level
-    (c.in-Ok.ensures.settled (asks.map.sound.0 h) branches
+    (c.settle.ensures.settled (asks.map.sound.0 h) branches
     (are ∙ ap (λ (es : List Item). es ++ item_of c.args.entry.now ∷ []) same ∙ sym pushed
     ∙ ap (map item_of) (sym c.push.ensures.items))
     (subst (λ l. CanSettle D m0 page l branches) (sym level)
     (can_settle_from D m m0 page c.args.at.level branches stays can))))
 
-pub returns-in-Err-clause-alters : goal.returns-in-Err-clause-alters
-returns-in-Err-clause-alters g c =
-    let old = c.args.cache.now in
-    let mid = c.add_entry.new.cache in
-    let read = c.read_fitting.new.cache in
-    let asked : AsksUntil old mid None =
-    at_none c.in_ok-bounds.field-0 _ c.in_ok-bounds.ensures.full c.in_default.not-Some in
-    changes_and_breaks old read c.settle.new.cache c.in-Err.fault (Err c.midway.result) c.midway.ensures
-    (asks_changes old read None (asks_in_turn old mid read None asked c.in_ok-read_fitting.ensures.asks))
-    c.in-Err.ensures.changes
-
-pub returns-in-Err-clause-faults : goal.returns-in-Err-clause-faults
-returns-in-Err-clause-faults g c = λ h items there few.
+pub returns-clause-faults : goal.returns-clause-faults
+returns-clause-faults g c = λ h items there few.
     let asked : AsksUntil c.args.cache.now c.add_entry.new.cache None =
     at_none c.in_ok-bounds.field-0 _ c.in_ok-bounds.ensures.full c.in_default.not-Some in
     let asks =
@@ -192,9 +171,4 @@ returns-in-Err-clause-faults g c = λ h items there few.
     let live =
     subst IsSome (sym (asks.map.pages_stay h.honest c.args.at.page))
     (page_of_node g.row.D (pages c.args.cache.now c.args.at.page) _ there) in
-    subst (λ (b : Broken). IsNoDamage c.settle.new.cache b.cause) (sym c.midway.ensures)
-    (c.in-Err.ensures.faults (asks.map.sound.0 h) live)
-
-pub returns-in-Err-clause-other_faults : goal.returns-in-Err-clause-other_faults
-returns-in-Err-clause-other_faults g c =
-    subst (λ (b : Broken). IsChangeFault b.cause) (sym c.midway.ensures) c.in-Err.ensures.other_faults
+    c.settle.ensures.faults (asks.map.sound.0 h) live

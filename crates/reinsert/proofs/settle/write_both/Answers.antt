@@ -24,6 +24,15 @@ returns-in_err-write_node-clause-changes g c =
     c.from_residual-in_err-write_node.ensures.1
     c.in_ok-number.ensures.changes c.in_err-write_node.ensures.changes
 
+pub returns-in_err-write_node-clause-faults : goal.returns-in_err-write_node-clause-faults
+returns-in_err-write_node-clause-faults g c = λ h live.
+    let m1 : PageMap = pages c.allocate.new.self in
+    let fresh = c.in_ok-number.ensures.fresh h in
+    at_error c.from_residual-in_err-write_node.result c.in_err-write_node.field-0.0
+    (IsNoDamage c.write_node.new.cache) c.from_residual-in_err-write_node.ensures.1
+    (inl (c.in_err-write_node.ensures.faults (c.allocate.ensures.sound h).honest
+    (is_some_from (m1 c.in_ok-number.number) _ fresh.1)))
+
 pub returns-in_err-write_node-2-clause-changes : goal.returns-in_err-write_node-2-clause-changes
 returns-in_err-write_node-2-clause-changes g c =
     changes_and_refuses c.args.cache.now c.write_node.new.cache c.write_node-2.new.cache
