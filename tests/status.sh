@@ -258,3 +258,22 @@ for made in "$program" "$program.by-rattle"; do
     line='rstore: fail 20 NotClosed: open FILE once for writing'
     refused _ _ store "$made" --read-only store
 done
+
+# A file holds the corners, the identifier and the tag of an object, and nothing of it once it is deleted, also where it
+# stood between others.
+object='5279420865908921433 1280268120 1280268121 1414484056 1414484057 tag 1413564243'
+rm -f store
+{
+    echo 'create a 2 4'
+    for id in {1..8}; do echo "insert a $id $((id * 260000000)) 0 $((id * 260000000)) 1"; done
+    echo "insert a $object"
+    for id in {11..19}; do echo "insert a $id $((id * 100000000)) 5 $((id * 100000000)) 6"; done
+} | "$program" store >/dev/null
+for word in LOWX LOWY TOPX TOPY IDENTITY TAGS; do
+    grep -aqF "$word" store || wrong "a file without the $word of its object"
+done
+"$program" store <<<"delete a ${object%% *}" >/dev/null
+[ ! -e store-journal ] || wrong 'a journal after the end'
+for word in LOWX LOWY TOPX TOPY IDENTITY TAGS; do
+    ! grep -aqF "$word" store || wrong "a file has the $word of a deleted object"
+done
