@@ -1,12 +1,15 @@
 -- The pages of a tree freed, child by child, and then the root's.
-use Rattle.std.proofs.Common.{Err, false, ◌≡◌, ◌∙◌, ℕ, zero, suc, ◌+◌, ◌-◌, ◌^◌, ◌<◌, ◌≤◌, All, IsSome, Some}
+use Rattle.std.proofs.Common.{Result, Ok, Err, IfErr, OnOk, Option, Bool, true}
+use Rattle.std.proofs.Common.{false, ◌≡◌, ◌∙◌, ℕ, zero, suc, ◌+◌, ◌-◌, ◌^◌, ◌<◌, ◌≤◌, All, IsSome, Some}
 use Rattle.std.proofs.Common.{None, cond, eqb, List, [], ◌∷◌, length, map, take, get_or, refl, sym, ap, subst}
 use Rattle.std.proofs.Common.{⊎_elim, arith}
 use Rattle.std.proofs.lemmas.Bool.{cases_eq}
 use Rattle.std.proofs.lemmas.List.{take_all, length-map}
 use Rattle.std.proofs.lemmas.List.Elements.{All-get_or}
 use Rattle.page_file.specs.Pages.{SameBut}
-use Rattle.page_cache.specs.Calls.{AsksUntil, ChangesUntil, asks_in_turn, changes_in_turn}
+use Rattle.page_file.specs.declared.fault.Fault.{Fault}
+use Rattle.page_cache.specs.Cache.{touched_of}
+use Rattle.page_cache.specs.Calls.{AsksUntil, Changes, ChangesUntil}
 use Rattle.page_cache.specs.declared.cache.PageCache.{PageCache}
 use Rattle.tree_node.specs.declared.node.Entry.{Entry}
 use Rattle.tree_node.specs.declared.node.Root.{Root}
@@ -16,8 +19,6 @@ use Rattle.tree_node.specs.Positions.{total}
 use Rattle.tree_node.specs.Rows.{branches_of, item_in, occurs_on}
 use Rattle.tree_node.specs.Trees.{Tree, Row, end, more, object, child, row_items, occurs, occurs_in}
 use Rattle.tree_node.proofs.RowLemmas.{items-branches_of, occurs-branches_of, occurs_here, same_tree}
-use Rattle.node_page.specs.Broken.{Alters}
-use Rattle.node_page.specs.declared.broken.Broken.{Broken}
 use Rattle.node_page.specs.Layout.{IsOfLevel}
 use Rattle.node_page.specs.Parts.{Moves, no_page}
 use Rattle.node_page.specs.Standing.{PageMap, HasNode, node_in, RowStands, Stands}
@@ -244,34 +245,30 @@ module _ (dims : ℕ) (m m1 : PageMap) (page level : ℕ) (row : Row)
       (moves_in_turn m m1 m2 _ _ _ (moves_with m m1 (λ n. occurs n row) no_page own before own_apart own_live)
       (moves_same m1 m2 _ _ _ _ (λ n. omega arith) (λ n. refl) ((one_page_moves m1 m2 page others).2 gone)))
 
--- ---- a refusal below, where some children may be freed
+-- ---- a refusal
 
-module _ {D A : Type 0} {m : _} (old mid new : PageCache D A m) (below here : Broken) (freed : ℕ)
-    (cause : here.cause ≡ below.cause)
-    (touched : here.touched ≡ false → (below.touched ≡ false) × (freed ≡ 0))
-    (none : freed ≡ 0 → AsksUntil old mid None)
-    (asked : below.touched ≡ false → AsksUntil mid new (Some below.cause)) where
-  asked_so : here.touched ≡ false → AsksUntil old new (Some here.cause)
-  asked_so untouched =
-      let both = touched untouched in
-      subst (λ f. AsksUntil old new (Some f)) (sym cause)
-      (asks_in_turn old mid new (Some below.cause) (none both.1) (asked both.0))
+none_before : (before now : Bool) → (before ≡ true → now ≡ true) → now ≡ false → now ≡ before
+none_before false now stays none = none
+none_before true now stays none = stays refl
 
-pub asked_later : {D A : Type 0} {m : _} (old mid new : PageCache D A m) (below here : Broken) (freed : ℕ)
-    → here.cause ≡ below.cause → (here.touched ≡ false → (below.touched ≡ false) × (freed ≡ 0))
-    → (freed ≡ 0 → AsksUntil old mid None) → (below.touched ≡ false → AsksUntil mid new (Some below.cause))
-    → here.touched ≡ false → AsksUntil old new (Some here.cause)
-asked_later old mid new below here freed cause touched none asked =
-    asked_so old mid new below here freed cause touched none asked
-
-pub broken_later : {D A : Type 0} {m : _} {T : Type 0} (old mid new : PageCache D A m) (below here : Broken)
-    (freed : ℕ) → here.cause ≡ below.cause → (here.touched ≡ false → (below.touched ≡ false) × (freed ≡ 0))
-    → ChangesUntil old mid None → (freed ≡ 0 → AsksUntil old mid None)
-    → ChangesUntil mid new (Some below.cause)
-    → (below.touched ≡ false → AsksUntil mid new (Some below.cause)) → Alters {T = T} old new (Err here)
-broken_later old mid new below here freed cause touched before none change asked = record {
-  changes =
-      subst (λ f. ChangesUntil old new (Some f)) (sym cause)
-      (changes_in_turn old mid new (Some below.cause) before change);
-  untouched = λ untouched. (asked_so old mid new below here freed cause touched none asked untouched).map;
+-- what has touched no page has only asked
+untouched_asks : {D A : Type 0} {m : _} (old new : PageCache D A m) (last : Option Fault)
+    → ChangesUntil old new last → touched_of new ≡ false → AsksUntil old new last
+untouched_asks old new last change none = record {
+  gate = change.gate;
+  map = change.untouched none;
+  capacity = change.capacity;
+  looks = change.looks;
+  touched = none_before (touched_of old) (touched_of new) change.touched none;
+  faults = change.faults;
 }
+
+pub refusal_asks : {D A : Type 0} {m : _} {T : Type 0} (old new : PageCache D A m) (result : Result T Fault)
+    → Changes old new result → IfErr result (λ f. touched_of new ≡ false → AsksUntil old new (Some f))
+refusal_asks old new (Ok x) change = tt
+refusal_asks old new (Err f) change = untouched_asks old new (Some f) change
+
+-- the last call is answered as it is
+pub on_ok : {T E : Type 0} (r : Result T E) (X Y : Type 0) → OnOk r X → (X → Y) → OnOk r Y
+on_ok (Ok x) X Y h f = f h
+on_ok (Err e) X Y h f = tt

@@ -1,8 +1,7 @@
 -- The root gives way to its only child, and so on.
-use Rattle.std.proofs.Common.{Result, Ok, Err, IfErr, IsErrAnd, ◌≡◌, ◌∙◌, ℕ, suc, ◌+◌, ◌-◌, ◌<◌, IsSome, Some}
+use Rattle.std.proofs.Common.{◌≡◌, ◌∙◌, ℕ, suc, ◌+◌, ◌-◌, ◌<◌, IsSome, Some}
 use Rattle.std.proofs.Common.{None, length, get_or, refl, sym, ap, subst, arith}
 use Rattle.page_file.specs.Pages.{SameBut}
-use Rattle.page_file.specs.declared.fault.Fault.{Fault}
 use Rattle.tree_node.specs.declared.node.Root.{Root}
 use Rattle.tree_node.specs.Boxes.{no_item}
 use Rattle.tree_node.specs.Nodes.{Item}
@@ -60,11 +59,6 @@ only_child n (more (child b page below) end) c one is =
     let this : record { page = page; row = below } ≡ c = cc in
     omega (arith, ap (λ (x : Child). occurs_at x.page n x.row) this)
 only_child n (more (child b page below) (more x rest)) c one is = absurd (omega (arith, one))
-
-pub at_fault : {T : Type 0} (r : Result T Fault) (f : Fault) (P : Fault → Type 0) → IsErrAnd r (λ e. e ≡ f)
-    → P f → IfErr r P
-at_fault (Ok x) f P is p = tt
-at_fault (Err e) f P is p = subst P (sym is) p
 
 pub root_is_live : (dims : ℕ) (m m1 : PageMap) (t : Tree) (now : Root) → Lowered dims m m1 t now
     → IsSome (m1 now.page)

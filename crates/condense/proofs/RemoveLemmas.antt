@@ -1,16 +1,18 @@
 -- What a removal answers, from what its steps ensure.
-use Rattle.std.proofs.Common.{Result, Ok, Err, IfOk, IfErr, IsErrAnd, List, [], ◌≡◌, ◌∙◌, ℕ, ◌≤◌, ◌∷◌, sym}
-use Rattle.std.proofs.Common.{subst}
+use Rattle.std.proofs.Common.{Result, Ok, Err, IfOk, IfErr, OnErr, IsErrAnd, List, [], ◌≡◌, ◌∙◌, ℕ, ◌≤◌}
+use Rattle.std.proofs.Common.{◌∷◌, None, Some, sym, subst}
 use Rattle.std.specs.List.Sorted.{IsPermutation}
 use Rattle.box_math.specs.Objects.{Object}
 use Rattle.page_file.specs.Fault.{IsOfDevice}
 use Rattle.page_file.specs.declared.fault.Fault.{Fault}
+use Rattle.page_file.specs.declared.fault.Fault.TheVariants.{Damaged}
+use Rattle.page_cache.specs.Calls.{AsksUntil}
+use Rattle.page_cache.specs.declared.cache.PageCache.{PageCache}
 use Rattle.tree_node.specs.declared.node.Root.{Root}
 use Rattle.tree_node.specs.Nodes.{Item}
 use Rattle.tree_node.specs.Boxes.{RowHasBoxes}
 use Rattle.tree_node.specs.Shape.{HasShape}
 use Rattle.tree_node.specs.Trees.{Tree, objects_in}
-use Rattle.node_page.specs.declared.broken.Broken.{Broken}
 use Rattle.node_page.specs.Standing.{PageMap, Stands}
 use Rattle.node_page.proofs.StandingLemmas.{one_tree_stands}
 use Rattle.reinsert.specs.Inserted.{IsRootOf}
@@ -21,7 +23,7 @@ use Rattle.condense.proofs.ObjectLemmas.{removal_keeps_objects}
 use Rattle.condense.proofs.ShapeLemmas.{removal_keeps_shape}
 
 -- the tree at the new root has its shape, and its objects are those before but for the one
-pub keeps_all : {E : Type 0} (r : Result Root E) (X : Type 0) (dims most : ℕ) (m m' : PageMap)
+pub keeps_all : (r : Result Root Fault) (X : Type 0) (dims most : ℕ) (m m' : PageMap)
     (elsewhere : ℕ → ℕ) (id : ℕ) (removed : Object) (t : Tree) → 4 ≤ most → HasShape dims most t
     → RowHasBoxes dims t.row
     → IfOk r (λ after. X × RemovesTo dims most m m' elsewhere id removed t after)
@@ -54,7 +56,24 @@ took_out dims most m m1 root t elsewhere id removed held0 held items can none do
       (subst (λ l. HasTaken dims most m m1 l id removed t.row held0 held items) (sym can.at.level) done);
 }
 
-pub refused_so : {T : Type 0} (r : Result T Broken) (f : Broken) (P : Broken → Type 0)
+-- pages that were only asked for, and then a damaged one
+pub damaged_asks : {D A : Type 0} {m : _} (old new : PageCache D A m) (page : ℕ) → AsksUntil old new None
+    → AsksUntil old new (Some (Damaged page))
+damaged_asks old new page asks = record {
+  gate = asks.gate;
+  map = asks.map;
+  capacity = asks.capacity;
+  looks = asks.looks;
+  touched = asks.touched;
+  faults = asks.faults;
+}
+
+-- a refusal is handed on
+pub on_err : {T E : Type 0} (r : Result T E) (X : Type 0) → X → OnErr r X
+on_err (Ok x) X h = tt
+on_err (Err e) X h = h
+
+pub refused_so : {T : Type 0} (r : Result T Fault) (f : Fault) (P : Fault → Type 0)
     → IsErrAnd r (λ e. e ≡ f) → P f → IsErrAnd r P
 refused_so (Ok x) f P is p = elim is [ ]
 refused_so (Err e) f P is p = subst P (sym is) p

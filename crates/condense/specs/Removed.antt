@@ -1,10 +1,13 @@
 -- What a removal needs of the pages, and what it leaves (our rule, docs/FORMAT.md, "Trees of pages").
-use Rattle.std.specs.Prelude.{◌≡◌, ◌⊎◌, ℕ, ◌+◌, ◌*◌, ◌^◌, ◌<◌, ◌≤◌, List, [], ◌∷◌, IsSome, false, Result}
+use Rattle.std.specs.Prelude.{◌≡◌, ◌⊎◌, ℕ, ◌+◌, ◌*◌, ◌^◌, ◌<◌, ◌≤◌, List, [], ◌∷◌, IsSome, Result}
 use Rattle.std.specs.Prelude.{IsErrAnd}
 use Rattle.std.specs.List.Sorted.{IsPermutation}
 use Rattle.box_math.specs.Objects.{Object}
 use Rattle.page_file.specs.Fault.{IsOfDevice}
+use Rattle.page_file.specs.declared.fault.Fault.{Fault}
 use Rattle.page_file.specs.declared.fault.Fault.TheVariants as fault
+use Rattle.page_cache.specs.Cache.{touched_of}
+use Rattle.page_cache.specs.declared.cache.PageCache.{PageCache}
 use Rattle.tree_node.specs.declared.node.Root.{Root}
 use Rattle.tree_node.specs.Nodes.{Item}
 use Rattle.tree_node.specs.Boxes.{RowHasBoxes}
@@ -12,7 +15,6 @@ use Rattle.tree_node.specs.Shape.{HasShape}
 use Rattle.tree_node.specs.Trees.{Tree, objects_in, occurs_in}
 use Rattle.node_page.specs.Parts.{Moves}
 use Rattle.node_page.specs.Standing.{PageMap, Stands}
-use Rattle.node_page.specs.declared.broken.Broken.{Broken}
 use Rattle.reinsert.specs.Inserted.{IsRootOf, most_new_pages}
 use Rattle.reinsert.specs.Placed.{Held}
 use Rattle.condense.specs.Removal.{IsRemoval}
@@ -54,9 +56,10 @@ pub record TookOut (dims most : ℕ) (m m' : PageMap) (root : Root) (t : Tree) (
 
 -- no object was removed and no page touched: the root's page is answered as damaged, unless memory or the
 -- device refused before
-abbrev pub IsRefused : ℕ → Result Root Broken → Type 0
-IsRefused page result =
-    IsErrAnd result (λ b. (b.touched ≡ false) × (IsOfDevice b.cause ⊎ (b.cause ≡ fault.Damaged page)))
+abbrev pub IsRefused : {D A : Type 0} {m : _} → ℕ → PageCache D A m → PageCache D A m → Result Root Fault
+    → Type 0
+IsRefused page old new result =
+    (touched_of new ≡ touched_of old) × IsErrAnd result (λ f. IsOfDevice f ⊎ (f ≡ fault.Damaged page))
 
 -- ---- laws
 

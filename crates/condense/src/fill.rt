@@ -51,10 +51,7 @@ pub(crate) fn insert_kept<const D: usize, B: BlockDevice, A: Allocator + Copy>(
         if orphan.level > now.level {
             return Err(Fault::Damaged(now.page));
         }
-        now = match insert_with(cache, now, &orphan.entry, orphan.level, m_max, waiting) {
-            Ok(after) => after,
-            Err(broken) => return Err(broken.cause),
-        };
+        now = insert_with(cache, now, &orphan.entry, orphan.level, m_max, waiting)?;
     }
     Ok(now)
 }

@@ -4,18 +4,18 @@ ghost use Rattle.std.specs.Prelude.{◌≡◌, ◌⊎◌, ◌≤◌, Some, false
 ghost use Rattle.box_math.specs.Bounds.{IsDims};
 ghost use Rattle.page_file.specs.Fault.{IsDamage, IsOfDevice};
 ghost use Rattle.page_file.specs.declared.gate.Gate.TheVariants.{Open};
-ghost use Rattle.page_cache.specs.Cache.{Grows, IsPageMap, gate_of, pages};
-ghost use Rattle.page_cache.specs.Calls.{AsksUntil};
+ghost use Rattle.page_cache.specs.Cache.{Grows, IsPageMap, gate_of, pages, touched_of};
+ghost use Rattle.page_cache.specs.Calls.{AsksUntil, Changes};
 ghost use Rattle.tree_node.specs.Trees.{Tree, occurs_in};
-ghost use Rattle.node_page.specs.Broken.{Alters};
 ghost use Rattle.node_page.specs.Parts.{Moves, no_page};
 ghost use Rattle.node_page.specs.Standing.{Stands};
 ghost use Rattle.reinsert.specs.Inserted.{IsRootOf};
 
 use crate::children::{child_count, child_of};
 use block_device::BlockDevice;
-use node_page::{Broken, read_node};
+use node_page::read_node;
 use page_cache::PageCache;
+use page_file::Fault;
 use std::alloc::Allocator;
 use tree_node::Root;
 
@@ -23,45 +23,31 @@ use tree_node::Root;
 ///
 /// Where the pages are a sound map, and stand for a tree there, none of the tree's pages is live after `Ok`,
 /// and all others are as before. A refusal is of memory or of the device then, and the map stays sound. One
-/// that is not `touched` came before the first page was freed: pages were only asked for. In other pages one
-/// may also be damaged. Also after a refusal no more pages are live than before.
+/// after which the cache is not touched (`is_touched`) came before the first page was freed: pages were only
+/// asked for. In other pages one may also be damaged. Also after a refusal no more pages are live than
+/// before.
 pub fn free_tree<const D: usize, B: BlockDevice, A: Allocator + Copy>(
     cache: &mut PageCache<B, A>,
     root: Root,
-) -> Result<(), Broken>
+) -> Result<(), Fault>
     requires dims { IsDims D }
     requires open { gate_of cache.old ≡ Open }
-    ensures alters { Alters cache.old cache.new result }
+    ensures changes { Changes cache.old cache.new result }
     ensures grows { Grows 0 cache.old cache.new }
-    ensures asked { IfErr result (λ b. b.touched ≡ false → AsksUntil cache.old cache.new (Some b.cause)) }
+    ensures asked { IfErr result
+        (λ f. touched_of cache.new ≡ false → AsksUntil cache.old cache.new (Some f)) }
     ensures freed { IsPageMap cache.old → (t : Tree) → IsRootOf root t → Stands D (pages cache.old) t
         → OnOk result (Moves (pages cache.old) (pages cache.new) (λ n. occurs_in n t) no_page) }
     ensures sound { IsPageMap cache.old → (t : Tree) → IsRootOf root t → Stands D (pages cache.old) t
         → IsPageMap cache.new }
     ensures faults { IsPageMap cache.old → (t : Tree) → IsRootOf root t → Stands D (pages cache.old) t
-        → 3 ≤ root.page → IfErr result (λ b. IsOfDevice b.cause) }
-    ensures other_faults { IfErr result (λ b. IsOfDevice b.cause ⊎ IsDamage b.cause) }
+        → 3 ≤ root.page → IfErr result IsOfDevice }
+    ensures other_faults { IfErr result (λ f. IsOfDevice f ⊎ IsDamage f) }
 {
     let node = read_node::<D, B, A>(cache, root.page, root.level)?;
     'children: for at in 0..child_count(&node) {
         let below = child_of(&node, at);
-        if let Err(broken) = free_tree::<D, B, A>(cache, below) {
-            return Err(broken_after(broken, at));
-        }
+        free_tree::<D, B, A>(cache, below)?;
     }
-    match cache.free(root.page) {
-        Ok(()) => Ok(()),
-        Err(fault) => Err(Broken::midway(fault)),
-    }
-}
-
-// What broke off below a node of which so many children are freed.
-fn broken_after(broken: Broken, freed: usize) -> Broken
-    ensures cause { result.cause ≡ broken.cause }
-    ensures touched { result.touched ≡ false → (broken.touched ≡ false) × (freed ≡ 0) }
-{
-    Broken {
-        cause: broken.cause,
-        touched: broken.touched || freed > 0,
-    }
+    cache.free(root.page)
 }

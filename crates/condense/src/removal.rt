@@ -13,7 +13,6 @@ ghost use Rattle.tree_node.specs.Boxes.{RowHasBoxes};
 ghost use Rattle.tree_node.specs.Nodes.{content_of, item_of};
 ghost use Rattle.tree_node.specs.Shape.{HasShape};
 ghost use Rattle.tree_node.specs.Trees.{Tree, objects_in};
-ghost use Rattle.node_page.specs.Broken.{Alters};
 ghost use Rattle.node_page.specs.Standing.{PageMap, Stands, node_in};
 ghost use Rattle.node_page.specs.Faults.{IsChangeFault, IsNoDamage};
 ghost use Rattle.reinsert.specs.Inserted.{IsRootOf, most_new_pages};
@@ -29,7 +28,6 @@ use crate::take::take_out;
 use arrayvec::ArrayVec;
 use block_device::BlockDevice;
 use box_math::BBox;
-use node_page::Broken;
 use page_cache::PageCache;
 use page_file::Fault;
 use reinsert::Waiting;
@@ -43,11 +41,11 @@ use tree_node::{Node, Root};
 /// lawful removal leads to. Pages outside of these trees stay, those that came in were not live, and those
 /// that went are no longer live. A tree that has its shape keeps it, and has its objects but for the one.
 ///
-/// A refusal that is not `touched` leaves the map as it was; the room of what is kept and of what waits is
-/// taken before the first write. Where the tree has its shape and the object, a refusal is of memory or of
-/// the device, or each page number is live (`NoPages`). Where no leaf has the object, that is `Damaged` with
-/// the root's page, untouched, unless memory or the device refused before. Also after a refusal, at most
-/// `most_removal_pages` more pages are live.
+/// A refusal after which the cache is not touched (`is_touched`) leaves the map as it was; the room of what
+/// is kept and of what waits is taken before the first write. Where the tree has its shape and the object, a
+/// refusal is of memory or of the device, or each page number is live (`NoPages`). Where no leaf has the
+/// object, no page is touched, and that is `Damaged` with the root's page, unless memory or the device
+/// refused before. Also after a refusal, at most `most_removal_pages` more pages are live.
 pub fn remove<const D: usize, B: BlockDevice, A: Allocator + Copy, H: Allocator + Copy>(
     alloc: H,
     cache: &mut PageCache<B, A>,
@@ -56,12 +54,12 @@ pub fn remove<const D: usize, B: BlockDevice, A: Allocator + Copy, H: Allocator 
     bounds: &BBox<D>,
     tag: u32,
     m_max: usize,
-) -> Result<Root, Broken>
+) -> Result<Root, Fault>
     requires dims { IsDims D }
     requires open { gate_of cache.old ≡ Open }
     requires most { (4 ≤ m_max) × (m_max ≤ 100) }
     requires root { IsRoot root }
-    ensures alters { Alters cache.old cache.new result }
+    ensures changes { Changes cache.old cache.new result }
     ensures grows { Grows most_removal_pages cache.old cache.new }
     ensures root { IfOk result IsRoot }
     ensures removed { IsPageMap cache.old → (t : Tree) (elsewhere : ℕ → ℕ)
@@ -75,12 +73,12 @@ pub fn remove<const D: usize, B: BlockDevice, A: Allocator + Copy, H: Allocator 
     ensures absent { IsPageMap cache.old → (t : Tree) (elsewhere : ℕ → ℕ)
         → CanRemove D (pages cache.old) root t elsewhere →
         ¬ Contains (objects_in t.row) (id, (bounds.now, tag))
-        → IsRefused root.page result }
+        → IsRefused root.page cache.old cache.new result }
     ensures faults { IsPageMap cache.old → (t : Tree) (elsewhere : ℕ → ℕ)
         → CanRemove D (pages cache.old) root t elsewhere → HasShape D m_max t → RowHasBoxes D t.row
         → Contains (objects_in t.row) (id, (bounds.now, tag)) →
-        IfErr result (λ b. IsNoDamage cache.new b.cause) }
-    ensures other_faults { IfErr result (λ b. IsChangeFault b.cause) }
+        IfErr result (IsNoDamage cache.new) }
+    ensures other_faults { IfErr result IsChangeFault }
 {
     let mut waiting = Waiting::make(alloc)?;
     let mut kept = Kept::make(alloc)?;
@@ -98,12 +96,12 @@ pub fn remove_with<const D: usize, B: BlockDevice, A: Allocator + Copy>(
     m_max: usize,
     waiting: &mut Waiting<D>,
     kept: &mut Kept<D>,
-) -> Result<Root, Broken>
+) -> Result<Root, Fault>
     requires dims { IsDims D }
     requires open { gate_of cache.old ≡ Open }
     requires most { (4 ≤ m_max) × (m_max ≤ 100) }
     requires root { IsRoot root }
-    ensures alters { Alters cache.old cache.new result }
+    ensures changes { Changes cache.old cache.new result }
     ensures grows { Grows most_removal_pages cache.old cache.new }
     ensures root { IfOk result IsRoot }
     ensures removed { IsPageMap cache.old → (t : Tree) (elsewhere : ℕ → ℕ)
@@ -117,12 +115,12 @@ pub fn remove_with<const D: usize, B: BlockDevice, A: Allocator + Copy>(
     ensures absent { IsPageMap cache.old → (t : Tree) (elsewhere : ℕ → ℕ)
         → CanRemove D (pages cache.old) root t elsewhere →
         ¬ Contains (objects_in t.row) (id, (bounds.now, tag))
-        → IsRefused root.page result }
+        → IsRefused root.page cache.old cache.new result }
     ensures faults { IsPageMap cache.old → (t : Tree) (elsewhere : ℕ → ℕ)
         → CanRemove D (pages cache.old) root t elsewhere → HasShape D m_max t → RowHasBoxes D t.row
         → Contains (objects_in t.row) (id, (bounds.now, tag)) →
-        IfErr result (λ b. IsNoDamage cache.new b.cause) }
-    ensures other_faults { IfErr result (λ b. IsChangeFault b.cause) }
+        IfErr result (IsNoDamage cache.new) }
+    ensures other_faults { IfErr result IsChangeFault }
 {
     kept.begin();
     let mut settled = false;
@@ -142,12 +140,9 @@ pub fn remove_with<const D: usize, B: BlockDevice, A: Allocator + Copy>(
         &mut node,
     )?;
     if !taken {
-        return Err(Broken::from(Fault::Damaged(root.page)));
+        return Err(Fault::Damaged(root.page));
     }
-    match put_root(cache, root, &node, m_max, waiting, kept, settled) {
-        Ok(after) => Ok(after),
-        Err(fault) => Err(Broken::midway(fault)),
-    }
+    put_root(cache, root, &node, m_max, waiting, kept, settled)
 }
 
 // Writes what the root has become, where it is not settled, inserts what is kept, and lets the root give way.

@@ -1,16 +1,15 @@
 //! An object taken out below a node, and the nodes between condensed.
 
-ghost use Rattle.std.specs.Prelude.{◌≡◌, ◌⊎◌, ◌+◌, ◌*◌, ◌<◌, ◌≤◌, IfOk, IfErr, None, false, true, map};
+ghost use Rattle.std.specs.Prelude.{◌≡◌, ◌⊎◌, ◌+◌, ◌*◌, ◌<◌, ◌≤◌, IfOk, IfErr, None, OnErr, false, true, map};
 ghost use Rattle.std.specs.List.{Contains};
 ghost use Rattle.arrayvec.specs.ArrayVec.{array_vec_len};
 ghost use Rattle.box_math.specs.Bounds.{IsDims};
 ghost use Rattle.page_file.specs.Fault.{IsDamage, IsOfDevice};
 ghost use Rattle.page_file.specs.declared.gate.Gate.TheVariants.{Open};
-ghost use Rattle.page_cache.specs.Cache.{Grows, IsPageMap, gate_of, pages};
-ghost use Rattle.page_cache.specs.Calls.{AsksUntil};
+ghost use Rattle.page_cache.specs.Cache.{Grows, IsPageMap, gate_of, pages, touched_of};
+ghost use Rattle.page_cache.specs.Calls.{AsksUntil, Changes};
 ghost use Rattle.tree_node.specs.Nodes.{content_of, item_of};
 ghost use Rattle.tree_node.specs.Trees.{Row, objects_in};
-ghost use Rattle.node_page.specs.Broken.{Alters};
 ghost use Rattle.node_page.specs.Standing.{Stands, node_in};
 ghost use Rattle.condense.specs.Taken.{HasTaken, IsCut, LeadsTo, held_now, tree_at};
 
@@ -22,8 +21,8 @@ use crate::put::put_child;
 use arrayvec::ArrayVec;
 use block_device::BlockDevice;
 use box_math::BBox;
-use node_page::Broken;
 use page_cache::PageCache;
+use page_file::Fault;
 use std::alloc::Allocator;
 use tree_node::{Node, Root};
 
@@ -42,12 +41,12 @@ pub(crate) fn take_out<const D: usize, B: BlockDevice, A: Allocator + Copy>(
     kept: &mut Kept<D>,
     settled: &mut bool,
     node: &mut Node<D>,
-) -> Result<bool, Broken>
+) -> Result<bool, Fault>
     requires dims { IsDims D }
     requires open { gate_of cache.old ≡ Open }
     requires most { (4 ≤ m_max) × (m_max ≤ 100) }
     requires room { array_vec_len kept.old.orphans + 39 * at.level ≤ 1560 }
-    ensures alters { Alters cache.old cache.new result }
+    ensures changes { Changes cache.old cache.new result }
     ensures grows { Grows 0 cache.old cache.new }
     ensures cut { IfOk result (λ found. found ≡ true → IsCut at.level (content_of node.new)) }
     ensures room { array_vec_len kept.new.orphans ≤ array_vec_len kept.old.orphans + 39 * at.level }
@@ -63,14 +62,15 @@ pub(crate) fn take_out<const D: usize, B: BlockDevice, A: Allocator + Copy>(
     ensures found { IsPageMap cache.old → (row : Row) → Stands D (pages cache.old) (tree_at at row)
         → LeadsTo D id (bounds.now, tag) row → IfOk result (λ found. found ≡ true) }
     ensures absent { IsPageMap cache.old → (row : Row) → Stands D (pages cache.old) (tree_at at row)
-        → ¬ Contains (objects_in row) (id, (bounds.now, tag)) → IfErr result (λ b. b.touched ≡ false) }
+        → ¬ Contains (objects_in row) (id, (bounds.now, tag))
+        → OnErr result (touched_of cache.new ≡ touched_of cache.old) }
     ensures faults { IsPageMap cache.old → (row : Row) → Stands D (pages cache.old) (tree_at at row)
-        → IfErr result (λ b. IsOfDevice b.cause) }
-    ensures other_faults { IfErr result (λ b. IsOfDevice b.cause ⊎ IsDamage b.cause) }
+        → IfErr result IsOfDevice }
+    ensures other_faults { IfErr result (λ f. IsOfDevice f ⊎ IsDamage f) }
 {
     if at.level == 0 {
         *settled = false;
-        return Ok(take_here(cache, at.page, id, bounds, tag, node)?);
+        return take_here(cache, at.page, id, bounds, tag, node);
     }
     let Some(first) = read_enclosing(cache, at, bounds, node)? else {
         return Ok(false);
@@ -90,10 +90,8 @@ pub(crate) fn take_out<const D: usize, B: BlockDevice, A: Allocator + Copy>(
         if !taken {
             continue;
         }
-        match put_child(cache, node, place, &lower, m_max, kept, settled) {
-            Ok(()) => return Ok(true),
-            Err(fault) => return Err(Broken::midway(fault)),
-        }
+        put_child(cache, node, place, &lower, m_max, kept, settled)?;
+        return Ok(true);
     }
     Ok(false)
 }

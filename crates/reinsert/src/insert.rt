@@ -37,10 +37,10 @@ use tree_node::{Entry, Root};
 /// fall.
 ///
 /// A refusal after which the cache is not touched (`is_touched`) leaves the map as it was; the room of what
-/// waits is taken before the first write. Where the trees have their shape, but that a root may have one entry, a refusal is of memory or of
-/// the device, or each page number is live (`NoPages`). A tree of level 40 takes no entry, since it could
-/// grow: its root is `Damaged`, and the cache stays. Also after a refusal, at most `most_new_pages` more pages are
-/// live.
+/// waits is taken before the first write. Where the trees have their shape, but that a root may have one
+/// entry, a refusal is of memory or of the device, or each page number is live (`NoPages`). A tree of level
+/// 40 takes no entry, since it could grow: its root is `Damaged`, and the cache stays. Also after a refusal,
+/// at most `most_new_pages` more pages are live.
 pub fn insert_at<const D: usize, B: BlockDevice, A: Allocator + Copy, H: Allocator>(
     alloc: H,
     cache: &mut PageCache<B, A>,

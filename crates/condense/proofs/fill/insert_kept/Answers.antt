@@ -1,10 +1,12 @@
 -- The goals of `insert_kept` that are proved by hand.
-use Rattle.std.proofs.Common.{rules, ◌∙◌, ◌+◌, List, None, Some, map, refl, ap, subst, arith}
+use Rattle.std.proofs.Common.{rules, ◌∙◌, ◌+◌, List, None, map, refl, ap, subst, arith}
 use Rattle.page_cache.specs.Cache.{pages}
-use Rattle.page_cache.specs.Calls.{changes_in_turn, no_call_changes}
+use Rattle.page_cache.specs.Calls.{changes_and_refuses, changes_in_turn, no_call_changes}
 use Rattle.tree_node.specs.Nodes.{item_of}
 use Rattle.tree_node.specs.Rows.{occurs_waiting}
+use Rattle.node_page.specs.Faults.{IsNoDamage}
 use Rattle.node_page.specs.Standing.{PageMap}
+use Rattle.node_page.proofs.NodeLemmas.{at_error}
 use Rattle.reinsert.specs.Placed.{Held}
 use Rattle.condense.specs.Taken.{held_now, orphan_held}
 use Rattle.condense.proofs.FillLemmas.{Filled, can_insert, comes, comes_shaped, filled_end, filled_first}
@@ -61,8 +63,8 @@ insert_with-requires g c =
       ),
     )
 
-pub returns-in-Err-clause-faults : goal.returns-in-Err-clause-faults
-returns-in-Err-clause-faults g c = λ h t ws elsewhere can shaped.
+pub returns-in_err-now-clause-faults : goal.returns-in_err-now-clause-faults
+returns-in_err-now-clause-faults g c = λ h t ws elsewhere can shaped.
     let D = g.row.D in
     let m : PageMap = pages c.args.cache.now in
     let m1 : PageMap = pages c.inserting.cache in
@@ -74,22 +76,25 @@ returns-in-Err-clause-faults g c = λ h t ws elsewhere can shaped.
     let held = held_now c.next.new.self in
     let k = comes D c.args.m_max m m1 t ws elsewhere c.inserting.now item level held f in
     let s = comes_shaped D c.args.m_max m m1 t ws elsewhere c.inserting.now item level held f k shaped in
-    c.in-Err.ensures.faults so_far.0 f.mid k.w.branch (λ n. occurs_waiting n k.ws' + elsewhere n)
+    at_error c.from_residual.result c.in_err-now.field-0.0 (IsNoDamage c.insert_with.new.cache)
+    c.from_residual.ensures.1
+    (c.in_err-now.ensures.faults so_far.0 f.mid k.w.branch
+    (λ n. occurs_waiting n k.ws' + elsewhere n)
     (can_insert D c.args.m_max m m1 t ws elsewhere c.inserting.now item level held f k
-    (omega (arith, c.if-orphan-now.false))) s.1 s.2 s.3
+    (omega (arith, c.if-orphan-now.false))) s.1 s.2 s.3)
 
 pub inserting-preserved : goal.inserting-preserved
 inserting-preserved g c = (
   changes_in_turn c.args.cache.now c.inserting.cache c.insert_with.new.cache None c.inserting.invariant.0
-      c.in-Ok.ensures.alters.changes,
-  record { low = c.in-Ok.ensures.root.low; page = c.in-Ok.ensures.root.page },
+      c.in_ok-now.ensures.changes,
+  record { low = c.in_ok-now.ensures.root.low; page = c.in_ok-now.ensures.root.page },
   omega (arith, c.inserting.invariant.2, c.in-Some.ensures.fewer),
   omega (
     arith,
     c.inserting.invariant.2,
     c.inserting.invariant.3,
     c.in-Some.ensures.fewer,
-    c.in-Ok.ensures.grows,
+    c.in_ok-now.ensures.grows,
   ),
   λ h t ws elsewhere can.
       let D = g.row.D in
@@ -103,12 +108,12 @@ inserting-preserved g c = (
       let held = held_now c.next.new.self in
       let k = comes D c.args.m_max m m1 t ws elsewhere c.inserting.now item level held f in
       let done =
-      c.in-Ok.ensures.inserted so_far.0 f.mid k.w.branch (λ n. occurs_waiting n k.ws' + elsewhere n)
+      c.in_ok-now.ensures.inserted so_far.0 f.mid k.w.branch (λ n. occurs_waiting n k.ws' + elsewhere n)
       (can_insert D c.args.m_max m m1 t ws elsewhere c.inserting.now item level held f k
       (omega (arith, c.if-orphan-now.false))) in (
         done.0,
         filled_more D c.args.m_max m m1 t ws elsewhere c.inserting.now item level held f k
-            (pages c.insert_with.new.cache) c.in-Ok.after c.in-Ok.ensures.root.rises
+            (pages c.insert_with.new.cache) c.in_ok-now.now c.in_ok-now.ensures.root.rises
             (omega (arith, c.requires.most)) done.1,
       ),
 )
@@ -122,7 +127,8 @@ returns-clause-filled g c = λ h t ws elsewhere can.
           (ap (map (orphan_held {D = g.row.D})) (c.in_default.ensures.none refl)),
     )
 
-pub returns-in-Err-clause-changes : goal.returns-in-Err-clause-changes
-returns-in-Err-clause-changes g c =
-    changes_in_turn c.args.cache.now c.inserting.cache c.insert_with.new.cache (Some c.in-Err.broken.cause)
-    c.inserting.invariant.0 c.in-Err.ensures.alters.changes
+pub returns-in_err-now-clause-changes : goal.returns-in_err-now-clause-changes
+returns-in_err-now-clause-changes g c =
+    changes_and_refuses c.args.cache.now c.inserting.cache c.insert_with.new.cache
+    c.in_err-now.field-0.0 c.from_residual.result c.from_residual.ensures.1
+    c.inserting.invariant.0 c.in_err-now.ensures.changes

@@ -1,7 +1,7 @@
 -- What holds at each turn of the loop of `free_tree`, and how deep it goes.
-use Rattle.std.proofs.Common.{◌≡◌, None}
+use Rattle.std.proofs.Common.{None}
 use Rattle.page_cache.specs.Cache.{Grows, IsPageMap, pages}
-use Rattle.page_cache.specs.Calls.{AsksUntil, ChangesUntil}
+use Rattle.page_cache.specs.Calls.{ChangesUntil}
 use Rattle.tree_node.specs.Trees.{Row}
 use Rattle.node_page.specs.Parts.{Moves, no_page}
 use Rattle.node_page.specs.Standing.{Stands}
@@ -18,6 +18,5 @@ abbrev pub invariant-children : goal.invariant-children
 invariant-children g l =
     ChangesUntil l.fn.cache l.cache None
     × Grows 0 l.fn.cache l.cache
-    × (l.at ≡ 0 → AsksUntil l.fn.cache l.cache None)
     × (IsPageMap l.fn.cache → (row : Row) → Stands g.row.D (pages l.fn.cache) (tree_at l.fn.root row)
     → IsPageMap l.cache × Moves (pages l.fn.cache) (pages l.cache) (λ n. occurs_before n row l.at) no_page)

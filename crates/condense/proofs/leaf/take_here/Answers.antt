@@ -7,7 +7,7 @@ use Rattle.node_page.specs.Layout.{IsSpellable}
 use Rattle.node_page.specs.Standing.{PageMap}
 use Rattle.node_page.specs.Views.{content_in}
 use Rattle.node_page.proofs.StandingLemmas.{page_of_node, same_content}
-use Rattle.reinsert.proofs.BrokenLemmas.{at_none}
+use Rattle.reinsert.proofs.FaultLemmas.{at_none}
 use Rattle.condense.specs.Taken.{IsCut, IsTakenFrom, items_without}
 use Rattle.condense.proofs.CutLemmas.{cut_removed, items-removed}
 use Rattle.condense.proofs.leaf.take_here.Goals as goal

@@ -6,9 +6,10 @@ use Rattle.page_cache.specs.Calls.{asks_changes, changes_and_refuses, changes_in
 use Rattle.tree_node.specs.Nodes.{Item, NodeContent}
 use Rattle.tree_node.specs.Trees.{row_items}
 use Rattle.node_page.specs.Standing.{PageMap}
-use Rattle.reinsert.proofs.BrokenLemmas.{at_none}
+use Rattle.reinsert.proofs.FaultLemmas.{at_none}
 use Rattle.condense.proofs.CutLemmas.{length-items}
-use Rattle.condense.proofs.LowerLemmas.{at_fault, lowered_end, lowered_first, lowered_more, lowered_same}
+use Rattle.node_page.proofs.NodeLemmas.{at_error}
+use Rattle.condense.proofs.LowerLemmas.{lowered_end, lowered_first, lowered_more, lowered_same}
 use Rattle.condense.proofs.LowerLemmas.{root_is_live, root_node}
 use Rattle.condense.proofs.lower.give_way.Goals as goal
 
@@ -25,7 +26,7 @@ returns-in_err-below-clause-faults g c = λ h t at stands.
     let so_far = c.lowering.invariant.3 h t at stands in
     let m0 : PageMap = pages c.lowering.cache in
     let content : NodeContent = record { level = so_far.1.mid.level; entries = row_items so_far.1.mid.row } in
-    at_fault c.from_residual.result c.in_err-below.field-0.0 IsOfDevice c.from_residual.ensures.1
+    at_error c.from_residual.result c.in_err-below.field-0.0 IsOfDevice c.from_residual.ensures.1
     (c.in_err-below.ensures.there so_far.0.honest content
     (root_node g.row.D (pages c.args.cache.now) m0 m0 t c.lowering.now so_far.1 (λ n. refl))
     so_far.1.at.level)
@@ -36,7 +37,7 @@ returns-in_err-free-clause-faults g c = λ h t at stands.
     let m : PageMap = pages c.args.cache.now in
     let l = lowered_same g.row.D m (pages c.lowering.cache) (pages c.only_child.new.cache) t c.lowering.now
     (c.in_ok-below.ensures.asks.map.pages_stay so_far.0.honest) so_far.1 in
-    at_fault c.from_residual-in_err-free.result c.in_err-free.field-0.0 IsOfDevice
+    at_error c.from_residual-in_err-free.result c.in_err-free.field-0.0 IsOfDevice
     c.from_residual-in_err-free.ensures.1
     (c.in_err-free.ensures.faults (c.in_ok-below.ensures.asks.map.sound.0 so_far.0)
     (root_is_live g.row.D m (pages c.only_child.new.cache) t c.lowering.now l)

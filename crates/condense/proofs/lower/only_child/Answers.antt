@@ -1,5 +1,5 @@
 -- The goal of `only_child` that is proved by hand.
-use Rattle.std.proofs.Common.{◌≡◌, ◌∙◌, ◌<◌, List, length, get_or, ap, subst, arith}
+use Rattle.std.proofs.Common.{◌≡◌, ◌∙◌, length, get_or, ap, subst, arith}
 use Rattle.std.proofs.lemmas.List.{get_or_default}
 use Rattle.page_cache.specs.Cache.{pages}
 use Rattle.tree_node.specs.Nodes.{Item, NodeContent, item_of}

@@ -5,7 +5,7 @@ use Rattle.tree_node.specs.declared.node.Entry.{Entry}
 use Rattle.node_page.specs.Layout.{IsOfLevel}
 use Rattle.reinsert.proofs.AboveLemmas.{All-mapped}
 use Rattle.condense.proofs.CutLemmas.{cut_removed, items-removed}
-use Rattle.condense.proofs.LowerLemmas.{at_fault}
+use Rattle.node_page.proofs.NodeLemmas.{at_error}
 use Rattle.condense.proofs.put.leave_out.Goals as goal
 
 pub keep-requires : goal.keep-requires
@@ -34,7 +34,7 @@ returns-in_err-free-clause-others g c = λ h live. c.free.ensures.others h.hones
 
 pub returns-in_err-free-clause-faults : goal.returns-in_err-free-clause-faults
 returns-in_err-free-clause-faults g c = λ h live.
-    at_fault c.from_residual.result c.in_err-free.field-0.0 IsOfDevice c.from_residual.ensures.1
+    at_error c.from_residual.result c.in_err-free.field-0.0 IsOfDevice c.from_residual.ensures.1
     (c.in_err-free.ensures.faults h live (λ two. omega (arith, two, c.requires.page)))
 
 pub returns-clause-others : goal.returns-clause-others

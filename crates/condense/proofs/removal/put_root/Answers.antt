@@ -1,10 +1,11 @@
 -- The goals of `put_root` that are proved by hand.
-use Rattle.std.proofs.Common.{rules, All, None, length, map, inl, sym, ap, subst, arith}
+use Rattle.std.proofs.Common.{rules, All, None, Some, length, map, inl, sym, ap, subst, arith}
 use Rattle.std.specs.Prelude.{◌⊎◌}
 use Rattle.std.proofs.lemmas.List.{length-map}
 use Rattle.page_file.specs.Fault.{IsDamage, IsOfDevice}
+use Rattle.page_file.specs.declared.fault.Fault.TheVariants.{Damaged}
 use Rattle.page_cache.specs.Cache.{IsPageMap, pages}
-use Rattle.page_cache.specs.Calls.{changes_and_refuses, changes_in_turn, fault_in}
+use Rattle.page_cache.specs.Calls.{asks_changes, changes_and_refuses, changes_in_turn, fault_in, no_call_asks}
 use Rattle.tree_node.specs.Nodes.{Item, content_of, item_of}
 use Rattle.node_page.specs.Layout.{IsOfLevel, IsSpellable}
 use Rattle.node_page.specs.Standing.{PageMap}
@@ -14,8 +15,8 @@ use Rattle.condense.specs.Filled.{GivesWayTo}
 use Rattle.condense.specs.Removed.{RemovesTo}
 use Rattle.condense.specs.Taken.{held_now}
 use Rattle.condense.proofs.CutLemmas.{length-items}
-use Rattle.condense.proofs.LowerLemmas.{at_fault}
-use Rattle.condense.proofs.RemoveLemmas.{map_err, map_ok, no_damage}
+use Rattle.node_page.proofs.NodeLemmas.{at_error}
+use Rattle.condense.proofs.RemoveLemmas.{damaged_asks, map_err, map_ok, no_damage}
 use Rattle.condense.proofs.RootLemmas.{can_fill, cut_root, removes_to, root_stays_live}
 use Rattle.condense.proofs.ShapeLemmas.{cut_shaped}
 use Rattle.condense.proofs.removal.put_root.Goals as goal
@@ -36,6 +37,12 @@ settle-requires g c =
     } in
     search (rules, spells)
 
+pub returns-then-lacks_entries-clause-changes : goal.returns-then-lacks_entries-clause-changes
+returns-then-lacks_entries-clause-changes g c =
+    let cache = c.args.cache.now in
+    asks_changes cache cache (Some (Damaged c.args.root.page))
+    (damaged_asks cache cache c.args.root.page (no_call_asks cache))
+
 pub returns-then-lacks_entries-clause-faults : goal.returns-then-lacks_entries-clause-faults
 returns-then-lacks_entries-clause-faults g c = λ h m t elsewhere id removed took is shape boxes.
     let s = cut_shaped g.row.D c.args.m_max id removed t took.taken.out shape boxes took.taken.takes_out in
@@ -55,7 +62,7 @@ returns-in_err-settle-clause-faults g c = λ h m t elsewhere id removed took is 
     let live =
     root_stays_live g.row.D c.args.m_max m (pages c.args.cache.now) c.args.root t elsewhere id removed
     (held_now c.args.kept.now) (map (item_of {D = g.row.D}) c.args.node.now.entries.items) took in
-    at_fault c.from_residual.result c.in_err-settle.field-0.0 (IsNoDamage c.settle.new.cache)
+    at_error c.from_residual.result c.in_err-settle.field-0.0 (IsNoDamage c.settle.new.cache)
     c.from_residual.ensures.1 (inl (c.in_err-settle.ensures.faults h.honest live))
 
 pub returns-in_err-filled-clause-faults : goal.returns-in_err-filled-clause-faults
@@ -72,7 +79,7 @@ returns-in_err-filled-clause-faults g c = λ h m t elsewhere id removed took is 
     (c.in_ok-settle.ensures.others h.honest live) in
     let sound = c.in_ok-settle.ensures.sound h live in
     let s = cut_shaped D c.args.m_max id removed t took.taken.out shape boxes took.taken.takes_out in
-    at_fault c.from_residual-in_err-filled.result c.in_err-filled.field-0.0
+    at_error c.from_residual-in_err-filled.result c.in_err-filled.field-0.0
     (IsNoDamage c.insert_kept.new.cache) c.from_residual-in_err-filled.ensures.1
     (c.in_err-filled.ensures.faults sound (cut_root took) took.taken.out.kept elsewhere can s)
 
@@ -118,7 +125,7 @@ returns-clause-faults g c = λ h m t elsewhere id removed took is shape boxes.
 
 pub returns-in_err-settle-clause-other_faults : goal.returns-in_err-settle-clause-other_faults
 returns-in_err-settle-clause-other_faults g c =
-    at_fault c.from_residual.result c.in_err-settle.field-0.0 IsChangeFault c.from_residual.ensures.1
+    at_error c.from_residual.result c.in_err-settle.field-0.0 IsChangeFault c.from_residual.ensures.1
     (one_more _ _ _ c.in_err-settle.ensures.other_faults)
 
 pub returns-in_err-filled-clause-changes : goal.returns-in_err-filled-clause-changes

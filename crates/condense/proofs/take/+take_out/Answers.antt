@@ -1,62 +1,77 @@
 -- The goals of `take_out` that are proved by hand.
-use Rattle.std.proofs.Common.{Err, IfSome, ℕ, rules, ◌≡◌, ◌∙◌, ◌+◌, ◌*◌, ◌-◌, ◌<◌, ◌≤◌, false, true, None}
-use Rattle.std.proofs.Common.{Some, length, map, refl, sym, ap, subst, arith}
+use Rattle.std.proofs.Common.{IfSome, ℕ, rules, ◌≡◌, ◌∙◌, ◌+◌, ◌*◌, ◌-◌, ◌<◌, ◌≤◌, false, true, None}
+use Rattle.std.proofs.Common.{Some, get_or, length, map, refl, sym, ap, subst, arith}
 use Rattle.std.proofs.lemmas.Bool.{true≢false}
+use Rattle.std.proofs.lemmas.Result.{IfOk-weaker}
 use Rattle.arrayvec.specs.ArrayVec.{array_vec_len}
 use Rattle.page_file.specs.Fault.{IsDamage, IsOfDevice}
 use Rattle.page_cache.specs.Cache.{IsPageMap, pages}
-use Rattle.page_cache.specs.Calls.{asks_changes, asks_in_turn, changes_in_turn}
-use Rattle.page_cache.specs.Laws.{the_map_is_kept_in_turn}
+use Rattle.page_cache.specs.Calls.{asks_changes, asks_in_turn, changes_and_refuses, changes_in_turn}
 use Rattle.std.specs.Prelude.{◌⊎◌}
 use Rattle.box_math.specs.Bounds.{Within}
 use Rattle.tree_node.specs.Boxes.{box_at}
 use Rattle.tree_node.specs.declared.node.Entry.{Entry}
 use Rattle.tree_node.specs.declared.node.Node.{Node}
-use Rattle.tree_node.specs.Nodes.{content_of, item_of}
+use Rattle.tree_node.specs.Nodes.{Item, content_of, item_of}
 use Rattle.tree_node.specs.Trees.{row_items}
 use Rattle.node_page.specs.Layout.{IsSpellable}
-use Rattle.node_page.specs.Broken.{alters_so, before, changes_and_breaks, made_alters}
-use Rattle.node_page.specs.declared.broken.Broken.{Broken}
 use Rattle.node_page.specs.Standing.{PageMap, Stands, node_in}
 use Rattle.node_page.proofs.StandingLemmas.{page_of_node}
-use Rattle.reinsert.proofs.BrokenLemmas.{at_broken, at_none}
-use Rattle.condense.specs.Taken.{HasTaken, IsCut, held_now, orphan_held}
+use Rattle.node_page.proofs.NodeLemmas.{at_error}
+use Rattle.reinsert.proofs.FaultLemmas.{at_none}
+use Rattle.condense.specs.Taken.{HasTaken, IsCut, IsTakenFrom, held_now, orphan_held}
 use Rattle.condense.proofs.BelowLemmas.{settled_child, below_contained, found_leaf, is_below, later_than}
 use Rattle.condense.proofs.BelowLemmas.{none_leads, nothing_later, passed_by, passed_to, taken_here}
 use Rattle.condense.proofs.BelowLemmas.{took_below}
 use Rattle.condense.proofs.LeadLemmas.{takes_contained}
+use Rattle.condense.proofs.RemoveLemmas.{on_err}
 use Rattle.condense.proofs.TakeLemmas.{settled_still}
 use Rattle.condense.proofs.take.+take_out.Goals as goal
 
 pub returns-then-at-eq0-clause-cut : goal.returns-then-at-eq0-clause-cut
 returns-then-at-eq0-clause-cut g t c =
-    λ yes. subst (λ l. IsCut l (content_of c.take_here.new.node)) (sym c.if-at-eq0.true)
-    (c.in_ok-take_here.ensures.cut yes)
+    IfOk-weaker c.take_here.result (λ found. found ≡ true → IsCut 0 (content_of c.take_here.new.node)) _
+    (λ found cut yes. subst (λ l. IsCut l (content_of c.take_here.new.node)) (sym c.if-at-eq0.true) (cut yes))
+    c.take_here.ensures.cut
 
 pub returns-then-at-eq0-clause-taken : goal.returns-then-at-eq0-clause-taken
-returns-then-at-eq0-clause-taken g t c = λ h row stands yes. (
-  c.in_ok-take_here.ensures.asks.map.sound.0 h,
-  taken_here c.args.m_max (pages c.args.cache.now) (pages c.take_here.new.cache) c.args.at c.args.id
-      (c.args.bounds.now, c.args.tag) row (held_now c.args.kept.now)
-      (map (item_of {D = g.row.D}) c.take_here.new.node.entries.items) c.if-at-eq0.true stands
-      (c.in_ok-take_here.ensures.asks.map.pages_stay h.honest)
-      (c.in_ok-take_here.ensures.taken h.honest (record { level = c.args.at.level; entries = row_items row })
-      stands.root yes),
-)
+returns-then-at-eq0-clause-taken g t c = λ h row stands.
+    let items = map (item_of {D = g.row.D}) c.take_here.new.node.entries.items in
+    IfOk-weaker c.take_here.result
+    (λ found. found ≡ true
+    → IsTakenFrom c.args.id (c.args.bounds.now, c.args.tag) (row_items row) items) _
+    (λ found taken yes. (
+      c.take_here.ensures.asks.map.sound.0 h,
+      taken_here c.args.m_max (pages c.args.cache.now) (pages c.take_here.new.cache) c.args.at c.args.id
+          (c.args.bounds.now, c.args.tag) row (held_now c.args.kept.now) items c.if-at-eq0.true stands
+          (c.take_here.ensures.asks.map.pages_stay h.honest) (taken yes),
+    ))
+    (c.take_here.ensures.taken h.honest (record { level = c.args.at.level; entries = row_items row })
+    stands.root)
 
 pub returns-then-at-eq0-clause-found : goal.returns-then-at-eq0-clause-found
 returns-then-at-eq0-clause-found g t c = λ h row stands leads.
-    found_leaf c.args.m_max (pages c.args.cache.now) c.args.at c.args.id (c.args.bounds.now, c.args.tag) row
-    c.if-at-eq0.true stands c.in_ok-take_here.field-0
-    (c.in_ok-take_here.ensures.none h.honest (record { level = c.args.at.level; entries = row_items row })
-    stands.root) leads
+    IfOk-weaker c.take_here.result
+    (λ found. found ≡ false → (k : ℕ) (d : Item) → k < length (row_items row)
+    → ¬ (get_or (row_items row) k d
+    ≡ record { bounds = c.args.bounds.now; reference = c.args.id; tag = c.args.tag })) (λ found. found ≡ true)
+    (λ found none. found_leaf c.args.m_max (pages c.args.cache.now) c.args.at c.args.id
+    (c.args.bounds.now, c.args.tag) row c.if-at-eq0.true stands found none leads)
+    (c.take_here.ensures.none h.honest (record { level = c.args.at.level; entries = row_items row })
+    stands.root)
 
-pub returns-in_err-first-clause-alters : goal.returns-in_err-first-clause-alters
-returns-in_err-first-clause-alters g t c =
-    alters_so c.args.cache.now c.read_enclosing.new.cache (before c.in_err-first.field-0.0)
-    c.from_residual-in_err-first.result c.from_residual-in_err-first.ensures.1
-    (asks_changes c.args.cache.now c.read_enclosing.new.cache (Some c.in_err-first.field-0.0)
-    c.in_err-first.ensures.asks) (λ untouched. c.in_err-first.ensures.asks.map)
+pub returns-then-at-eq0-clause-absent : goal.returns-then-at-eq0-clause-absent
+returns-then-at-eq0-clause-absent g t c =
+    λ h row stands lacks. on_err c.take_here.result _ c.take_here.ensures.asks.touched
+
+pub returns-then-at-eq0-clause-faults : goal.returns-then-at-eq0-clause-faults
+returns-then-at-eq0-clause-faults g t c = λ h row stands.
+    c.take_here.ensures.there h.honest (record { level = c.args.at.level; entries = row_items row })
+    stands.root c.if-at-eq0.true
+
+pub returns-in_default-clause-changes : goal.returns-in_default-clause-changes
+returns-in_default-clause-changes g t c =
+    asks_changes c.args.cache.now c.read_enclosing.new.cache None c.in_ok-first.ensures.asks
 
 pub returns-in_default-clause-found : goal.returns-in_default-clause-found
 returns-in_default-clause-found g t c = λ h row stands leads.
@@ -174,18 +189,13 @@ take_out-requires g t c κs within =
       ),
     )
 
-pub returns-in_err-taken-clause-alters : goal.returns-in_err-taken-clause-alters
-returns-in_err-taken-clause-alters g t c =
+pub returns-in_err-taken-clause-changes : goal.returns-in_err-taken-clause-changes
+returns-in_err-taken-clause-changes g t c =
     let old = c.args.cache.now in
     let mid = c.children.cache in
-    let new = c.take_out.new.cache in
-    let broken = c.in_err-taken.field-0.0 in
-    let asks = c.children.invariant.0 in
-    alters_so old new broken c.from_residual-in_err-taken.result c.from_residual-in_err-taken.ensures.1
-    (changes_in_turn old mid new (Some broken.cause) (asks_changes old mid None asks)
-    c.in_err-taken.ensures.alters.changes)
-    (λ untouched. the_map_is_kept_in_turn old mid new asks.gate.honest.0 asks.map
-    (c.in_err-taken.ensures.alters.untouched untouched))
+    changes_and_refuses old mid c.take_out.new.cache c.in_err-taken.field-0.0
+    c.from_residual-in_err-taken.result c.from_residual-in_err-taken.ensures.1
+    (asks_changes old mid None c.children.invariant.0) c.in_err-taken.ensures.changes
 
 pub returns-in_err-taken-clause-room : goal.returns-in_err-taken-clause-room
 returns-in_err-taken-clause-room g t c =
@@ -215,11 +225,11 @@ returns-in_err-taken-clause-absent g t c = λ h row stands lacks.
     let b = is_below m m0 c.args.at row c.children.node.level entries c.children.place
     c.child_of-below.result stands same (c.children.invariant.5 h.honest) c.children.invariant.3
     c.if-at-eq0.false within c.child_of-below.ensures.page c.child_of-below.ensures.level in
-    at_broken c.from_residual-in_err-taken.result c.in_err-taken.field-0.0
-    (λ (x : Broken). x.touched ≡ false) c.from_residual-in_err-taken.ensures.1
+    on_err c.from_residual-in_err-taken.result _
     (c.in_err-taken.ensures.absent sound b.h.from.row b.stands
     (below_contained D c.args.m_max m m0 c.args.at row (map item_of entries) c.children.place
-    c.child_of-below.result b c.args.id (c.args.bounds.now, c.args.tag) lacks))
+    c.child_of-below.result b c.args.id (c.args.bounds.now, c.args.tag) lacks)
+    ∙ c.children.invariant.0.touched)
 
 pub returns-in_err-taken-clause-faults : goal.returns-in_err-taken-clause-faults
 returns-in_err-taken-clause-faults g t c = λ h row stands.
@@ -239,9 +249,8 @@ returns-in_err-taken-clause-faults g t c = λ h row stands.
     let b = is_below m m0 c.args.at row c.children.node.level entries c.children.place
     c.child_of-below.result stands same (c.children.invariant.5 h.honest) c.children.invariant.3
     c.if-at-eq0.false within c.child_of-below.ensures.page c.child_of-below.ensures.level in
-    at_broken c.from_residual-in_err-taken.result c.in_err-taken.field-0.0
-    (λ (x : Broken). IsOfDevice x.cause) c.from_residual-in_err-taken.ensures.1
-    (c.in_err-taken.ensures.faults sound b.h.from.row b.stands)
+    at_error c.from_residual-in_err-taken.result c.in_err-taken.field-0.0 IsOfDevice
+    c.from_residual-in_err-taken.ensures.1 (c.in_err-taken.ensures.faults sound b.h.from.row b.stands)
 
 pub children-preserved : goal.children-preserved
 children-preserved g t c =
@@ -278,7 +287,7 @@ children-preserved g t c =
 
 pub put_child-requires : goal.put_child-requires
 put_child-requires g t c =
-    let gate = c.in_ok-taken.ensures.alters.changes.gate.gate ∙ c.children.invariant.0.gate.gate
+    let gate = c.in_ok-taken.ensures.changes.gate.gate ∙ c.children.invariant.0.gate.gate
     ∙ c.requires.open in
     let above : 0 < c.children.node.level = omega (arith, c.children.invariant.3, c.if-at-eq0.false) in
     let within : c.children.place < array_vec_len c.children.node.entries =
@@ -311,17 +320,18 @@ put_child-requires g t c =
       ),
     )
 
-pub returns-in-Err-clause-alters : goal.returns-in-Err-clause-alters
-returns-in-Err-clause-alters g t c =
+pub returns-in_err-put_child-clause-changes : goal.returns-in_err-put_child-clause-changes
+returns-in_err-put_child-clause-changes g t c =
     let old = c.args.cache.now in
     let mid = c.children.cache in
     let low = c.take_out.new.cache in
-    changes_and_breaks old low c.put_child.new.cache c.in-Err.fault (Err c.midway.result) c.midway.ensures
+    changes_and_refuses old low c.put_child.new.cache c.in_err-put_child.field-0.0
+    c.from_residual-in_err-put_child.result c.from_residual-in_err-put_child.ensures.1
     (changes_in_turn old mid low None (asks_changes old mid None c.children.invariant.0)
-    c.in_ok-taken.ensures.alters.changes) c.in-Err.ensures.changes
+    c.in_ok-taken.ensures.changes) c.in_err-put_child.ensures.changes
 
-pub returns-in-Err-clause-room : goal.returns-in-Err-clause-room
-returns-in-Err-clause-room g t c =
+pub returns-in_err-put_child-clause-room : goal.returns-in_err-put_child-clause-room
+returns-in_err-put_child-clause-room g t c =
     let above : 0 < c.children.node.level = omega (arith, c.children.invariant.3, c.if-at-eq0.false) in
     omega (
       arith,
@@ -333,27 +343,27 @@ returns-in-Err-clause-room g t c =
       above,
     )
 
-pub returns-in-Err-clause-other_faults : goal.returns-in-Err-clause-other_faults
-returns-in-Err-clause-other_faults g t c =
-    subst (λ (b : Broken). IsOfDevice b.cause ⊎ IsDamage b.cause) (sym c.midway.ensures)
-    c.in-Err.ensures.other_faults
+pub returns-in_err-put_child-clause-other_faults : goal.returns-in_err-put_child-clause-other_faults
+returns-in_err-put_child-clause-other_faults g t c =
+    at_error c.from_residual-in_err-put_child.result c.in_err-put_child.field-0.0
+    (λ f. IsOfDevice f ⊎ IsDamage f) c.from_residual-in_err-put_child.ensures.1
+    c.in_err-put_child.ensures.other_faults
 
-pub returns-in-Ok-clause-alters : goal.returns-in-Ok-clause-alters
-returns-in-Ok-clause-alters g t c =
+pub returns-in-children-clause-changes : goal.returns-in-children-clause-changes
+returns-in-children-clause-changes g t c =
     let old = c.args.cache.now in
     let mid = c.children.cache in
     let low = c.take_out.new.cache in
-    made_alters old c.put_child.new.cache true
-    (changes_in_turn old low c.put_child.new.cache None
+    changes_in_turn old low c.put_child.new.cache None
     (changes_in_turn old mid low None (asks_changes old mid None c.children.invariant.0)
-    c.in_ok-taken.ensures.alters.changes) c.in-Ok.ensures.changes)
+    c.in_ok-taken.ensures.changes) c.in_ok-put_child.ensures.changes
 
-pub returns-in-Ok-clause-cut : goal.returns-in-Ok-clause-cut
-returns-in-Ok-clause-cut g t c =
-    λ yes. subst (λ l. IsCut l (content_of c.put_child.new.node)) c.children.invariant.3 c.in-Ok.ensures.cut
+pub returns-in-children-clause-cut : goal.returns-in-children-clause-cut
+returns-in-children-clause-cut g t c =
+    λ yes. subst (λ l. IsCut l (content_of c.put_child.new.node)) c.children.invariant.3 c.in_ok-put_child.ensures.cut
 
-pub returns-in-Ok-clause-room : goal.returns-in-Ok-clause-room
-returns-in-Ok-clause-room g t c =
+pub returns-in-children-clause-room : goal.returns-in-children-clause-room
+returns-in-children-clause-room g t c =
     let above : 0 < c.children.node.level = omega (arith, c.children.invariant.3, c.if-at-eq0.false) in
     omega (
       arith,
@@ -365,11 +375,11 @@ returns-in-Ok-clause-room g t c =
       above,
     )
 
-pub returns-in-Ok-clause-none : goal.returns-in-Ok-clause-none
-returns-in-Ok-clause-none g t c = λ is. absurd (true≢false is)
+pub returns-in-children-clause-none : goal.returns-in-children-clause-none
+returns-in-children-clause-none g t c = λ is. absurd (true≢false is)
 
-pub returns-in-Ok-clause-taken : goal.returns-in-Ok-clause-taken
-returns-in-Ok-clause-taken g t c = λ h row stands yes.
+pub returns-in-children-clause-taken : goal.returns-in-children-clause-taken
+returns-in-children-clause-taken g t c = λ h row stands yes.
     let D = g.row.D in
     let m : PageMap = pages c.args.cache.now in
     let m0 : PageMap = pages c.children.cache in
@@ -398,14 +408,14 @@ returns-in-Ok-clause-taken g t c = λ h row stands yes.
     × HasTaken D c.args.m_max m (pages c.put_child.new.cache) l c.args.id (c.args.bounds.now, c.args.tag) row
     (held_now c.args.kept.now) (held_now c.put_child.new.kept)
     (map (item_of {D = D}) c.put_child.new.node.entries.items)) c.children.invariant.3
-    (c.in-Ok.ensures.taken done.0 m c.args.at.page c.args.id (c.args.bounds.now, c.args.tag) row
+    (c.in_ok-put_child.ensures.taken done.0 m c.args.at.page c.args.id (c.args.bounds.now, c.args.tag) row
     (held_now c.args.kept.now) took
     (settled_child c.take_out.new.node (pages c.take_out.new.cache) (map (item_of {D = D}) entries)
     c.children.place c.child_of-below.result.page c.take_out.new.settled c.child_of-below.ensures.page
     (λ so. c.in_ok-taken.ensures.settled sound b.h.from.row b.stands so c.if-not-taken.false)))
 
-pub returns-in-Ok-clause-settled : goal.returns-in-Ok-clause-settled
-returns-in-Ok-clause-settled g t c = λ h row stands so yes.
+pub returns-in-children-clause-settled : goal.returns-in-children-clause-settled
+returns-in-children-clause-settled g t c = λ h row stands so yes.
     let D = g.row.D in
     let m : PageMap = pages c.args.cache.now in
     let m0 : PageMap = pages c.children.cache in
@@ -436,15 +446,15 @@ returns-in-Ok-clause-settled g t c = λ h row stands so yes.
     (subst (λ k. Stands D m (record { page = c.args.at.page; level = k; row = row }))
     (sym c.children.invariant.3) stands)
     (c.children.invariant.5 h.honest (page_of_node D (m c.args.at.page) _ stands.root))
-    (c.in-Ok.ensures.settled so)
-    (c.in-Ok.ensures.taken done.0 m c.args.at.page c.args.id (c.args.bounds.now, c.args.tag) row
+    (c.in_ok-put_child.ensures.settled so)
+    (c.in_ok-put_child.ensures.taken done.0 m c.args.at.page c.args.id (c.args.bounds.now, c.args.tag) row
     (held_now c.args.kept.now) took
     (settled_child c.take_out.new.node (pages c.take_out.new.cache) (map (item_of {D = D}) entries)
     c.children.place c.child_of-below.result.page c.take_out.new.settled c.child_of-below.ensures.page
     (λ so. c.in_ok-taken.ensures.settled sound b.h.from.row b.stands so c.if-not-taken.false))).1
 
-pub returns-in-Err-clause-absent : goal.returns-in-Err-clause-absent
-returns-in-Err-clause-absent g t c = λ h row stands lacks.
+pub returns-in_err-put_child-clause-absent : goal.returns-in_err-put_child-clause-absent
+returns-in_err-put_child-clause-absent g t c = λ h row stands lacks.
     let D = g.row.D in
     let m : PageMap = pages c.args.cache.now in
     let m0 : PageMap = pages c.children.cache in
@@ -467,8 +477,8 @@ returns-in-Err-clause-absent g t c = λ h row stands lacks.
     (takes_contained D c.args.m_max c.args.id (c.args.bounds.now, c.args.tag) c.child_of-below.result.level
     b.h.from.row done.1.out done.1.takes_out))
 
-pub returns-in-Err-clause-faults : goal.returns-in-Err-clause-faults
-returns-in-Err-clause-faults g t c = λ h row stands.
+pub returns-in_err-put_child-clause-faults : goal.returns-in_err-put_child-clause-faults
+returns-in_err-put_child-clause-faults g t c = λ h row stands.
     let D = g.row.D in
     let m : PageMap = pages c.args.cache.now in
     let m0 : PageMap = pages c.children.cache in
@@ -493,17 +503,17 @@ returns-in-Err-clause-faults g t c = λ h row stands.
     (held_now c.take_out.new.kept)
     (map (item_of {D = D}) c.take_out.new.node.entries.items) stands same c.children.invariant.3
     (ap (map (orphan_held {D = D})) c.children.invariant.1) done.1 in
-    subst (λ (x : Broken). IsOfDevice x.cause) (sym c.midway.ensures)
-    (c.in-Err.ensures.faults done.0 m c.args.at.page c.args.id (c.args.bounds.now, c.args.tag) row
+    at_error c.from_residual-in_err-put_child.result c.in_err-put_child.field-0.0 IsOfDevice
+    c.from_residual-in_err-put_child.ensures.1
+    (c.in_err-put_child.ensures.faults done.0 m c.args.at.page c.args.id (c.args.bounds.now, c.args.tag) row
     (held_now c.args.kept.now) took
     (settled_child c.take_out.new.node (pages c.take_out.new.cache) (map (item_of {D = D}) entries)
     c.children.place c.child_of-below.result.page c.take_out.new.settled c.child_of-below.ensures.page
     (λ so. c.in_ok-taken.ensures.settled sound b.h.from.row b.stands so c.if-not-taken.false)))
 
-pub returns-clause-alters : goal.returns-clause-alters
-returns-clause-alters g t c =
-    made_alters c.args.cache.now c.children.cache false
-    (asks_changes c.args.cache.now c.children.cache None c.children.invariant.0)
+pub returns-clause-changes : goal.returns-clause-changes
+returns-clause-changes g t c =
+    asks_changes c.args.cache.now c.children.cache None c.children.invariant.0
 
 pub returns-clause-room : goal.returns-clause-room
 returns-clause-room g t c = omega (arith, ap length c.children.invariant.1)
