@@ -14,8 +14,9 @@ use Rattle.page_cache.specs.Cache.{Grows, IsPageMap, pages}
 use Rattle.page_cache.specs.Calls.{ChangesUntil, changes_in_turn}
 use Rattle.page_cache.specs.declared.cache.PageCache.{PageCache}
 use Rattle.node_page.specs.Parts.{Moves}
+use Rattle.node_page.specs.Standing.{PageMap}
 use Rattle.node_page.proofs.PartLemmas.{moves_in_turn, staying_moves}
-use Rattle.id_table.specs.Changes.{AreNew, Fills, with_all}
+use Rattle.id_table.specs.Changes.{AreNew, Fills, Sets, with_all}
 use Rattle.id_table.specs.Pages.{IsWholeRun, first_class, next_class}
 use Rattle.id_table.specs.Table.{IdTable, IdsStand, class_of, objects_of, part_of}
 use Rattle.id_table.specs.Tidy.{KeepsTidy}
@@ -39,6 +40,22 @@ others_new : (n : ℕ) (es : List Entry) (m : FinMap nat_cmp Object) → AreNew 
 others_new zero es m new = new
 others_new (suc n) [] m new = tt
 others_new (suc n) (e ∷ es) m new = others_new n es (map.insert m e.0 e.1) new.1
+
+-- a run of one object
+pub one_set : (dims : ℕ) (old new : PageMap) (t : IdTable) (id : ℕ) (kept : Object) (count : ℕ) → 0 < count
+    → Fills dims old new t (take count ((id, kept) ∷ [])) → Sets dims old new t id kept
+one_set dims old new t id kept zero some fills = absurd (omega (arith, some))
+one_set dims old new t id kept (suc n) some fills = record {
+  table = fills.table;
+  page = fills.page;
+  stands = fills.stands;
+  objects = fills.objects ∙ ap (λ (es : List Entry). with_all (objects_of t) ((id, kept) ∷ es)) (none_more n);
+  moves = fills.moves;
+}
+  where
+    none_more : (n : ℕ) → take {A = Entry} n [] ≡ []
+    none_more zero = refl
+    none_more (suc n) = refl
 
 -- ---- pages that a run takes, in the order of the remainders
 

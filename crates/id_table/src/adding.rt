@@ -11,21 +11,18 @@ ghost use Rattle.page_file.specs.Pages.{SameBut};
 ghost use Rattle.page_file.specs.declared.gate.Gate.TheVariants.{Open};
 ghost use Rattle.page_cache.specs.Cache.{Grows, IsHonest, IsLive, IsPageMap, gate_of, next_of, pages};
 ghost use Rattle.page_cache.specs.Calls.{Changes};
-ghost use Rattle.node_page.specs.Broken.{Alters};
 ghost use Rattle.node_page.specs.Faults.{IsNoDamage};
 ghost use Rattle.id_table.specs.Changes.{AreNew, Fills, Sets};
 ghost use Rattle.id_table.specs.Pages.{IsRun, IsWholeRun, PushesRun, PutsBefore, first_class, with_more};
 ghost use Rattle.id_table.specs.Table.{IdTable, IdsStand, bucket_in, objects_of};
 ghost use Rattle.id_table.specs.Tidy.{IsTidyPage, KeepsTidy};
 
-use crate::broken::midway;
 use crate::bucket::{has_room, write_bucket};
 use crate::directory::{class_of, read_link, write_link};
 use arrayvec::ArrayVec;
 use block_device::BlockDevice;
 use box_math::BBox;
 use bucket_page::{Bucket, count_at, push_entry};
-use node_page::Broken;
 use page_cache::PageCache;
 use page_file::Fault;
 use std::alloc::Allocator;
@@ -43,10 +40,10 @@ pub fn add<const D: usize, B: BlockDevice, A: Allocator + Copy>(
     id: u64,
     bounds: &BBox<D>,
     tag: u32,
-) -> Result<(), Broken>
+) -> Result<(), Fault>
     requires dims { IsDims D }
     requires open { gate_of cache.old ≡ Open }
-    ensures alters { Alters cache.old cache.new result }
+    ensures changes { Changes cache.old cache.new result }
     ensures sound { IsPageMap cache.old → (t : IdTable) → t.page ≡ directory → IdsStand D (pages cache.old) t
         → IsPageMap cache.new }
     ensures tidy { IsPageMap cache.old → (t : IdTable) → t.page ≡ directory → IdsStand D (pages cache.old) t
@@ -56,13 +53,11 @@ pub fn add<const D: usize, B: BlockDevice, A: Allocator + Copy>(
         → OnOk result (Sets D (pages cache.old) (pages cache.new) t id (bounds.now, tag)) }
     ensures grows { Grows 1 cache.old cache.new }
     ensures faults { IsPageMap cache.old → (t : IdTable) → t.page ≡ directory → IdsStand D (pages cache.old) t
-        → IfErr result (λ b. IsNoDamage cache.new b.cause) }
-    ensures other_faults { IfErr result (λ b. IsNoDamage cache.new b.cause ⊎ IsDamage b.cause) }
+        → IfErr result (IsNoDamage cache.new) }
+    ensures other_faults { IfErr result (λ f. IsNoDamage cache.new f ⊎ IsDamage f) }
 {
-    match add_run(cache, directory, &[(id, (*bounds, tag))]) {
-        Ok(_) => Ok(()),
-        Err(broken) => Err(broken),
-    }
+    add_run(cache, directory, &[(id, (*bounds, tag))])?;
+    Ok(())
 }
 
 // Adds the objects from the first one on that are of its chain: as many as the first page of the chain has
@@ -71,11 +66,11 @@ pub(crate) fn add_run<const D: usize, B: BlockDevice, A: Allocator + Copy>(
     cache: &mut PageCache<B, A>,
     directory: u32,
     objects: &[(u64, (BBox<D>, u32))],
-) -> Result<usize, Broken>
+) -> Result<usize, Fault>
     requires dims { IsDims D }
     requires open { gate_of cache.old ≡ Open }
     requires some { 0 < length objects.now }
-    ensures alters { Alters cache.old cache.new result }
+    ensures changes { Changes cache.old cache.new result }
     ensures sound { IsPageMap cache.old → (t : IdTable) → t.page ≡ directory → IdsStand D (pages cache.old) t
         → IsPageMap cache.new }
     ensures tidy { IsPageMap cache.old → (t : IdTable) → t.page ≡ directory → IdsStand D (pages cache.old) t
@@ -87,16 +82,16 @@ pub(crate) fn add_run<const D: usize, B: BlockDevice, A: Allocator + Copy>(
     ensures grows { Grows 1 cache.old cache.new }
     ensures whole { IfOk result (λ count. Grows 0 cache.old cache.new ⊎ IsWholeRun objects.now count) }
     ensures faults { IsPageMap cache.old → (t : IdTable) → t.page ≡ directory → IdsStand D (pages cache.old) t
-        → IfErr result (λ b. IsNoDamage cache.new b.cause) }
-    ensures other_faults { IfErr result (λ b. IsNoDamage cache.new b.cause ⊎ IsDamage b.cause) }
+        → IfErr result (IsNoDamage cache.new) }
+    ensures other_faults { IfErr result (λ f. IsNoDamage cache.new f ⊎ IsDamage f) }
 {
     let class = class_of(objects[0].0);
     let first = read_link::<D, B, A>(cache, directory, class)?;
     let room = has_room::<D, B, A>(cache, first)?;
     if room {
-        return midway(put_in(cache, first, class, objects));
+        return put_in(cache, first, class, objects);
     }
-    midway(put_alone(cache, directory, class, first, objects))
+    put_alone(cache, directory, class, first, objects)
 }
 
 // Adds to the bucket at a page with room the objects from the first one on that are of the chain, where the

@@ -6,7 +6,7 @@ ghost use Rattle.box_math.specs.Bounds.{IsDims};
 ghost use Rattle.page_file.specs.Fault.{IsDamage};
 ghost use Rattle.page_file.specs.declared.gate.Gate.TheVariants.{Open};
 ghost use Rattle.page_cache.specs.Cache.{Grows, IsPageMap, gate_of, pages};
-ghost use Rattle.node_page.specs.Broken.{Alters};
+ghost use Rattle.page_cache.specs.Calls.{Changes};
 ghost use Rattle.node_page.specs.Faults.{IsNoDamage};
 ghost use Rattle.id_table.specs.Changes.{AreNew, Fills};
 ghost use Rattle.id_table.specs.Table.{IdTable, IdsStand, class_of, objects_of};
@@ -15,8 +15,8 @@ ghost use Rattle.id_table.specs.Tidy.{KeepsTidy};
 use crate::adding::add_run;
 use block_device::BlockDevice;
 use box_math::BBox;
-use node_page::Broken;
 use page_cache::PageCache;
+use page_file::Fault;
 use std::alloc::Allocator;
 
 /// Adds objects to the table, none of which has an identifier that is there or that one before it has. No
@@ -30,15 +30,15 @@ use std::alloc::Allocator;
 /// Pages with zeros in all bytes that they do not name stay so, and so is a new one.
 ///
 /// With a sound map, where the pages stand for a table at that directory, a refusal is `Memory` or `Device`,
-/// or `NoPages` where each page number is live. It is untouched where the first object was refused so.
+/// or `NoPages` where each page number is live.
 pub fn fill<const D: usize, B: BlockDevice, A: Allocator + Copy>(
     cache: &mut PageCache<B, A>,
     directory: u32,
     objects: &[(u64, (BBox<D>, u32))],
-) -> Result<(), Broken>
+) -> Result<(), Fault>
     requires dims { IsDims D }
     requires open { gate_of cache.old ≡ Open }
-    ensures alters { Alters cache.old cache.new result }
+    ensures changes { Changes cache.old cache.new result }
     ensures sound { IsPageMap cache.old → (t : IdTable) → t.page ≡ directory → IdsStand D (pages cache.old) t
         → AreNew (objects_of t) objects.now → IsPageMap cache.new }
     ensures tidy { IsPageMap cache.old → (t : IdTable) → t.page ≡ directory → IdsStand D (pages cache.old) t
@@ -51,27 +51,12 @@ pub fn fill<const D: usize, B: BlockDevice, A: Allocator + Copy>(
     ensures grows_in_order { IsNonDecreasingBy (λ object. class_of object.0) objects.now
         → Grows (length objects.now / 100 + 1000) cache.old cache.new }
     ensures faults { IsPageMap cache.old → (t : IdTable) → t.page ≡ directory → IdsStand D (pages cache.old) t
-        → AreNew (objects_of t) objects.now → IfErr result (λ b. IsNoDamage cache.new b.cause) }
-    ensures other_faults { IfErr result (λ b. IsNoDamage cache.new b.cause ⊎ IsDamage b.cause) }
+        → AreNew (objects_of t) objects.now → IfErr result (IsNoDamage cache.new) }
+    ensures other_faults { IfErr result (λ f. IsNoDamage cache.new f ⊎ IsDamage f) }
 {
     let mut filled = 0;
     while filled < objects.len() {
-        match add_run(cache, directory, &objects[filled..]) {
-            Ok(count) => filled += count,
-            Err(broken) => return Err(broken_after(filled > 0, broken)),
-        }
+        filled += add_run(cache, directory, &objects[filled..])?;
     }
     Ok(())
-}
-
-// A change that broke off, as that of a longer one that had begun before it or not.
-fn broken_after(begun: bool, broken: Broken) -> Broken
-    ensures cause { result.cause ≡ broken.cause }
-    ensures untouched { result.touched ≡ false → (begun ≡ false) × (broken.touched ≡ false) }
-    ensures touched { result.touched ≡ true → (begun ≡ true) ⊎ (broken.touched ≡ true) }
-{
-    if begun {
-        return Broken::midway(broken.cause);
-    }
-    broken
 }

@@ -9,17 +9,14 @@ ghost use Rattle.page_file.specs.declared.fault.Fault.TheVariants as fault;
 ghost use Rattle.page_file.specs.declared.gate.Gate.TheVariants.{Open};
 ghost use Rattle.page_cache.specs.Cache.{Grows, IsHonest, IsLive, IsPageMap, gate_of, next_of, pages};
 ghost use Rattle.page_cache.specs.Calls.{Asks, Changes};
-ghost use Rattle.node_page.specs.Broken.{Alters};
 ghost use Rattle.node_page.specs.Parts.{Moves, no_page};
 ghost use Rattle.id_table.specs.Pages.{Frees};
 ghost use Rattle.id_table.specs.Table.{Bucket, ChainStands, IdTable, IdsStand, bucket_in, occurs_in_chain};
 ghost use Rattle.id_table.specs.Table.{part_of};
 
-use crate::broken::midway;
 use crate::directory::{copy_page, is_directory, link_of};
 use block_device::BlockDevice;
 use bucket_page::{has_bucket_head, next_at};
-use node_page::Broken;
 use page_cache::PageCache;
 use page_file::Fault;
 use std::alloc::Allocator;
@@ -27,14 +24,14 @@ use std::alloc::Allocator;
 /// Frees all pages of the table. The gate has to be open.
 ///
 /// With a sound map, where the pages stand for a table at that directory, a refusal is `Memory` or `Device`.
-#[tactic(auto, using(node_page::specs::Broken::breaks))]
+#[tactic(auto, using(page_cache::specs::Calls::changing))]
 pub fn free_all<const D: usize, B: BlockDevice, A: Allocator + Copy>(
     cache: &mut PageCache<B, A>,
     directory: u32,
-) -> Result<(), Broken>
+) -> Result<(), Fault>
     requires dims { IsDims D }
     requires open { gate_of cache.old ≡ Open }
-    ensures alters { Alters cache.old cache.new result }
+    ensures changes { Changes cache.old cache.new result }
     ensures sound { IsPageMap cache.old → (t : IdTable) → t.page ≡ directory → IdsStand D (pages cache.old) t
         → IsPageMap cache.new }
     ensures freed { IsPageMap cache.old → (t : IdTable) → t.page ≡ directory → IdsStand D (pages cache.old) t
@@ -42,14 +39,14 @@ pub fn free_all<const D: usize, B: BlockDevice, A: Allocator + Copy>(
     ensures next { next_of cache.new ≡ next_of cache.old }
     ensures grows { Grows 0 cache.old cache.new }
     ensures faults { IsPageMap cache.old → (t : IdTable) → t.page ≡ directory → IdsStand D (pages cache.old) t
-        → IfErr result (λ b. IsOfDevice b.cause) }
-    ensures other_faults { IfErr result (λ b. IsOfDevice b.cause ⊎ IsDamage b.cause) }
+        → IfErr result IsOfDevice }
+    ensures other_faults { IfErr result (λ f. IsOfDevice f ⊎ IsDamage f) }
 {
     let bytes = copy_page(cache, directory)?;
     if !is_directory::<D>(&bytes) {
-        return Err(Broken::from(Fault::Damaged(directory)));
+        return Err(Fault::Damaged(directory));
     }
-    midway(free_pages::<D, B, A>(cache, directory, &bytes))
+    free_pages::<D, B, A>(cache, directory, &bytes)
 }
 
 // Frees a directory and the chains that it names.

@@ -1,9 +1,11 @@
 //! The identifier table of a layer in pages: the box and the tag of each identifier, by a directory of chains
 //! of buckets (docs/FORMAT.md, "Identifier tables").
+//!
+//! A refusal after which the cache is not touched (`PageCache::is_touched`) leaves the map of pages as it
+//! was.
 #![tactic(auto)]
 
 mod adding;
-mod broken;
 mod bucket;
 mod check;
 mod directory;

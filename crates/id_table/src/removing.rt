@@ -9,19 +9,16 @@ ghost use Rattle.page_file.specs.Fault.{IsDamage, IsOfDevice};
 ghost use Rattle.page_file.specs.declared.gate.Gate.TheVariants.{Open};
 ghost use Rattle.page_cache.specs.Cache.{Grows, IsHonest, IsLive, IsPageMap, gate_of, pages};
 ghost use Rattle.page_cache.specs.Calls.{Asks, Changes};
-ghost use Rattle.node_page.specs.Broken.{Alters};
 ghost use Rattle.id_table.specs.Changes.{Removes};
 ghost use Rattle.id_table.specs.Pages.{PopsLast, Shrinks, Unlinks};
 ghost use Rattle.id_table.specs.Table.{IdTable, IdsStand, bucket_in, objects_of};
 ghost use Rattle.id_table.specs.Tidy.{KeepsTidy};
 
-use crate::broken::midway;
 use crate::directory::{class_of, read_link, write_link};
 use crate::places::{place_in, put_at};
 use block_device::BlockDevice;
 use box_math::BBox;
 use bucket_page::{count_at, entry_at, has_bucket_head, next_at, pop_entry};
-use node_page::Broken;
 use page_cache::PageCache;
 use page_file::Fault;
 use std::alloc::Allocator;
@@ -32,15 +29,15 @@ use std::alloc::Allocator;
 /// Pages with zeros in all bytes that they do not name stay so.
 ///
 /// With a sound map, where the pages stand for a table at that directory, a refusal is `Memory` or `Device`.
-#[tactic(auto, using(node_page::specs::Broken::breaks))]
+#[tactic(auto, using(page_cache::specs::Calls::changing))]
 pub fn remove<const D: usize, B: BlockDevice, A: Allocator + Copy>(
     cache: &mut PageCache<B, A>,
     directory: u32,
     id: u64,
-) -> Result<(), Broken>
+) -> Result<(), Fault>
     requires dims { IsDims D }
     requires open { gate_of cache.old ≡ Open }
-    ensures alters { Alters cache.old cache.new result }
+    ensures changes { Changes cache.old cache.new result }
     ensures sound { IsPageMap cache.old → (t : IdTable) → t.page ≡ directory → IdsStand D (pages cache.old) t
         → IsPageMap cache.new }
     ensures tidy { IsPageMap cache.old → (t : IdTable) → t.page ≡ directory → IdsStand D (pages cache.old) t
@@ -51,15 +48,15 @@ pub fn remove<const D: usize, B: BlockDevice, A: Allocator + Copy>(
         → OnOk result (Removes D (pages cache.old) (pages cache.new) t id) }
     ensures grows { Grows 0 cache.old cache.new }
     ensures faults { IsPageMap cache.old → (t : IdTable) → t.page ≡ directory → IdsStand D (pages cache.old) t
-        → map.contains_key (objects_of t) id ≡ true → IfErr result (λ b. IsOfDevice b.cause) }
-    ensures other_faults { IfErr result (λ b. IsOfDevice b.cause ⊎ IsDamage b.cause) }
+        → map.contains_key (objects_of t) id ≡ true → IfErr result IsOfDevice }
+    ensures other_faults { IfErr result (λ f. IsOfDevice f ⊎ IsDamage f) }
 {
     let class = class_of(id);
     let first = read_link::<D, B, A>(cache, directory, class)?;
     let (holder, place) = place_in::<D, B, A>(cache, first, id)?;
     let last = last_in::<D, B, A>(cache, first)?;
     put_at(cache, holder, place, &last)?;
-    midway(drop_last::<D, B, A>(cache, directory, class, first))
+    drop_last::<D, B, A>(cache, directory, class, first)
 }
 
 // The last object of the bucket at a page, in one look.

@@ -2,29 +2,28 @@
 -- there.
 use Rattle.std.proofs.Common.{◌≡◌, ◌∙◌, ◌<◌, ◌≤◌, ◌⊎◌, ℕ, None, Some, ap, arith, inl, inr, length, subst, sym}
 use Rattle.std.proofs.Common.{take}
-use Rattle.page_file.specs.Fault.{IsDamage, IsOfDevice}
+use Rattle.page_file.specs.Fault.{IsOfDevice}
 use Rattle.page_cache.specs.Cache.{Grows, pages}
-use Rattle.page_cache.specs.Calls.{asks_in_turn}
-use Rattle.node_page.specs.Broken.{asks_and_breaks}
+use Rattle.page_cache.proofs.Results.{if_ok_map}
+use Rattle.page_cache.specs.Calls.{asks_and_changes, asks_and_gives_up, asks_in_turn}
 use Rattle.node_page.specs.Faults.{IsNoDamage}
-use Rattle.node_page.proofs.NodeLemmas.{on_ok}
+use Rattle.node_page.proofs.NodeLemmas.{at_error, on_ok}
 use Rattle.id_table.specs.Changes.{Fills}
 use Rattle.id_table.specs.Pages.{IsRun, IsWholeRun, PutsBefore, with_more}
 use Rattle.id_table.specs.Table.{bucket_in, chain_at, objects_of}
-use Rattle.id_table.specs.Tidy.{KeepsTidy}
 use Rattle.id_table.proofs.AddLemmas.{puts_from}
 use Rattle.id_table.proofs.BucketLemmas.{if_err, is_there}
 use Rattle.id_table.proofs.FillLemmas.{first_new}
 use Rattle.id_table.proofs.ManyLemmas.{fills_before, fills_in_place}
-use Rattle.id_table.proofs.Results.{alters_after, broken_err, broken_if, broken_ok, ok_of, refused_before}
+use Rattle.id_table.proofs.Results.{if_both, ok_of}
 use Rattle.id_table.proofs.StartLemmas.{first_is_live, starts}
 use Rattle.id_table.proofs.TidyLemmas.{keep_in_turn, puts_keep, same_keep}
 use Rattle.id_table.proofs.WalkLemmas.{begins_at}
 use Rattle.id_table.proofs.adding.add_run.Goals as goal
 
-pub returns-in_err-room-clause-alters : goal.returns-in_err-room-clause-alters
-returns-in_err-room-clause-alters g c =
-    asks_and_breaks c.args.cache.now c.read_link.new.cache c.has_room.new.cache c.in_err-room.field-0.0
+pub returns-in_err-room-clause-changes : goal.returns-in_err-room-clause-changes
+returns-in_err-room-clause-changes g c =
+    asks_and_gives_up c.args.cache.now c.read_link.new.cache c.has_room.new.cache c.in_err-room.field-0.0
     c.from_residual-in_err-room.result c.from_residual-in_err-room.ensures.1
     c.in_ok-first.ensures.asks c.in_err-room.ensures.asks
 
@@ -34,22 +33,21 @@ returns-in_err-room-clause-faults g c = λ map t at stands.
     let s = starts g.row.D c.args.directory class c.in_ok-first.first c.args.cache.now c.read_link.new.cache
     c.in_ok-first.ensures.asks c.in_ok-first.ensures.link map.honest c.class_of-class.ensures.bound t at
     stands in
-    refused_before c.from_residual-in_err-room.result c.in_err-room.field-0.0
+    at_error c.from_residual-in_err-room.result c.in_err-room.field-0.0
     (IsNoDamage c.has_room.new.cache) c.from_residual-in_err-room.ensures.1
     (inl (c.in_err-room.ensures.there s.honest (chain_at t class) s.begins_now))
 
-pub returns-then-room-clause-alters : goal.returns-then-room-clause-alters
-returns-then-room-clause-alters g c =
-    alters_after c.args.cache.now c.has_room.new.cache c.put_in.new.cache c.put_in.result c.midway.result
-    c.midway.ensures
+pub returns-then-room-clause-changes : goal.returns-then-room-clause-changes
+returns-then-room-clause-changes g c =
+    asks_and_changes c.args.cache.now c.has_room.new.cache c.put_in.new.cache c.put_in.result
     (asks_in_turn c.args.cache.now c.read_link.new.cache c.has_room.new.cache None c.in_ok-first.ensures.asks
     c.in_ok-room.ensures.asks) c.put_in.ensures.changes
 
 pub returns-then-room-clause-count : goal.returns-then-room-clause-count
 returns-then-room-clause-count g c =
     let run : ℕ → Type 0 = IsRun c.class_of-class.result c.args.objects.now in
-    broken_if c.put_in.result c.midway.result run run (λ n. (0 < n) × (n ≤ length c.args.objects.now))
-    c.midway.ensures c.put_in.ensures.run c.put_in.ensures.run (λ n r again. (r.some, r.few))
+    if_ok_map {P = run} {Q = λ n. (0 < n) × (n ≤ length c.args.objects.now)} c.put_in.result
+    c.put_in.ensures.run (λ n r. (r.some, r.few))
 
 pub returns-then-room-clause-whole : goal.returns-then-room-clause-whole
 returns-then-room-clause-whole g c =
@@ -62,9 +60,9 @@ returns-then-room-clause-whole g c =
       c.in_ok-room.ensures.asks.map.free_count,
       c.put_in.ensures.grows,
     ) in
-    broken_if c.put_in.result c.midway.result run run
-    (λ n. Grows 0 c.args.cache.now c.put_in.new.cache ⊎ IsWholeRun c.args.objects.now n) c.midway.ensures
-    c.put_in.ensures.run c.put_in.ensures.run (λ n r again. inl none)
+    if_ok_map {P = run}
+    {Q = λ n. Grows 0 c.args.cache.now c.put_in.new.cache ⊎ IsWholeRun c.args.objects.now n}
+    c.put_in.result c.put_in.ensures.run (λ n r. inl none)
 
 pub returns-then-room-clause-sound : goal.returns-then-room-clause-sound
 returns-then-room-clause-sound g c = λ map t at stands.
@@ -103,9 +101,9 @@ returns-then-room-clause-added g c = λ map t at stands fresh.
     first_is_live g.row.D first (chain_at t class) c.args.cache.now c.has_room.new.cache asks map.honest
     s.begins some in
     let honest = asks.gate.honest.0 map.honest in
-    broken_if c.put_in.result c.midway.result (IsRun class objects)
+    if_both c.put_in.result (IsRun class objects)
     (λ n. bucket_in g.row.D (now first) ≡ Some (with_more b.content (take n objects)))
-    (λ n. Fills g.row.D m now t (take n objects)) c.midway.ensures
+    (λ n. Fills g.row.D m now t (take n objects))
     c.put_in.ensures.run
     (c.put_in.ensures.written honest b.content
     (ap (bucket_in g.row.D) (asks.map.pages_stay map.honest first) ∙ b.there) few)
@@ -129,30 +127,27 @@ returns-then-room-clause-faults g c = λ map t at stands.
     let there = ap (bucket_in g.row.D) (c.in_ok-first.ensures.asks.map.pages_stay map.honest first)
     ∙ b.there in
     let few = c.in_ok-room.ensures.room s.honest b.content there c.if-room.true in
-    broken_err c.put_in.result c.midway.result (IsNoDamage c.put_in.new.cache) c.midway.ensures
-    (if_err c.put_in.result IsOfDevice (IsNoDamage c.put_in.new.cache) (λ f is. inl is)
+    if_err c.put_in.result IsOfDevice (IsNoDamage c.put_in.new.cache) (λ f is. inl is)
     (c.put_in.ensures.faults (asks.gate.honest.0 map.honest) b.content
-    (ap (bucket_in g.row.D) (asks.map.pages_stay map.honest first) ∙ b.there) few))
+    (ap (bucket_in g.row.D) (asks.map.pages_stay map.honest first) ∙ b.there) few)
 
-pub returns-clause-alters : goal.returns-clause-alters
-returns-clause-alters g c =
-    alters_after c.args.cache.now c.has_room.new.cache c.put_alone.new.cache c.put_alone.result
-    c.midway-2.result c.midway-2.ensures
+pub returns-clause-changes : goal.returns-clause-changes
+returns-clause-changes g c =
+    asks_and_changes c.args.cache.now c.has_room.new.cache c.put_alone.new.cache c.put_alone.result
     (asks_in_turn c.args.cache.now c.read_link.new.cache c.has_room.new.cache None c.in_ok-first.ensures.asks
     c.in_ok-room.ensures.asks) c.put_alone.ensures.changes
 
 pub returns-clause-count : goal.returns-clause-count
 returns-clause-count g c =
     let run : ℕ → Type 0 = IsRun c.class_of-class.result c.args.objects.now in
-    broken_if c.put_alone.result c.midway-2.result run run (λ n. (0 < n) × (n ≤ length c.args.objects.now))
-    c.midway-2.ensures c.put_alone.ensures.run c.put_alone.ensures.run (λ n r again. (r.some, r.few))
+    if_ok_map {P = run} {Q = λ n. (0 < n) × (n ≤ length c.args.objects.now)} c.put_alone.result
+    c.put_alone.ensures.run (λ n r. (r.some, r.few))
 
 pub returns-clause-whole : goal.returns-clause-whole
 returns-clause-whole g c =
     let whole : ℕ → Type 0 = IsWholeRun c.args.objects.now in
-    broken_if c.put_alone.result c.midway-2.result whole whole
-    (λ n. Grows 0 c.args.cache.now c.put_alone.new.cache ⊎ whole n) c.midway-2.ensures
-    c.put_alone.ensures.whole c.put_alone.ensures.whole (λ n w again. inr w)
+    if_ok_map {P = whole} {Q = λ n. Grows 0 c.args.cache.now c.put_alone.new.cache ⊎ whole n}
+    c.put_alone.result c.put_alone.ensures.whole (λ n w. inr w)
 
 pub returns-clause-added : goal.returns-clause-added
 returns-clause-added g c = λ map t at stands fresh.
@@ -170,9 +165,9 @@ returns-clause-added g c = λ map t at stands fresh.
     asks_in_turn c.args.cache.now c.read_link.new.cache c.has_room.new.cache None
     c.in_ok-first.ensures.asks c.in_ok-room.ensures.asks in
     let there = asks.map.pages_stay map.honest c.args.directory ∙ ap m (sym at) ∙ stands.there in
-    broken_if c.put_alone.result c.midway-2.result (IsRun class objects)
+    if_both c.put_alone.result (IsRun class objects)
     (λ n. PutsBefore g.row.D mid now c.args.directory class first (take n objects) stands.directory)
-    (λ n. Fills g.row.D m now t (take n objects)) c.midway-2.ensures
+    (λ n. Fills g.row.D m now t (take n objects))
     c.put_alone.ensures.run (c.put_alone.ensures.put (asks.map.sound.0 map) stands.directory there)
     (λ n run put. fills_before g.row.D m now t class (take n objects) first stands
     c.class_of-class.ensures.bound (first_new n objects (objects_of t) fresh) run.placed s.link
@@ -197,14 +192,8 @@ returns-clause-faults g c = λ map t at stands.
     c.in_ok-first.ensures.asks c.in_ok-room.ensures.asks in
     let there = asks.map.pages_stay map.honest c.args.directory ∙ ap (pages c.args.cache.now) (sym at)
     ∙ stands.there in
-    broken_err c.put_alone.result c.midway-2.result (IsNoDamage c.put_alone.new.cache) c.midway-2.ensures
-    (c.put_alone.ensures.faults (asks.map.sound.0 map)
-    (is_there (pages c.has_room.new.cache c.args.directory) stands.directory there))
-
-pub returns-clause-other_faults : goal.returns-clause-other_faults
-returns-clause-other_faults g c =
-    broken_err c.put_alone.result c.midway-2.result (λ f. IsNoDamage c.put_alone.new.cache f ⊎ IsDamage f)
-    c.midway-2.ensures c.put_alone.ensures.other_faults
+    c.put_alone.ensures.faults (asks.map.sound.0 map)
+    (is_there (pages c.has_room.new.cache c.args.directory) stands.directory there)
 
 pub returns-then-room-clause-tidy : goal.returns-then-room-clause-tidy
 returns-then-room-clause-tidy g c = λ map t at stands.
@@ -222,10 +211,9 @@ returns-then-room-clause-tidy g c = λ map t at stands.
     asks_in_turn c.args.cache.now c.read_link.new.cache c.has_room.new.cache None
     c.in_ok-first.ensures.asks c.in_ok-room.ensures.asks in
     let stay = asks.map.pages_stay map.honest in
-    broken_ok c.put_in.result c.midway.result (KeepsTidy D old now) c.midway.ensures
-    (on_ok c.put_in.result (keep_in_turn D old mid now (same_keep D old mid stay))
+    on_ok c.put_in.result (keep_in_turn D old mid now (same_keep D old mid stay))
     (c.put_in.ensures.tidy (asks.gate.honest.0 map.honest) b.content
-    (ap (bucket_in D) (stay first) ∙ b.there)))
+    (ap (bucket_in D) (stay first) ∙ b.there))
 
 pub returns-clause-tidy : goal.returns-clause-tidy
 returns-clause-tidy g c = λ map t at stands.
@@ -240,9 +228,8 @@ returns-clause-tidy g c = λ map t at stands.
     c.in_ok-first.ensures.asks c.in_ok-room.ensures.asks in
     let stay = asks.map.pages_stay map.honest in
     let there = stay c.args.directory ∙ ap old (sym at) ∙ stands.there in
-    broken_ok c.put_alone.result c.midway-2.result (KeepsTidy D old now) c.midway-2.ensures
-    (ok_of c.put_alone.result
+    ok_of c.put_alone.result
     (c.put_alone.ensures.put (asks.map.sound.0 map) stands.directory there)
     (λ n put. keep_in_turn D old mid now (same_keep D old mid stay)
     (puts_keep D mid now c.args.directory class first (take n c.args.objects.now) stands.directory there
-    stands.spelled put)))
+    stands.spelled put))

@@ -1,7 +1,8 @@
 -- The goals of `put_before` that are proved by hand.
-use Rattle.std.proofs.Common.{◌∙◌, ℕ, List, Option, None, IsSome, inl, inr, ⊎_elim, sym, ap, subst, arith}
+use Rattle.std.proofs.Common.{◌∙◌, ◌⊎◌, ℕ, List, Option, None, IsSome, inl, inr, ⊎_elim, sym, ap}
+use Rattle.std.proofs.Common.{subst, arith}
 use Rattle.std.specs.Prelude.{IsSomeAnd}
-use Rattle.page_file.specs.Fault.{IsOfDevice}
+use Rattle.page_file.specs.Fault.{IsDamage, IsOfDevice}
 use Rattle.page_cache.specs.Cache.{pages}
 use Rattle.page_cache.specs.Calls.{changes_and_refuses, changes_in_turn, fault_in}
 use Rattle.node_page.specs.Faults.{IsNoDamage}
@@ -80,6 +81,21 @@ returns-in_err-number-clause-faults g c = λ map live.
     c.from_residual.ensures.1
     (⊎_elim (λ device. inl device) (λ none. inr (none, c.in_err-number.ensures.full (cc none)))
     (c.in_err-number.ensures.faults map))
+
+pub returns-in_err-write_bucket-clause-faults : goal.returns-in_err-write_bucket-clause-faults
+returns-in_err-write_bucket-clause-faults g c = λ map live.
+    let fresh = c.in_ok-number.ensures.fresh map in
+    let live_n = is_there (pages c.allocate.new.self c.in_ok-number.number) _ fresh.1 in
+    at_error c.from_residual-in_err-write_bucket.result c.in_err-write_bucket.field-0.0
+    (IsNoDamage c.write_bucket.new.cache) c.from_residual-in_err-write_bucket.ensures.1
+    (inl (c.in_err-write_bucket.ensures.faults (c.allocate.ensures.sound map).honest live_n))
+
+pub returns-clause-other_faults : goal.returns-clause-other_faults
+returns-clause-other_faults g c =
+    if_err c.write_link.result (λ f. IsOfDevice f ⊎ IsDamage f)
+    (λ f. IsNoDamage c.write_link.new.cache f ⊎ IsDamage f)
+    (λ f is. ⊎_elim (λ (device : IsOfDevice f). inl (inl device)) (λ (damage : IsDamage f). inr damage) is)
+    c.write_link.ensures.other_faults
 
 pub returns-in_err-write_bucket-clause-changes : goal.returns-in_err-write_bucket-clause-changes
 returns-in_err-write_bucket-clause-changes g c =

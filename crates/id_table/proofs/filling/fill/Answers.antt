@@ -1,14 +1,12 @@
 -- The goals of `fill` that are proved by hand.
-use Rattle.std.proofs.Common.{◌≡◌, ◌∙◌, ◌⊎◌, ◌-◌, ℕ, List, drop, ◌<◌, ◌≤◌, Some, false, arith, length}
-use Rattle.std.proofs.Common.{length-drop, ltb, subst, sym, take}
+use Rattle.std.proofs.Common.{◌≡◌, ◌∙◌, ◌⊎◌, ◌-◌, List, drop, ◌<◌, ◌≤◌, arith, length}
+use Rattle.std.proofs.Common.{length-drop, subst, sym, take}
 use Rattle.bucket_page.specs.Layout.{Entry}
 use Rattle.std.proofs.lemmas.List.{take_rest}
-use Rattle.std.proofs.lemmas.Bool.Decides.{nat_tests}
 use Rattle.page_cache.specs.Cache.{Grows, pages}
-use Rattle.page_cache.specs.Calls.{ChangesUntil, changes_in_turn, no_call_changes}
-use Rattle.page_cache.specs.Laws.{no_call_keeps_the_map, the_map_is_kept_in_turn}
-use Rattle.page_file.specs.declared.fault.Fault.{Fault}
+use Rattle.page_cache.specs.Calls.{changes_and_refuses, no_call_changes}
 use Rattle.node_page.specs.Faults.{IsNoDamage}
+use Rattle.node_page.proofs.NodeLemmas.{at_error}
 use Rattle.id_table.specs.Changes.{AreNew, Fills}
 use Rattle.id_table.specs.Pages.{IsWholeRun}
 use Rattle.id_table.specs.Table.{objects_of}
@@ -24,7 +22,6 @@ loop-filled-init g c = record {
   within = omega arith;
   grows = omega arith;
   takes = λ _. omega arith;
-  kept = λ _. no_call_keeps_the_map c.args.cache.now;
 }
 
 pub loop-filled-preserved : goal.loop-filled-preserved
@@ -32,61 +29,48 @@ loop-filled-preserved g c =
     let so_far = c.loop-filled.invariant in
     let objects = c.args.objects.now in
     let filled = c.loop-filled.filled in
-    let count = c.in-Ok.count in
+    let count = c.in_ok-filled.field-0 in
     let rest : take (length objects - filled) (drop filled objects) ≡ drop filled objects =
     take_rest objects filled in
     let few : count ≤ length (drop filled objects) =
-    subst (λ (es : List Entry). count ≤ length es) rest c.in-Ok.ensures.count.1 in
+    subst (λ (es : List Entry). count ≤ length es) rest c.in_ok-filled.ensures.count.1 in
     record {
       filling =
-          fills_on so_far.filling count c.add_run.new.cache c.in-Ok.ensures.alters.changes
-          c.in-Ok.ensures.sound (λ map t at stands new.
+          fills_on so_far.filling count c.add_run.new.cache c.in_ok-filled.ensures.changes
+          c.in_ok-filled.ensures.sound (λ map t at stands new.
           subst (λ (es : List Entry). Fills g.row.D (pages c.loop-filled.cache) (pages c.add_run.new.cache) t
           (take count es)) rest
-          (c.in-Ok.ensures.added map t at stands
-          (subst (λ (es : List Entry). AreNew (objects_of t) es) (sym rest) new))) c.in-Ok.ensures.tidy;
+          (c.in_ok-filled.ensures.added map t at stands
+          (subst (λ (es : List Entry). AreNew (objects_of t) es) (sym rest) new)))
+          c.in_ok-filled.ensures.tidy;
       within = omega (arith, so_far.within, few, length-drop filled objects);
-      grows = omega (arith, so_far.grows, c.in-Ok.ensures.grows, c.in-Ok.ensures.count.0);
+      grows = omega (arith, so_far.grows, c.in_ok-filled.ensures.grows, c.in_ok-filled.ensures.count.0);
       takes = λ sorted. run_takes c.args.cache.now c.loop-filled.cache c.add_run.new.cache objects filled
-          count sorted (omega (arith, c.loop-filled-test.true)) (so_far.takes sorted) c.in-Ok.ensures.grows
+          count sorted (omega (arith, c.loop-filled-test.true)) (so_far.takes sorted)
+          c.in_ok-filled.ensures.grows
           (subst (λ (es : List Entry). Grows 0 c.loop-filled.cache c.add_run.new.cache ⊎ IsWholeRun es count)
-          rest c.in-Ok.ensures.whole);
-      kept = λ none. absurd (omega (arith, none, c.in-Ok.ensures.count.0));
+          rest c.in_ok-filled.ensures.whole);
     }
 
-none_filled : (n : ℕ) → ltb 0 n ≡ false → n ≡ 0
-none_filled n is = grind (arith, nat_tests)
+pub returns-in_err-filled-clause-changes : goal.returns-in_err-filled-clause-changes
+returns-in_err-filled-clause-changes g c =
+    changes_and_refuses c.args.cache.now c.loop-filled.cache c.add_run.new.cache c.in_err-filled.field-0.0
+    c.from_residual.result c.from_residual.ensures.1 c.loop-filled.invariant.filling.changes
+    c.in_err-filled.ensures.changes
 
-pub returns-in-Err-clause-alters : goal.returns-in-Err-clause-alters
-returns-in-Err-clause-alters g c =
-    let filling = c.loop-filled.invariant.filling in
-    record {
-      changes =
-          subst (λ (f : Fault). ChangesUntil c.args.cache.now c.add_run.new.cache (Some f))
-          (sym c.broken_after.ensures.cause)
-          (changes_in_turn c.args.cache.now c.loop-filled.cache c.add_run.new.cache
-          (Some c.in-Err.broken.cause) filling.changes c.in-Err.ensures.alters.changes);
-      untouched = λ untouched.
-          let before = c.broken_after.ensures.untouched untouched in
-          the_map_is_kept_in_turn c.args.cache.now c.loop-filled.cache c.add_run.new.cache
-          filling.changes.gate.honest.0
-          (c.loop-filled.invariant.kept (none_filled c.loop-filled.filled before.0))
-          (c.in-Err.ensures.alters.untouched before.1);
-    }
-
-pub returns-in-Err-clause-sound : goal.returns-in-Err-clause-sound
-returns-in-Err-clause-sound g c = λ map t at stands new.
+pub returns-in_err-filled-clause-sound : goal.returns-in_err-filled-clause-sound
+returns-in_err-filled-clause-sound g c = λ map t at stands new.
     let f = c.loop-filled.invariant.filling.left map t at stands new in
-    c.in-Err.ensures.sound f.map_is f.table (f.page ∙ at) f.stands
+    c.in_err-filled.ensures.sound f.map_is f.table (f.page ∙ at) f.stands
 
-pub returns-in-Err-clause-faults : goal.returns-in-Err-clause-faults
-returns-in-Err-clause-faults g c = λ map t at stands new.
+pub returns-in_err-filled-clause-faults : goal.returns-in_err-filled-clause-faults
+returns-in_err-filled-clause-faults g c = λ map t at stands new.
     let f = c.loop-filled.invariant.filling.left map t at stands new in
-    subst (λ (f : Fault). IsNoDamage c.add_run.new.cache f) (sym c.broken_after.ensures.cause)
-    (c.in-Err.ensures.faults f.map_is f.table (f.page ∙ at) f.stands)
+    at_error c.from_residual.result c.in_err-filled.field-0.0 (IsNoDamage c.add_run.new.cache)
+    c.from_residual.ensures.1 (c.in_err-filled.ensures.faults f.map_is f.table (f.page ∙ at) f.stands)
 
-pub returns-in-Err-clause-grows_in_order : goal.returns-in-Err-clause-grows_in_order
-returns-in-Err-clause-grows_in_order g c = λ sorted.
+pub returns-in_err-filled-clause-grows_in_order : goal.returns-in_err-filled-clause-grows_in_order
+returns-in_err-filled-clause-grows_in_order g c = λ sorted.
     let objects = c.args.objects.now in
     let filled = c.loop-filled.filled in
     let some : 0 < length (drop filled objects) =
@@ -94,7 +78,7 @@ returns-in-Err-clause-grows_in_order g c = λ sorted.
     omega (
       arith,
       c.loop-filled.invariant.takes sorted,
-      c.in-Err.ensures.grows,
+      c.in_err-filled.ensures.grows,
       c.loop-filled.invariant.within,
       (next_of_some (drop filled objects) some).1,
     )

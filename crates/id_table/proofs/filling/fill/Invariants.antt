@@ -1,11 +1,11 @@
 -- What holds at each turn of the loop of `fill`.
-use Rattle.std.proofs.Common.{◌≡◌, ◌+◌, ◌-◌, ◌/◌, ◌≤◌, drop, length}
-use Rattle.page_cache.specs.Cache.{Grows, KeepsMap}
+use Rattle.std.proofs.Common.{◌+◌, ◌-◌, ◌/◌, ◌≤◌, drop, length}
+use Rattle.page_cache.specs.Cache.{Grows}
 use Rattle.id_table.specs.Pages.{next_class}
 use Rattle.id_table.proofs.FillLemmas.{AreInOrder, Filling}
 use Rattle.id_table.proofs.filling.fill.Given as goal
 
--- the objects so far are added, and no page is touched before the first of them is
+-- the objects so far are added
 abbrev pub invariant-loop-filled : goal.invariant-loop-filled
 invariant-loop-filled g l = record {
   filling : Filling g.row.D l.fn.directory l.fn.cache l.cache l.objects l.filled;
@@ -13,7 +13,6 @@ invariant-loop-filled g l = record {
   grows : Grows l.filled l.fn.cache l.cache;
   takes : AreInOrder l.objects
       → Grows (l.filled / 100 + next_class (drop l.filled l.objects)) l.fn.cache l.cache;
-  kept : l.filled ≡ 0 → KeepsMap l.fn.cache l.cache;
 }
 
 abbrev pub decreases-loop-filled : goal.decreases-loop-filled

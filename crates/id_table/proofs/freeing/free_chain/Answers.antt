@@ -2,7 +2,7 @@
 use Rattle.std.proofs.Common.{arith}
 use Rattle.page_file.specs.Fault.{IsOfDevice}
 use Rattle.page_cache.specs.Cache.{pages}
-use Rattle.page_cache.specs.Calls.{no_call_changes}
+use Rattle.page_cache.specs.Calls.{changes_and_refuses, no_call_changes}
 use Rattle.node_page.proofs.NodeLemmas.{at_error}
 use Rattle.id_table.proofs.BucketLemmas.{page_of_bucket}
 use Rattle.id_table.proofs.FreeLemmas.{all_freed, bucket_left, freeing_begins, frees_on, never_so_long}
@@ -46,3 +46,9 @@ returns-in_err-number-clause-faults g c = λ map chain stands once short.
     at_error c.from_residual.result c.in_err-number.field-0.0 IsOfDevice c.from_residual.ensures.1
     (c.in_err-number.ensures.faults (so_far.left map chain stands once).map b.content
     (there_left so_far some map chain stands once) b.low)
+
+pub returns-in_err-number-clause-changes : goal.returns-in_err-number-clause-changes
+returns-in_err-number-clause-changes g c =
+    changes_and_refuses c.args.cache.now c.loop-freed.cache c.free_bucket.new.cache c.in_err-number.field-0.0
+    c.from_residual.result c.from_residual.ensures.1 c.loop-freed.invariant.changes
+    c.in_err-number.ensures.changes

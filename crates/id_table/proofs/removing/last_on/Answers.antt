@@ -5,7 +5,6 @@ use Rattle.id_table.proofs.removing.last_on.Goals as goal
 pub returns-then-not-has_bucket_head : goal.returns-then-not-has_bucket_head
 returns-then-not-has_bucket_head g c =
     record {
-      of_bucket = λ content other is. let none =
-          no_head g.row.D c.args.page.now (λ head. let found = c.has_bucket_head.ensures.1 head in absurd (cc)) in
-          absurd (cc (is, none));
+      of_bucket = λ content other is. let none = no_head g.row.D c.args.page.now
+          (λ head. let found = c.has_bucket_head.ensures.1 head in absurd (cc)) in absurd (cc (is, none));
     }

@@ -2,24 +2,19 @@
 use Rattle.std.proofs.Common.{◌∙◌, ◌<◌, None, ap, arith, subst, sym}
 use Rattle.page_file.specs.Fault.{IsOfDevice}
 use Rattle.page_cache.specs.Cache.{pages}
-use Rattle.page_cache.specs.Calls.{asks_changes, asks_in_turn, changes_in_turn, no_call_asks}
-use Rattle.node_page.proofs.NodeLemmas.{on_ok}
-use Rattle.node_page.specs.Broken.{asks_and_is_refused}
-use Rattle.id_table.specs.Changes.{Removes}
+use Rattle.page_cache.specs.Calls.{asks_and_gives_up, asks_changes, asks_in_turn, changes_and_refuses}
+use Rattle.page_cache.specs.Calls.{changes_in_turn, fault_in, no_call_asks}
+use Rattle.node_page.proofs.NodeLemmas.{at_error, on_ok}
 use Rattle.id_table.specs.Pages.{Shrinks}
 use Rattle.id_table.specs.Table.{bucket_in, chain_at, class_of, link_at}
-use Rattle.id_table.specs.Tidy.{KeepsTidy}
 use Rattle.id_table.proofs.AddLemmas.{in_chain}
 use Rattle.id_table.proofs.BucketLemmas.{is_there, page_of_bucket, some_object}
 use Rattle.id_table.proofs.GetLemmas.{chain_is_short}
 use Rattle.id_table.proofs.HolderLemmas.{PutsAt}
 use Rattle.id_table.proofs.ReachLemmas.{reached}
-use Rattle.id_table.proofs.Results.{alters_further, broken_err, broken_ok, refused_before}
 use Rattle.id_table.proofs.ShrinkLemmas.{first_now, removes_from}
 use Rattle.id_table.proofs.StartLemmas.{starts}
 use Rattle.id_table.proofs.TidyLemmas.{keep_in_turn, same_keep, shrinks_keep}
-use Rattle.page_cache.specs.Calls.{asks_in_turn}
-use Rattle.node_page.specs.Broken.{asks_and_breaks}
 use Rattle.id_table.proofs.removing.remove.Goals as goal
 
 pub returns-in_err-holder-clause-faults : goal.returns-in_err-holder-clause-faults
@@ -30,7 +25,7 @@ returns-in_err-holder-clause-faults g c = λ map t at stands has.
     (λ honest p there spelled. c.in_ok-first.ensures.link honest p there spelled
     ∙ ap (λ k. link_at k p) c.class_of-class.ensures.value) map.honest small t at stands in
     let chain = chain_at t (class_of c.args.id) in
-    refused_before c.from_residual-in_err-holder.result c.in_err-holder.field-0.0 IsOfDevice
+    at_error c.from_residual-in_err-holder.result c.in_err-holder.field-0.0 IsOfDevice
     c.from_residual-in_err-holder.ensures.1
     (c.in_err-holder.ensures.there s.honest chain s.begins_now
     (omega (
@@ -49,18 +44,18 @@ returns-in_err-last-clause-faults g c = λ map t at stands has.
     ∙ ap (λ k. link_at k p) c.class_of-class.ensures.value)
     c.in_ok-holder.ensures.asks c.in_ok-holder.ensures.found (no_call_asks c.place_in.new.cache) map t at
     stands in
-    refused_before c.from_residual-in_err-last.result c.in_err-last.field-0.0 IsOfDevice
+    at_error c.from_residual-in_err-last.result c.in_err-last.field-0.0 IsOfDevice
     c.from_residual-in_err-last.ensures.1 (c.in_err-last.ensures.there r.honest r.begin.content r.reads)
 
-pub returns-in_err-put_at-clause-alters : goal.returns-in_err-put_at-clause-alters
-returns-in_err-put_at-clause-alters g c =
+pub returns-in_err-put_at-clause-changes : goal.returns-in_err-put_at-clause-changes
+returns-in_err-put_at-clause-changes g c =
     let asked =
     asks_in_turn c.args.cache.now c.place_in.new.cache c.last_in.new.cache None
     (asks_in_turn c.args.cache.now c.read_link.new.cache c.place_in.new.cache None
     c.in_ok-first.ensures.asks c.in_ok-holder.ensures.asks) c.in_ok-last.ensures.asks in
-    asks_and_is_refused c.args.cache.now c.last_in.new.cache c.put_at.new.cache c.in_err-put_at.field-0.0
-    c.from_residual-in_err-put_at.result c.from_residual-in_err-put_at.ensures.1 asked
-    c.in_err-put_at.ensures.changes c.in_err-put_at.ensures.refused
+    changes_and_refuses c.args.cache.now c.last_in.new.cache c.put_at.new.cache c.in_err-put_at.field-0.0
+    c.from_residual-in_err-put_at.result c.from_residual-in_err-put_at.ensures.1
+    (asks_changes c.args.cache.now c.last_in.new.cache None asked) c.in_err-put_at.ensures.changes
 
 pub returns-in_err-put_at-clause-sound : goal.returns-in_err-put_at-clause-sound
 returns-in_err-put_at-clause-sound g c = λ map t at stands.
@@ -80,17 +75,16 @@ returns-in_err-put_at-clause-faults g c = λ map t at stands has.
     (λ honest p there spelled. c.in_ok-first.ensures.link honest p there spelled
     ∙ ap (λ k. link_at k p) c.class_of-class.ensures.value)
     c.in_ok-holder.ensures.asks c.in_ok-holder.ensures.found c.in_ok-last.ensures.asks map t at stands in
-    refused_before c.from_residual-in_err-put_at.result c.in_err-put_at.field-0.0 IsOfDevice
+    at_error c.from_residual-in_err-put_at.result c.in_err-put_at.field-0.0 IsOfDevice
     c.from_residual-in_err-put_at.ensures.1 (c.in_err-put_at.ensures.faults r.map_is.honest r.holder_live)
 
-pub returns-clause-alters : goal.returns-clause-alters
-returns-clause-alters g c =
+pub returns-clause-changes : goal.returns-clause-changes
+returns-clause-changes g c =
     let asked =
     asks_in_turn c.args.cache.now c.place_in.new.cache c.last_in.new.cache None
     (asks_in_turn c.args.cache.now c.read_link.new.cache c.place_in.new.cache None
     c.in_ok-first.ensures.asks c.in_ok-holder.ensures.asks) c.in_ok-last.ensures.asks in
-    alters_further c.args.cache.now c.put_at.new.cache c.drop_last.new.cache c.drop_last.result
-    c.midway.result c.midway.ensures
+    changes_in_turn c.args.cache.now c.put_at.new.cache c.drop_last.new.cache (fault_in c.drop_last.result)
     (changes_in_turn c.args.cache.now c.last_in.new.cache c.put_at.new.cache None
     (asks_changes c.args.cache.now c.last_in.new.cache None asked) c.in_ok-put_at.ensures.changes)
     c.drop_last.ensures.changes
@@ -145,16 +139,14 @@ returns-clause-removed g c = λ map t at stands has.
     let links = others c.args.directory r.holder_apart_is ∙ r.links in
     let now = pages c.drop_last.new.cache in
     let first = c.in_ok-first.first in
-    broken_ok c.drop_last.result c.midway.result (Removes g.row.D (pages c.args.cache.now) now t c.args.id)
-    c.midway.ensures
-    (on_ok c.drop_last.result
+    on_ok c.drop_last.result
     (λ shrinks. removes_from g.row.D (pages c.args.cache.now) mid t c.args.id first c.in_ok-holder.holder
     c.in_ok-holder.place r.begin.content c.in_ok-last.last stands r.link r.found r.begin.there puts now
     (c.in_ok-last.ensures.last r.honest r.begin.content some_object r.reads) f.0 f.1
     (subst (λ d. Shrinks g.row.D mid now d (class_of c.args.id) first f.0 stands.directory) (sym at)
     (subst (λ k. Shrinks g.row.D mid now c.args.directory k first f.0 stands.directory)
     c.class_of-class.ensures.value shrinks)))
-    (c.drop_last.ensures.less sound r.apart stands.directory links f.0 f.1))
+    (c.drop_last.ensures.less sound r.apart stands.directory links f.0 f.1)
 
 pub returns-clause-faults : goal.returns-clause-faults
 returns-clause-faults g c = λ map t at stands has.
@@ -179,13 +171,12 @@ returns-clause-faults g c = λ map t at stands has.
     let sound = c.in_ok-put_at.ensures.sound r.map_is r.holder_live in
     let live = page_of_bucket g.row.D (mid c.in_ok-first.first) f.0 f.1 in
     let links = others c.args.directory r.holder_apart_is ∙ r.links in
-    broken_err c.drop_last.result c.midway.result IsOfDevice c.midway.ensures
-    (c.drop_last.ensures.faults sound live (is_there (mid c.args.directory) stands.directory links)
-    r.apart (λ two. omega (arith, two, r.begin.low)))
+    c.drop_last.ensures.faults sound live (is_there (mid c.args.directory) stands.directory links)
+    r.apart (λ two. omega (arith, two, r.begin.low))
 
-pub returns-in_err-last-clause-alters : goal.returns-in_err-last-clause-alters
-returns-in_err-last-clause-alters g c =
-    asks_and_breaks c.args.cache.now c.place_in.new.cache c.last_in.new.cache c.in_err-last.field-0.0
+pub returns-in_err-last-clause-changes : goal.returns-in_err-last-clause-changes
+returns-in_err-last-clause-changes g c =
+    asks_and_gives_up c.args.cache.now c.place_in.new.cache c.last_in.new.cache c.in_err-last.field-0.0
     c.from_residual-in_err-last.result c.from_residual-in_err-last.ensures.1
     (asks_in_turn c.args.cache.now c.read_link.new.cache c.place_in.new.cache None c.in_ok-first.ensures.asks
     c.in_ok-holder.ensures.asks) c.in_err-last.ensures.asks
@@ -217,11 +208,10 @@ returns-clause-tidy g c = λ map t at stands.
     let links = others c.args.directory r.holder_apart_is ∙ r.links in
     let put = c.in_ok-put_at.ensures.tidy r.map_is.honest r.held.content
     (ap (bucket_in D) (r.stay holder) ∙ r.held.there) r.held.within in
-    broken_ok c.drop_last.result c.midway.result (KeepsTidy D old now) c.midway.ensures
-    (on_ok c.drop_last.result
+    on_ok c.drop_last.result
     (λ shrinks. keep_in_turn D old mid now
     (keep_in_turn D old asked mid (same_keep D old asked r.stay) put)
     (shrinks_keep D mid now c.args.directory c.class_of-class.result first f.0 stands.directory links
     stands.spelled shrinks))
     (c.drop_last.ensures.less (c.in_ok-put_at.ensures.sound r.map_is r.holder_live) r.apart
-    stands.directory links f.0 f.1))
+    stands.directory links f.0 f.1)

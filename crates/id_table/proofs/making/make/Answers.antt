@@ -1,11 +1,11 @@
--- The goals of `make_page` that are proved by hand: a page given out and written is a table of no objects.
+-- The goals of `make` that are proved by hand: a page given out and written is a table of no objects.
 use Rattle.std.proofs.Common.{◌∙◌, None, arith}
 use Rattle.page_cache.specs.Calls.{changes_and_refuses, changes_in_turn}
 use Rattle.page_cache.specs.Cache.{pages}
 use Rattle.id_table.proofs.BucketLemmas.{is_there}
 use Rattle.id_table.proofs.MakingLemmas.{made}
 use Rattle.id_table.proofs.TidyLemmas.{directory_written, made_keeps}
-use Rattle.id_table.proofs.making.make_page.Goals as goal
+use Rattle.id_table.proofs.making.make.Goals as goal
 
 pub returns-clause-made : goal.returns-clause-made
 returns-clause-made g c = λ sound.

@@ -1,0 +1,23 @@
+-- The goals of `put_in` that are proved by hand: a page that gets objects stays tidy.
+use Rattle.std.proofs.Common.{◌∙◌, ap, subst, sym}
+use Rattle.bucket_page.specs.Layout.{bucket_at}
+use Rattle.page_cache.specs.Cache.{pages}
+use Rattle.page_cache.specs.Laws.{a_live_page_is_given}
+use Rattle.id_table.specs.Tidy.{IsTidyPage}
+use Rattle.id_table.proofs.BucketLemmas.{bytes_of_bucket, page_of_bucket}
+use Rattle.id_table.proofs.TidyLemmas.{page_keeps}
+use Rattle.id_table.proofs.adding.put_in.Goals as goal
+
+pub returns-in-Some-clause-tidy : goal.returns-in-Some-clause-tidy
+returns-in-Some-clause-tidy g c = λ h content there.
+    let D = g.row.D in
+    let old = c.args.cache.now in
+    let n = c.args.number in
+    let was = bytes_of_bucket D (pages old n) content there in
+    let live = page_of_bucket D (pages old n) content there in
+    let did = c.in_ok-pushed.ensures.edited h was.0 (a_live_page_is_given old n was.0 was.1) in
+    page_keeps D (pages old) (pages c.edit.new.self) n was.0 did.0 was.1 (did.2 live)
+    (c.edit.ensures.others h live)
+    (λ tidy. subst (IsTidyPage D) did.3.leaves
+    (did.3.met.tidy content (ap (bucket_at D) did.3.shows ∙ was.2)
+    (subst (IsTidyPage D) (sym did.3.shows) tidy)))
