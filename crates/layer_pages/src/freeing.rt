@@ -12,7 +12,7 @@ ghost use Rattle.layer_pages.specs.Layers.{CanBeRoot, IsLayerAt, LayerPages, Obj
 use block_device::BlockDevice;
 use condense::free_tree;
 use id_table::free_all;
-use node_page::{Root};
+use node_page::Root;
 use page_cache::PageCache;
 use page_file::Fault;
 use std::alloc::Allocator;

@@ -14,7 +14,7 @@ ghost use Rattle.layer_pages.specs.Layers.{CanBeRoot, IsLayerAt, LayerPages, Obj
 use block_device::BlockDevice;
 use box_math::BBox;
 use condense::{Kept, remove_with};
-use node_page::{Root};
+use node_page::Root;
 use page_cache::PageCache;
 use page_file::Fault;
 use reinsert::Waiting;
@@ -58,7 +58,7 @@ pub fn remove<const D: usize, B: BlockDevice, A: Allocator + Copy>(
     ensures absent { IsPageMap cache.old → (l : LayerPages) (objects : Objects)
         → IsLayerAt D m_max (pages cache.old) root directory l objects →
         ¬ (map.get objects id ≡ Some (bounds.now, tag))
-        → IsRefused cache.old cache.new root.page result }
+        → IsRefused root.page cache.old cache.new result }
     ensures grows { Grows most_removal_pages cache.old cache.new }
     ensures faults { IsPageMap cache.old → (l : LayerPages) (objects : Objects)
         → IsLayerAt D m_max (pages cache.old) root directory l objects →

@@ -62,7 +62,7 @@ pub fn replace<const D: usize, B: BlockDevice, A: Allocator + Copy>(
     ensures absent { IsPageMap cache.old → (l : LayerPages) (objects : Objects)
         → IsLayerAt D m_max (pages cache.old) root directory l objects →
         ¬ (map.get objects id ≡ Some (old.now, tag))
-        → IsRefused cache.old cache.new root.page result }
+        → IsRefused root.page cache.old cache.new result }
     ensures grows { Grows most_replaced_pages cache.old cache.new }
     ensures faults { IsPageMap cache.old → (l : LayerPages) (objects : Objects)
         → IsLayerAt D m_max (pages cache.old) root directory l objects →

@@ -1,6 +1,6 @@
 -- Layers that are checked one after the other, and their pages.
 use Rattle.std.proofs.Common.{◌≡◌, ◌∙◌, ℕ, ◌+◌, ◌<◌, cond, eqb, List, [], ◌∷◌, ◌++◌, length, get_or, map}
-use Rattle.std.proofs.Common.{◌⊎◌, ⊥, zero, suc, Contains, inl, inr, take, refl, sym, ap, subst, arith}
+use Rattle.std.proofs.Common.{◌⊎◌, zero, suc, Contains, inl, inr, take, refl, sym, ap, subst, arith}
 use Rattle.std.specs.FinMap.{len, len-entries}
 use Rattle.std.proofs.lemmas.List.{get_or-map, length-map, map-append, take_more}
 use Rattle.catalog_page.specs.Layout.{Record, record_of}

@@ -1,7 +1,8 @@
 -- The tree is freed, and then the table.
-use Rattle.std.proofs.Common.{sym, subst}
+use Rattle.std.proofs.Common.{None}
 use Rattle.page_file.specs.Fault.{IsOfDevice}
 use Rattle.page_cache.specs.Cache.{pages}
+use Rattle.page_cache.specs.Calls.{changes_and_refuses, changes_in_turn}
 use Rattle.node_page.proofs.NodeLemmas.{at_error}
 use Rattle.node_page.specs.Parts.{no_page}
 use Rattle.layer_pages.proofs.FreeLemmas.{layer_freed}
@@ -13,7 +14,8 @@ returns-clause-sound g c = λ sound l most objects is.
     let m = pages c.args.cache.now in
     let at = root_of g.row.D most m c.args.root c.args.directory l objects is in
     let freed = c.in_ok-free_tree.ensures.freed sound l.tree at is.tree.stands in
-    c.in_ok-free_all.ensures.sound (c.free_tree.ensures.sound sound l.tree at is.tree.stands) l.ids is.directory_is
+    c.in_ok-free_all.ensures.sound (c.free_tree.ensures.sound sound l.tree at is.tree.stands) l.ids
+    is.directory_is
     (ids_still g.row.D most m c.args.root c.args.directory l objects is (pages c.free_tree.new.cache)
     no_page freed)
 
@@ -26,7 +28,8 @@ returns-clause-freed g c = λ sound l most objects is.
     let stand = ids_still g.row.D most m c.args.root c.args.directory l objects is mid no_page freed in
     layer_freed g.row.D most m mid (pages c.free_all.new.cache) c.args.root c.args.directory l objects is
     freed
-    (c.in_ok-free_all.ensures.freed (c.free_tree.ensures.sound sound l.tree at is.tree.stands) l.ids is.directory_is
+    (c.in_ok-free_all.ensures.freed (c.free_tree.ensures.sound sound l.tree at is.tree.stands) l.ids
+    is.directory_is
     stand)
 
 pub returns-in_err-free_all-clause-sound : goal.returns-in_err-free_all-clause-sound
@@ -34,7 +37,8 @@ returns-in_err-free_all-clause-sound g c = λ sound l most objects is.
     let m = pages c.args.cache.now in
     let at = root_of g.row.D most m c.args.root c.args.directory l objects is in
     let freed = c.in_ok-free_tree.ensures.freed sound l.tree at is.tree.stands in
-    c.in_err-free_all.ensures.sound (c.free_tree.ensures.sound sound l.tree at is.tree.stands) l.ids is.directory_is
+    c.in_err-free_all.ensures.sound (c.free_tree.ensures.sound sound l.tree at is.tree.stands) l.ids
+    is.directory_is
     (ids_still g.row.D most m c.args.root c.args.directory l objects is (pages c.free_tree.new.cache)
     no_page freed)
 
@@ -45,6 +49,19 @@ returns-in_err-free_all-clause-faults g c = λ sound l most objects is.
     let freed = c.in_ok-free_tree.ensures.freed sound l.tree at is.tree.stands in
     at_error c.from_residual-in_err-free_all.result c.in_err-free_all.field-0.0 IsOfDevice
     c.from_residual-in_err-free_all.ensures.1
-    (c.in_err-free_all.ensures.faults (c.free_tree.ensures.sound sound l.tree at is.tree.stands) l.ids is.directory_is
+    (c.in_err-free_all.ensures.faults (c.free_tree.ensures.sound sound l.tree at is.tree.stands) l.ids
+    is.directory_is
     (ids_still g.row.D most m c.args.root c.args.directory l objects is (pages c.free_tree.new.cache)
     no_page freed))
+
+pub returns-in_err-free_all-clause-changes : goal.returns-in_err-free_all-clause-changes
+returns-in_err-free_all-clause-changes g c =
+    changes_and_refuses c.args.cache.now c.free_tree.new.cache c.free_all.new.cache
+    c.in_err-free_all.field-0.0 c.from_residual-in_err-free_all.result
+    c.from_residual-in_err-free_all.ensures.1 c.in_ok-free_tree.ensures.changes
+    c.in_err-free_all.ensures.changes
+
+pub returns-clause-changes : goal.returns-clause-changes
+returns-clause-changes g c =
+    changes_in_turn c.args.cache.now c.free_tree.new.cache c.free_all.new.cache None
+    c.in_ok-free_tree.ensures.changes c.in_ok-free_all.ensures.changes

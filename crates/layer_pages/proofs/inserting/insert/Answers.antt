@@ -33,7 +33,7 @@ returns-in_err-after-clause-faults g c = λ sound l objects at.
     c.low.ensures.is_box))
 
 pub returns-clause-changes : goal.returns-clause-changes
-returns-clause-changes g c = 
+returns-clause-changes g c =
     changes_in_turn c.args.cache.now c.insert_with.new.cache c.add.new.cache None
     c.in_ok-after.ensures.changes c.in_ok-add.ensures.changes
 

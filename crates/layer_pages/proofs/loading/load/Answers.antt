@@ -26,7 +26,7 @@ returns-then-not-can_be_root-clause-faults g c =
     c.in_ok-after.after (c.in_ok-after.ensures.loaded sound)))
 
 pub returns-clause-changes : goal.returns-clause-changes
-returns-clause-changes g c = 
+returns-clause-changes g c =
     changes_in_turn c.args.cache.now c.load.new.cache c.put_ids.new.cache None
     c.in_ok-after.ensures.changes c.in_ok-put_ids.ensures.changes
 

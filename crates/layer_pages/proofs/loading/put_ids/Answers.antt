@@ -1,5 +1,5 @@
 -- The table is filled, and then the old tree is freed.
-use Rattle.std.proofs.Common.{ℕ, List, None, length, inl, sym, subst, arith, rules}
+use Rattle.std.proofs.Common.{ℕ, List, None, length, inl, arith, rules}
 use Rattle.std.specs.FinMap as map
 use Rattle.std.specs.FinMap.{entries}
 use Rattle.std.specs.Prelude.{IsPermutation}
@@ -33,7 +33,7 @@ returns-in_err-fill-clause-faults g c = λ sound l most all is same.
     (c.in_err-fill.ensures.faults sound l.ids is.directory_is is.ids fresh)
 
 pub returns-clause-changes : goal.returns-clause-changes
-returns-clause-changes g c = 
+returns-clause-changes g c =
     changes_in_turn c.args.cache.now c.fill.new.cache c.free_tree.new.cache None
     c.in_ok-fill.ensures.changes c.in_ok-free_tree.ensures.changes
 

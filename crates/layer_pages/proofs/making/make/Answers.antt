@@ -1,6 +1,7 @@
 -- An empty leaf, and then an empty table, are a layer of no objects.
+use Rattle.std.proofs.Common.{None}
 use Rattle.page_cache.specs.Cache.{pages}
-use Rattle.page_cache.specs.Calls.{changes_and_refuses}
+use Rattle.page_cache.specs.Calls.{changes_and_refuses, changes_in_turn}
 use Rattle.layer_pages.proofs.MadeLemmas.{layer_made}
 use Rattle.layer_pages.proofs.making.make.Goals as goal
 
@@ -16,3 +17,8 @@ returns-in_err-directory-clause-changes g c =
     changes_and_refuses c.args.cache.now c.make_leaf.new.cache c.make.new.cache c.in_err-directory.field-0.0
     c.from_residual-in_err-directory.result c.from_residual-in_err-directory.ensures.1
     c.in_ok-page.ensures.changes c.in_err-directory.ensures.changes
+
+pub returns-clause-changes : goal.returns-clause-changes
+returns-clause-changes g c =
+    changes_in_turn c.args.cache.now c.make_leaf.new.cache c.make.new.cache None
+    c.in_ok-page.ensures.changes c.in_ok-directory.ensures.changes

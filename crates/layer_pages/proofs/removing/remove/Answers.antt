@@ -1,5 +1,5 @@
 -- An object fewer in the tree, and then in the table.
-use Rattle.std.proofs.Common.{ℕ, ◌≡◌, None, false, inl, sym, subst, arith}
+use Rattle.std.proofs.Common.{ℕ, ◌≡◌, None, inl, sym, subst, arith}
 use Rattle.std.specs.FinMap as map
 use Rattle.std.specs.Prelude.{◌⊎◌}
 use Rattle.box_math.specs.Objects.{Object}
@@ -18,6 +18,10 @@ use Rattle.layer_pages.proofs.RemovedLemmas.{can_remove, ids_between, in_a_leaf,
 use Rattle.layer_pages.proofs.RemovedLemmas.{layer_removed}
 use Rattle.layer_pages.proofs.removing.remove.Goals as goal
 
+-- what was made was not refused
+made_so_not_refused : {A P : Type 0} → A × ⊥ → P
+made_so_not_refused both = absurd both.1
+
 pub returns-in_err-after-clause-absent : goal.returns-in_err-after-clause-absent
 returns-in_err-after-clause-absent g c = λ sound l objects at absent.
     let D = g.row.D in
@@ -25,13 +29,15 @@ returns-in_err-after-clause-absent g c = λ sound l objects at absent.
     let is =
     subst (λ (most : ℕ). IsLayerAt D most m c.args.root c.args.directory l objects) (sym c.from.ensures)
     at in
-    refused_so c.from_residual.result c.in_err-after.field-0.0
-    (λ (b : Broken). (b.touched ≡ false)
-    × (IsOfDevice b.cause ⊎ (b.cause ≡ fault.Damaged c.args.root.page))) c.from_residual.ensures.1
-    (c.in_err-after.ensures.absent sound l.tree (part_of l.ids)
+    let refused =
+    c.in_err-after.ensures.absent sound l.tree (part_of l.ids)
     (can_remove D c.from.result m c.args.root c.args.directory l objects is)
     (in_no_leaf D c.from.result m c.args.root c.args.directory l objects is c.args.id
-    (c.args.bounds.now, c.args.tag) absent))
+    (c.args.bounds.now, c.args.tag) absent) in (
+      refused.0,
+      refused_so c.from_residual.result c.in_err-after.field-0.0
+          (λ f. IsOfDevice f ⊎ (f ≡ fault.Damaged c.args.root.page)) c.from_residual.ensures.1 refused.1,
+    )
 
 pub returns-in_err-after-clause-faults : goal.returns-in_err-after-clause-faults
 returns-in_err-after-clause-faults g c = λ sound l objects at there.
@@ -48,7 +54,7 @@ returns-in_err-after-clause-faults g c = λ sound l objects at there.
     (c.args.bounds.now, c.args.tag) there))
 
 pub returns-clause-changes : goal.returns-clause-changes
-returns-clause-changes g c = 
+returns-clause-changes g c =
     changes_in_turn c.args.cache.now c.remove_with.new.cache c.remove.new.cache None
     c.in_ok-after.ensures.changes c.in_ok-remove.ensures.changes
 
@@ -99,7 +105,7 @@ returns-clause-absent g c = λ sound l objects at absent.
     let is =
     subst (λ (most : ℕ). IsLayerAt D most m c.args.root c.args.directory l objects) (sym c.from.ensures)
     at in
-    absurd (c.in_ok-after.ensures.absent sound l.tree (part_of l.ids)
+    made_so_not_refused (c.in_ok-after.ensures.absent sound l.tree (part_of l.ids)
     (can_remove D c.from.result m c.args.root c.args.directory l objects is)
     (in_no_leaf D c.from.result m c.args.root c.args.directory l objects is c.args.id
     (c.args.bounds.now, c.args.tag) absent))
@@ -117,7 +123,7 @@ returns-in_err-remove-clause-absent g c = λ sound l objects at absent.
     let is =
     subst (λ (most : ℕ). IsLayerAt D most m c.args.root c.args.directory l objects) (sym c.from.ensures)
     at in
-    absurd (c.in_ok-after.ensures.absent sound l.tree (part_of l.ids)
+    made_so_not_refused (c.in_ok-after.ensures.absent sound l.tree (part_of l.ids)
     (can_remove D c.from.result m c.args.root c.args.directory l objects is)
     (in_no_leaf D c.from.result m c.args.root c.args.directory l objects is c.args.id
     (c.args.bounds.now, c.args.tag) absent))

@@ -1,5 +1,5 @@
 -- The object with another box in the tree, and then in the table.
-use Rattle.std.proofs.Common.{ℕ, ◌≡◌, ◌≤◌, None, false, inl, sym, subst, arith}
+use Rattle.std.proofs.Common.{ℕ, ◌≡◌, ◌≤◌, None, inl, sym, subst, arith}
 use Rattle.std.specs.FinMap as map
 use Rattle.std.specs.Prelude.{◌⊎◌}
 use Rattle.page_file.specs.Fault.{IsOfDevice}
@@ -21,6 +21,10 @@ use Rattle.layer_pages.proofs.ReplacedLemmas.{can_insert_between, ids_unchanged,
 use Rattle.layer_pages.proofs.ReplacedLemmas.{shape_between}
 use Rattle.layer_pages.proofs.replacing.replace.Goals as goal
 
+-- what was made was not refused
+made_so_not_refused : {A P : Type 0} → A × ⊥ → P
+made_so_not_refused both = absurd both.1
+
 pub returns-in_err-between-clause-absent : goal.returns-in_err-between-clause-absent
 returns-in_err-between-clause-absent g c = λ sound l objects at absent.
     let D = g.row.D in
@@ -28,13 +32,15 @@ returns-in_err-between-clause-absent g c = λ sound l objects at absent.
     let is =
     subst (λ (most : ℕ). IsLayerAt D most m c.args.root c.args.directory l objects)
     (sym c.from-most.ensures) at in
-    refused_so c.from_residual.result c.in_err-between.field-0.0
-    (λ (b : Broken). (b.touched ≡ false)
-    × (IsOfDevice b.cause ⊎ (b.cause ≡ fault.Damaged c.args.root.page))) c.from_residual.ensures.1
-    (c.in_err-between.ensures.absent sound l.tree (part_of l.ids)
+    let refused =
+    c.in_err-between.ensures.absent sound l.tree (part_of l.ids)
     (can_remove D c.from-most.result m c.args.root c.args.directory l objects is)
     (in_no_leaf D c.from-most.result m c.args.root c.args.directory l objects is c.args.id
-    (c.args.old.now, c.args.tag) absent))
+    (c.args.old.now, c.args.tag) absent) in (
+      refused.0,
+      refused_so c.from_residual.result c.in_err-between.field-0.0
+          (λ f. IsOfDevice f ⊎ (f ≡ fault.Damaged c.args.root.page)) c.from_residual.ensures.1 refused.1,
+    )
 
 pub returns-in_err-between-clause-faults : goal.returns-in_err-between-clause-faults
 returns-in_err-between-clause-faults g c = λ sound l objects at there.
@@ -63,7 +69,7 @@ returns-in_err-after-clause-absent g c = λ sound l objects at absent.
     let is =
     subst (λ (most : ℕ). IsLayerAt D most m c.args.root c.args.directory l objects)
     (sym c.from-most.ensures) at in
-    absurd (c.in_ok-between.ensures.absent sound l.tree (part_of l.ids)
+    made_so_not_refused (c.in_ok-between.ensures.absent sound l.tree (part_of l.ids)
     (can_remove D c.from-most.result m c.args.root c.args.directory l objects is)
     (in_no_leaf D c.from-most.result m c.args.root c.args.directory l objects is c.args.id
     (c.args.old.now, c.args.tag) absent))
@@ -85,7 +91,8 @@ returns-in_err-after-clause-faults g c = λ sound l objects at there.
     c.in_ok-between.between to.1 in
     at_error c.from_residual-in_err-after.result c.in_err-after.field-0.0 (IsNoDamage c.insert_with.new.cache)
     c.from_residual-in_err-after.ensures.1
-    (c.in_err-after.ensures.faults to.0 to.1.new (object (c.args.new.now, c.args.tag) c.args.id) (part_of l.ids)
+    (c.in_err-after.ensures.faults to.0 to.1.new (object (c.args.new.now, c.args.tag) c.args.id)
+    (part_of l.ids)
     (can_insert_between D c.from-most.result m c.args.root c.args.directory l objects is four c.args.id
     (c.args.old.now, c.args.tag) (c.args.new.now, c.args.tag) (pages c.remove_with.new.cache)
     c.in_ok-between.between to.1) (loose D c.from-most.result to.1.new shape.0) shape.1
@@ -151,7 +158,8 @@ returns-clause-replaced g c = λ sound l objects at there.
     c.in_ok-update.ensures.updated into.0 l.ids is.directory_is stand (c.args.old.now, c.args.tag)
     (kept_in_table D c.from-most.result m c.args.root c.args.directory l objects is c.args.id
     (c.args.old.now, c.args.tag) there) in
-    subst (λ (most : ℕ). BecomesLayer D most m (pages c.update.new.cache) (part_of_layer l) c.in_ok-after.after
+    subst (λ (most : ℕ). BecomesLayer D most m (pages c.update.new.cache) (part_of_layer l)
+    c.in_ok-after.after
     c.args.directory (map.insert objects c.args.id (c.args.new.now, c.args.tag))
     (HasReplaced D most l c.args.id (c.args.old.now, c.args.tag) (c.args.new.now, c.args.tag)))
     c.from-most.ensures
@@ -167,7 +175,7 @@ returns-clause-absent g c = λ sound l objects at absent.
     let is =
     subst (λ (most : ℕ). IsLayerAt D most m c.args.root c.args.directory l objects)
     (sym c.from-most.ensures) at in
-    absurd (c.in_ok-between.ensures.absent sound l.tree (part_of l.ids)
+    made_so_not_refused (c.in_ok-between.ensures.absent sound l.tree (part_of l.ids)
     (can_remove D c.from-most.result m c.args.root c.args.directory l objects is)
     (in_no_leaf D c.from-most.result m c.args.root c.args.directory l objects is c.args.id
     (c.args.old.now, c.args.tag) absent))
@@ -186,7 +194,7 @@ returns-in_err-update-clause-absent g c = λ sound l objects at absent.
     let is =
     subst (λ (most : ℕ). IsLayerAt D most m c.args.root c.args.directory l objects)
     (sym c.from-most.ensures) at in
-    absurd (c.in_ok-between.ensures.absent sound l.tree (part_of l.ids)
+    made_so_not_refused (c.in_ok-between.ensures.absent sound l.tree (part_of l.ids)
     (can_remove D c.from-most.result m c.args.root c.args.directory l objects is)
     (in_no_leaf D c.from-most.result m c.args.root c.args.directory l objects is c.args.id
     (c.args.old.now, c.args.tag) absent))
