@@ -1,5 +1,5 @@
 -- Changes behind the gate: begun, and then made or broken off.
-use Rattle.std.proofs.Common.{◌≡◌, ◌∙◌, true, false, None, sym, ap, subst, arith}
+use Rattle.std.proofs.Common.{◌≡◌, ◌∙◌, true, false, None, Some, sym, ap, subst, arith}
 use Rattle.std.specs.Prelude.{◌↔◌, Result, Ok, Err, OnOk, IfErr, IsErrAnd}
 use Rattle.block_device.specs.Device.{Blocks, LeavesOnly}
 use Rattle.catalog_page.specs.Layout.{records_of}
@@ -104,18 +104,19 @@ module _ {D A : Type 0} {m : _} {T : Type 0} where
   begun_and_broke : {R : Type 0} (old mid new : PageCache D A m) (x : R) (f : Fault)
       (result : Result T Broken) → IsErrAnd result (λ e. e ≡ told_by new f) → Begins old mid (Ok x)
       → ChangesUntil mid new (Some f) → Begins old new result
-  begun_and_broke old mid new x f result is begun changes = handed_on old new (told_by new f) result is (record {
-    stops = λ ts honest rests. pages_written old mid new ts (begun.honest.0 honest) begun.opened
-        (begun.stops ts honest rests) changes.gate;
-    rests = λ ts honest rests closed. absurd (closed (changes.gate.gate ∙ begun.opened));
-    opened = tt;
-    broke_open = λ touched. changes.gate.gate ∙ begun.opened;
-    told = λ touched. touched;
-    stays_open = λ open'. changes.gate.gate ∙ begun.opened;
-    honest = (λ h. changes.gate.honest.0 (begun.honest.0 h), λ h. begun.honest.1 (changes.gate.honest.1 h));
-    next = omega (arith, begun.next, changes.next);
-    faults = changes.faults ∙ ap (faults_after f) begun.faults;
-  })
+  begun_and_broke old mid new x f result is begun changes =
+      handed_on old new (told_by new f) result is (record {
+        stops = λ ts honest rests. pages_written old mid new ts (begun.honest.0 honest) begun.opened
+            (begun.stops ts honest rests) changes.gate;
+        rests = λ ts honest rests closed. absurd (closed (changes.gate.gate ∙ begun.opened));
+        opened = tt;
+        broke_open = λ touched. changes.gate.gate ∙ begun.opened;
+        told = λ touched. touched;
+        stays_open = λ open'. changes.gate.gate ∙ begun.opened;
+        honest = (λ h. changes.gate.honest.0 (begun.honest.0 h), λ h. begun.honest.1 (changes.gate.honest.1 h));
+        next = omega (arith, begun.next, changes.next);
+        faults = changes.faults ∙ ap (faults_after f) begun.faults;
+      })
 
   -- ---- of layers
 

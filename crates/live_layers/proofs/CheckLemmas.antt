@@ -16,6 +16,8 @@ use Rattle.page_file.specs.declared.fault.Fault.{Fault}
 use Rattle.page_file.specs.declared.fault.Fault.TheVariants as fault
 use Rattle.tree_node.specs.declared.node.Root.{Root}
 use Rattle.tree_node.proofs.PositionLemmas.{total-append}
+use Rattle.plain_table.specs.declared.refusal.Refusal.TheVariants as refusal
+use Rattle.live_layers.specs.Faults.{as_refusal}
 use Rattle.live_layers.specs.Checked.{AddsLayer, AddsLayers, ComesInLayers, IsFoundDamaged}
 use Rattle.live_layers.specs.Layers.{LayerStands, LayersStand, Reading, of_layer, of_layers, root_of, row_of}
 use Rattle.live_layers.proofs.FindLemmas.{no_reading}
@@ -137,6 +139,16 @@ names_no_page f n (inr device) is = let no : fault.Device ≡ fault.Damaged n = 
 
 pub one_number : (n k : ℕ) → fault.Damaged n ≡ fault.Damaged k → n ≡ k
 one_number n k e = cc
+
+pub damaged_fault : (f : Fault) (n : ℕ) → as_refusal f ≡ refusal.Damaged n → f ≡ fault.Damaged n
+damaged_fault fault.Memory n e = let no : refusal.Memory ≡ refusal.Damaged n = e in absurd (cc)
+damaged_fault fault.Device n e = let no : refusal.Device ≡ refusal.Damaged n = e in absurd (cc)
+damaged_fault (fault.Damaged k) n e = let is : refusal.Damaged k ≡ refusal.Damaged n = e in
+    let same : k ≡ n = cc in ap fault.Damaged same
+damaged_fault fault.NotClosed n e = let no : refusal.NotClosed ≡ refusal.Damaged n = e in absurd (cc)
+damaged_fault fault.NotAStore n e = let no : refusal.NotAStore ≡ refusal.Damaged n = e in absurd (cc)
+damaged_fault fault.WrongVersion n e = let no : refusal.WrongVersion ≡ refusal.Damaged n = e in absurd (cc)
+damaged_fault fault.NoPages n e = let no : refusal.NoPages ≡ refusal.Damaged n = e in absurd (cc)
 
 -- a walk through a layer is one through each layer's pages that agree
 pub comes_in_same : (dims : ℕ) (m m' : PageMap) (root : Root) (directory n : ℕ) → ((k : ℕ) → m k ≡ m' k)

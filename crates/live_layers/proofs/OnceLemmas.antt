@@ -1,8 +1,8 @@
 -- Lists that have each number of a range once.
 use Rattle.std.proofs.Common.{◌≡◌, ℕ, zero, suc, ◌+◌, ◌<◌, ◌≤◌, cond, eqb, List, [], ◌∷◌, length, get_or}
-use Rattle.std.proofs.Common.{arith, ⊎_elim, inl, inr, refl, sym, subst}
-use Rattle.std.specs.Prelude.{IsPermutation, ◌⊎◌, ◌-◌}
-use Rattle.std.proofs.Math.Nat.{min, min-eq_left, min-eq_right}
+use Rattle.std.proofs.Common.{arith, ⊎_elim, inl, inr, refl, sym, subst, Bool, true, false, nat_lt}
+use Rattle.std.specs.Prelude.{IsPermutation, ◌⊎◌, ◌-◌, min}
+use Rattle.std.proofs.Math.Nat.{min-eq_left, min-eq_right}
 use Rattle.std.specs.List.Sorted.{IsNonDecreasing}
 use Rattle.std.proofs.lemmas.Bool.{cases_eq}
 use Rattle.std.proofs.lemmas.Bool.Decides.{nat_tests}
@@ -15,7 +15,11 @@ pub here_once : (a b : ℕ) → a ≡ b → ◌≡◌ {A = ℕ} (cond (eqb a b) 
 here_once a b e = grind (arith, nat_tests)
 
 lt_or_le : (a b : ℕ) → (a < b) ⊎ (b ≤ a)
-lt_or_le a b = omega arith
+lt_or_le a b = by_test (nat_lt a b) refl
+  where
+    by_test : (t : Bool) → nat_lt a b ≡ t → (a < b) ⊎ (b ≤ a)
+    by_test true is = inl (grind (arith, nat_tests))
+    by_test false is = inr (grind (arith, nat_tests))
 
 pub not_here : (a b : ℕ) → ¬ (a ≡ b) → ◌≡◌ {A = ℕ} (cond (eqb a b) 1 0) 0
 not_here a b differs = grind (arith, nat_tests)
@@ -123,14 +127,18 @@ named_none : (n : ℕ) (list : List ℕ) → ((k : ℕ) → k < length list → 
     → named_pages list n ≡ 0
 named_none n [] none = omega arith
 named_none n (x ∷ xs) none =
-    omega (arith, not_here x n (none 0 (omega arith)),
-    named_none n xs (λ k lt. none (suc k) (omega (arith, lt))))
+    omega (
+      arith,
+      not_here x n (none 0 (omega arith)),
+      named_none n xs (λ k lt. none (suc k) (omega (arith, lt))),
+    )
 
 named_some : (n : ℕ) (list : List ℕ) (k : ℕ) → k < length list → get_or list k 0 ≡ n
     → 1 ≤ named_pages list n
 named_some n [] k lt is = absurd (omega (arith, lt))
 named_some n (x ∷ xs) zero lt is = omega (arith, here_once x n is)
-named_some n (x ∷ xs) (suc k) lt is = let rest = named_some n xs k (omega (arith, lt)) is in omega (arith, rest)
+named_some n (x ∷ xs) (suc k) lt is = let rest = named_some n xs k (omega (arith, lt)) is in
+    omega (arith, rest)
 
 named_twice : (n : ℕ) (list : List ℕ) (i j : ℕ) → i < j → j < length list → get_or list i 0 ≡ n
     → get_or list j 0 ≡ n → 2 ≤ named_pages list n
@@ -172,18 +180,33 @@ module _ (next : ℕ) (list sorted : List ℕ) (moved : IsPermutation list sorte
       (λ (low : get_or sorted place 0 < place + 2). by_low low)
       (λ (high : place + 2 ≤ get_or sorted place 0). subst (IsOdd next list)
       (sym (min-eq_right high)) (inr (inr (λ once.
-      omega (arith, same_times (place + 2), once, named_none (place + 2) sorted (λ k within is.
-      ⊎_elim (λ (before : k < place). omega (arith, before, rise k before, is))
-      (λ (after : place ≤ k). omega (arith, after, is, high, other,
-      order place k 0 after within)) (lt_or_le k place)))))))
+      omega (
+        arith,
+        same_times (place + 2),
+        once,
+        named_none (place + 2) sorted (λ k within is.
+            ⊎_elim (λ (before : k < place). omega (arith, before, rise k before, is))
+            (λ (after : place ≤ k). omega (
+              arith,
+              after,
+              is,
+              high,
+              other,
+              order place k 0 after within,
+            )) (lt_or_le k place)),
+      )))))
       (lt_or_le (get_or sorted place 0) (place + 2))
     where
       twice : get_or sorted place 0 < place + 2 → 2 ≤ get_or sorted place 0
           → ¬ (named_pages list (get_or sorted place 0) ≡ 1)
       twice low some once = let k = get_or sorted place 0 - 2 in
-          omega (arith, same_times (get_or sorted place 0), once,
-          named_twice (get_or sorted place 0) sorted k place (omega (arith, low, some)) lt
-          (omega (arith, rise k (omega (arith, low, some)), some)) refl)
+          omega (
+            arith,
+            same_times (get_or sorted place 0),
+            once,
+            named_twice (get_or sorted place 0) sorted k place (omega (arith, low, some)) lt
+                (omega (arith, rise k (omega (arith, low, some)), some)) refl,
+          )
 
       by_low : get_or sorted place 0 < place + 2
           → IsOdd next list (min (get_or sorted place 0) (place + 2))
@@ -196,8 +219,12 @@ module _ (next : ℕ) (list sorted : List ℕ) (moved : IsPermutation list sorte
   pub odd_end : Counts 2 sorted → IsOdd next list (min (length sorted + 2) next)
   odd_end counts = ⊎_elim
       (λ (few : length sorted + 2 < next). subst (IsOdd next list) (sym (min-eq_left (omega (arith, few))))
-      (inr (inr (λ once. omega (arith, same_times (length sorted + 2), once,
-      named_none (length sorted + 2) sorted (λ k lt is. omega (arith, lt, is, counts k lt)))))))
+      (inr (inr (λ once. omega (
+        arith,
+        same_times (length sorted + 2),
+        once,
+        named_none (length sorted + 2) sorted (λ k lt is. omega (arith, lt, is, counts k lt)),
+      )))))
       (λ (many : next ≤ length sorted + 2). subst (IsOdd next list) (sym (min-eq_right many))
       (inr (inl (omega arith))))
       (lt_or_le (length sorted + 2) next)

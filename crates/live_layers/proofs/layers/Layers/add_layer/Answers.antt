@@ -1,10 +1,11 @@
 -- The pages are made, and the record is in its place; or the change was refused, or broke off.
-use Rattle.std.proofs.Common.{Err, length, refl, ap, arith}
+use Rattle.std.proofs.Common.{Err, length, refl, ap, arith, subst, sym}
 use Rattle.catalog_page.specs.Layout.{records_of}
 use Rattle.catalog_page.specs.declared.layer_record.LayerRecord.{LayerRecord}
 use Rattle.layer_pages.specs.Changes.{IsEmptyLeaf}
 use Rattle.page_cache.specs.Laws.{numbers_are_few}
-use Rattle.live_layers.specs.Broken.{told_by}
+use Rattle.page_file.specs.Fault.{IsOfDevice}
+use Rattle.live_layers.specs.declared.broken.Broken.{Broken}
 use Rattle.live_layers.proofs.CountLemmas.{no_page_wanted}
 use Rattle.live_layers.proofs.BegunLemmas.{broke_behind, made_behind, not_opened}
 use Rattle.live_layers.proofs.CreateLemmas.{brings_before, made_record, one_more_may_be, put_in, sound_made}
@@ -32,8 +33,7 @@ returns-in_err-begin-clause-faults g c =
 pub returns-in-Err-clause-faults : goal.returns-in-Err-clause-faults
 returns-in-Err-clause-faults g c = λ t sound.
     let before = c.begin.ensures.sound t sound in
-    the_err (Err c.broken_by.result) (told_by c.make_pages.new.cache c.in-Err.fault) _
-    c.broken_by.ensures
+    subst (λ (b : Broken). IsOfDevice b.cause) (sym c.broken_by.ensures)
     (no_page_wanted c.begin.new.self t before
     (omega (arith, c.requires.room, ap length c.begin.ensures.keeps.records)) 2 c.make_pages.new.cache _
     (omega (arith)) c.make_pages.ensures.grows
@@ -42,8 +42,8 @@ returns-in-Err-clause-faults g c = λ t sound.
 pub invariant_of-self-2 : goal.invariant_of-self-2
 invariant_of-self-2 g c =
     let items = c.begin.new.self.records.items in
-    let root = c.in-Ok.root in
-    let directory = c.in-Ok.directory in
+    let root = c.in-Ok.made.0 in
+    let directory = c.in-Ok.made.1 in
     let r : LayerRecord =
     record {
       name = c.name_of.result;
@@ -63,7 +63,7 @@ invariant_of-self-2 g c =
     record {
       are_layers =
           one_more_may_be (records_of c.begin.new.self.records) c.args.place c.args.name.now c.args.dims
-          c.args.fanout c.in-Ok.root c.in-Ok.directory c.requires.may_be made.0 made.1
+          c.args.fanout c.in-Ok.made.0 c.in-Ok.made.1 c.requires.may_be made.0 made.1
           (omega (arith, made.2, few.1)) (records_of c.insert.new.self) records c.begin.new.self.are_layers;
     }
 
@@ -72,8 +72,8 @@ returns-clause-added g c = λ t sound belongs.
     let kept = c.begin.new.self in
     let before = c.begin.ensures.sound t sound in
     let items = c.begin.new.self.records.items in
-    let root = c.in-Ok.root in
-    let directory = c.in-Ok.directory in
+    let root = c.in-Ok.made.0 in
+    let directory = c.in-Ok.made.1 in
     let r : LayerRecord =
     record {
       name = c.name_of.result;
@@ -89,7 +89,7 @@ returns-clause-added g c = λ t sound belongs.
     put_in items c.insert.new.self.items c.args.place r row c.insert.ensures.items
     (λ i. made_record (c.name_of.ensures i) c.args.dims c.args.fanout root directory) in
     sound_made kept _ t c.args.name.now c.args.place before belongs c.args.dims c.args.fanout
-    c.requires.may_be c.in-Ok.root c.in-Ok.directory
+    c.requires.may_be c.in-Ok.made.0 c.in-Ok.made.1
     (c.in-Ok.ensures.made before.map c.args.fanout)
     c.in-Ok.ensures.places.0 c.in-Ok.ensures.changes.next records
     (c.in-Ok.ensures.sound before.map) refl refl
@@ -99,8 +99,8 @@ returns-clause-tree g c = λ t sound belongs.
     let kept = c.begin.new.self in
     let before = c.begin.ensures.sound t sound in
     let items = c.begin.new.self.records.items in
-    let root = c.in-Ok.root in
-    let directory = c.in-Ok.directory in
+    let root = c.in-Ok.made.0 in
+    let directory = c.in-Ok.made.1 in
     let r : LayerRecord =
     record {
       name = c.name_of.result;
@@ -118,7 +118,7 @@ returns-clause-tree g c = λ t sound belongs.
     brings_before c.args.self.now kept _ c.args.name.now IsEmptyLeaf
     (c.begin.ensures.keeps.map.pages_stay sound.map.honest) c.begin.ensures.keeps.records
     (tree_made kept _ t c.args.name.now c.args.place before belongs c.args.dims c.args.fanout
-    c.requires.may_be c.in-Ok.root c.in-Ok.directory
+    c.requires.may_be c.in-Ok.made.0 c.in-Ok.made.1
     (c.in-Ok.ensures.made before.map c.args.fanout)
     c.in-Ok.ensures.places.0 c.in-Ok.ensures.changes.next records)
 

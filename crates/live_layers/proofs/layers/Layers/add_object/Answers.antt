@@ -1,10 +1,11 @@
 -- The object is in the tree and in the table, and the record says so; or the change was refused, or broke
 -- off.
-use Rattle.std.proofs.Common.{Err, refl, inl, arith}
+use Rattle.std.proofs.Common.{Err, refl, inl, arith, subst, sym}
 use Rattle.box_math.specs.Objects.{Object}
 use Rattle.plain_table.specs.Table.{layer_at}
 use Rattle.layer_pages.specs.Changes.{most_inserted_pages}
-use Rattle.live_layers.specs.Broken.{told_by}
+use Rattle.page_file.specs.Fault.{IsOfDevice}
+use Rattle.live_layers.specs.declared.broken.Broken.{Broken}
 use Rattle.live_layers.proofs.CountLemmas.{no_page_wanted}
 use Rattle.live_layers.specs.Rules.{HasGained}
 use Rattle.live_layers.proofs.AddLemmas.{sound_added, stands_at, tree_added}
@@ -49,8 +50,7 @@ returns-in-Err-clause-faults g c = λ t name sound finds dims.
     let by = c.locate-located.ensures.by_record in
     let id = c.args.id in
     let at = stands_at kept t name c.args.place before finds located by g.row.D dims in
-    the_err (Err c.broken_by.result) (told_by c.insert.new.cache c.in-Err.fault) _
-    c.broken_by.ensures
+    subst (λ (b : Broken). IsOfDevice b.cause) (sym c.broken_by.ensures)
     (no_page_wanted kept t before c.locate-located.ensures.few most_inserted_pages c.insert.new.cache _
     (omega (arith)) c.insert.ensures.grows
     (c.in-Err.ensures.faults before.map (reading kept t name c.args.place before finds).pages

@@ -1,8 +1,9 @@
 -- The tree is packed and the table filled, and the record says so; or the change was refused, or broke off.
-use Rattle.std.proofs.Common.{Err, length, refl, arith}
+use Rattle.std.proofs.Common.{Err, length, refl, arith, subst, sym}
 use Rattle.plain_table.specs.Table.{layer_at}
 use Rattle.layer_pages.specs.Changes.{most_loaded_pages}
-use Rattle.live_layers.specs.Broken.{told_by}
+use Rattle.page_file.specs.Fault.{IsOfDevice}
+use Rattle.live_layers.specs.declared.broken.Broken.{Broken}
 use Rattle.live_layers.proofs.CountLemmas.{no_page_wanted_by_load}
 use Rattle.live_layers.specs.Rules.{HasFilled}
 use Rattle.live_layers.proofs.BegunLemmas.{broke_behind, made_behind, not_opened}
@@ -37,8 +38,7 @@ returns-in-Err-clause-faults g c = λ t name all sound finds dims none same.
     let empty_there =
     stands_empty kept t name c.args.place before finds located c.locate-located.ensures.by_record g.row.D
     dims none in
-    the_err (Err c.broken_by.result) (told_by c.load.new.cache c.in-Err.fault) _
-    c.broken_by.ensures
+    subst (λ (b : Broken). IsOfDevice b.cause) (sym c.broken_by.ensures)
     (no_page_wanted_by_load kept t before c.locate-located.ensures.few (most_loaded_pages count) count
     c.load.new.cache _ (omega (arith, c.requires.room, c.begin.ensures.count)) (omega (arith))
     c.load.ensures.grows

@@ -1,13 +1,13 @@
 -- The pages are free, and the record is out; or the change was refused, or broke off.
-use Rattle.std.proofs.Common.{Err, length, ap, arith, refl}
+use Rattle.std.proofs.Common.{Err, length, ap, arith, refl, subst, sym}
 use Rattle.catalog_page.specs.Layout.{records_of}
 use Rattle.plain_table.specs.Table.{layer_at}
-use Rattle.live_layers.specs.Broken.{told_by}
+use Rattle.page_file.specs.Fault.{IsOfDevice}
+use Rattle.live_layers.specs.declared.broken.Broken.{Broken}
 use Rattle.live_layers.proofs.AddLemmas.{stands_at}
 use Rattle.live_layers.proofs.BegunLemmas.{broke_behind, made_behind, not_opened}
 use Rattle.live_layers.proofs.DropLemmas.{keeps_before, one_less_may_be, sound_less, taken_out, trees_left}
 use Rattle.live_layers.proofs.ReplaceLemmas.{reading}
-use Rattle.live_layers.proofs.Results.{the_err}
 use Rattle.live_layers.proofs.layers.Layers.take_layer.Goals as goal
 
 pub returns-in_err-begin-clause-begins : goal.returns-in_err-begin-clause-begins
@@ -31,8 +31,7 @@ returns-in-Err-clause-faults g c = λ t name sound finds.
     let at =
     stands_at kept t name c.args.place before finds located c.locate-located.ensures.by_record
     located.dims dims in
-    the_err (Err c.broken_by.result) (told_by c.free_pages.new.cache c.in-Err.fault) _
-    c.broken_by.ensures
+    subst (λ (b : Broken). IsOfDevice b.cause) (sym c.broken_by.ensures)
     (c.in-Err.ensures.faults before.map (reading kept t name c.args.place before finds).pages
     located.fanout (layer_at t name).objects at)
 

@@ -1,15 +1,15 @@
 -- The object is in neither the tree nor the table, and the record says so; or the change was refused, or
 -- broke off.
-use Rattle.std.proofs.Common.{Err, refl, arith}
+use Rattle.std.proofs.Common.{Err, refl, arith, subst, sym}
 use Rattle.plain_table.specs.Table.{layer_at}
 use Rattle.condense.specs.Removed.{most_removal_pages}
-use Rattle.live_layers.specs.Broken.{told_by}
+use Rattle.page_file.specs.Fault.{IsOfDevice}
+use Rattle.live_layers.specs.declared.broken.Broken.{Broken}
 use Rattle.live_layers.proofs.CountLemmas.{no_page_wanted}
 use Rattle.live_layers.specs.Rules.{HasLost}
 use Rattle.live_layers.proofs.AddLemmas.{stands_at}
 use Rattle.live_layers.proofs.BegunLemmas.{broke_behind, made_behind, no_memory, not_opened}
 use Rattle.live_layers.proofs.ReplaceLemmas.{changes_before, reading}
-use Rattle.live_layers.proofs.Results.{the_err}
 use Rattle.live_layers.proofs.TakeLemmas.{sound_taken, tree_taken}
 use Rattle.live_layers.proofs.layers.Layers.take_object.Goals as goal
 
@@ -43,8 +43,7 @@ returns-in-Err-clause-faults g c = λ t name sound finds dims there.
     let at =
     stands_at kept t name c.args.place before finds c.locate-located.result
     c.locate-located.ensures.by_record g.row.D dims in
-    the_err (Err c.broken_by.result) (told_by c.remove.new.cache c.in-Err.fault) _
-    c.broken_by.ensures
+    subst (λ (b : Broken). IsOfDevice b.cause) (sym c.broken_by.ensures)
     (no_page_wanted kept t before c.locate-located.ensures.few most_removal_pages c.remove.new.cache _
     (omega (arith)) c.remove.ensures.grows
     (c.in-Err.ensures.faults before.map (reading kept t name c.args.place before finds).pages
