@@ -4,4 +4,5 @@ pub mod EntryLemmas
 pub mod FoundLemmas
 pub mod EndLemmas
 pub mod DescentLemmas
+pub mod DamageLemmas
 pub mod Examples

@@ -1,14 +1,16 @@
 //! The descent of a range query into the nodes that it admits.
 
-ghost use Rattle.std.specs.Prelude.{◌≡◌, ◌⊎◌, ℕ, ◌+◌, ◌++◌, ◌<◌, Some, map, IfErr, IfOk, OnOk};
+ghost use Rattle.std.specs.Prelude.{◌≡◌, ◌⊎◌, ℕ, ◌+◌, ◌++◌, ◌<◌, Some, All, map, IfErr, IfOk, OnOk};
 ghost use Rattle.block_device.specs.Device.{one_more};
 ghost use Rattle.box_math.specs.Bounds.{IsDims};
 ghost use Rattle.page_file.specs.Fault.{IsDamage, IsOfDevice};
-ghost use Rattle.page_cache.specs.Cache.{IsHonest, looks_of, pages};
+ghost use Rattle.page_file.specs.declared.fault.Fault.TheVariants as fault;
+ghost use Rattle.page_cache.specs.Cache.{IsHonest, given, looks_of, pages};
 ghost use Rattle.page_cache.specs.Calls.{Asks};
 ghost use Rattle.tree_node.specs.Nodes.{NodeContent, item_of};
 ghost use Rattle.tree_node.specs.Searches.{counted, objects_reached, reached};
 ghost use Rattle.tree_node.specs.Trees.{Row};
+ghost use Rattle.node_page.specs.Checked.{ComesTo, Names};
 ghost use Rattle.node_page.specs.Standing.{StandsAt, node_in};
 ghost use Rattle.range_query.specs.Entries.{object_of, passing_entries, reference_of, wanted, wanted_entries};
 ghost use Rattle.range_query.specs.Queries.{has_tag, having, is_admitted, is_sought};
@@ -23,7 +25,8 @@ use page_file::Fault;
 use std::alloc::Allocator;
 
 /// Appends the objects below a node that are sought and have the tag, if one is asked for, and that are
-/// reached through admitted boxes, from left to right.
+/// reached through admitted boxes, from left to right. `Damaged` names a page that a walk down the nodes comes
+/// to.
 pub(crate) fn descend<const D: usize, B: BlockDevice, A: Allocator + Copy, H: Allocator>(
     cache: &mut PageCache<B, A>,
     root: Root,
@@ -41,6 +44,8 @@ pub(crate) fn descend<const D: usize, B: BlockDevice, A: Allocator + Copy, H: Al
         ≡ counted (looks_of cache.old) (1 + reached (is_admitted query.now) row)) }
     ensures stands { IsHonest cache.old → (row : Row) → StandsAt D (pages cache.old) root.page root.level row
         → IfErr result IsOfDevice }
+    ensures damage { IsHonest cache.old
+        → IfErr result (λ f. (n : ℕ) → f ≡ fault.Damaged n → ComesTo D (given cache.old) root.page n) }
     ensures other_faults { IfErr result (λ f. IsOfDevice f ⊎ IsDamage f) }
 {
     if root.level == 0 {
@@ -75,6 +80,7 @@ fn add_sought<const D: usize, B: BlockDevice, A: Allocator + Copy, H: Allocator>
     ensures there { IsHonest cache.old → (c : NodeContent) → node_in D (pages cache.old page) ≡ Some c →
         c.level ≡ 0
         → IfErr result IsOfDevice }
+    ensures faults { IsHonest cache.old → IfErr result (λ f. IsOfDevice f ⊎ (f ≡ fault.Damaged page)) }
     ensures other_faults { IfErr result (λ f. IsOfDevice f ⊎ IsDamage f) }
 {
     let leaf = view_node::<D, B, A>(cache, page, 0)?;
@@ -124,9 +130,12 @@ fn admitted_children<const D: usize, B: BlockDevice, A: Allocator + Copy>(
         → c.level ≡ root.level
         → IfOk result (λ children. children.items ≡ map reference_of (passing_entries
         (is_admitted query.now) c.entries)) }
+    ensures named { IsHonest cache.old → IfOk result (λ children. (c : NodeContent)
+        × (node_in D (given cache.old root.page) ≡ Some c) × All (Names c) children.items) }
     ensures looks { OnOk result (looks_of cache.new ≡ one_more (looks_of cache.old)) }
     ensures there { IsHonest cache.old → (c : NodeContent) → node_in D (pages cache.old root.page) ≡ Some c
         → c.level ≡ root.level → IfErr result IsOfDevice }
+    ensures faults { IsHonest cache.old → IfErr result (λ f. IsOfDevice f ⊎ (f ≡ fault.Damaged root.page)) }
     ensures other_faults { IfErr result (λ f. IsOfDevice f ⊎ IsDamage f) }
 {
     let node = view_node::<D, B, A>(cache, root.page, root.level)?;

@@ -1,13 +1,17 @@
 -- The goals of `descend` that are proved by hand.
-use Rattle.std.proofs.Common.{◌∙◌, ℕ, ◌+◌, ◌<◌, ◌++◌, List, ap, sym, arith, refl}
+use Rattle.std.proofs.Common.{◌≡◌, ◌∙◌, ◌⊎◌, ℕ, ◌+◌, ◌<◌, ◌++◌, List, [], All, ap, sym, subst, arith, refl}
 use Rattle.box_math.specs.Objects.{Object}
 use Rattle.page_file.specs.Fault.{IsOfDevice}
-use Rattle.page_cache.specs.Cache.{looks_of, pages}
+use Rattle.page_file.specs.declared.fault.Fault.TheVariants as fault
+use Rattle.page_cache.specs.Cache.{given, looks_of, pages}
 use Rattle.page_cache.specs.Calls.{asks_and_refuses}
 use Rattle.tree_node.specs.Searches.{counted}
+use Rattle.node_page.specs.Checked.{ComesTo, Names}
 use Rattle.node_page.specs.Standing.{PageMap}
-use Rattle.node_page.proofs.NodeLemmas.{at_error, on_ok}
+use Rattle.node_page.proofs.DamageLemmas.{damaged_read}
+use Rattle.node_page.proofs.NodeLemmas.{at_error, if_error, on_ok}
 use Rattle.range_query.specs.Queries.{is_admitted, is_sought}
+use Rattle.range_query.proofs.DamageLemmas.{comes_by_child}
 use Rattle.range_query.proofs.DescentLemmas.{all_found, all_looked, children_found, children_looked}
 use Rattle.range_query.proofs.DescentLemmas.{children_named, children_of, children_stand, leaf_found}
 use Rattle.range_query.proofs.DescentLemmas.{leaf_looked, stands_here, went_into}
@@ -82,3 +86,35 @@ returns-clause-looks g t c = λ h row at.
     all_looked c.loop-page.invariant (omega (arith, c.loop-page-test.false)) h (children_of guard row) named
     (children_stand g.row.D m c.args.root.level guard row at.below)
     ∙ ap (λ (n : ℕ). counted (looks_of c.args.cache.now) (1 + n)) (children_looked guard row)
+
+pub returns-then-root-eq0-clause-damage : goal.returns-then-root-eq0-clause-damage
+returns-then-root-eq0-clause-damage g t c = λ h.
+    if_error c.add_sought.result
+    (λ f. IsOfDevice f ⊎ (f ≡ fault.Damaged c.args.root.page))
+    (λ f. (n : ℕ) → f ≡ fault.Damaged n → ComesTo g.row.D (given c.args.cache.now) c.args.root.page n)
+    (λ f is n damaged. ([], damaged_read f c.args.root.page n is damaged))
+    (c.add_sought.ensures.faults h)
+
+pub returns-in_err-children-clause-damage : goal.returns-in_err-children-clause-damage
+returns-in_err-children-clause-damage g t c = λ h.
+    at_error c.from_residual.result c.in_err-children.field-0.0
+    (λ f. (n : ℕ) → f ≡ fault.Damaged n → ComesTo g.row.D (given c.args.cache.now) c.args.root.page n)
+    c.from_residual.ensures.1
+    (λ n damaged. (
+      [],
+      damaged_read c.in_err-children.field-0.0 c.args.root.page n (c.in_err-children.ensures.faults h)
+          damaged,
+    ))
+
+pub returns-in_err-descend-clause-damage : goal.returns-in_err-descend-clause-damage
+returns-in_err-descend-clause-damage g t c = λ h.
+    let asks = c.loop-page.invariant.asks in
+    let node = c.in_ok-children.ensures.named h in
+    let named = subst (λ (ns : List ℕ). All (Names node.0) ns) (sym c.as_slice-page-items.ensures.value)
+    node.2 in
+    at_error c.from_residual-in_err-descend.result c.in_err-descend.field-0.0
+    (λ f. (n : ℕ) → f ≡ fault.Damaged n → ComesTo g.row.D (given c.args.cache.now) c.args.root.page n)
+    c.from_residual-in_err-descend.ensures.1
+    (λ n damaged. comes_by_child g.row.D (given c.args.cache.now) (given c.loop-page.cache) c.args.root.page
+    node.0 _ c.loop-page.page-index n node.1 named (omega (arith, c.loop-page-test.true))
+    (λ k. asks.map.given_stay h k) (c.in_err-descend.ensures.damage (asks.gate.honest.0 h) n damaged))

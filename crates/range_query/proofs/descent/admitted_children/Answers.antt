@@ -8,6 +8,7 @@ use Rattle.node_page.proofs.StandingLemmas.{page_of_node, same_content}
 use Rattle.range_query.specs.Entries.{passing_entries, reference_of}
 use Rattle.range_query.specs.Queries.{is_admitted}
 use Rattle.range_query.proofs.EntryLemmas.{Taken, admitted_to, all_taken, none_taken, one_passed, one_taken}
+use Rattle.range_query.proofs.DamageLemmas.{taken_are_named}
 use Rattle.range_query.proofs.descent.admitted_children.Goals as goal
 
 pub entries-init : goal.entries-init
@@ -55,3 +56,13 @@ returns-clause-children g c = λ h content there level.
     subst (λ items. c.entries.children.items ≡ map reference_of
     (passing_entries (is_admitted c.args.query.now) items)) same
     (all_taken c.entries.invariant.0 (omega (arith, c.entries-test.false, c.len-count.ensures.count)))
+
+pub returns-clause-named : goal.returns-clause-named
+returns-clause-named g c = λ h.
+    let content = content_in c.in_ok-node.node in (
+      content,
+      c.in_ok-node.ensures.given_node h,
+      taken_are_named (is_admitted c.args.query.now) content c.entries.children.items
+          (omega (arith, c.requires.above, c.in_ok-node.ensures.level))
+          (all_taken c.entries.invariant.0 (omega (arith, c.entries-test.false, c.len-count.ensures.count))),
+    )
