@@ -7,7 +7,7 @@
 set -eu
 here="$(cd "$(dirname "$0")" && pwd)"
 top="$(cd "$here/.." && pwd)"
-work="$(mktemp -d)"
+if [ -w /dev/shm ]; then export TMPDIR=/dev/shm; fi 
 trap 'rm -rf "$work"' EXIT
 lib="$work/lib"
 "$here/build.sh" "$lib" 2>"$work/log" || { cat "$work/log" >&2; exit 1; }
