@@ -7,7 +7,8 @@
 set -eu
 here="$(cd "$(dirname "$0")" && pwd)"
 top="$(cd "$here/.." && pwd)"
-if [ -w /dev/shm ]; then export TMPDIR=/dev/shm; fi 
+if [ -w /dev/shm ]; then export TMPDIR=/dev/shm; fi  # where a sync takes no time
+work="$(mktemp -d)"
 trap 'rm -rf "$work"' EXIT
 lib="$work/lib"
 "$here/build.sh" "$lib" 2>"$work/log" || { cat "$work/log" >&2; exit 1; }
