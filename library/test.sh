@@ -7,6 +7,7 @@
 set -eu
 here="$(cd "$(dirname "$0")" && pwd)"
 top="$(cd "$here/.." && pwd)"
+if [ -w /dev/shm ]; then export TMPDIR=/dev/shm; fi  # where a sync takes no time
 work="$(mktemp -d)"
 trap 'rm -rf "$work"' EXIT
 lib="$work/lib"

@@ -292,10 +292,12 @@ def kills(folder: str, rounds: int) -> None:
                     db.commit()
                     os.write(write, struct.pack("Q", n))
         os.close(write)
-        time.sleep(dice.random() * 0.05)
+        # every other one is killed once it has committed, whatever the machine's speed
+        told = os.read(read, 8) if turn % 2 else b""
+        time.sleep(dice.random() * 0.03)
         os.kill(child, signal.SIGKILL)
         os.waitpid(child, 0)
-        told = os.read(read, 1 << 20)
+        told += os.read(read, 1 << 20)
         os.close(read)
         known = struct.unpack_from("Q", told, len(told) - 8)[0] if told else 0
         if os.path.exists(path + "-journal") and turn % 3 == 0:
