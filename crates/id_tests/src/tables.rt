@@ -13,7 +13,6 @@ use block_bytes::{read_u16, read_u32};
 use block_device::MemoryDevice;
 use box_math::BBox;
 use id_table::{add, fill, free_all, get, make, remove, update};
-use node_page::Broken;
 use page_file::Fault;
 use std::alloc::Global;
 use std::test::Fail;
@@ -49,7 +48,7 @@ fn new_table<const D: usize>(cache: &mut Cache) -> Result<u32, Fault>
     requires open { gate_of cache.old ≡ Open }
     ensures open { gate_of cache.new ≡ Open }
 {
-    make::<D, _, _>(cache).map_err(|broken| broken.cause)
+    make::<D, _, _>(cache)
 }
 
 fn put<const D: usize>(
@@ -63,7 +62,7 @@ fn put<const D: usize>(
     requires open { gate_of cache.old ≡ Open }
     ensures open { gate_of cache.new ≡ Open }
 {
-    add(cache, table, id, &point::<D>(at)?, tag).map_err(|broken| broken.cause)
+    add(cache, table, id, &point::<D>(at)?, tag)
 }
 
 fn fill_in<const D: usize>(
@@ -75,7 +74,7 @@ fn fill_in<const D: usize>(
     requires open { gate_of cache.old ≡ Open }
     ensures open { gate_of cache.new ≡ Open }
 {
-    fill(cache, table, objects).map_err(|broken| broken.cause)
+    fill(cache, table, objects)
 }
 
 fn take<const D: usize>(cache: &mut Cache, table: u32, id: u64) -> Result<(), Fault>
@@ -83,7 +82,7 @@ fn take<const D: usize>(cache: &mut Cache, table: u32, id: u64) -> Result<(), Fa
     requires open { gate_of cache.old ≡ Open }
     ensures open { gate_of cache.new ≡ Open }
 {
-    remove::<D, _, _>(cache, table, id).map_err(|broken| broken.cause)
+    remove::<D, _, _>(cache, table, id)
 }
 
 fn set<const D: usize>(cache: &mut Cache, table: u32, id: u64, at: i32) -> Result<(), Fault>
@@ -358,7 +357,7 @@ fn remove_sevens(cache: &mut Cache, table: u32) -> Result<bool, Fault>
 fn is_given_up(cache: &mut Cache, table: u32) -> Result<bool, Fault>
     requires { gate_of cache.old ≡ Open }
 {
-    free_all::<3, _, _>(cache, table).map_err(|broken| broken.cause)?;
+    free_all::<3, _, _>(cache, table)?;
     for number in 3..7 {
         if cache.page(number)?[0] != 5 {
             return Ok(false);
@@ -422,14 +421,9 @@ fn a_chain_without_an_end_is_damaged(rt: HostRuntime) -> Result<(), Fail> {
         Some(Fault::Damaged(4))
     );
     assert_eq!(rt; cache.looks(), before.saturating_add(6));
+    cache.begin_change()?;
     let missing = remove::<2, _, _>(&mut cache, table, 1005);
-    let cause = Fault::Damaged(4);
-    assert_eq!(rt;
-        missing,
-        Err(Broken {
-            cause,
-            touched: false
-        })
-    );
+    assert_eq!(rt; missing, Err(Fault::Damaged(4)));
+    assert!(rt; !cache.is_touched());
     Ok(())
 }
