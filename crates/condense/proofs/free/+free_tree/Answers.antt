@@ -37,7 +37,8 @@ children-preserved g t c = (
       (c.in_ok-node.ensures.node h.honest) c.in_ok-node.ensures.level c.child_count-at-end.ensures.leaf
       c.child_count-at-end.ensures.above so_far.1 (omega (arith, c.children-test.true))
       c.child_of-below.result c.child_of-below.ensures.page c.child_of-below.ensures.level in (
-        c.in_ok-free_tree.ensures.sound so_far.0 (tree_at below next.row) (is_root below next.row) next.stands,
+        c.in_ok-free_tree.ensures.sound so_far.0 (tree_at below next.row) (is_root below next.row)
+            next.stands,
         next.goes (pages c.free_tree.new.cache)
             (c.in_ok-free_tree.ensures.freed so_far.0 (tree_at below next.row) (is_root below next.row)
             next.stands),
@@ -60,9 +61,7 @@ returns-in_err-free_tree-clause-changes g t c =
 pub returns-in_err-free_tree-clause-asked : goal.returns-in_err-free_tree-clause-asked
 returns-in_err-free_tree-clause-asked g t c =
     refusal_asks c.args.cache.now c.free_tree.new.cache c.from_residual-in_err-free_tree.result
-    (changes_and_refuses c.args.cache.now c.children.cache c.free_tree.new.cache
-    c.in_err-free_tree.field-0.0 c.from_residual-in_err-free_tree.result
-    c.from_residual-in_err-free_tree.ensures.1 c.children.invariant.0 c.in_err-free_tree.ensures.changes)
+    (returns-in_err-free_tree-clause-changes g t c)
 
 pub returns-in_err-free_tree-clause-sound : goal.returns-in_err-free_tree-clause-sound
 returns-in_err-free_tree-clause-sound g t c = λ h whole at standing.
@@ -102,9 +101,7 @@ returns-clause-changes g t c =
 
 pub returns-clause-asked : goal.returns-clause-asked
 returns-clause-asked g t c =
-    refusal_asks c.args.cache.now c.free.new.self c.free.result
-    (changes_in_turn c.args.cache.now c.children.cache c.free.new.self (fault_in c.free.result)
-    c.children.invariant.0 c.free.ensures.changes)
+    refusal_asks c.args.cache.now c.free.new.self c.free.result (returns-clause-changes g t c)
 
 pub returns-clause-freed : goal.returns-clause-freed
 returns-clause-freed g t c = λ h whole at standing.

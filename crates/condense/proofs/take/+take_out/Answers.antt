@@ -360,7 +360,8 @@ returns-in-children-clause-changes g t c =
 
 pub returns-in-children-clause-cut : goal.returns-in-children-clause-cut
 returns-in-children-clause-cut g t c =
-    λ yes. subst (λ l. IsCut l (content_of c.put_child.new.node)) c.children.invariant.3 c.in_ok-put_child.ensures.cut
+    λ yes. subst (λ l. IsCut l (content_of c.put_child.new.node)) c.children.invariant.3
+    c.in_ok-put_child.ensures.cut
 
 pub returns-in-children-clause-room : goal.returns-in-children-clause-room
 returns-in-children-clause-room g t c =
