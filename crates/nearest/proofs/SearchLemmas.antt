@@ -17,7 +17,7 @@ use Rattle.block_device.specs.Device.{one_more}
 use Rattle.box_math.specs.Bounds.{Bounds}
 use Rattle.box_math.specs.Measures.{point_dist2_of}
 use Rattle.box_math.proofs.Growth.{point_dist2_of-falls}
-use Rattle.page_cache.specs.Cache.{IsHonest, looks_of, pages}
+use Rattle.page_cache.specs.Cache.{IsHonest, given, looks_of, pages}
 use Rattle.page_cache.specs.Calls.{Asks, AsksUntil, asks_and_refuses, asks_in_turn, no_call_asks}
 use Rattle.page_file.specs.declared.fault.Fault.{Fault}
 use Rattle.page_file.specs.declared.fault.Fault.TheVariants as fault
@@ -25,6 +25,7 @@ use Rattle.std.specs.Prelude.{IsErrAnd, OnOk, Result, Ok, Err}
 use Rattle.page_cache.specs.Laws.{looks_are_few}
 use Rattle.page_cache.specs.declared.cache.PageCache.{PageCache}
 use Rattle.tree_node.specs.Searches.{Guards, admitted, counted, reached}
+use Rattle.node_page.specs.Checked.{Names}
 use Rattle.node_page.specs.Rooted.{IsTreeAt}
 use Rattle.tree_node.specs.Nodes.{NodeContent}
 use Rattle.tree_node.specs.Trees.{Row, Tree, row_items}
@@ -38,6 +39,8 @@ use Rattle.nearest.specs.Candidates.{IsAsFar, Past, candidate_at, offered, row_a
 use Rattle.box_math.specs.Nearest.{nearest_first}
 use Rattle.nearest.specs.Nearest.{is_searched, nearest_rows}
 use Rattle.nearest.proofs.OrderLemmas.{Ascends-nearest_first}
+use Rattle.nearest.proofs.DamageLemmas.{IsReached, begins_so, children_reached, of_first, of_settled}
+use Rattle.nearest.proofs.DamageLemmas.{of_shared}
 use Rattle.nearest.proofs.AnswerLemmas.{and_then, last_past, offered_are_first, past_last, past_le}
 use Rattle.nearest.proofs.AnswerLemmas.{past_length, past_or_not, past_take, take_past}
 use Rattle.nearest.proofs.FrontierLemmas.{Front, Pending, admitted_of, all_front, answered, branches}
@@ -428,6 +431,7 @@ module _ {B A : Type 0} {m : _} where
     pub asks : AsksUntil old now None
     pub few : length best ≤ k
     pub led : (d : ℕ) → All (IsAsFar d) queue → All (IsAsFar d) fresh
+    pub reached : IsHonest old → All (IsReached dims (given old) root.page) (queue ++ fresh)
     pub tree : IsHonest old → (t : Tree) (most : ℕ) → IsTreeAt dims most (pages old) root t
         → Frontier dims (pages old) (far_from dims point) t.row k (queue ++ fresh) best (looks_of old)
         (looks_of now)
@@ -457,6 +461,9 @@ module _ {B A : Type 0} {m : _} where
     asks = no_call_asks cache;
     few = omega arith;
     led = λ d h. none_as_far d;
+    reached =
+        λ h. begins_so (IsReached dims (given cache) root.page)
+        (record { distance = 0; page = root.page; level = root.level }) queue ([], refl) perm;
     tree = λ h t most is.
         let at = tree_at dims most (pages cache) root t is in
         let nested =
@@ -516,6 +523,11 @@ module _ {B A : Type 0} {m : _} where
           reordered (queue ++ fresh) (x ∷ (rest ++ fresh)) (so_far.tree h t most tree)
           (IsPermutation-append_left fresh queue (x ∷ rest) perm)
 
+      -- a walk comes to the node that was taken
+      pub first_reached : IsHonest old → IsReached dims (given old) root.page x
+      first_reached h =
+          of_first (IsReached dims (given old) root.page) queue fresh rest x perm (so_far.reached h)
+
       module _ (within : Past x.distance k best → ⊥) where
         -- the node that was taken stands in the pages
         pub node_there : IsHonest old → (t : Tree) (most : ℕ) → IsTreeAt dims most (pages old) root t
@@ -539,6 +551,12 @@ module _ {B A : Type 0} {m : _} where
           asks = asks_in_turn old now next None so_far.asks asks;
           few = few;
           led = λ d h. none_as_far d;
+          reached = λ h.
+              let all =
+              of_settled (IsReached dims (given old) root.page) queue fresh rest x perm (so_far.reached h)
+              waiting gone moved in
+              subst (λ (cs : List Candidate). All (IsReached dims (given old) root.page) cs)
+              (sym (append-nil waiting)) all;
           tree = λ h t most tree.
               let o = opened x (rest ++ fresh) (taken h t most tree) rest_as_far within in
               let content : NodeContent = record { level = x.level; entries = row_items o.row } in
@@ -564,14 +582,25 @@ module _ {B A : Type 0} {m : _} where
             → All (λ c. Past c.distance k best) gone
             → (IsHonest now → (c : NodeContent) → node_in dims (pages now x.page) ≡ Some c
             → c.level ≡ x.level → newest ≡ kept ++ map (candidate_at (far_from dims point) x.level) c.entries)
+            → (IsHonest now → (c : NodeContent) × (node_in dims (given now x.page) ≡ Some c)
+            × (children : List Candidate) × (newest ≡ kept ++ children)
+            × All (λ child. Names c child.page) children)
             → IsPermutation (waiting ++ newest) (later ++ newer)
             → ((d : ℕ) → All (IsAsFar d) later → All (IsAsFar d) newer)
             → Searching dims k root point old next later newer best
-        node_on high next waiting kept gone newest later newer asks looked moved past entries shared led =
-            record {
+        node_on high next waiting kept gone newest later newer asks looked moved past entries named shared
+            led = record {
               asks = asks_in_turn old now next None so_far.asks asks;
               few = so_far.few;
               led = led;
+              reached = λ h.
+                  let P = IsReached dims (given old) root.page in
+                  let node = named (so_far.asks.gate.honest.0 h) in
+                  let there = ap (node_in dims) (sym (so_far.asks.map.given_stay h x.page)) ∙ node.1 in
+                  of_shared P queue fresh rest x perm (so_far.reached h) waiting kept gone newest node.2
+                  later newer moved node.3
+                  (children_reached dims (given old) root.page x node.0 node.2 (first_reached h) there node.4)
+                  shared;
               tree = λ h t most tree.
                   let both = waiting ++ kept in
                   let near : Frontier dims (pages old) (far_from dims point) t.row k (x ∷ both) best
@@ -590,8 +619,8 @@ module _ {B A : Type 0} {m : _} where
                   let children = map (candidate_at (far_from dims point) x.level) (row_items o.row) in
                   let f : Frontier dims (pages old) (far_from dims point) t.row k (waiting ++ newest) best
                   (looks_of old) (looks_of next) =
-                  subst (λ (n : ℕ). Frontier dims (pages old) (far_from dims point) t.row k (waiting ++ newest)
-                  best (looks_of old) n) (sym looked)
+                  subst (λ (n : ℕ). Frontier dims (pages old) (far_from dims point) t.row k
+                  (waiting ++ newest) best (looks_of old) n) (sym looked)
                   (subst (λ (cs : List Candidate). Frontier dims (pages old) (far_from dims point) t.row k cs
                   best (looks_of old) (one_more (looks_of now)))
                   (append_assoc waiting kept children ∙ ap (λ (cs : List Candidate). waiting ++ cs) (sym is))

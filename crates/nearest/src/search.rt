@@ -9,11 +9,12 @@ ghost use Rattle.box_math.specs.Masks.{has_bit};
 ghost use Rattle.box_math.specs.Measures.{point_dist2_of};
 ghost use Rattle.page_file.specs.Fault.{IsDamage, IsOfDevice};
 ghost use Rattle.page_file.specs.declared.fault.Fault.TheVariants as fault;
-ghost use Rattle.page_cache.specs.Cache.{IsHonest, looks_of, pages};
+ghost use Rattle.page_cache.specs.Cache.{IsHonest, given, looks_of, pages};
 ghost use Rattle.page_cache.specs.Calls.{Asks};
 ghost use Rattle.tree_node.specs.Nodes.{Item, NodeContent};
 ghost use Rattle.tree_node.specs.Searches.{admitted, counted};
 ghost use Rattle.tree_node.specs.Trees.{Tree};
+ghost use Rattle.node_page.specs.Checked.{ComesTo, Names};
 ghost use Rattle.node_page.specs.Rooted.{IsTreeAt};
 ghost use Rattle.node_page.specs.Standing.{node_in};
 ghost use Rattle.node_page.specs.Views.{content_in};
@@ -38,7 +39,8 @@ const MANY: usize = 128;
 ///
 /// On an honest device, where the tree stands in the pages with the shape of an R-tree, a refusal is `Memory`
 /// or `Device`, and each node is looked at whose box is no farther than the last of k answers, and no other
-/// but the root. On other pages a refusal may be `Damaged` too. Map and gate stay, also after a refusal.
+/// but the root. On other pages a refusal may be `Damaged` too, with the number of a page that a walk down
+/// the nodes comes to. Map and gate stay, also after a refusal.
 pub fn nearest<const D: usize, B: BlockDevice, A: Allocator + Copy, H: Allocator + Copy>(
     alloc: H,
     cache: &mut PageCache<B, A>,
@@ -56,6 +58,8 @@ pub fn nearest<const D: usize, B: BlockDevice, A: Allocator + Copy, H: Allocator
         (admitted (is_searched D k point.now (nearest_rows D k point.now t)) t)) }
     ensures stands { IsHonest cache.old → (t : Tree) (most : ℕ) → IsTreeAt D most (pages cache.old) root t →
         IfErr result IsOfDevice }
+    ensures damage { IsHonest cache.old
+        → IfErr result (λ f. (n : ℕ) → f ≡ fault.Damaged n → ComesTo D (given cache.old) root.page n) }
     ensures other_faults { IfErr result (λ f. IsOfDevice f ⊎ IsDamage f) }
 {
     let mut best = Best::new(alloc, k)?;
@@ -114,6 +118,7 @@ fn look_at_objects<const D: usize, B: BlockDevice, A: Allocator + Copy, H: Alloc
     ensures looks { OnOk result (looks_of cache.new ≡ one_more (looks_of cache.old)) }
     ensures there { IsHonest cache.old → (c : NodeContent) → node_in D (pages cache.old page) ≡ Some c
         → c.level ≡ 0 → IfErr result IsOfDevice }
+    ensures faults { IsHonest cache.old → IfErr result (λ f. IsOfDevice f ⊎ (f ≡ fault.Damaged page)) }
     ensures other_faults { IfErr result (λ f. IsOfDevice f ⊎ IsDamage f) }
 {
     let view = view_node::<D, B, A>(cache, page, 0)?;
@@ -161,10 +166,14 @@ fn look_at_children<const D: usize, B: BlockDevice, A: Allocator + Copy, H: Allo
     ensures children { IsHonest cache.old → (c : NodeContent) → node_in D (pages cache.old node.page) ≡ Some c
         → c.level ≡ node.level → OnOk result (fresh.new.items
         ≡ fresh.old.items ++ map (candidate_at (λ b. point_dist2_of D b point.now) node.level) c.entries) }
+    ensures named { IsHonest cache.old → OnOk result ((c : NodeContent)
+        × (node_in D (given cache.old node.page) ≡ Some c) × (children : List Candidate)
+        × (fresh.new.items ≡ fresh.old.items ++ children) × All (λ child. Names c child.page) children) }
     ensures work { OnOk result (work_in fresh.new.items < work_in fresh.old.items + 101 ^ node.level) }
     ensures looks { OnOk result (looks_of cache.new ≡ one_more (looks_of cache.old)) }
     ensures there { IsHonest cache.old → (c : NodeContent) → node_in D (pages cache.old node.page) ≡ Some c
         → c.level ≡ node.level → IfErr result IsOfDevice }
+    ensures faults { IsHonest cache.old → IfErr result (λ f. IsOfDevice f ⊎ (f ≡ fault.Damaged node.page)) }
     ensures other_faults { IfErr result (λ f. IsOfDevice f ⊎ IsDamage f) }
 {
     let view = view_node::<D, B, A>(cache, node.page, node.level)?;

@@ -25,8 +25,8 @@ use page_file::Fault;
 use std::alloc::Allocator;
 
 /// Appends the objects below a node that are sought and have the tag, if one is asked for, and that are
-/// reached through admitted boxes, from left to right. `Damaged` names a page that a walk down the nodes comes
-/// to.
+/// reached through admitted boxes, from left to right. `Damaged` names a page that a walk down the nodes
+/// comes to.
 pub(crate) fn descend<const D: usize, B: BlockDevice, A: Allocator + Copy, H: Allocator>(
     cache: &mut PageCache<B, A>,
     root: Root,

@@ -1,6 +1,7 @@
 -- The files of lemmas.
 pub mod PairLemmas
 pub mod OpeningLemmas
+pub mod DamageLemmas
 pub mod MaskLemmas
 pub mod LeafPairs
 pub mod DescentLemmas

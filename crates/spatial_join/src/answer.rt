@@ -1,12 +1,14 @@
 //! The join of two trees (Brinkhoff, Kriegel and Seeger 1993).
 
-ghost use Rattle.std.specs.Prelude.{◌⊎◌, ◌+◌, ◌*◌, ◌≤◌, ℕ, IfOk, IfErr, OnOk};
+ghost use Rattle.std.specs.Prelude.{◌≡◌, ◌⊎◌, ◌+◌, ◌*◌, ◌≤◌, ℕ, IfOk, IfErr, OnOk};
 ghost use Rattle.box_math.specs.Bounds.{IsDims};
 ghost use Rattle.page_file.specs.Fault.{IsDamage, IsOfDevice};
-ghost use Rattle.page_cache.specs.Cache.{IsHonest, looks_of, pages};
+ghost use Rattle.page_file.specs.declared.fault.Fault.TheVariants as fault;
+ghost use Rattle.page_cache.specs.Cache.{IsHonest, given, looks_of, pages};
 ghost use Rattle.page_cache.specs.Calls.{Asks};
 ghost use Rattle.tree_node.specs.Joins.{admitted_pairs};
 ghost use Rattle.tree_node.specs.Trees.{Tree};
+ghost use Rattle.node_page.specs.Checked.{ComesTo};
 ghost use Rattle.node_page.specs.Rooted.{IsTreeAt};
 ghost use Rattle.spatial_join.specs.Pairs.{IsJoinAnswer};
 
@@ -25,8 +27,9 @@ use std::alloc::Allocator;
 ///
 /// On an honest device, where both trees stand in the pages with the shape of an R-tree, a refusal is
 /// `Memory` or `Device`, and at most two pages are looked at for the pair of roots, and for each other pair
-/// of a node of each tree whose boxes are so near. On other pages a refusal may be `Damaged` too. Map and
-/// gate stay, also after a refusal.
+/// of a node of each tree whose boxes are so near. On other pages a refusal may be `Damaged` too, with the
+/// number of a page that a walk down the nodes comes to from one of the roots. Map and gate stay, also after
+/// a refusal.
 pub fn join<const D: usize, B: BlockDevice, A: Allocator + Copy, H: Allocator>(
     alloc: H,
     cache: &mut PageCache<B, A>,
@@ -45,6 +48,8 @@ pub fn join<const D: usize, B: BlockDevice, A: Allocator + Copy, H: Allocator>(
     ensures stands { IsHonest cache.old → (s t : Tree) (most other_most : ℕ)
         → IsTreeAt D most (pages cache.old) a s → IsTreeAt D other_most (pages cache.old) b t
         → IfErr result IsOfDevice }
+    ensures damage { IsHonest cache.old → IfErr result (λ f. (n : ℕ) → f ≡ fault.Damaged n
+        → ComesTo D (given cache.old) a.page n ⊎ ComesTo D (given cache.old) b.page n) }
     ensures other_faults { IfErr result (λ f. IsOfDevice f ⊎ IsDamage f) }
 {
     let mut pairs = Vec::new(alloc);

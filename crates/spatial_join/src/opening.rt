@@ -4,10 +4,12 @@ ghost use Rattle.std.specs.Prelude.{◌≡◌, ◌⊎◌, ◌+◌, ◌-◌, ◌<
 ghost use Rattle.std.specs.Prelude.{length};
 ghost use Rattle.box_math.specs.Bounds.{IsDims};
 ghost use Rattle.page_file.specs.Fault.{IsDamage, IsOfDevice};
-ghost use Rattle.page_cache.specs.Cache.{IsHonest, looks_of, pages};
+ghost use Rattle.page_file.specs.declared.fault.Fault.TheVariants as fault;
+ghost use Rattle.page_cache.specs.Cache.{IsHonest, given, looks_of, pages};
 ghost use Rattle.page_cache.specs.Calls.{Asks};
 ghost use Rattle.tree_node.specs.Nodes.{content_of};
 ghost use Rattle.tree_node.specs.Trees.{Row, row_items};
+ghost use Rattle.node_page.specs.Checked.{ComesBelow, ComesTo};
 ghost use Rattle.node_page.specs.Standing.{StandsAt};
 ghost use Rattle.spatial_join.specs.Opening.{HasPages, node_box, lone, opened, opened_level, opened_root};
 
@@ -34,11 +36,14 @@ pub(crate) fn open<const D: usize, B: BlockDevice, A: Allocator + Copy>(
     ensures entries { IsHonest cache.old → (row : Row) → StandsAt D (pages cache.old) node.page node.level row
         → IfOk result (λ opening.
         row_items (opened node.level other bounds.now node.page row) ≡ (content_of opening).entries) }
+    ensures walks { IsHonest cache.old → IfOk result (λ opening. (n : ℕ)
+        → ComesBelow D (given cache.old) (content_of opening) n → ComesTo D (given cache.old) node.page n) }
     ensures references { IfOk result (λ opening. HasPages (content_of opening)) }
     ensures few { IfOk result (λ opening. length opening.entries.items ≤ 100) }
     ensures looks { OnOk result (looks_of cache.new ≤ looks_of cache.old + 1) }
     ensures stands { IsHonest cache.old → (row : Row) → StandsAt D (pages cache.old) node.page node.level row
         → IfErr result IsOfDevice }
+    ensures faults { IsHonest cache.old → IfErr result (λ f. IsOfDevice f ⊎ (f ≡ fault.Damaged node.page)) }
     ensures other_faults { IfErr result (λ f. IsOfDevice f ⊎ IsDamage f) }
 {
     if other <= node.level {
@@ -60,11 +65,14 @@ pub(crate) fn open_root<const D: usize, B: BlockDevice, A: Allocator + Copy>(
     ensures entries { IsHonest cache.old → (row : Row) → StandsAt D (pages cache.old) root.page root.level row
         → IfOk result (λ opening.
         row_items (opened_root D root.level other root.page row) ≡ (content_of opening).entries) }
+    ensures walks { IsHonest cache.old → IfOk result (λ opening. (n : ℕ)
+        → ComesBelow D (given cache.old) (content_of opening) n → ComesTo D (given cache.old) root.page n) }
     ensures references { IfOk result (λ opening. HasPages (content_of opening)) }
     ensures few { IfOk result (λ opening. length opening.entries.items ≤ 100) }
     ensures looks { OnOk result (looks_of cache.new ≤ looks_of cache.old + 1) }
     ensures stands { IsHonest cache.old → (row : Row) → StandsAt D (pages cache.old) root.page root.level row
         → IfErr result IsOfDevice }
+    ensures faults { IsHonest cache.old → IfErr result (λ f. IsOfDevice f ⊎ (f ≡ fault.Damaged root.page)) }
     ensures other_faults { IfErr result (λ f. IsOfDevice f ⊎ IsDamage f) }
 {
     let node = read_node::<D, B, A>(cache, root.page, root.level)?;

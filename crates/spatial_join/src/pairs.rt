@@ -6,11 +6,12 @@ ghost use Rattle.box_math.specs.Bounds.{IsDims};
 ghost use Rattle.box_math.specs.Measures.{near_test};
 ghost use Rattle.page_file.specs.Fault.{IsDamage, IsOfDevice};
 ghost use Rattle.page_file.specs.declared.fault.Fault.TheVariants as fault;
-ghost use Rattle.page_cache.specs.Cache.{IsHonest, looks_of, pages};
+ghost use Rattle.page_cache.specs.Cache.{IsHonest, given, looks_of, pages};
 ghost use Rattle.page_cache.specs.Calls.{Asks};
 ghost use Rattle.tree_node.specs.Joins.{boxes_below, near_pairs};
 ghost use Rattle.tree_node.specs.Nodes.{content_of, item_of};
 ghost use Rattle.tree_node.specs.Trees.{Row};
+ghost use Rattle.node_page.specs.Checked.{ComesBelow, ComesTo};
 ghost use Rattle.spatial_join.specs.Masks.{Tells};
 ghost use Rattle.spatial_join.specs.Opening.{Encloses, HasPages, HasRow, sole};
 ghost use Rattle.spatial_join.specs.Pairs.{GainsPairs, pairs_of};
@@ -48,6 +49,9 @@ pub(crate) fn add_pairs<const D: usize, B: BlockDevice, A: Allocator + Copy, H: 
         ≤ looks_of cache.old + 2 * near_pairs D reach.limit (boxes_below s) (boxes_below t)) }
     ensures stands { IsHonest cache.old → (s t : Row) → HasRow D (pages cache.old) (content_of left.now) s
         → HasRow D (pages cache.old) (content_of right.now) t → IfErr result IsOfDevice }
+    ensures damage { IsHonest cache.old → IfErr result (λ f. (n : ℕ) → f ≡ fault.Damaged n
+        → ComesBelow D (given cache.old) (content_of left.now) n
+        ⊎ ComesBelow D (given cache.old) (content_of right.now) n) }
     ensures other_faults { IfErr result (λ f. IsOfDevice f ⊎ IsDamage f) }
 {
     // The boxes are in columns, so that an entry is compared with eight of them at once.
@@ -96,6 +100,9 @@ fn add_pairs_of_entry<const D: usize, B: BlockDevice, A: Allocator + Copy, H: Al
     ensures stands { IsHonest cache.old → (s t : Row) →
         HasRow D (pages cache.old) (sole level (item_of entry.now)) s
         → HasRow D (pages cache.old) (content_of right.now) t → IfErr result IsOfDevice }
+    ensures damage { IsHonest cache.old → IfErr result (λ f. (n : ℕ) → f ≡ fault.Damaged n
+        → ComesTo D (given cache.old) entry.now.reference n
+        ⊎ ComesBelow D (given cache.old) (content_of right.now) n) }
     ensures other_faults { IfErr result (λ f. IsOfDevice f ⊎ IsDamage f) }
 {
     if mask == 0 {

@@ -1,11 +1,15 @@
 -- The goals of `nearest` that are proved by hand.
 use Rattle.std.proofs.Common.{◌≡◌, ◌∙◌, ℕ, None, List, IfOk, ap, subst, arith}
 use Rattle.page_file.specs.Fault.{IsOfDevice}
+use Rattle.page_file.specs.declared.fault.Fault.TheVariants as fault
+use Rattle.page_cache.specs.Cache.{given}
 use Rattle.page_cache.specs.Calls.{asks_and_refuses, asks_in_turn}
-use Rattle.node_page.proofs.NodeLemmas.{at_error}
+use Rattle.node_page.specs.Checked.{ComesTo}
+use Rattle.node_page.proofs.NodeLemmas.{at_error, if_error}
 use Rattle.nearest.specs.Candidates.{work_in}
-use Rattle.nearest.proofs.SearchLemmas.{asks_then_memory, begins, finished, leaf_on, node_on, node_there}
-use Rattle.nearest.proofs.SearchLemmas.{on_ok}
+use Rattle.nearest.proofs.DamageLemmas.{refused_there}
+use Rattle.nearest.proofs.SearchLemmas.{asks_then_memory, begins, finished, first_reached, leaf_on, node_on}
+use Rattle.nearest.proofs.SearchLemmas.{node_there, on_ok}
 use Rattle.nearest.proofs.WorkLemmas.{moved_work, node_work, settled_work, some_work}
 use Rattle.nearest.proofs.search.nearest.Goals as goal
 
@@ -95,7 +99,8 @@ loop-first-preserved g c =
     c.push_nearest.new.fresh.items
     c.in_ok-look_at_children.ensures.asks c.in_ok-look_at_children.ensures.looks
     c.in_ok-settle_many.ensures.all.1 c.in_ok-settle_many.ensures.all.2
-    c.in_ok-look_at_children.ensures.children c.in_ok-push_nearest.ensures.all
+    c.in_ok-look_at_children.ensures.children (λ h. c.in_ok-look_at_children.ensures.named h)
+    c.in_ok-push_nearest.ensures.all
     c.in_ok-push_nearest.ensures.led
 
 pub returns-in_err-push_nearest-clause-asks : goal.returns-in_err-push_nearest-clause-asks
@@ -123,3 +128,35 @@ returns-in_err-look_at_objects-clause-asks g c =
     c.in_err-look_at_objects.field-0.0 c.from_residual-in_err-look_at_objects.result
     c.from_residual-in_err-look_at_objects.ensures.1 c.loop-first.invariant.asks
     c.in_err-look_at_objects.ensures.asks
+
+pub returns-in_err-look_at_objects-clause-damage : goal.returns-in_err-look_at_objects-clause-damage
+returns-in_err-look_at_objects-clause-damage g c = λ h.
+    let so_far = c.loop-first.invariant in
+    at_error c.from_residual-in_err-look_at_objects.result c.in_err-look_at_objects.field-0.0
+    (λ f. (n : ℕ) → f ≡ fault.Damaged n → ComesTo g.row.D (given c.args.cache.now) c.args.root.page n)
+    c.from_residual-in_err-look_at_objects.ensures.1
+    (λ n damaged. refused_there g.row.D (given c.args.cache.now) c.args.root.page c.in-Some.first
+    c.in_err-look_at_objects.field-0.0 n
+    (first_reached so_far c.in-Some.first c.take_within.new.queue c.in-Some.ensures.some
+    c.in-Some.ensures.first h)
+    (c.in_err-look_at_objects.ensures.faults (so_far.asks.gate.honest.0 h)) damaged)
+
+pub returns-in_err-look_at_children-clause-damage : goal.returns-in_err-look_at_children-clause-damage
+returns-in_err-look_at_children-clause-damage g c = λ h.
+    let so_far = c.loop-first.invariant in
+    at_error c.from_residual-in_err-look_at_children.result c.in_err-look_at_children.field-0.0
+    (λ f. (n : ℕ) → f ≡ fault.Damaged n → ComesTo g.row.D (given c.args.cache.now) c.args.root.page n)
+    c.from_residual-in_err-look_at_children.ensures.1
+    (λ n damaged. refused_there g.row.D (given c.args.cache.now) c.args.root.page c.in-Some.first
+    c.in_err-look_at_children.field-0.0 n
+    (first_reached so_far c.in-Some.first c.take_within.new.queue c.in-Some.ensures.some
+    c.in-Some.ensures.first h)
+    (c.in_err-look_at_children.ensures.faults (so_far.asks.gate.honest.0 h)) damaged)
+
+pub returns-clause-damage : goal.returns-clause-damage
+returns-clause-damage g c = λ h.
+    if_error c.into_rows.result
+    (λ f. f ≡ fault.Memory)
+    (λ f. (n : ℕ) → f ≡ fault.Damaged n → ComesTo g.row.D (given c.args.cache.now) c.args.root.page n)
+    (λ f (memory : f ≡ fault.Memory) n (damaged : f ≡ fault.Damaged n). absurd (cc))
+    c.into_rows.ensures.memory

@@ -1,5 +1,5 @@
 -- The goal of `low_column` that is proved by hand.
-use Rattle.std.proofs.Common.{◌<◌, ap, length, rules, sym, arith}
+use Rattle.std.proofs.Common.{◌<◌, ap, length, rules, arith}
 use Rattle.std.proofs.lemmas.Int.{to_z-of_z}
 use Rattle.box_math.specs.Bounds.{Bounds, on_axis}
 use Rattle.spatial_join.proofs.MaskLemmas.{one_box_more, one_cell_more}

@@ -1,12 +1,14 @@
 -- The goals of `open` that are proved by hand.
-use Rattle.std.proofs.Common.{◌∙◌, ap, refl}
+use Rattle.std.proofs.Common.{◌∙◌, Some, ap, refl}
 use Rattle.std.proofs.lemmas.Result.{IfOk-weaker}
-use Rattle.page_cache.specs.Cache.{pages}
+use Rattle.page_cache.specs.Cache.{given, pages}
 use Rattle.tree_node.specs.Nodes.{content_of}
 use Rattle.tree_node.specs.Trees.{row_items}
 use Rattle.node_page.specs.Standing.{PageMap}
+use Rattle.node_page.proofs.DamageLemmas.{comes_on}
 use Rattle.node_page.proofs.LeafLemmas.{entries_there}
 use Rattle.node_page.proofs.StandingLemmas.{page_of_node}
+use Rattle.spatial_join.proofs.DamageLemmas.{below_lone}
 use Rattle.spatial_join.proofs.OpeningLemmas.{has_pages, opened_here}
 use Rattle.spatial_join.proofs.opening.open.Goals as goal
 
@@ -29,3 +31,15 @@ pub returns-then-other-node-clause-stands : goal.returns-then-other-node-clause-
 returns-then-other-node-clause-stands g c =
     λ h row at. c.read_node.ensures.there h (record { level = c.args.node.level; entries = row_items row })
     at.node refl
+
+pub returns-then-other-node-clause-walks : goal.returns-then-other-node-clause-walks
+returns-then-other-node-clause-walks g c = λ h.
+    IfOk-weaker c.read_node.result _ _
+    (λ node there n below. comes_on g.row.D (given c.args.cache.now) c.args.node.page (content_of node) n
+    there below)
+    (c.read_node.ensures.given_node h)
+
+pub returns-clause-walks : goal.returns-clause-walks
+returns-clause-walks g c = λ h n below.
+    below_lone g.row.D (given c.args.cache.now) (content_of c.above.result) (Some c.args.bounds.now)
+    c.args.node.page n c.above.ensures.entries below

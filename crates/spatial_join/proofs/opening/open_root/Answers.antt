@@ -1,15 +1,18 @@
 -- The goals of `open_root` that are proved by hand.
-use Rattle.std.proofs.Common.{rules, ◌∙◌, Option, ap, sym, refl, arith}
+use Rattle.std.proofs.Common.{rules, ◌≡◌, ◌∙◌, ◌⊎◌, Option, ap, sym, refl, arith}
 use Rattle.box_math.specs.Bounds.{Bounds}
 use Rattle.page_file.specs.Fault.{IsOfDevice}
-use Rattle.page_cache.specs.Cache.{pages}
+use Rattle.page_file.specs.declared.fault.Fault.TheVariants as fault
+use Rattle.page_cache.specs.Cache.{given, pages}
 use Rattle.tree_node.specs.Nodes.{content_of}
 use Rattle.tree_node.specs.Trees.{row_items}
 use Rattle.node_page.specs.Standing.{PageMap}
+use Rattle.node_page.proofs.DamageLemmas.{comes_on}
 use Rattle.node_page.proofs.LeafLemmas.{entries_there}
 use Rattle.node_page.proofs.NodeLemmas.{at_error}
 use Rattle.node_page.proofs.StandingLemmas.{page_of_node}
 use Rattle.spatial_join.specs.Opening.{lone}
+use Rattle.spatial_join.proofs.DamageLemmas.{below_lone}
 use Rattle.spatial_join.proofs.OpeningLemmas.{level_above, level_here, lone_has_pages, root_above, root_here}
 use Rattle.spatial_join.proofs.opening.open_root.Goals as goal
 
@@ -53,3 +56,19 @@ pub returns-clause-references : goal.returns-clause-references
 returns-clause-references g c =
     lone_has_pages (content_of c.above.result) c.node_box.result c.args.root.page (search rules)
     (search rules)
+
+pub returns-then-other-root-clause-walks : goal.returns-then-other-root-clause-walks
+returns-then-other-root-clause-walks g c = λ h n below.
+    comes_on g.row.D (given c.args.cache.now) c.args.root.page (content_of c.in_ok-node.node) n
+    (c.in_ok-node.ensures.given_node h) below
+
+pub returns-clause-walks : goal.returns-clause-walks
+returns-clause-walks g c = λ h n below.
+    below_lone g.row.D (given c.args.cache.now) (content_of c.above.result) c.node_box.result
+    c.args.root.page n c.above.ensures.entries below
+
+pub returns-in_err-node-clause-faults : goal.returns-in_err-node-clause-faults
+returns-in_err-node-clause-faults g c = λ h.
+    at_error c.from_residual.result c.in_err-node.field-0.0
+    (λ f. IsOfDevice f ⊎ (f ≡ fault.Damaged c.args.root.page)) c.from_residual.ensures.1
+    (c.in_err-node.ensures.faults h)

@@ -1,19 +1,24 @@
 -- The goals of the descent that are proved by hand.
-use Rattle.std.proofs.Common.{◌≡◌, ◌∙◌, ◌+◌, ◌-◌, ◌<◌, None, ap, length, map, refl, sym, arith, rules}
+use Rattle.std.proofs.Common.{◌≡◌, ◌∙◌, ◌⊎◌, ℕ, ◌+◌, ◌-◌, ◌<◌, None, [], ap, inl, inr, length, refl, sym}
+use Rattle.std.proofs.Common.{⊎_elim, arith, rules}
 use Rattle.std.specs.Int.{w128}
 use Rattle.std.proofs.lemmas.List.{length-map}
 use Rattle.box_math.specs.Measures.{near_test}
 use Rattle.page_file.specs.Fault.{IsOfDevice}
+use Rattle.page_file.specs.declared.fault.Fault.TheVariants as fault
+use Rattle.page_cache.specs.Cache.{given}
 use Rattle.page_cache.specs.Calls.{AsksUntil, asks_and_refuses, asks_in_turn, no_call_asks}
 use Rattle.tree_node.specs.Nodes.{content_of, item_of}
+use Rattle.node_page.specs.Checked.{ComesBelow, ComesTo}
+use Rattle.node_page.proofs.DamageLemmas.{comes_below_so, comes_to_child, damaged_read}
 use Rattle.node_page.proofs.NodeLemmas.{at_error}
-use Rattle.spatial_join.specs.Masks.{Tells}
+use Rattle.spatial_join.proofs.DamageLemmas.{names_here}
 use Rattle.spatial_join.proofs.DescentLemmas.{all_added, all_looked, all_passed, asks_and_runs_out, begins}
 use Rattle.spatial_join.proofs.DescentLemmas.{beside_begins, both_above, end_added, end_looked, entry_added}
 use Rattle.spatial_join.proofs.DescentLemmas.{entry_here, here_alone, next_reached, nothing_near}
 use Rattle.spatial_join.proofs.DescentLemmas.{object_added, opened_first, opened_second, page_fits}
 use Rattle.spatial_join.proofs.DescentLemmas.{right_here, second_stands, went_below}
-use Rattle.spatial_join.proofs.MaskLemmas.{near_here, none_set, place_within, some_before, tells_entries}
+use Rattle.spatial_join.proofs.MaskLemmas.{near_here, none_set, place_within, some_before}
 use Rattle.spatial_join.proofs.OpeningLemmas.{leaves_together, levels_fall}
 use Rattle.spatial_join.proofs.pairs.+descent.Goals as goal
 use Rattle.spatial_join.proofs.pairs.+descent.Goals.{add_pairs-then-left-eq0+in_ok-push_pairs}
@@ -313,3 +318,109 @@ add_pairs_of_entry-returns-clause-looks g t c = λ h s r first second.
 
 pub add_pairs_of_entry-returns-then-mask-eq0-clause-asks : goal.add_pairs_of_entry-returns-then-mask-eq0-clause-asks
 add_pairs_of_entry-returns-then-mask-eq0-clause-asks g k c = no_call_asks c.args.cache.now
+
+-- ---- the page that is damaged
+
+pub add_pairs-returns-in_err-push_pairs-clause-damage : goal.add_pairs-returns-in_err-push_pairs-clause-damage
+add_pairs-returns-in_err-push_pairs-clause-damage g t c = λ h.
+    at_error c.from_residual.result c.in_err-push_pairs.field-0.0
+    (λ f. (n : ℕ) → f ≡ fault.Damaged n → ComesBelow g.row.D (given c.args.cache.now)
+    (content_of c.args.left.now) n ⊎ ComesBelow g.row.D (given c.args.cache.now)
+    (content_of c.args.right.now) n)
+    c.from_residual.ensures.1
+    (λ n (damaged : c.in_err-push_pairs.field-0.0 ≡ fault.Damaged n).
+    let memory = c.in_err-push_pairs.ensures.memory in absurd (cc))
+
+pub add_pairs-returns-in_err-add_pairs_of_entry-clause-damage : goal.add_pairs-returns-in_err-add_pairs_of_entry-clause-damage
+add_pairs-returns-in_err-add_pairs_of_entry-clause-damage g t c = λ h.
+    let old = given c.args.cache.now in
+    let now = given c.loop-entry.cache in
+    let left = content_of c.args.left.now in
+    let right = content_of c.args.right.now in
+    let asks = c.loop-entry.invariant.asks in
+    let names =
+    names_here left c.as_slice-entry-items.result.now c.args.left.now.entries.items c.loop-entry.entry-index
+    c.entry-item.result refl c.as_slice-entry-items.ensures.value (omega (arith, c.if-left-eq0.false))
+    (omega (arith, c.loop-entry-test.true)) c.entry-item.is in
+    at_error c.from_residual-in_err-add_pairs_of_entry.result c.in_err-add_pairs_of_entry.field-0.0
+    (λ f. (n : ℕ) → f ≡ fault.Damaged n → ComesBelow g.row.D (given c.args.cache.now)
+    (content_of c.args.left.now) n ⊎ ComesBelow g.row.D (given c.args.cache.now)
+    (content_of c.args.right.now) n)
+    c.from_residual-in_err-add_pairs_of_entry.ensures.1
+    (λ n damaged. ⊎_elim
+    (λ (walk : ComesTo g.row.D now c.entry-item.result.reference n). inl
+    (comes_below_so g.row.D old now left n (λ k. asks.map.given_stay h k)
+    (c.entry-item.result.reference, names, walk)))
+    (λ (walk : ComesBelow g.row.D now right n). inr
+    (comes_below_so g.row.D old now right n (λ k. asks.map.given_stay h k) walk))
+    (c.in_err-add_pairs_of_entry.ensures.damage (asks.gate.honest.0 h) n damaged))
+
+pub add_pairs_of_entry-returns-in_err-first-clause-damage : goal.add_pairs_of_entry-returns-in_err-first-clause-damage
+add_pairs_of_entry-returns-in_err-first-clause-damage g t c = λ h.
+    at_error c.from_residual.result c.in_err-first.field-0.0
+    (λ f. (n : ℕ) → f ≡ fault.Damaged n → ComesTo g.row.D (given c.args.cache.now)
+    c.args.entry.now.reference n ⊎ ComesBelow g.row.D (given c.args.cache.now)
+    (content_of c.args.right.now) n)
+    c.from_residual.ensures.1
+    (λ n damaged. inl (
+      [],
+      damaged_read c.in_err-first.field-0.0 c.args.entry.now.reference n
+          (c.in_err-first.ensures.faults h) damaged,
+    ))
+
+pub add_pairs_of_entry-returns-in_err-second-clause-damage : goal.add_pairs_of_entry-returns-in_err-second-clause-damage
+add_pairs_of_entry-returns-in_err-second-clause-damage g t c = λ h.
+    let other = c.index-deref-place.result in
+    let within =
+    place_within c.deref.result.now c.args.right.now.entries.items c.in-Some.place c.args.mask
+    c.requires.mask c.in-Some.ensures.set.2 c.deref.ensures.0 in
+    let names =
+    names_here (content_of c.args.right.now) c.deref.result.now c.args.right.now.entries.items
+    c.in-Some.place other refl c.deref.ensures.0 c.requires.right_above within c.index-deref-place.is in
+    at_error c.from_residual-in_err-second.result c.in_err-second.field-0.0
+    (λ f. (n : ℕ) → f ≡ fault.Damaged n → ComesTo g.row.D (given c.args.cache.now)
+    c.args.entry.now.reference n ⊎ ComesBelow g.row.D (given c.args.cache.now)
+    (content_of c.args.right.now) n)
+    c.from_residual-in_err-second.ensures.1
+    (λ n damaged. inr
+    (comes_to_child g.row.D (given c.args.cache.now) (content_of c.args.right.now) other.reference n names
+    (damaged_read c.in_err-second.field-0.0 other.reference n
+    (c.in_err-second.ensures.faults (c.other.invariant.0.asks.gate.honest.0 h)) damaged)))
+
+pub add_pairs_of_entry-returns-in_err-add_pairs-clause-damage : goal.add_pairs_of_entry-returns-in_err-add_pairs-clause-damage
+add_pairs_of_entry-returns-in_err-add_pairs-clause-damage g t c = λ h.
+    let other = c.index-deref-place.result in
+    let within =
+    place_within c.deref.result.now c.args.right.now.entries.items c.in-Some.place c.args.mask
+    c.requires.mask c.in-Some.ensures.set.2 c.deref.ensures.0 in
+    let names =
+    names_here (content_of c.args.right.now) c.deref.result.now c.args.right.now.entries.items
+    c.in-Some.place other refl c.deref.ensures.0 c.requires.right_above within c.index-deref-place.is in
+    let old = given c.args.cache.now in
+    let now = given c.other.cache in
+    let two = given c.open-in-Some.new.cache in
+    let first = content_of c.in_ok-first.first in
+    let second = content_of c.in_ok-second.second in
+    let asks = c.other.invariant.0.asks in
+    let honest = asks.gate.honest.0 h in
+    let asked : AsksUntil c.args.cache.now c.open-in-Some.new.cache None =
+    asks_in_turn c.args.cache.now c.other.cache c.open-in-Some.new.cache None asks
+    c.in_ok-second.ensures.asks in
+    at_error c.from_residual-in_err-add_pairs.result c.in_err-add_pairs.field-0.0
+    (λ f. (n : ℕ) → f ≡ fault.Damaged n → ComesTo g.row.D (given c.args.cache.now)
+    c.args.entry.now.reference n ⊎ ComesBelow g.row.D (given c.args.cache.now)
+    (content_of c.args.right.now) n)
+    c.from_residual-in_err-add_pairs.ensures.1
+    (λ n damaged. ⊎_elim
+    (λ (walk : ComesBelow g.row.D two first n). inl
+    (c.in_ok-first.ensures.walks h n
+    (comes_below_so g.row.D old two first n (λ k. asked.map.given_stay h k) walk)))
+    (λ (walk : ComesBelow g.row.D two second n). inr
+    (comes_below_so g.row.D old now (content_of c.args.right.now) n (λ k. asks.map.given_stay h k) (
+      other.reference,
+      names,
+      c.in_ok-second.ensures.walks honest n
+          (comes_below_so g.row.D now two second n
+          (λ k. c.in_ok-second.ensures.asks.map.given_stay honest k) walk),
+    )))
+    (c.in_err-add_pairs.ensures.damage (asked.gate.honest.0 h) n damaged))

@@ -1,7 +1,6 @@
 -- The goals of `Reach::mask` that are proved by hand.
-use Rattle.std.proofs.Common.{Bool, List, ℕ, ◌&&◌, ◌≡◌, nat_lt, rules, subst}
+use Rattle.std.proofs.Common.{rules, subst}
 use Rattle.box_math.specs.Bounds.{Bounds, meets_test}
-use Rattle.box_math.specs.Masks.{box_in_columns, has_bit}
 use Rattle.spatial_join.specs.Masks.{Tells}
 use Rattle.spatial_join.proofs.MaskLemmas.{near_where_they_meet, tells_entries}
 use Rattle.tree_node.specs.Nodes.{items_of}
