@@ -122,12 +122,10 @@ bad_names : map is_layer_name ([] ∷ codes "A" ∷ codes "aB" ∷ codes "9a" �
 bad_names = refl
 
 -- the bytes beside `a`, `z`, `0`, `9` and `_`
-no_names : map (λ byte. is_layer_name (97 ∷ byte ∷ [])) (96 ∷ 123 ∷ 47 ∷ 58 ∷ 94 ∷ 0 ∷ 255 ∷ []) ≡ replicate
-    7 false
+no_names : map (λ byte. is_layer_name (97 ∷ byte ∷ [])) (96 ∷ 123 ∷ 47 ∷ 58 ∷ 94 ∷ 0 ∷ 255 ∷ []) ≡ replicate 7 false
 no_names = refl
 
-two_or_three_axes : map is_dims
-    (0 ∷ 1 ∷ 2 ∷ 3 ∷ 4 ∷ 23 ∷ []) ≡ false ∷ false ∷ true ∷ true ∷ false ∷ false ∷ []
+two_or_three_axes : map is_dims (0 ∷ 1 ∷ 2 ∷ 3 ∷ 4 ∷ 23 ∷ []) ≡ false ∷ false ∷ true ∷ true ∷ false ∷ false ∷ []
 two_or_three_axes = refl
 
 fanouts_from_4_to_100 : map is_fanout (0 ∷ 3 ∷ 4 ∷ 100 ∷ 101 ∷ []) ≡ false ∷ false ∷ true ∷ true ∷ false ∷ []
@@ -249,8 +247,7 @@ unfolding ordered_test
 insert_of_an_identifier_that_is_there =
     rw (touching_at, touching_count, get-from_sorted nat_cmp squares 1 tt) refl
 
-a_refused_insert_changes_nothing : after (table touching) (Insert a 1 (Two (at 5 5) (at 6 6)) 0) ≡ table
-    touching
+a_refused_insert_changes_nothing : after (table touching) (Insert a 1 (Two (at 5 5) (at 6 6)) 0) ≡ table touching
 unfolding ordered_test
 a_refused_insert_changes_nothing = rw (touching_at, touching_count, get-from_sorted nat_cmp squares 1 tt) refl
 
@@ -278,8 +275,7 @@ wrong_dims_before_bad_box : reply_of (table touching)
     (Insert a 1 (Three (in_space 1 1 1) (in_space 0 0 0)) 0) ≡ Refused refusal.WrongDims
 wrong_dims_before_bad_box = rw touching_at refl
 
-bad_box_before_duplicate : reply_of (table touching) (Insert a 1 (Two (at 1 1) (at 0 0)) 0) ≡ Refused
-    refusal.BadBox
+bad_box_before_duplicate : reply_of (table touching) (Insert a 1 (Two (at 1 1) (at 0 0)) 0) ≡ Refused refusal.BadBox
 unfolding ordered_test
 bad_box_before_duplicate = rw touching_at refl
 
@@ -318,8 +314,7 @@ load_is_done : reply_of (table empty_layer) (Load a five_points) ≡ Done
 unfolding ordered_test
 load_is_done = rw (empty_at, empty_count, len_of {X = Object} nat_cmp [] tt) refl
 
-load_adds_all_objects : after (table empty_layer) (Load a five_points) ≡ table
-    ((a, layer 2 4 loaded_points) ∷ [])
+load_adds_all_objects : after (table empty_layer) (Load a five_points) ≡ table ((a, layer 2 4 loaded_points) ∷ [])
 unfolding ordered_test
 load_adds_all_objects =
     rw (
@@ -425,8 +420,7 @@ move_of_an_identifier_that_is_not_there : reply_of (table touching)
 unfolding ordered_test
 move_of_an_identifier_that_is_not_there = rw (touching_at, get-from_sorted nat_cmp squares 9 tt) refl
 
-move_bad_box_before_no_object : reply_of (table touching) (Move a 9 (Two (at 1 1) (at 0 0))) ≡ Refused
-    refusal.BadBox
+move_bad_box_before_no_object : reply_of (table touching) (Move a 9 (Two (at 1 1) (at 0 0))) ≡ Refused refusal.BadBox
 unfolding ordered_test
 move_bad_box_before_no_object = rw touching_at refl
 
@@ -485,8 +479,7 @@ drop_of_no_name t = refl
 
 -- ---- get
 
-pub get_shows_the_object : reply_of (table touching) (Get a 2) ≡ Boxes
-    ((2, (bounds (at 1 1) (at 2 2), 0)) ∷ [])
+pub get_shows_the_object : reply_of (table touching) (Get a 2) ≡ Boxes ((2, (bounds (at 1 1) (at 2 2), 0)) ∷ [])
 get_shows_the_object = rw (touching_at, get-from_sorted nat_cmp squares 2 tt) refl
 
 get_of_an_identifier_that_is_not_there : reply_of (table touching) (Get a 3) ≡ Refused refusal.NoObject
@@ -534,8 +527,7 @@ unfolding meets_test ordered_test
 the_second_square_alone_is_found = rw (touching_at, entries-from_sorted nat_cmp squares tt) refl
 
 -- it meets the second square on the first axis alone
-a_window_beside_both_finds_none : reply_of (table touching)
-    (Range a (Window (Two (at 2 0) (at 2 0))) None) ≡ Boxes []
+a_window_beside_both_finds_none : reply_of (table touching) (Range a (Window (Two (at 2 0) (at 2 0))) None) ≡ Boxes []
 unfolding meets_test ordered_test
 a_window_beside_both_finds_none = rw (touching_at, entries-from_sorted nat_cmp squares tt) refl
 
