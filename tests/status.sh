@@ -268,11 +268,12 @@ rm -f store
     for id in {1..8}; do echo "insert a $id $((id * 260000000)) 0 $((id * 260000000)) 1"; done
     echo "insert a $object"
     for id in {11..19}; do echo "insert a $id $((id * 100000000)) 5 $((id * 100000000)) 6"; done
-} | "$program" store >/dev/null
+} | "$program" --create store >replies
+[ "$(sort -u replies)" = ok ] || wrong "a small file: $(sort -u replies)"
 for word in LOWX LOWY TOPX TOPY IDENTITY TAGS; do
     grep -aqF "$word" store || wrong "a file without the $word of its object"
 done
-"$program" store <<<"delete a ${object%% *}" >/dev/null
+[ "$("$program" store <<<"delete a ${object%% *}")" = ok ] || wrong 'a deletion was refused'
 [ ! -e store-journal ] || wrong 'a journal after the end'
 for word in LOWX LOWY TOPX TOPY IDENTITY TAGS; do
     ! grep -aqF "$word" store || wrong "a file has the $word of a deleted object"
