@@ -382,7 +382,7 @@ def exchange(folder: str, program: str) -> None:
         ended = subprocess.run([program, *words], input=text, capture_output=True, text=True)
         return ended.returncode, ended.stdout, ended.stderr
 
-    lines = ["create a 2 10"] + [f"insert a {k} {k} {k} {k + 5} {k + 5} {k % 3}" for k in range(500)]
+    lines = ["create a 2 10"] + [f"insert a {k} {k} {k} {k + 5} {k + 5} tag {k % 3}" for k in range(500)]
     status, said, _ = run(["--create", path], "\n".join(lines) + "\n")
     assert status == 0 and said == "ok\n" * 501, said[:99]
     with rstore.open(path) as db:
@@ -397,12 +397,13 @@ def exchange(folder: str, program: str) -> None:
         status, _, said = run(["--read-only", path], "layers\n")
         assert status == 1 and said == "rstore: FILE is in use\n", said
         rows = list(a.all_rows())
-    status, said, _ = run(["--read-only", path], "check\nwindow a -9 -9 999 999\ncount b\nwindow b 5 0 0 5 0 0 9\n")
+    status, said, _ = run(["--read-only", path], "check\nwindow a -9 -9 999 999\ncount b\nwindow b 5 0 0 5 0 0 tag 9\n")
     assert status == 0, said
     replies = said.splitlines()
     assert replies[0].startswith("ok") and replies[1] == "ok 400"
-    assert [line.split() for line in replies[2:402]] == [[str(x) for x in (i, *box, t)] for i, box, t in rows], replies[2:4]
-    assert replies[402] == "ok 1000" and replies[403:] == ["ok 2", "4 4 0 0 5 1 1 9", "5 5 0 0 6 1 1 9"], replies[402:]
+    wanted = [" ".join(map(str, (i, *box))) + (f" tag {tag}" if tag else "") for i, box, tag in rows]
+    assert replies[2:402] == wanted, replies[2:4]
+    assert replies[402:] == ["ok 1", "1000", "ok 2", "4 4 0 0 5 1 1 tag 9", "5 5 0 0 6 1 1 tag 9"], replies[402:]
     # a kill of the program is finished by the library, and one of the library by the program
     child = subprocess.Popen([program, path], stdin=subprocess.PIPE, stdout=subprocess.PIPE)
     child.stdin.write(b"insert a 9001 0 0 1 1\nreopen\ninsert a 9002 0 0 1 1\n")
