@@ -7,6 +7,7 @@ pub mod BucketLemmas
 pub mod CheckLemmas
 pub mod CheckedLemmas
 pub mod DamageLemmas
+pub mod MeetLemmas
 pub mod WalkLemmas
 pub mod GetLemmas
 pub mod MakingLemmas

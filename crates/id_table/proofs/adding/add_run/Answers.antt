@@ -1,19 +1,23 @@
 -- The goals of `add_run` that are proved by hand: where the chain of the objects begins, and what is put
 -- there.
 use Rattle.std.proofs.Common.{◌≡◌, ◌∙◌, ◌<◌, ◌≤◌, ◌⊎◌, ℕ, None, Some, ap, arith, inl, inr, length, subst, sym}
-use Rattle.std.proofs.Common.{take}
+use Rattle.std.proofs.Common.{take, IsSome, ⊎_elim}
 use Rattle.page_file.specs.Fault.{IsOfDevice}
-use Rattle.page_cache.specs.Cache.{Grows, pages}
+use Rattle.page_file.specs.declared.fault.Fault.TheVariants as fault
+use Rattle.page_cache.specs.Cache.{Grows, IsLive, given, pages}
 use Rattle.page_cache.proofs.Results.{if_ok_map}
 use Rattle.page_cache.specs.Calls.{asks_and_changes, asks_and_gives_up, asks_in_turn}
 use Rattle.node_page.specs.Faults.{IsNoDamage}
+use Rattle.node_page.proofs.DamageLemmas.{damaged_read}
 use Rattle.node_page.proofs.NodeLemmas.{at_error, on_ok}
 use Rattle.id_table.specs.Changes.{Fills}
 use Rattle.id_table.specs.Pages.{IsRun, IsWholeRun, PutsBefore, with_more}
 use Rattle.id_table.specs.Table.{bucket_in, chain_at, objects_of}
+use Rattle.id_table.specs.Walks.{MeetsInTable}
 use Rattle.id_table.proofs.AddLemmas.{puts_from}
 use Rattle.id_table.proofs.BucketLemmas.{if_err, is_there}
 use Rattle.id_table.proofs.FillLemmas.{first_new}
+use Rattle.id_table.proofs.MeetLemmas.{first_in_table}
 use Rattle.id_table.proofs.ManyLemmas.{fills_before, fills_in_place}
 use Rattle.id_table.proofs.Results.{if_both, ok_of}
 use Rattle.id_table.proofs.StartLemmas.{first_is_live, starts}
@@ -233,3 +237,64 @@ returns-clause-tidy g c = λ map t at stands.
     (λ n put. keep_in_turn D old mid now (same_keep D old mid stay)
     (puts_keep D mid now c.args.directory class first (take n c.args.objects.now) stands.directory there
     stands.spelled put))
+
+pub returns-in_err-first-clause-damage : goal.returns-in_err-first-clause-damage
+returns-in_err-first-clause-damage g c = λ h.
+    let old = c.args.cache.now in
+    let class = c.class_of-class in
+    at_error c.from_residual.result c.in_err-first.field-0.0
+    (λ f. (n : ℕ) → f ≡ fault.Damaged n
+    → MeetsInTable g.row.D (given old) c.args.directory n ⊎ (¬ (IsLive old n)))
+    c.from_residual.ensures.1
+    (λ n damaged.
+    let is = damaged_read c.in_err-first.field-0.0 c.args.directory n (c.in_err-first.ensures.damage h) damaged
+    in
+    inl (class.result, class.ensures.bound, inl is))
+
+pub returns-in_err-room-clause-damage : goal.returns-in_err-room-clause-damage
+returns-in_err-room-clause-damage g c = λ h.
+    let old = c.args.cache.now in
+    let class = c.class_of-class in
+    let first = c.in_ok-first.first in
+    let asks = c.in_ok-first.ensures.asks in
+    at_error c.from_residual-in_err-room.result c.in_err-room.field-0.0
+    (λ f. (n : ℕ) → f ≡ fault.Damaged n
+    → MeetsInTable g.row.D (given old) c.args.directory n ⊎ (¬ (IsLive old n)))
+    c.from_residual-in_err-room.ensures.1
+    (λ n damaged. inl (first_in_table g.row.D c.args.directory class.result first n old c.read_link.new.cache
+    asks h class.ensures.bound (c.in_ok-first.ensures.names h) c.in_err-room.ensures.met
+    (damaged_read c.in_err-room.field-0.0 first n (c.in_err-room.ensures.damage (asks.gate.honest.0 h))
+    damaged)))
+
+pub returns-then-room-clause-damage : goal.returns-then-room-clause-damage
+returns-then-room-clause-damage g c = λ h.
+    let old = c.args.cache.now in
+    let class = c.class_of-class in
+    let first = c.in_ok-first.first in
+    let asks = c.in_ok-first.ensures.asks in
+    if_err c.put_in.result (λ f. IsOfDevice f ⊎ (f ≡ fault.Damaged first))
+    (λ f. (n : ℕ) → f ≡ fault.Damaged n
+    → MeetsInTable g.row.D (given old) c.args.directory n ⊎ (¬ (IsLive old n)))
+    (λ f either n damaged. inl (first_in_table g.row.D c.args.directory class.result first n old
+    c.read_link.new.cache asks h class.ensures.bound (c.in_ok-first.ensures.names h)
+    (c.in_ok-room.ensures.some c.if-room.true) (damaged_read f first n either damaged)))
+    (c.put_in.ensures.damage (c.in_ok-room.ensures.asks.gate.honest.0 (asks.gate.honest.0 h)))
+
+pub returns-clause-damage : goal.returns-clause-damage
+returns-clause-damage g c = λ h.
+    let old = c.args.cache.now in
+    let class = c.class_of-class in
+    let d = c.args.directory in
+    let mid = c.has_room.new.cache in
+    let asks =
+    asks_in_turn old c.read_link.new.cache mid None c.in_ok-first.ensures.asks c.in_ok-room.ensures.asks in
+    if_err c.put_alone.result
+    (λ f. (n : ℕ) → f ≡ fault.Damaged n → (n ≡ d) ⊎ (¬ (IsLive mid n)))
+    (λ f. (n : ℕ) → f ≡ fault.Damaged n
+    → MeetsInTable g.row.D (given old) c.args.directory n ⊎ (¬ (IsLive old n)))
+    (λ f said n damaged. ⊎_elim
+    (λ (is : n ≡ d). inl (class.result, class.ensures.bound, inl is))
+    (λ (free : ¬ (IsLive mid n)). inr
+    (λ (live : IsLive old n). free (subst IsSome (sym (asks.map.pages_stay h n)) live)))
+    (said n damaged))
+    (c.put_alone.ensures.damage (asks.gate.honest.0 h))

@@ -64,3 +64,8 @@ returns-in_err-page-clause-damage g c = λ h.
     c.from_residual.ensures.1
     (page_refused n (next_of c.args.cache.now) c.in_err-page.field-0.0 (c.in_err-page.ensures.faults h)
     (λ outside. let is = c.in_err-page.ensures.outside outside in cc))
+
+pub returns-in_err-page-clause-met : goal.returns-in_err-page-clause-met
+returns-in_err-page-clause-met g c =
+    at_error c.from_residual.result c.in_err-page.field-0.0 (λ f. ¬ (c.args.first ≡ 0))
+    c.from_residual.ensures.1 c.if-first-eq0.false
