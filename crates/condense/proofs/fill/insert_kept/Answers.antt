@@ -1,7 +1,8 @@
 -- The goals of `insert_kept` that are proved by hand.
-use Rattle.std.proofs.Common.{rules, ◌∙◌, ◌+◌, List, None, map, refl, ap, subst, arith}
+use Rattle.std.proofs.Common.{rules, ◌∙◌, ◌+◌, List, None, Ok, length, map, refl, ap, subst, arith}
 use Rattle.page_cache.specs.Cache.{pages}
-use Rattle.page_cache.specs.Calls.{changes_and_refuses, changes_in_turn, no_call_changes}
+use Rattle.page_cache.specs.Calls.{changes_and_refuses, changes_in_turn, no_call_asks, no_call_changes}
+use Rattle.tree_node.specs.declared.node.Root.{Root}
 use Rattle.tree_node.specs.Nodes.{item_of}
 use Rattle.tree_node.specs.Rows.{occurs_waiting}
 use Rattle.node_page.specs.Faults.{IsNoDamage}
@@ -24,6 +25,7 @@ inserting-init g c = (
     filled_first g.row.D c.args.m_max (pages c.args.cache.now) t ws elsewhere c.args.root
         (held_now c.args.kept.now) can,
   ),
+  λ none. (none, refl, no_call_asks c.args.cache.now),
 )
 
 pub returns-then-orphan-now-clause-faults : goal.returns-then-orphan-now-clause-faults
@@ -116,6 +118,7 @@ inserting-preserved g c = (
             (pages c.insert_with.new.cache) c.in_ok-now.now c.in_ok-now.ensures.root.rises
             (omega (arith, c.requires.most)) done.1,
       ),
+  λ none. absurd (omega (arith, c.in-Some.ensures.fewer, ap length (c.inserting.invariant.5 none).0)),
 )
 
 pub returns-clause-filled : goal.returns-clause-filled
@@ -132,3 +135,15 @@ returns-in_err-now-clause-changes g c =
     changes_and_refuses c.args.cache.now c.inserting.cache c.insert_with.new.cache
     c.in_err-now.field-0.0 c.from_residual.result c.from_residual.ensures.1
     c.inserting.invariant.0 c.in_err-now.ensures.changes
+
+pub returns-then-orphan-now-clause-none : goal.returns-then-orphan-now-clause-none
+returns-then-orphan-now-clause-none g c = λ none.
+    absurd (omega (arith, c.in-Some.ensures.fewer, ap length (c.inserting.invariant.5 none).0))
+
+pub returns-in_err-now-clause-none : goal.returns-in_err-now-clause-none
+returns-in_err-now-clause-none g c = λ none.
+    absurd (omega (arith, c.in-Some.ensures.fewer, ap length (c.inserting.invariant.5 none).0))
+
+pub returns-clause-none : goal.returns-clause-none
+returns-clause-none g c = λ none.
+    let so_far = c.inserting.invariant.5 none in (ap (λ (root : Root). Ok root) so_far.1, so_far.2)

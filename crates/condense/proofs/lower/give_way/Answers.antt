@@ -1,8 +1,12 @@
 -- The goals of `give_way` that are proved by hand.
+use Rattle.std.proofs.Common.{◌∙◌, ◌⊎◌, ⊎_elim, inl, inr, false, sym, true}
 use Rattle.std.proofs.Common.{◌≡◌, ◌-◌, ◌<◌, ◌≤◌, ◌^◌, IfSome, None, Some, length, get_or, refl, subst, arith}
+use Rattle.std.proofs.lemmas.Bool.{true≢false}
 use Rattle.page_file.specs.Fault.{IsOfDevice}
-use Rattle.page_cache.specs.Cache.{pages}
+use Rattle.page_file.specs.declared.fault.Fault.TheVariants as fault
+use Rattle.page_cache.specs.Cache.{next_of, pages, touched_of}
 use Rattle.page_cache.specs.Calls.{asks_changes, changes_and_refuses, changes_in_turn, no_call_changes}
+use Rattle.tree_node.specs.declared.node.Root.{Root}
 use Rattle.tree_node.specs.Nodes.{Item, NodeContent}
 use Rattle.tree_node.specs.Trees.{row_items}
 use Rattle.node_page.specs.Standing.{PageMap}
@@ -19,6 +23,7 @@ lowering-init g c = (
   c.requires.root,
   omega arith,
   λ h t at stands. (h, lowered_first g.row.D (pages c.args.cache.now) t c.args.root at stands),
+  λ h. inl refl,
 )
 
 pub returns-in_err-below-clause-faults : goal.returns-in_err-below-clause-faults
@@ -100,6 +105,12 @@ lowering-preserved g c =
                 (c.in_ok-free.ensures.others sound.honest live)
                 (c.in_ok-free.ensures.freed sound.honest live),
           ),
+      λ h. inr (c.in_ok-free.ensures.touched c.lowering.invariant.1.page.0
+          (omega (
+            arith,
+            c.in_ok-below.ensures.given_out (c.lowering.invariant.0.gate.honest.0 h),
+            c.in_ok-below.ensures.asks.map.next,
+          ))),
     )
 
 pub returns-after-lowering-clause-lowered : goal.returns-after-lowering-clause-lowered
@@ -129,3 +140,26 @@ pub returns-in_default-clause-changes : goal.returns-in_default-clause-changes
 returns-in_default-clause-changes g c =
     changes_in_turn c.args.cache.now c.lowering.cache c.only_child.new.cache None c.lowering.invariant.0
     (asks_changes c.lowering.cache c.only_child.new.cache None c.in_ok-below.ensures.asks)
+
+pub returns-in_err-below-clause-untouched : goal.returns-in_err-below-clause-untouched
+returns-in_err-below-clause-untouched g c = λ h none.
+    let f = c.in_err-below.field-0.0 in
+    ⊎_elim
+    (λ (same : c.lowering.now ≡ c.args.root).
+    at_error c.from_residual.result f (λ f. IsOfDevice f ⊎ (f ≡ fault.Damaged c.args.root.page))
+    c.from_residual.ensures.1
+    (subst (λ (root : Root). IsOfDevice f ⊎ (f ≡ fault.Damaged root.page)) same
+    (c.in_err-below.ensures.faults (c.lowering.invariant.0.gate.honest.0 h))))
+    (λ (touched : touched_of c.lowering.cache ≡ true).
+    absurd (true≢false (sym touched ∙ sym c.in_err-below.ensures.asks.touched ∙ none)))
+    (c.lowering.invariant.4 h)
+
+pub returns-in_err-free-clause-untouched : goal.returns-in_err-free-clause-untouched
+returns-in_err-free-clause-untouched g c = λ h none.
+    let below : c.lowering.now.page < next_of c.only_child.new.cache =
+    omega (
+      arith,
+      c.in_ok-below.ensures.given_out (c.lowering.invariant.0.gate.honest.0 h),
+      c.in_ok-below.ensures.asks.map.next,
+    ) in
+    absurd (true≢false (sym (c.in_err-free.ensures.touched c.lowering.invariant.1.page.0 below) ∙ none))
