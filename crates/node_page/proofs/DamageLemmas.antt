@@ -70,3 +70,7 @@ pub comes_below_so : (dims : ℕ) (old new : PageMap) (c : NodeContent) (n : ℕ
     → ComesBelow dims new c n → ComesBelow dims old c n
 comes_below_so dims old new c n same below =
     (below.0, below.1, (below.2.0, leads_so dims old new below.0 below.2.0 n same below.2.1))
+
+pub comes_so : (dims : ℕ) (old new : PageMap) (page n : ℕ) → ((k : ℕ) → new k ≡ old k)
+    → ComesTo dims new page n → ComesTo dims old page n
+comes_so dims old new page n same walk = (walk.0, leads_so dims old new page walk.0 n same walk.1)
