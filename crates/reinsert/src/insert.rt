@@ -42,9 +42,11 @@ use tree_node::{Entry, Root};
 /// A refusal after which the cache is not touched (`is_touched`) leaves the map as it was; the room of what
 /// waits is taken before the first write. Where the trees have their shape, but that a root may have one
 /// entry, a refusal is of memory or of the device, or each page number is live (`NoPages`). A tree of level
-/// 40 takes no entry, since it could grow: its root is `Damaged`, and the cache stays. In other pages of a
-/// sound map, `Damaged` after which the cache is not touched names a page that a walk down the nodes comes to.
-/// Also after a refusal, at most `most_new_pages` more pages are live.
+/// 40 takes no entry, since it could grow: its root is `Damaged`, and the cache stays. Also after a refusal,
+/// at most `most_new_pages` more pages are live.
+///
+/// Any pages of a sound map stay one. There `Damaged` after which the cache is not touched names a page that
+/// a walk down the nodes comes to; after other refusals it may be one of nodes that came meanwhile.
 pub fn insert_at<const D: usize, B: BlockDevice, A: Allocator + Copy, H: Allocator>(
     alloc: H,
     cache: &mut PageCache<B, A>,
@@ -72,6 +74,9 @@ pub fn insert_at<const D: usize, B: BlockDevice, A: Allocator + Copy, H: Allocat
         IfErr result (IsNoDamage cache.new) }
     ensures damage { IsPageMap cache.old → touched_of cache.new ≡ false
         → IfErr result (λ f. (n : ℕ) → f ≡ fault.Damaged n → ComesTo D (given cache.old) root.page n) }
+    ensures sound { IsPageMap cache.old → OnOk result (IsPageMap cache.new) }
+    ensures number { IsPageMap cache.old
+        → IfErr result (λ f. (n : ℕ) → f ≡ fault.Damaged n → (3 ≤ n) × (n < 2 ^ 31)) }
     ensures other_faults { IfErr result IsChangeFault }
 {
     let mut waiting = Waiting::make(alloc)?;
@@ -109,6 +114,9 @@ pub fn insert_with<const D: usize, B: BlockDevice, A: Allocator + Copy>(
         × IsUnchanged cache.old cache.new }
     ensures damage { IsPageMap cache.old → touched_of cache.new ≡ false
         → IfErr result (λ f. (n : ℕ) → f ≡ fault.Damaged n → ComesTo D (given cache.old) root.page n) }
+    ensures sound { IsPageMap cache.old → OnOk result (IsPageMap cache.new) }
+    ensures number { IsPageMap cache.old
+        → IfErr result (λ f. (n : ℕ) → f ≡ fault.Damaged n → (3 ≤ n) × (n < 2 ^ 31)) }
     ensures other_faults { IfErr result IsChangeFault }
 {
     if root.level >= 40 {

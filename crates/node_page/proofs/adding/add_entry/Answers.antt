@@ -1,5 +1,6 @@
 -- The node is that of the page, with the entry after the others.
-use Rattle.std.proofs.Common.{inl, ◌⊎◌, ◌≡◌, ◌∙◌, ℕ, ◌<◌, ap, arith, IfSome, is_some, length, true, List, Option, None}
+use Rattle.std.proofs.Common.{inl, ◌⊎◌}
+use Rattle.std.proofs.Common.{◌≡◌, ◌∙◌, ℕ, ◌<◌, ap, arith, IfSome, is_some, length, true, List, Option, None}
 use Rattle.std.proofs.Common.{Some, subst, sym}
 use Rattle.std.specs.Prelude.{IsSomeAnd}
 use Rattle.page_file.specs.Fault.{IsOfDevice}

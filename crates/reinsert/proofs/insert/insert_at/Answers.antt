@@ -1,5 +1,5 @@
--- The goal of `insert_at` that is proved by hand.
-use Rattle.std.proofs.Common.{◌≡◌, ℕ}
+-- The goals of `insert_at` that are proved by hand.
+use Rattle.std.proofs.Common.{◌≡◌, ℕ, ◌<◌, ◌≤◌, ◌^◌}
 use Rattle.page_file.specs.declared.fault.Fault.TheVariants as fault
 use Rattle.page_cache.specs.Cache.{given}
 use Rattle.node_page.specs.Checked.{ComesTo}
@@ -10,6 +10,13 @@ pub returns-in_err-waiting-clause-damage : goal.returns-in_err-waiting-clause-da
 returns-in_err-waiting-clause-damage g c = λ h none.
     at_error c.from_residual.result c.in_err-waiting.field-0.0
     (λ f. (n : ℕ) → f ≡ fault.Damaged n → ComesTo g.row.D (given c.args.cache.now) c.args.root.page n)
+    c.from_residual.ensures.1
+    (λ n (damaged : c.in_err-waiting.field-0.0 ≡ fault.Damaged n).
+    let memory = c.in_err-waiting.ensures in absurd (cc))
+
+pub returns-in_err-waiting-clause-number : goal.returns-in_err-waiting-clause-number
+returns-in_err-waiting-clause-number g c = λ h.
+    at_error c.from_residual.result c.in_err-waiting.field-0.0 (λ f. (n : ℕ) → f ≡ fault.Damaged n → (3 ≤ n) × (n < 2 ^ 31))
     c.from_residual.ensures.1
     (λ n (damaged : c.in_err-waiting.field-0.0 ≡ fault.Damaged n).
     let memory = c.in_err-waiting.ensures in absurd (cc))

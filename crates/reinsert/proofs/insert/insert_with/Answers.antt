@@ -1,6 +1,6 @@
 -- The goals of `insert_with` that are proved by hand.
 use Rattle.std.proofs.Common.{◌++◌, [], ◌∷◌, List, Bool, None, sym, subst, refl, arith}
-use Rattle.std.proofs.Common.{◌≡◌, ◌∙◌, ◌⊎◌, ⊎_elim, inl, inr, ℕ, true}
+use Rattle.std.proofs.Common.{◌≡◌, ◌∙◌, ◌⊎◌, ⊎_elim, inl, inr, ℕ, ◌<◌, ◌≤◌, ◌^◌, true}
 use Rattle.std.proofs.lemmas.Bool.{true≢false}
 use Rattle.page_file.specs.declared.fault.Fault.TheVariants as fault
 use Rattle.page_cache.specs.Cache.{given, pages, touched_of}
@@ -8,7 +8,7 @@ use Rattle.page_cache.specs.Calls.{changes_and_refuses, changes_in_turn}
 use Rattle.node_page.specs.Standing.{PageMap}
 use Rattle.tree_node.specs.declared.node.Root.{Root}
 use Rattle.node_page.specs.Checked.{ComesTo}
-use Rattle.node_page.proofs.DamageLemmas.{comes_so, damaged_read}
+use Rattle.node_page.proofs.DamageLemmas.{comes_in_range, comes_so, damaged_read}
 use Rattle.node_page.proofs.NodeLemmas.{at_error}
 use Rattle.reinsert.specs.declared.waiting.Wait.{Wait}
 use Rattle.reinsert.specs.Called.{none_called}
@@ -144,7 +144,8 @@ placing-preserved g c = (
     ⊎_elim
     (λ (again : c.in_ok-now-2.now ≡ c.placing.now). ⊎_elim
     (λ (was : c.placing.now ≡ c.args.root). inl (again ∙ was))
-    (λ (touched : touched_of c.placing.cache ≡ true). inr (c.in_ok-now-2.ensures.changes.touched touched))
+    (λ (touched : touched_of c.placing.cache ≡ true).
+    inr (c.in_ok-now-2.ensures.changes.touched touched))
     so_far.1)
     (λ (touched : touched_of c.place_one-in-Some.new.cache ≡ true). inr touched)
     c.in_ok-now-2.ensures.stays,
@@ -196,3 +197,28 @@ returns-in_err-now-2-clause-damage g c = λ h none.
     (c.in_err-now-2.ensures.damage so_far.0 n damaged)))
     (λ (touched : touched_of mid ≡ true). absurd (true≢false (sym touched ∙ before)))
     so_far.1)
+
+-- ---- in any pages of a sound map
+
+pub returns-then-root-ge40-clause-number : goal.returns-then-root-ge40-clause-number
+returns-then-root-ge40-clause-number g c = λ h n damaged.
+    let page = c.args.root.page in
+    comes_in_range g.row.D (given c.args.cache.now) page n c.requires.root
+    ([], damaged_read (fault.Damaged page) page n (inr refl) damaged)
+
+pub returns-in_err-now-clause-number : goal.returns-in_err-now-clause-number
+returns-in_err-now-clause-number g c = λ h.
+    at_error c.from_residual.result c.in_err-now.field-0.0 (λ f. (n : ℕ) → f ≡ fault.Damaged n → (3 ≤ n) × (n < 2 ^ 31))
+    c.from_residual.ensures.1
+    (λ n damaged. comes_in_range g.row.D (given c.args.cache.now) c.args.root.page n c.requires.root
+    (c.in_err-now.ensures.damage h n damaged))
+
+pub returns-in_err-now-2-clause-number : goal.returns-in_err-now-2-clause-number
+returns-in_err-now-2-clause-number g c = λ h.
+    at_error c.from_residual-in_err-now-2.result c.in_err-now-2.field-0.0 (λ f. (n : ℕ) → f ≡ fault.Damaged n → (3 ≤ n) × (n < 2 ^ 31))
+    c.from_residual-in_err-now-2.ensures.1
+    (λ n damaged. comes_in_range g.row.D (given c.placing.cache) c.placing.now.page n
+    c.placing.invariant.1.page (c.in_err-now-2.ensures.damage (c.placing.invariant.5 h).0 n damaged))
+
+pub returns-clause-sound : goal.returns-clause-sound
+returns-clause-sound g c = λ h. (c.placing.invariant.5 h).0
