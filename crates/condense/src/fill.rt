@@ -1,8 +1,10 @@
 //! What a removal has kept, inserted again.
 
 ghost use Rattle.std.specs.Prelude.{◌≡◌, ◌^◌, ◌*◌, ◌<◌, ◌≤◌, ℕ, List, [], None, Ok, IfOk, IfErr};
+ghost use Rattle.std.specs.Prelude.{OnOk};
 ghost use Rattle.arrayvec.specs.ArrayVec.{array_vec_len};
 ghost use Rattle.box_math.specs.Bounds.{IsDims};
+ghost use Rattle.page_file.specs.declared.fault.Fault.TheVariants as fault;
 ghost use Rattle.page_file.specs.declared.gate.Gate.TheVariants.{Open};
 ghost use Rattle.page_cache.specs.Cache.{Grows, IsPageMap, gate_of, pages};
 ghost use Rattle.page_cache.specs.Calls.{AsksUntil, Changes};
@@ -45,6 +47,9 @@ pub(crate) fn insert_kept<const D: usize, B: BlockDevice, A: Allocator + Copy>(
     ensures faults { IsPageMap cache.old → (t : Tree) (ws : List Waiter) (elsewhere : ℕ → ℕ)
         → CanFill D (pages cache.old) root t ws elsewhere (held_now kept.old) → CanFillShaped D m_max t ws
         → IfErr result (IsNoDamage cache.new) }
+    ensures sound { IsPageMap cache.old → OnOk result (IsPageMap cache.new) }
+    ensures number { IsPageMap cache.old
+        → IfErr result (λ f. (n : ℕ) → f ≡ fault.Damaged n → (3 ≤ n) × (n < 2 ^ 31)) }
     ensures other_faults { IfErr result IsChangeFault }
 {
     let mut now = root;

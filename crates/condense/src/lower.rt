@@ -1,12 +1,12 @@
 //! The root gives way to its only child.
 
 ghost use Rattle.std.specs.Prelude.{◌≡◌, ◌⊎◌, ◌^◌, ◌-◌, ◌<◌, ◌≤◌, IfErr, IfNone, IfOk, IfSome, Some, length};
-ghost use Rattle.std.specs.Prelude.{OnOk, false, slice_index_or};
+ghost use Rattle.std.specs.Prelude.{ℕ, OnOk, false, slice_index_or};
 ghost use Rattle.box_math.specs.Bounds.{IsDims};
 ghost use Rattle.page_file.specs.Fault.{IsDamage, IsOfDevice};
 ghost use Rattle.page_file.specs.declared.fault.Fault.TheVariants as fault;
 ghost use Rattle.page_file.specs.declared.gate.Gate.TheVariants.{Open};
-ghost use Rattle.page_cache.specs.Cache.{Grows, IsHonest, IsPageMap, gate_of, next_of, pages};
+ghost use Rattle.page_cache.specs.Cache.{Grows, IsHonest, IsPageMap, gate_of, given, pages};
 ghost use Rattle.page_cache.specs.Cache.{touched_of};
 ghost use Rattle.page_cache.specs.Calls.{Asks, Changes};
 ghost use Rattle.tree_node.specs.Nodes.{Item, NodeContent};
@@ -42,6 +42,8 @@ pub(crate) fn give_way<const D: usize, B: BlockDevice, A: Allocator + Copy>(
         → IfErr result IsOfDevice }
     ensures untouched { IsHonest cache.old → touched_of cache.new ≡ false
         → IfErr result (λ f. IsOfDevice f ⊎ (f ≡ fault.Damaged root.page)) }
+    ensures number { IsPageMap cache.old
+        → IfErr result (λ f. (n : ℕ) → f ≡ fault.Damaged n → (3 ≤ n) × (n < 2 ^ 31)) }
     ensures other_faults { IfErr result (λ f. IsOfDevice f ⊎ IsDamage f) }
 {
     let mut now = root;
@@ -72,7 +74,8 @@ fn only_child<const D: usize, B: BlockDevice, A: Allocator + Copy>(
         × (3 ≤ below.page) × (below.page < 2 ^ 31))) }
     ensures there { IsHonest cache.old → (c : NodeContent) → node_in D (pages cache.old at.page) ≡ Some c
         → c.level ≡ at.level → IfErr result IsOfDevice }
-    ensures given_out { IsHonest cache.old → OnOk result (at.page < next_of cache.old) }
+    ensures given_node { IsHonest cache.old → OnOk result ((c : NodeContent)
+        × (node_in D (given cache.old at.page) ≡ Some c)) }
     ensures faults { IsHonest cache.old → IfErr result (λ f. IsOfDevice f ⊎ (f ≡ fault.Damaged at.page)) }
     ensures other_faults { IfErr result (λ f. IsOfDevice f ⊎ IsDamage f) }
 {

@@ -1,6 +1,7 @@
 //! A lawful removal: the object leaves, what is kept comes back, and the root gives way.
 
 ghost use Rattle.std.specs.Prelude.{◌≡◌, ◌⊎◌, ◌*◌, ◌<◌, ◌≤◌, [], ◌∷◌, ℕ, IfOk, IfErr, true, false, map};
+ghost use Rattle.std.specs.Prelude.{◌^◌};
 ghost use Rattle.std.specs.List.{Contains};
 ghost use Rattle.std.specs.List.Sorted.{IsPermutation};
 ghost use Rattle.arrayvec.specs.ArrayVec.{array_vec_len};
@@ -48,9 +49,10 @@ use tree_node::{Node, Root};
 /// is kept and of what waits is taken before the first write. Where the tree has its shape and the object, a
 /// refusal is of memory or of the device, or each page number is live (`NoPages`). Where no leaf has the
 /// object, no page is touched, and that is `Damaged` with the root's page, unless memory or the device
-/// refused before. In other pages of a sound map, `Damaged` after which the cache is not touched names a page
-/// that a walk down the nodes comes to. Also after a refusal, at most `most_removal_pages` more pages are
-/// live.
+/// refused before. Also after a refusal, at most `most_removal_pages` more pages are live.
+///
+/// In other pages of a sound map, `Damaged` after which the cache is not touched names a page that a walk down
+/// the nodes comes to; after other refusals it may be one of nodes that came meanwhile.
 pub fn remove<const D: usize, B: BlockDevice, A: Allocator + Copy, H: Allocator + Copy>(
     alloc: H,
     cache: &mut PageCache<B, A>,
@@ -85,6 +87,8 @@ pub fn remove<const D: usize, B: BlockDevice, A: Allocator + Copy, H: Allocator 
         IfErr result (IsNoDamage cache.new) }
     ensures damage { IsPageMap cache.old → touched_of cache.new ≡ false
         → IfErr result (λ f. (n : ℕ) → f ≡ fault.Damaged n → ComesTo D (given cache.old) root.page n) }
+    ensures number { IsPageMap cache.old
+        → IfErr result (λ f. (n : ℕ) → f ≡ fault.Damaged n → (3 ≤ n) × (n < 2 ^ 31)) }
     ensures other_faults { IfErr result IsChangeFault }
 {
     let mut waiting = Waiting::make(alloc)?;
@@ -129,6 +133,8 @@ pub fn remove_with<const D: usize, B: BlockDevice, A: Allocator + Copy>(
         IfErr result (IsNoDamage cache.new) }
     ensures damage { IsPageMap cache.old → touched_of cache.new ≡ false
         → IfErr result (λ f. (n : ℕ) → f ≡ fault.Damaged n → ComesTo D (given cache.old) root.page n) }
+    ensures number { IsPageMap cache.old
+        → IfErr result (λ f. (n : ℕ) → f ≡ fault.Damaged n → (3 ≤ n) × (n < 2 ^ 31)) }
     ensures other_faults { IfErr result IsChangeFault }
 {
     kept.begin();
@@ -189,6 +195,8 @@ fn put_root<const D: usize, B: BlockDevice, A: Allocator + Copy>(
     ensures damage { IsPageMap cache.old → IsLive cache.old root.page
         → (kept.old.orphans.items ≡ []) ⊎ (touched_of cache.old ≡ true) → touched_of cache.new ≡ false
         → IfErr result (λ f. IsOfDevice f ⊎ (f ≡ fault.Damaged root.page)) }
+    ensures number { IsPageMap cache.old → IsLive cache.old root.page
+        → IfErr result (λ f. (n : ℕ) → f ≡ fault.Damaged n → (3 ≤ n) × (n < 2 ^ 31)) }
     ensures other_faults { IfErr result IsChangeFault }
 {
     if lacks_entries(node) {

@@ -1,12 +1,15 @@
 -- The goals of `insert_kept` that are proved by hand.
 use Rattle.std.proofs.Common.{rules, ◌∙◌, ◌+◌, List, None, Ok, length, map, refl, ap, subst, arith}
-use Rattle.page_cache.specs.Cache.{pages}
+use Rattle.std.proofs.Common.{◌≡◌, inr, ℕ, [], ◌<◌, ◌≤◌, ◌^◌}
+use Rattle.page_file.specs.declared.fault.Fault.TheVariants as fault
+use Rattle.page_cache.specs.Cache.{given, pages}
 use Rattle.page_cache.specs.Calls.{changes_and_refuses, changes_in_turn, no_call_asks, no_call_changes}
 use Rattle.tree_node.specs.declared.node.Root.{Root}
 use Rattle.tree_node.specs.Nodes.{item_of}
 use Rattle.tree_node.specs.Rows.{occurs_waiting}
 use Rattle.node_page.specs.Faults.{IsNoDamage}
 use Rattle.node_page.specs.Standing.{PageMap}
+use Rattle.node_page.proofs.DamageLemmas.{comes_in_range, damaged_read}
 use Rattle.node_page.proofs.NodeLemmas.{at_error}
 use Rattle.reinsert.specs.Placed.{Held}
 use Rattle.condense.specs.Taken.{held_now, orphan_held}
@@ -26,6 +29,7 @@ inserting-init g c = (
         (held_now c.args.kept.now) can,
   ),
   λ none. (none, refl, no_call_asks c.args.cache.now),
+  λ h. h,
 )
 
 pub returns-then-orphan-now-clause-faults : goal.returns-then-orphan-now-clause-faults
@@ -119,6 +123,7 @@ inserting-preserved g c = (
             (omega (arith, c.requires.most)) done.1,
       ),
   λ none. absurd (omega (arith, c.in-Some.ensures.fewer, ap length (c.inserting.invariant.5 none).0)),
+  λ h. c.in_ok-now.ensures.sound (c.inserting.invariant.6 h),
 )
 
 pub returns-clause-filled : goal.returns-clause-filled
@@ -147,3 +152,17 @@ returns-in_err-now-clause-none g c = λ none.
 pub returns-clause-none : goal.returns-clause-none
 returns-clause-none g c = λ none.
     let so_far = c.inserting.invariant.5 none in (ap (λ (root : Root). Ok root) so_far.1, so_far.2)
+
+pub returns-then-orphan-now-clause-number : goal.returns-then-orphan-now-clause-number
+returns-then-orphan-now-clause-number g c = λ h n damaged.
+    let page = c.inserting.now.page in
+    comes_in_range g.row.D (given c.inserting.cache) page n c.inserting.invariant.1.page
+    ([], damaged_read (fault.Damaged page) page n (inr refl) damaged)
+
+pub returns-in_err-now-clause-number : goal.returns-in_err-now-clause-number
+returns-in_err-now-clause-number g c = λ h.
+    at_error c.from_residual.result c.in_err-now.field-0.0 (λ f. (n : ℕ) → f ≡ fault.Damaged n → (3 ≤ n) × (n < 2 ^ 31))
+    c.from_residual.ensures.1 (c.in_err-now.ensures.number (c.inserting.invariant.6 h))
+
+pub returns-clause-sound : goal.returns-clause-sound
+returns-clause-sound g c = c.inserting.invariant.6

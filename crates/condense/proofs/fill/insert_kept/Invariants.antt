@@ -26,6 +26,7 @@ invariant-inserting g l =
     × Filled g.row.D l.m_max (pages l.fn.cache) (pages l.cache) t ws elsewhere l.now (held_now l.kept))
     × (l.fn.kept.orphans.items ≡ [] → (l.kept.orphans.items ≡ []) × (l.now ≡ l.fn.root)
     × AsksUntil l.fn.cache l.cache None)
+    × (IsPageMap l.fn.cache → IsPageMap l.cache)
 
 abbrev pub decreases-inserting : goal.decreases-inserting
 decreases-inserting g l = array_vec_len l.kept.orphans

@@ -18,6 +18,7 @@ invariant-lowering g l =
     × (IsPageMap l.fn.cache → (t : Tree) → IsRootOf l.fn.root t → Stands g.row.D (pages l.fn.cache) t
     → IsPageMap l.cache × Lowered g.row.D (pages l.fn.cache) (pages l.cache) t l.now)
     × (IsHonest l.fn.cache → (l.now ≡ l.fn.root) ⊎ (touched_of l.cache ≡ true))
+    × (IsPageMap l.fn.cache → IsPageMap l.cache)
 
 abbrev pub decreases-lowering : goal.decreases-lowering
 decreases-lowering g l = l.now.level

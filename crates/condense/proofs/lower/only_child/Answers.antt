@@ -5,7 +5,6 @@ use Rattle.page_cache.specs.Cache.{pages}
 use Rattle.tree_node.specs.Nodes.{Item, NodeContent, item_of}
 use Rattle.node_page.specs.Standing.{PageMap}
 use Rattle.node_page.specs.Views.{content_in}
-use Rattle.node_page.proofs.GivenLemmas.{node_was_given_out}
 use Rattle.node_page.proofs.StandingLemmas.{page_of_node, same_content}
 use Rattle.condense.proofs.lower.only_child.Goals as goal
 
@@ -23,12 +22,8 @@ returns-clause-child g c = λ h content there.
           (c.entry.ensures ∙ get_or_default view.entries 0 (item_of c.entry.result) d (omega (arith, one))),
     )
 
-pub returns-then-len-ne1-clause-given_out : goal.returns-then-len-ne1-clause-given_out
-returns-then-len-ne1-clause-given_out g c = λ h.
-    (node_was_given_out g.row.D c.args.cache.now c.args.at.page (content_in c.in_ok-node.node)
-    (c.in_ok-node.ensures.given_node h)).1
+pub returns-then-len-ne1-clause-given_node : goal.returns-then-len-ne1-clause-given_node
+returns-then-len-ne1-clause-given_node g c = λ h. (content_in c.in_ok-node.node, c.in_ok-node.ensures.given_node h)
 
-pub returns-clause-given_out : goal.returns-clause-given_out
-returns-clause-given_out g c = λ h.
-    (node_was_given_out g.row.D c.args.cache.now c.args.at.page (content_in c.in_ok-node.node)
-    (c.in_ok-node.ensures.given_node h)).1
+pub returns-clause-given_node : goal.returns-clause-given_node
+returns-clause-given_node g c = λ h. (content_in c.in_ok-node.node, c.in_ok-node.ensures.given_node h)
