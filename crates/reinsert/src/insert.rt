@@ -45,9 +45,9 @@ use tree_node::{Entry, Root};
 /// 40 takes no entry, since it could grow: its root is `Damaged`, and the cache stays. Also after a refusal,
 /// at most `most_new_pages` more pages are live.
 ///
-/// Whatever nodes the pages are, a sound map stays sound after `Ok`, and there `Damaged` names a page from 3 to
-/// 2^31 - 1. Where the cache is not touched after it, that is one that a walk down the nodes comes to; else it
-/// may be that of a node that came meanwhile.
+/// Whatever nodes the pages are, a sound map stays sound after `Ok`, and there `Damaged` names a page from 3
+/// to 2^31 - 1. Where the cache is not touched after it, that is one that a walk down the nodes comes to;
+/// else it may be that of a node that came meanwhile.
 pub fn insert_at<const D: usize, B: BlockDevice, A: Allocator + Copy, H: Allocator>(
     alloc: H,
     cache: &mut PageCache<B, A>,
