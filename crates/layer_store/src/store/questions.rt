@@ -2,12 +2,12 @@
 
 ghost use Rattle.std.specs.Prelude.{◌≡◌, ◌⊎◌, ◌*◌, IfErr, OnOk};
 ghost use Rattle.live_layers.specs.Keeping.{LooksAtTree};
-ghost use Rattle.live_layers.specs.Questions.{LooksAtTrees, is_admitted};
+ghost use Rattle.live_layers.specs.Questions.{LooksAtTrees};
 ghost use Rattle.nearest.specs.Nearest.{is_searched};
-ghost use Rattle.plain_table.specs.Answers.{boxes_answer, count_answer, object_answer};
+ghost use Rattle.plain_table.specs.Answers.{count_answer, object_answer};
 ghost use Rattle.plain_table.specs.Answers.{distances_answer, pairs_answer};
 ghost use Rattle.plain_table.specs.Boxes.{given_point, point_dims};
-ghost use Rattle.plain_table.specs.Commands.Command.{Count, Get, Join, Nearest, Range};
+ghost use Rattle.plain_table.specs.Commands.Command.{Count, Get, Join, Nearest};
 ghost use Rattle.plain_table.specs.Step.{nearest_rows};
 ghost use Rattle.plain_table.specs.Table.{Table, layer_at};
 ghost use Rattle.plain_table.specs.declared.refusal.Refusal.TheVariants as refusal;
@@ -148,11 +148,7 @@ impl<D: BlockDevice, A: Allocator + Copy> Store<D, A> {
         point: RawPoint,
         tag: Option<u32>,
     ) -> Result<Vec<(u64, AnyBox, u32), A>, Refusal>
-        ensures answers { Answers self.old self.new (Range layer.now (RawQuery.Point point) tag) boxes_answer
-            result }
-        ensures looks { (t : Table) → IsInState self.old (Alive t) →
-            OnOk result (LooksAtTree (layers_in self.old) (layers_in self.new) layer.now
-            (admitted (is_admitted (layer_at t layer.now).dims (RawQuery.Point point)))) }
+        ensures { AnswersRange self.old self.new layer.now (RawQuery.Point point) tag result }
     {
         self.range(layer, RawQuery::Point(point), tag)
     }
