@@ -1,15 +1,15 @@
 -- The goals of `reach` that are proved by hand.
 use Rattle.std.proofs.Common.{◌≡◌, true, IfSome, sym, subst}
 use Rattle.box_math.specs.Bounds.{Bounds, meets_test}
-use Rattle.range_query.specs.declared.query.Query.{Query}
-use Rattle.range_query.specs.Queries.{is_admitted}
-use Rattle.range_query.proofs.QueryLemmas.{around_meets, point_meets}
-use Rattle.range_query.proofs.query.Query.reach.Goals as goal
+use Rattle.box_math.specs.declared.query.Query.{Query}
+use Rattle.box_math.specs.Queries.{admits}
+use Rattle.box_math.proofs.QueryLemmas.{around_meets, point_meets}
+use Rattle.box_math.proofs.query.Query.reach.Goals as goal
 
 pub returns-in-Around : goal.returns-in-Around
 returns-in-Around g c = λ b passes.
     around_meets g.row.D c.in-Around.inner b (λ axis lt. (c.low.ensures.is_box.spans axis lt).ordered)
-    (subst (λ (q : Query g.row.D). is_admitted q b ≡ true) c.in-Around.is passes)
+    (subst (λ (q : Query g.row.D). admits q b ≡ true) c.in-Around.is passes)
 
 pub returns-in-Point : goal.returns-in-Point
 returns-in-Point g c = λ b passes.
@@ -19,4 +19,4 @@ returns-in-Point g c = λ b passes.
     c.try_new.ensures.value in
     subst (λ (r : Bounds). meets_test g.row.D b r ≡ true) (sym made)
     (point_meets g.row.D c.in-Point.point b
-    (subst (λ (q : Query g.row.D). is_admitted q b ≡ true) c.in-Point.is passes))
+    (subst (λ (q : Query g.row.D). admits q b ≡ true) c.in-Point.is passes))

@@ -1,13 +1,15 @@
-//! What a range query asks of a box.
+//! Range queries: which boxes they seek, and which boxes may hold one of those.
 
-ghost use Rattle.std.specs.Prelude.{◌≡◌};
+ghost use Rattle.std.specs.Prelude.{◌≡◌, true};
+ghost use Rattle.box_math.specs.Bounds.{Bounds, meets_test};
+ghost use Rattle.box_math.specs.Queries.{admits, seeks};
 
-use box_math::BBox;
+use crate::bounds::BBox;
 
-/// A range query. The objects that it seeks are told by their boxes, and so are the nodes that it looks into.
-#[derive(Clone, Copy, Debug)]
-pub(crate) enum Query<const D: usize> {
-    /// The boxes that meet this one.
+/// A range query. What it seeks is told by boxes alone.
+#[derive(Clone, Copy, PartialEq, Eq, Debug)]
+pub enum Query<const D: usize> {
+    /// The boxes that meet this one: the two share at least one point, so boxes that touch meet.
     Window(BBox<D>),
     /// The boxes within this one.
     Inside(BBox<D>),
@@ -18,13 +20,9 @@ pub(crate) enum Query<const D: usize> {
 }
 
 impl<const D: usize> Query<D> {
-    ghost use Rattle.std.specs.Prelude.{true};
-    ghost use Rattle.box_math.specs.Bounds.{Bounds, meets_test};
-    ghost use Rattle.range_query.specs.Queries.{is_admitted, is_sought};
-
-    /// Whether an object with the box is sought.
-    pub(crate) fn seeks(&self, bounds: &BBox<D>) -> bool
-        ensures { result ≡ is_sought self.now bounds.now }
+    /// Whether it seeks the box.
+    pub fn seeks(&self, bounds: &BBox<D>) -> bool
+        ensures { result ≡ seeks self.now bounds.now }
     {
         match self {
             Query::Window(window) => bounds.meets(window),
@@ -34,9 +32,9 @@ impl<const D: usize> Query<D> {
         }
     }
 
-    /// Whether an object below a node with the box may be sought.
-    pub(crate) fn admits(&self, bounds: &BBox<D>) -> bool
-        ensures { result ≡ is_admitted self.now bounds.now }
+    /// Whether a box within this one may be sought.
+    pub fn admits(&self, bounds: &BBox<D>) -> bool
+        ensures { result ≡ admits self.now bounds.now }
     {
         match self {
             Query::Window(window) | Query::Inside(window) => bounds.meets(window),
@@ -46,8 +44,8 @@ impl<const D: usize> Query<D> {
     }
 
     /// A box that each admitted box meets, and so each one that is sought.
-    pub(crate) fn reach(&self) -> BBox<D>
-        ensures { (b : Bounds) → is_admitted self.now b ≡ true → meets_test D b result ≡ true }
+    pub fn reach(&self) -> BBox<D>
+        ensures { (b : Bounds) → admits self.now b ≡ true → meets_test D b result ≡ true }
     {
         match self {
             Query::Window(window) | Query::Inside(window) => *window,
