@@ -2,9 +2,9 @@
 use Rattle.std.proofs.Common.{◌≡◌, ◌∙◌, ◌⊎◌, ℕ, zero, suc, ◌<◌, ◌≤◌, Bool, true, false, ◌||◌, eqb, List, []}
 use Rattle.std.proofs.Common.{◌∷◌, ◌++◌, Option, IsSome, Result, Ok, Err, None, IfErr, ap, sym, subst, refl}
 use Rattle.std.proofs.Common.{⊎_elim, inl, inr, arith}
-use Rattle.std.specs.Prelude.{◌-◌, IsErrOf, Some, slice_get}
+use Rattle.std.specs.Prelude.{◌-◌, IsErrOf, OnOk, Some, is_ok, slice_get}
 use Rattle.std.specs.Set.{is_member}
-use Rattle.std.proofs.lemmas.Bool.{cases_eq}
+use Rattle.std.proofs.lemmas.Bool.{cases_eq, cases_lt}
 use Rattle.std.proofs.lemmas.Bool.Decides.{nat_tests}
 use Rattle.block_device.specs.Device.{Blocks, block_at}
 use Rattle.page_file.specs.Chains.{chain_opened, eq_self}
@@ -314,3 +314,39 @@ stays_live old new n k live others there = ⊎_elim
     (λ (is : k ≡ n). subst (λ (j : ℕ). IsSome (new j)) (sym is) live)
     (λ (other : ¬ (k ≡ n)). subst IsSome (sym (others k other)) there)
     (cases_eq k n)
+
+-- ---- pages that are touched
+
+pub touched_so : (before now : Bool) → now ≡ (before || true) → now ≡ true
+touched_so true now is = is
+touched_so false now is = is
+
+pub touched_by : {T : Type 0} (r : Result T Fault) (before now : Bool) → now ≡ (before || is_ok r)
+    → OnOk r (now ≡ true)
+touched_by (Ok x) before now is = touched_so before now is
+touched_by (Err f) before now is = tt
+
+-- a page that is freed is touched, but for one before the first or past the last
+pub freed_touches : (n next : ℕ) (touched : Bool) → (3 ≤ n → n < next → touched ≡ true)
+    → ((n < 3) ⊎ (next ≤ n) → ⊥) → touched ≡ true
+freed_touches n next touched inside outside = ⊎_elim
+    (λ (low : n < 3). absurd (outside (inl low)))
+    (λ (high : 3 ≤ n). ⊎_elim
+    (λ (below : n < next). inside high below)
+    (λ (above : next ≤ n). absurd (outside (inr above)))
+    (cases_lt n next))
+    (cases_lt n 3)
+
+pub untouched_refused : (n next : ℕ) (f : Fault) (touched : Bool) → (3 ≤ n → n < next → touched ≡ true)
+    → ((n < 3) ⊎ (next ≤ n) → f ≡ fault.Damaged n) → touched ≡ false
+    → IsOfDevice f ⊎ (f ≡ fault.Damaged n)
+untouched_refused n next f touched inside outside none = ⊎_elim
+    (λ (low : n < 3). inr (outside (inl low)))
+    (λ (high : 3 ≤ n). ⊎_elim
+    (λ (below : n < next). let yes = inside high below in absurd (cc))
+    (λ (above : next ≤ n). inr (outside (inr above)))
+    (cases_lt n next))
+    (cases_lt n 3)
+
+pub not_both : (touched : Bool) → touched ≡ true → touched ≡ false → ⊥
+not_both touched was was_not = absurd (cc)
