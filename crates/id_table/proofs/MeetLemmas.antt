@@ -9,7 +9,7 @@ use Rattle.std.proofs.lemmas.Bool.Decides.{nat_tests}
 use Rattle.block_device.specs.Device.{Blocks, block_at}
 use Rattle.page_file.specs.Chains.{chain_opened, eq_self}
 use Rattle.page_file.specs.Fault.{IsOfDevice}
-use Rattle.page_file.specs.Given.{given_is}
+use Rattle.page_file.specs.Given.{given_is, is_given}
 use Rattle.page_file.specs.Layout.{kind_of, link_of}
 use Rattle.page_file.specs.Live.{lives}
 use Rattle.page_file.specs.Opening.{is_sound}
@@ -77,6 +77,9 @@ no_more_in_turn dims old mid new a b = λ page next names. a page next (b page n
 
 first_low : (h : Header) → is_sound h ≡ true → 0 < h.count → 3 ≤ h.first
 first_low h e some = grind (arith, nat_tests)
+
+first_below : (h : Header) → is_sound h ≡ true → 0 < h.count → h.first < h.next
+first_below h e some = grind (arith, nat_tests)
 
 first_is_free : (blocks : Blocks) (h : Header) → is_sound h ≡ true → 0 < h.count
     → is_member eqb (free_pages_of blocks h) h.first ≡ true
@@ -254,12 +257,32 @@ module _ {B A : Type 0} {m : _} where
       other)
       either
 
+  -- it was given out
+  pub refused_is_given : (old new : PageCache B A m) (f : Fault) (n : ℕ)
+      → IsOfDevice f ⊎ ((f ≡ fault.NoPages) ⊎ IsBroken old new f) → f ≡ fault.Damaged n
+      → IsSome (given old n)
+  refused_is_given old new f n either damaged = ⊎_elim
+      (λ (device : IsOfDevice f). absurd (no_damage f n device damaged))
+      (λ (other : (f ≡ fault.NoPages) ⊎ IsBroken old new f). ⊎_elim
+      (λ (none : f ≡ fault.NoPages). absurd (cc))
+      (λ (broken : IsBroken old new f).
+      let h = old.file.header in
+      let said = broken.is in
+      let is : n ≡ h.first = cc in
+      let low = first_low h old.file.sound broken.some in
+      let below = first_below h old.file.sound broken.some in
+      is_there (given old n) (block_at n (blocks_behind old))
+      (is_given (blocks_behind old) (next_of old) n (omega (arith, is, low)) (omega (arith, is, below))))
+      other)
+      either
+
   pub may_break : (old new : PageCache B A m) (f : Fault) (n : ℕ)
       → (IsPageMap old → IsOfDevice f ⊎ (f ≡ fault.NoPages))
       → IsOfDevice f ⊎ ((f ≡ fault.NoPages) ⊎ IsBroken old new f) → f ≡ fault.Damaged n → MayBreakAt old n
   may_break old new f n sound either damaged = (
     λ map. ⊎_elim (λ (device : IsOfDevice f). no_damage f n device damaged)
         (λ (none : f ≡ fault.NoPages). absurd (cc)) (sound map),
+    refused_is_given old new f n either damaged,
     refused_is_free old new f n either damaged,
   )
 
@@ -267,7 +290,8 @@ module _ {B A : Type 0} {m : _} where
       → MayBreakAt now n → MayBreakAt old n
   breaks_before old now n asks honest breaks = (
     λ map. breaks.0 (asks.map.sound.0 map),
-    λ live. breaks.1 (subst IsSome (sym (asks.map.pages_stay honest n)) live),
+    subst IsSome (asks.map.given_stay honest n) breaks.1,
+    λ live. breaks.2 (subst IsSome (sym (asks.map.pages_stay honest n)) live),
   )
 
 -- ---- pages that are written

@@ -34,8 +34,8 @@ use std::alloc::Allocator;
 /// With a sound map, where the pages stand for a table at that directory, a refusal is `Memory` or `Device`,
 /// or `NoPages` where each page number is live. On other pages it may be `Damaged` too. On an honest device,
 /// where the map is sound or no page is touched, that comes with the number of the directory's page or of the
-/// first page of a chain in the table as it stood before, or, where the map is not sound, of a page that is
-/// not live.
+/// first page of a chain in the table as it stood before, or, where the map is not sound, of a page given out
+/// that is not live.
 pub fn fill<const D: usize, B: BlockDevice, A: Allocator + Copy>(
     cache: &mut PageCache<B, A>,
     directory: u32,
