@@ -1,6 +1,6 @@
 -- The first pages of chains where objects are added: one that is damaged stood there before.
 use Rattle.std.proofs.Common.{◌≡◌, ◌∙◌, ◌⊎◌, ℕ, List, Option, Some, None, IsSome, ap, sym, subst, refl, arith}
-use Rattle.std.proofs.Common.{⊎_elim, inl, inr, IfErr, Result, Ok, Err}
+use Rattle.std.proofs.Common.{⊎_elim, inl, inr, IfErr, Result, Ok, Err, ◌<◌, true, false}
 use Rattle.std.proofs.lemmas.Bool.{cases_eq}
 use Rattle.bucket_page.proofs.Reading.{no_head}
 use Rattle.bucket_page.specs.Layout.{BucketContent, Entry, HasBucketHead}
@@ -9,15 +9,16 @@ use Rattle.page_file.specs.Layout.{kind_of}
 use Rattle.page_file.specs.declared.fault.Fault.{Fault}
 use Rattle.page_file.specs.declared.fault.Fault.TheVariants as fault
 use Rattle.page_file.specs.Pages.{SameBut}
-use Rattle.page_cache.specs.Cache.{IsPageMap, given, pages}
+use Rattle.page_cache.specs.Cache.{IsPageMap, given, pages, touched_of}
 use Rattle.page_cache.specs.Calls.{AsksUntil}
 use Rattle.page_cache.specs.Laws.{a_live_page_is_given, a_page_in_use_is_live}
 use Rattle.page_cache.specs.declared.cache.PageCache.{PageCache}
 use Rattle.node_page.proofs.DamageLemmas.{damaged_read}
 use Rattle.id_table.specs.Pages.{PutsBefore}
 use Rattle.id_table.specs.Table.{IsDirectory, bucket_in, link_at}
-use Rattle.id_table.proofs.MeetLemmas.{no_damage}
-use Rattle.id_table.specs.Walks.{BeginsChain, IsBucket, KeepsFirst, NamesFirst, NamesNext}
+use Rattle.id_table.proofs.MeetLemmas.{no_damage, not_both}
+use Rattle.id_table.specs.Walks.{BeginsChain, BeginsInTable, IsBucket, KeepsFirst, MayBreakAt, NamesFirst}
+use Rattle.id_table.specs.Walks.{NamesNext}
 
 -- what is there is a bucket, or not
 pub spells_one : (dims : ℕ) (page : Option (List ℕ)) (c : BucketContent) → bucket_in dims page ≡ Some c
@@ -170,10 +171,12 @@ module _ {B A : Type 0} {m : _} where
 
   -- the page that an addition names, where others were made before it
   pub begins_before : (dims directory class n : ℕ) (old now : PageCache B A m)
-      → KeepsFirst dims directory old now → BeginsChain dims (given now) directory class n
+      → KeepsFirst dims directory old now
+      → BeginsChain dims (given now) directory class n ⊎ MayBreakAt now n
       → (n ≡ directory) ⊎ (¬ (IsBucket dims (pages now n)))
       → BeginsChain dims (given old) directory class n
-  begins_before dims directory class n old now kept begins said = ⊎_elim
+  begins_before dims directory class n old now kept names said = ⊎_elim
+      (λ (begins : BeginsChain dims (given now) directory class n). ⊎_elim
       (λ (is : n ≡ directory). inl is)
       (λ (named : (¬ (n ≡ 0)) × NamesFirst dims (given now directory) class n). ⊎_elim
       (λ (is : n ≡ directory). inl is)
@@ -182,4 +185,20 @@ module _ {B A : Type 0} {m : _} where
       (λ (bucket : IsBucket dims (pages now n)). absurd (none bucket))
       (kept.first class n named.1))
       said)
-      begins
+      begins)
+      (λ (breaks : MayBreakAt now n). absurd (breaks.0 kept.sound))
+      names
+
+  -- where no page is touched, none was made before it
+  pub begins_untouched : (dims directory class n : ℕ) (old now new : PageCache B A m) → class < 1000
+      → (now ≡ old) ⊎ (touched_of now ≡ true) → (touched_of now ≡ true → touched_of new ≡ true)
+      → touched_of new ≡ false → BeginsChain dims (given now) directory class n ⊎ MayBreakAt now n
+      → BeginsInTable dims (given old) directory n ⊎ MayBreakAt old n
+  begins_untouched dims directory class n old now new small begun stays none names = ⊎_elim
+      (λ (same : now ≡ old). ⊎_elim
+      (λ (begins : BeginsChain dims (given old) directory class n). inl (class, small, begins))
+      (λ (breaks : MayBreakAt old n). inr breaks)
+      (subst (λ (k : PageCache B A m). BeginsChain dims (given k) directory class n ⊎ MayBreakAt k n) same
+      names))
+      (λ (touched : touched_of now ≡ true). absurd (not_both (touched_of new) (stays touched) none))
+      begun

@@ -1,11 +1,11 @@
 -- Pages freed one after the other.
 use Rattle.std.proofs.Common.{◌≡◌, ◌∙◌, ℕ, ◌+◌, ◌<◌, ◌≤◌, cond, eqb, Some, None, List, [], ◌∷◌, ◌++◌, length}
-use Rattle.std.proofs.Common.{take, drop, sum_by, refl, sym, ap, subst, ⊎_elim, arith}
+use Rattle.std.proofs.Common.{take, drop, sum_by, refl, sym, ap, subst, true, ⊎_elim, arith}
 use Rattle.std.proofs.lemmas.Bool.{cases_eq}
 use Rattle.std.proofs.lemmas.List.{append_assoc, take-append-drop}
 use Rattle.std.proofs.lemmas.List.Sums.{sum_by-append, sum_by_more}
 use Rattle.bucket_page.specs.Layout.{BucketContent}
-use Rattle.page_cache.specs.Cache.{Grows, IsHonest, IsLive, IsPageMap, given, next_of, pages}
+use Rattle.page_cache.specs.Cache.{Grows, IsHonest, IsLive, IsPageMap, given, next_of, pages, touched_of}
 use Rattle.page_cache.specs.Calls.{ChangesUntil, changes_in_turn}
 use Rattle.page_cache.specs.declared.cache.PageCache.{PageCache}
 use Rattle.page_file.specs.Pages.{SameBut}
@@ -248,6 +248,7 @@ module _ {B A : Type 0} {m : _} where
   pub record FreeingAll (dims directory : ℕ) (old now : PageCache B A m) (bytes : List ℕ) (class : ℕ) : Type
       0 where
     pub changes : ChangesUntil old now None
+    pub touched : touched_of now ≡ true
     pub kept : IsPageMap old → IsLive old directory → Keeps dims old now
     pub next : next_of now ≡ next_of old
     pub grows : Grows 0 old now
@@ -259,10 +260,11 @@ module _ {B A : Type 0} {m : _} where
       → (IsPageMap old → IsLive old directory → pages now directory ≡ None)
       → (IsPageMap old → IsLive old directory → SameBut directory (pages old) (pages now))
       → (IsPageMap old → IsLive old directory → IsPageMap now)
-      → (IsHonest old → SameBut directory (given old) (given now))
+      → (IsHonest old → SameBut directory (given old) (given now)) → touched_of now ≡ true
       → FreeingAll dims directory old now bytes 0
-  all_begins dims directory old now bytes changes next grows gone others sound given_others = record {
+  all_begins dims directory old now bytes changes next grows gone others sound given_others touched = record {
     changes = changes;
+    touched = touched;
     kept = λ map live. (
       sound map live,
       freed_names_no_more dims old now directory (sound map live) (gone map live) (given_others map.honest),
@@ -321,6 +323,7 @@ module _ {B A : Type 0} {m : _} where
         → FreeingAll dims directory old new bytes (class + 1)
     frees_all_on first new is changes next grows sound freed kept = record {
       changes = changes_in_turn old now new None so_far.changes changes;
+      touched = changes.touched so_far.touched;
       kept = λ map live.
           let k = so_far.kept map live in
           let more = kept k.0 in

@@ -2,14 +2,14 @@
 use Rattle.std.proofs.Common.{◌≡◌, ◌∙◌, ◌⊎◌, ℕ, zero, suc, ◌<◌, ◌≤◌, Bool, true, false, ◌||◌, eqb, List, []}
 use Rattle.std.proofs.Common.{◌∷◌, ◌++◌, Option, IsSome, Result, Ok, Err, None, IfErr, ap, sym, subst, refl}
 use Rattle.std.proofs.Common.{⊎_elim, inl, inr, arith}
-use Rattle.std.specs.Prelude.{◌-◌, IsErrOf, Some, slice_get}
+use Rattle.std.specs.Prelude.{◌-◌, IsErrOf, OnOk, Some, is_ok, slice_get}
 use Rattle.std.specs.Set.{is_member}
-use Rattle.std.proofs.lemmas.Bool.{cases_eq}
+use Rattle.std.proofs.lemmas.Bool.{cases_eq, cases_lt}
 use Rattle.std.proofs.lemmas.Bool.Decides.{nat_tests}
 use Rattle.block_device.specs.Device.{Blocks, block_at}
 use Rattle.page_file.specs.Chains.{chain_opened, eq_self}
 use Rattle.page_file.specs.Fault.{IsOfDevice}
-use Rattle.page_file.specs.Given.{given_is}
+use Rattle.page_file.specs.Given.{given_is, is_given}
 use Rattle.page_file.specs.Layout.{kind_of, link_of}
 use Rattle.page_file.specs.Live.{lives}
 use Rattle.page_file.specs.Opening.{is_sound}
@@ -77,6 +77,9 @@ no_more_in_turn dims old mid new a b = λ page next names. a page next (b page n
 
 first_low : (h : Header) → is_sound h ≡ true → 0 < h.count → 3 ≤ h.first
 first_low h e some = grind (arith, nat_tests)
+
+first_below : (h : Header) → is_sound h ≡ true → 0 < h.count → h.first < h.next
+first_below h e some = grind (arith, nat_tests)
 
 first_is_free : (blocks : Blocks) (h : Header) → is_sound h ≡ true → 0 < h.count
     → is_member eqb (free_pages_of blocks h) h.first ≡ true
@@ -254,12 +257,32 @@ module _ {B A : Type 0} {m : _} where
       other)
       either
 
+  -- it was given out
+  pub refused_is_given : (old new : PageCache B A m) (f : Fault) (n : ℕ)
+      → IsOfDevice f ⊎ ((f ≡ fault.NoPages) ⊎ IsBroken old new f) → f ≡ fault.Damaged n
+      → IsSome (given old n)
+  refused_is_given old new f n either damaged = ⊎_elim
+      (λ (device : IsOfDevice f). absurd (no_damage f n device damaged))
+      (λ (other : (f ≡ fault.NoPages) ⊎ IsBroken old new f). ⊎_elim
+      (λ (none : f ≡ fault.NoPages). absurd (cc))
+      (λ (broken : IsBroken old new f).
+      let h = old.file.header in
+      let said = broken.is in
+      let is : n ≡ h.first = cc in
+      let low = first_low h old.file.sound broken.some in
+      let below = first_below h old.file.sound broken.some in
+      is_there (given old n) (block_at n (blocks_behind old))
+      (is_given (blocks_behind old) (next_of old) n (omega (arith, is, low)) (omega (arith, is, below))))
+      other)
+      either
+
   pub may_break : (old new : PageCache B A m) (f : Fault) (n : ℕ)
       → (IsPageMap old → IsOfDevice f ⊎ (f ≡ fault.NoPages))
       → IsOfDevice f ⊎ ((f ≡ fault.NoPages) ⊎ IsBroken old new f) → f ≡ fault.Damaged n → MayBreakAt old n
   may_break old new f n sound either damaged = (
     λ map. ⊎_elim (λ (device : IsOfDevice f). no_damage f n device damaged)
         (λ (none : f ≡ fault.NoPages). absurd (cc)) (sound map),
+    refused_is_given old new f n either damaged,
     refused_is_free old new f n either damaged,
   )
 
@@ -267,7 +290,8 @@ module _ {B A : Type 0} {m : _} where
       → MayBreakAt now n → MayBreakAt old n
   breaks_before old now n asks honest breaks = (
     λ map. breaks.0 (asks.map.sound.0 map),
-    λ live. breaks.1 (subst IsSome (sym (asks.map.pages_stay honest n)) live),
+    subst IsSome (asks.map.given_stay honest n) breaks.1,
+    λ live. breaks.2 (subst IsSome (sym (asks.map.pages_stay honest n)) live),
   )
 
 -- ---- pages that are written
@@ -314,3 +338,39 @@ stays_live old new n k live others there = ⊎_elim
     (λ (is : k ≡ n). subst (λ (j : ℕ). IsSome (new j)) (sym is) live)
     (λ (other : ¬ (k ≡ n)). subst IsSome (sym (others k other)) there)
     (cases_eq k n)
+
+-- ---- pages that are touched
+
+pub touched_so : (before now : Bool) → now ≡ (before || true) → now ≡ true
+touched_so true now is = is
+touched_so false now is = is
+
+pub touched_by : {T : Type 0} (r : Result T Fault) (before now : Bool) → now ≡ (before || is_ok r)
+    → OnOk r (now ≡ true)
+touched_by (Ok x) before now is = touched_so before now is
+touched_by (Err f) before now is = tt
+
+-- a page that is freed is touched, but for one before the first or past the last
+pub freed_touches : (n next : ℕ) (touched : Bool) → (3 ≤ n → n < next → touched ≡ true)
+    → ((n < 3) ⊎ (next ≤ n) → ⊥) → touched ≡ true
+freed_touches n next touched inside outside = ⊎_elim
+    (λ (low : n < 3). absurd (outside (inl low)))
+    (λ (high : 3 ≤ n). ⊎_elim
+    (λ (below : n < next). inside high below)
+    (λ (above : next ≤ n). absurd (outside (inr above)))
+    (cases_lt n next))
+    (cases_lt n 3)
+
+pub untouched_refused : (n next : ℕ) (f : Fault) (touched : Bool) → (3 ≤ n → n < next → touched ≡ true)
+    → ((n < 3) ⊎ (next ≤ n) → f ≡ fault.Damaged n) → touched ≡ false
+    → IsOfDevice f ⊎ (f ≡ fault.Damaged n)
+untouched_refused n next f touched inside outside none = ⊎_elim
+    (λ (low : n < 3). inr (outside (inl low)))
+    (λ (high : 3 ≤ n). ⊎_elim
+    (λ (below : n < next). let yes = inside high below in absurd (cc))
+    (λ (above : next ≤ n). inr (outside (inr above)))
+    (cases_lt n next))
+    (cases_lt n 3)
+
+pub not_both : (touched : Bool) → touched ≡ true → touched ≡ false → ⊥
+not_both touched was was_not = absurd (cc)

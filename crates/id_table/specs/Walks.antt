@@ -58,9 +58,10 @@ abbrev pub BeginsInTable : ℕ → PageMap → ℕ → ℕ → Type 0
 BeginsInTable dims pages directory first = (class : ℕ) × (class < 1000)
     × BeginsChain dims pages directory class first
 
--- the map of pages is not sound, and the page is not live: the chain of free pages may break there
+-- The map of pages is not sound, and the page was given out and is not live: the chain of free pages may break
+-- there.
 abbrev pub MayBreakAt : {D A : Type 0} {m : _} → PageCache D A m → ℕ → Type 0
-MayBreakAt cache n = (¬ (IsPageMap cache)) × (¬ (IsLive cache n))
+MayBreakAt cache n = (¬ (IsPageMap cache)) × IsSome (given cache n) × (¬ (IsLive cache n))
 
 -- pages after a change: none names a next one that it did not name before
 abbrev pub NamesNoMore : ℕ → PageMap → PageMap → Type 0

@@ -1,7 +1,7 @@
 //! An object added.
 
 ghost use Rattle.std.specs.Prelude.{◌≡◌, ◌≤◌, ◌<◌, ◌⊎◌, List, ℕ, Some, false, length, take, IfErr, IfOk};
-ghost use Rattle.std.specs.Prelude.{OnOk};
+ghost use Rattle.std.specs.Prelude.{OnOk, true};
 ghost use Rattle.std.specs.FinMap as map;
 ghost use Rattle.block_bytes.specs.Numbers.{number_at};
 ghost use Rattle.box_math.specs.Bounds.{IsDims};
@@ -11,7 +11,7 @@ ghost use Rattle.page_file.specs.Pages.{SameBut};
 ghost use Rattle.page_file.specs.declared.fault.Fault.TheVariants as fault;
 ghost use Rattle.page_file.specs.declared.gate.Gate.TheVariants.{Open};
 ghost use Rattle.page_cache.specs.Cache.{Grows, IsHonest, IsLive, IsPageMap, gate_of, given, next_of};
-ghost use Rattle.page_cache.specs.Cache.{pages};
+ghost use Rattle.page_cache.specs.Cache.{pages, touched_of};
 ghost use Rattle.page_cache.specs.Calls.{Changes};
 ghost use Rattle.node_page.specs.Faults.{IsNoDamage};
 ghost use Rattle.id_table.specs.Changes.{AreNew, Fills, Sets};
@@ -38,7 +38,7 @@ use std::alloc::Allocator;
 /// With a sound map, where the pages stand for a table at that directory, a refusal is `Memory` or `Device`,
 /// or `NoPages` where each page number is live. On other pages of an honest device it may be `Damaged` too,
 /// with the number of the directory's page, of the first page of the chain, or, where the map is not sound, of
-/// a page that is not live.
+/// a page given out that is not live.
 pub fn add<const D: usize, B: BlockDevice, A: Allocator + Copy>(
     cache: &mut PageCache<B, A>,
     directory: u32,
@@ -90,6 +90,7 @@ pub(crate) fn add_run<const D: usize, B: BlockDevice, A: Allocator + Copy>(
     ensures whole { IfOk result (λ count. Grows 0 cache.old cache.new ⊎ IsWholeRun objects.now count) }
     ensures faults { IsPageMap cache.old → (t : IdTable) → t.page ≡ directory → IdsStand D (pages cache.old) t
         → IfErr result (IsNoDamage cache.new) }
+    ensures touched { OnOk result (touched_of cache.new ≡ true) }
     ensures damage { IsHonest cache.old → IfErr result (λ f. (n : ℕ) → f ≡ fault.Damaged n
         → BeginsChain D (given cache.old) directory (first_class objects.now) n ⊎ MayBreakAt cache.old n) }
     ensures spelled { IsPageMap cache.old → IfErr result (λ f. (n : ℕ) → f ≡ fault.Damaged n
@@ -134,6 +135,7 @@ fn put_in<const D: usize, B: BlockDevice, A: Allocator + Copy>(
     ensures grows { Grows 0 cache.old cache.new }
     ensures faults { IsHonest cache.old → (c : BucketContent) → bucket_in D (pages cache.old number) ≡ Some c
         → length c.entries < 100 → IfErr result IsOfDevice }
+    ensures touched { OnOk result (touched_of cache.new ≡ true) }
     ensures damage { IsHonest cache.old → IfErr result (λ f. IsOfDevice f ⊎ (f ≡ fault.Damaged number)) }
     ensures other_faults { IfErr result (λ f. IsOfDevice f ⊎ IsDamage f) }
 {
@@ -218,6 +220,7 @@ fn put_alone<const D: usize, B: BlockDevice, A: Allocator + Copy>(
     ensures whole { IfOk result (IsWholeRun objects.now) }
     ensures faults { IsPageMap cache.old → IsLive cache.old directory
         → IfErr result (IsNoDamage cache.new) }
+    ensures touched { OnOk result (touched_of cache.new ≡ true) }
     ensures damage { IsHonest cache.old → IfErr result (λ f. (n : ℕ) → f ≡ fault.Damaged n
         → (n ≡ directory) ⊎ MayBreakAt cache.old n) }
     ensures other_faults { IfErr result (λ f. IsNoDamage cache.new f ⊎ IsDamage f) }
@@ -270,6 +273,7 @@ pub(crate) fn put_before<const D: usize, B: BlockDevice, A: Allocator + Copy>(
     ensures grows { Grows 1 cache.old cache.new }
     ensures faults { IsPageMap cache.old → IsLive cache.old directory
         → IfErr result (IsNoDamage cache.new) }
+    ensures touched { OnOk result (touched_of cache.new ≡ true) }
     ensures damage { IsHonest cache.old → IfErr result (λ f. (n : ℕ) → f ≡ fault.Damaged n
         → (n ≡ directory) ⊎ MayBreakAt cache.old n) }
     ensures other_faults { IfErr result (λ f. IsNoDamage cache.new f ⊎ IsDamage f) }

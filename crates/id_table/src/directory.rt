@@ -1,13 +1,14 @@
 //! The directory page: the first page of each chain.
 
 ghost use Rattle.std.specs.Prelude.{◌≡◌, ◌<◌, ◌≤◌, ◌+◌, ◌⊎◌, ◌↔◌, List, ℕ, Some, IsTrue, IfOk, IfErr, OnOk};
+ghost use Rattle.std.specs.Prelude.{true};
 ghost use Rattle.box_math.specs.Bounds.{IsDims};
 ghost use Rattle.page_file.specs.Fault.{IsDamage, IsOfDevice};
 ghost use Rattle.page_file.specs.Pages.{SameBut};
 ghost use Rattle.page_file.specs.declared.fault.Fault.TheVariants as fault;
 ghost use Rattle.page_file.specs.declared.gate.Gate.TheVariants.{Open};
 ghost use Rattle.page_cache.specs.Cache.{Grows, IsHonest, IsLive, IsPageMap, gate_of, given, looks_of};
-ghost use Rattle.page_cache.specs.Cache.{next_of, pages};
+ghost use Rattle.page_cache.specs.Cache.{next_of, pages, touched_of};
 ghost use Rattle.page_cache.specs.Calls.{Asks, Changes};
 ghost use Rattle.id_table.specs.Table.{IsDirectory, class_of, link_at};
 ghost use Rattle.id_table.specs.Pages.{NewDirectory, SetsLink};
@@ -128,6 +129,7 @@ pub(crate) fn write_link<B: BlockDevice, A: Allocator + Copy>(
     ensures sound { IsPageMap cache.old → IsLive cache.old directory → IsPageMap cache.new }
     ensures grows { Grows 0 cache.old cache.new }
     ensures faults { IsHonest cache.old → IsLive cache.old directory → IfErr result IsOfDevice }
+    ensures touched { OnOk result (touched_of cache.new ≡ true) }
     ensures damage { IsHonest cache.old → IfErr result (λ f. IsOfDevice f ⊎ (f ≡ fault.Damaged directory)) }
     ensures other_faults { IfErr result (λ f. IsOfDevice f ⊎ IsDamage f) }
 {

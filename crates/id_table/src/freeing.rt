@@ -1,6 +1,7 @@
 //! Tables given up.
 
 ghost use Rattle.std.specs.Prelude.{◌≡◌, ◌<◌, ◌≤◌, ◌⊎◌, List, ℕ, Some, None, length, IfErr, IfOk, OnOk};
+ghost use Rattle.std.specs.Prelude.{false};
 ghost use Rattle.box_math.specs.Bounds.{IsDims};
 ghost use Rattle.bucket_page.specs.Layout.{BucketContent};
 ghost use Rattle.page_file.specs.Fault.{IsDamage, IsOfDevice};
@@ -8,7 +9,7 @@ ghost use Rattle.page_file.specs.Pages.{SameBut};
 ghost use Rattle.page_file.specs.declared.fault.Fault.TheVariants as fault;
 ghost use Rattle.page_file.specs.declared.gate.Gate.TheVariants.{Open};
 ghost use Rattle.page_cache.specs.Cache.{Grows, IsHonest, IsLive, IsPageMap, gate_of, given, next_of};
-ghost use Rattle.page_cache.specs.Cache.{pages};
+ghost use Rattle.page_cache.specs.Cache.{pages, touched_of};
 ghost use Rattle.page_cache.specs.Calls.{Asks, Changes};
 ghost use Rattle.node_page.specs.Parts.{Moves, no_page};
 ghost use Rattle.id_table.specs.Pages.{Frees};
@@ -26,8 +27,9 @@ use std::alloc::Allocator;
 /// Frees all pages of the table. The gate has to be open.
 ///
 /// With a sound map, where the pages stand for a table at that directory, a refusal is `Memory` or `Device`.
-/// On other pages it may be `Damaged` too, with the number of the directory's page or of one that a walk along
-/// a chain meets in the table as it stood before.
+/// On other pages it may be `Damaged` too. On an honest device, where the map is sound or no page is touched,
+/// that comes with the number of the directory's page or of one that a walk along a chain meets in the table
+/// as it stood before.
 #[tactic(auto, using(page_cache::specs::Calls::changing))]
 pub fn free_all<const D: usize, B: BlockDevice, A: Allocator + Copy>(
     cache: &mut PageCache<B, A>,
@@ -44,7 +46,8 @@ pub fn free_all<const D: usize, B: BlockDevice, A: Allocator + Copy>(
     ensures grows { Grows 0 cache.old cache.new }
     ensures faults { IsPageMap cache.old → (t : IdTable) → t.page ≡ directory → IdsStand D (pages cache.old) t
         → IfErr result IsOfDevice }
-    ensures damage { IsPageMap cache.old → IfErr result (λ f. (n : ℕ) → f ≡ fault.Damaged n
+    ensures damage { IsHonest cache.old → IsPageMap cache.old ⊎ (touched_of cache.new ≡ false)
+        → IfErr result (λ f. (n : ℕ) → f ≡ fault.Damaged n
         → MeetsInTable D (given cache.old) directory n) }
     ensures other_faults { IfErr result (λ f. IsOfDevice f ⊎ IsDamage f) }
 {
@@ -73,7 +76,8 @@ fn free_pages<const D: usize, B: BlockDevice, A: Allocator + Copy>(
     ensures grows { Grows 0 cache.old cache.new }
     ensures faults { IsPageMap cache.old → (t : IdTable) → t.page ≡ directory → IdsStand D (pages cache.old) t
         → pages cache.old directory ≡ Some bytes.now → IfErr result IsOfDevice }
-    ensures damage { IsPageMap cache.old → IsLive cache.old directory
+    ensures damage { IsHonest cache.old
+        → (IsPageMap cache.old × IsLive cache.old directory) ⊎ (touched_of cache.new ≡ false)
         → IfErr result (λ f. (n : ℕ) → f ≡ fault.Damaged n → (n ≡ directory)
         ⊎ ((class : ℕ) × (class < 1000) × MeetsAlong D (given cache.old) (link_at class bytes.now) n)) }
     ensures other_faults { IfErr result (λ f. IsOfDevice f ⊎ IsDamage f) }

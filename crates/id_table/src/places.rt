@@ -1,7 +1,7 @@
 //! The place of an object in its chain: found by a walk along it, and written anew.
 
 ghost use Rattle.std.specs.Prelude.{◌≡◌, ◌≤◌, ◌<◌, ◌⊎◌, List, ℕ, Some, length, slice_index_or, IfErr, IfOk};
-ghost use Rattle.std.specs.Prelude.{OnErr, OnOk};
+ghost use Rattle.std.specs.Prelude.{OnErr, OnOk, true};
 ghost use Rattle.box_math.specs.Bounds.{IsDims};
 ghost use Rattle.bucket_page.specs.Layout.{BucketContent, Entry, bucket_at, replaced};
 ghost use Rattle.page_file.specs.Fault.{IsDamage, IsOfDevice};
@@ -9,7 +9,7 @@ ghost use Rattle.page_file.specs.Pages.{SameBut};
 ghost use Rattle.page_file.specs.declared.fault.Fault.TheVariants as fault;
 ghost use Rattle.page_file.specs.declared.gate.Gate.TheVariants.{Open};
 ghost use Rattle.page_cache.specs.Cache.{Grows, IsHonest, IsLive, IsPageMap, KeepsMap, gate_of, given};
-ghost use Rattle.page_cache.specs.Cache.{next_of, pages};
+ghost use Rattle.page_cache.specs.Cache.{next_of, pages, touched_of};
 ghost use Rattle.page_cache.specs.Calls.{Asks, Changes};
 ghost use Rattle.id_table.specs.Pages.{HasObject, IsInChain, moved};
 ghost use Rattle.id_table.specs.Table.{Bucket, ChainStands, bucket_in};
@@ -84,6 +84,7 @@ pub(crate) fn put_at<const D: usize, B: BlockDevice, A: Allocator + Copy>(
     ensures sound { IsPageMap cache.old → IsLive cache.old number → IsPageMap cache.new }
     ensures grows { Grows 0 cache.old cache.new }
     ensures faults { IsHonest cache.old → IsLive cache.old number → IfErr result IsOfDevice }
+    ensures touched { OnOk result (touched_of cache.new ≡ true) }
     ensures damage { IsHonest cache.old → IfErr result (λ f. IsOfDevice f ⊎ (f ≡ fault.Damaged number)) }
     ensures other_faults { IfErr result (λ f. IsOfDevice f ⊎ IsDamage f) }
 {

@@ -1,7 +1,7 @@
 //! An object removed.
 
-ghost use Rattle.std.specs.Prelude.{◌≡◌, ◌<◌, ◌⊎◌, List, ℕ, Some, true, length, slice_index_or};
-ghost use Rattle.std.specs.Prelude.{◌-◌, IfErr, IfOk, OnOk};
+ghost use Rattle.std.specs.Prelude.{◌≡◌, ◌<◌, ◌⊎◌, List, ℕ, Some, true, false, length};
+ghost use Rattle.std.specs.Prelude.{◌-◌, IfErr, IfOk, OnOk, slice_index_or};
 ghost use Rattle.std.specs.FinMap as map;
 ghost use Rattle.box_math.specs.Bounds.{IsDims};
 ghost use Rattle.bucket_page.specs.Layout.{BucketContent, bucket_at, Entry};
@@ -9,6 +9,7 @@ ghost use Rattle.page_file.specs.Fault.{IsDamage, IsOfDevice};
 ghost use Rattle.page_file.specs.declared.fault.Fault.TheVariants as fault;
 ghost use Rattle.page_file.specs.declared.gate.Gate.TheVariants.{Open};
 ghost use Rattle.page_cache.specs.Cache.{Grows, IsHonest, IsLive, IsPageMap, gate_of, given, pages};
+ghost use Rattle.page_cache.specs.Cache.{touched_of};
 ghost use Rattle.page_cache.specs.Calls.{Asks, Changes};
 ghost use Rattle.id_table.specs.Changes.{Removes};
 ghost use Rattle.id_table.specs.Pages.{PopsLast, Shrinks, Unlinks};
@@ -31,8 +32,9 @@ use std::alloc::Allocator;
 /// Pages with zeros in all bytes that they do not name stay so.
 ///
 /// With a sound map, where the pages stand for a table at that directory, a refusal is `Memory` or `Device`.
-/// On other pages it may be `Damaged` too, with the number of the directory's page or of one that a walk along
-/// the chain of the identifier meets in the table as it stood before.
+/// On other pages it may be `Damaged` too. On an honest device, where the map is sound or no page is touched,
+/// that comes with the number of the directory's page or of one that a walk along the chain of the identifier
+/// meets in the table as it stood before.
 #[tactic(auto, using(page_cache::specs::Calls::changing))]
 pub fn remove<const D: usize, B: BlockDevice, A: Allocator + Copy>(
     cache: &mut PageCache<B, A>,
@@ -53,7 +55,8 @@ pub fn remove<const D: usize, B: BlockDevice, A: Allocator + Copy>(
     ensures grows { Grows 0 cache.old cache.new }
     ensures faults { IsPageMap cache.old → (t : IdTable) → t.page ≡ directory → IdsStand D (pages cache.old) t
         → map.contains_key (objects_of t) id ≡ true → IfErr result IsOfDevice }
-    ensures damage { IsPageMap cache.old → IfErr result (λ f. (n : ℕ) → f ≡ fault.Damaged n
+    ensures damage { IsHonest cache.old → IsPageMap cache.old ⊎ (touched_of cache.new ≡ false)
+        → IfErr result (λ f. (n : ℕ) → f ≡ fault.Damaged n
         → MeetsInChain D (given cache.old) directory (class_of id) n) }
     ensures other_faults { IfErr result (λ f. IsOfDevice f ⊎ IsDamage f) }
 {
