@@ -162,7 +162,8 @@ module _ {B A : Type 0} {m : _} where
             bucket))
             (λ (new_one : ¬ (n ≡ put.number)). ⊎_elim
             (λ (is : n ≡ directory).
-            absurd (no_bucket dims (pages old n) page (ap (λ (k : ℕ). pages old k) is ∙ there) spelled bucket))
+            absurd (no_bucket dims (pages old n) page (ap (λ (k : ℕ). pages old k) is ∙ there) spelled
+            bucket))
             (λ (off : ¬ (n ≡ directory)).
             subst (IsBucket dims) (sym (put.others n new_one off ∙ stay n)) bucket)
             (cases_eq n directory))

@@ -17,8 +17,8 @@ use Rattle.page_file.specs.Pages.{SameBut, chain, free_page_link, free_pages_of}
 use Rattle.page_file.specs.declared.fault.Fault.{Fault}
 use Rattle.page_file.specs.declared.fault.Fault.TheVariants as fault
 use Rattle.page_file.specs.declared.header.Header.{Header}
-use Rattle.page_cache.specs.Cache.{BreaksAt, IsBroken, IsHonest, IsLive, IsPageMap, blocks_behind, given, next_of}
-use Rattle.page_cache.specs.Cache.{pages}
+use Rattle.page_cache.specs.Cache.{BreaksAt, IsBroken, IsHonest, IsLive, IsPageMap, blocks_behind, given}
+use Rattle.page_cache.specs.Cache.{next_of, pages}
 use Rattle.page_cache.specs.Calls.{AsksUntil}
 use Rattle.page_cache.specs.Laws.{a_page_in_use_is_live}
 use Rattle.page_cache.specs.declared.cache.PageCache.{PageCache}

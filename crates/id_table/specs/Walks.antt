@@ -58,8 +58,8 @@ abbrev pub BeginsInTable : ℕ → PageMap → ℕ → ℕ → Type 0
 BeginsInTable dims pages directory first = (class : ℕ) × (class < 1000)
     × BeginsChain dims pages directory class first
 
--- The map of pages is not sound, and the page was given out and is not live: the chain of free pages may break
--- there.
+-- The map of pages is not sound, and the page was given out and is not live: the chain of free pages may
+-- break there.
 abbrev pub MayBreakAt : {D A : Type 0} {m : _} → PageCache D A m → ℕ → Type 0
 MayBreakAt cache n = (¬ (IsPageMap cache)) × IsSome (given cache n) × (¬ (IsLive cache n))
 

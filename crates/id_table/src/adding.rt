@@ -37,8 +37,8 @@ use std::alloc::Allocator;
 ///
 /// With a sound map, where the pages stand for a table at that directory, a refusal is `Memory` or `Device`,
 /// or `NoPages` where each page number is live. On other pages of an honest device it may be `Damaged` too,
-/// with the number of the directory's page, of the first page of the chain, or, where the map is not sound, of
-/// a page given out that is not live.
+/// with the number of the directory's page, of the first page of the chain, or, where the map is not sound,
+/// of a page given out that is not live.
 pub fn add<const D: usize, B: BlockDevice, A: Allocator + Copy>(
     cache: &mut PageCache<B, A>,
     directory: u32,

@@ -23,7 +23,8 @@ use std::alloc::Allocator;
 /// The new page has zeros in all bytes that it does not name.
 ///
 /// With a sound map a refusal is `Memory` or `Device`, or `NoPages` where each page number is live. On an
-/// honest device it may be `Damaged` too, with the number of the page at which the chain of free pages breaks.
+/// honest device it may be `Damaged` too, with the number of the page at which the chain of free pages
+/// breaks.
 pub fn make<const D: usize, B: BlockDevice, A: Allocator + Copy>(
     cache: &mut PageCache<B, A>,
 ) -> Result<u32, Fault>

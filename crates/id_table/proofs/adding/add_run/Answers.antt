@@ -381,8 +381,8 @@ returns-then-room-clause-kept g c = λ map.
     let honest_read = read.gate.honest.0 map.honest in
     let named = c.in_ok-room.ensures.head honest_read c.if-room.true in
     let head =
-    same_names D (given old) (given c.read_link.new.cache) (λ k. read.map.given_stay map.honest k) first named.0
-    named.1 in
+    same_names D (given old) (given c.read_link.new.cache) (λ k. read.map.given_stay map.honest k) first
+    named.0 named.1 in
     let live =
     subst IsSome (sym (asks.map.pages_stay map.honest first)) (named_live D old first named.0 map head) in
     let honest = asks.gate.honest.0 map.honest in

@@ -274,8 +274,8 @@ returns-in_err-put_at-clause-damage g c = λ h either.
     let asks = c.in_ok-first.ensures.asks in
     let class = c.class_of-class in
     let honest = asks.gate.honest.0 h in
-    let honest_last = c.in_ok-last.ensures.asks.gate.honest.0 (c.in_ok-holder.ensures.asks.gate.honest.0 honest)
-    in
+    let held = c.in_ok-holder.ensures.asks.gate.honest.0 honest in
+    let honest_last = c.in_ok-last.ensures.asks.gate.honest.0 held in
     at_error c.from_residual-in_err-put_at.result c.in_err-put_at.field-0.0
     (λ f. (n : ℕ) → f ≡ fault.Damaged n
     → MeetsInChain g.row.D (given old) c.args.directory (class_of c.args.id) n)
