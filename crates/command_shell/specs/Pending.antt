@@ -1,5 +1,5 @@
 -- What a `LineReader` holds, what it finds, and how much it may still do.
-use Rattle.std.specs.Prelude.{ℕ, ◌≡◌, ◌<◌, ◌-◌, ◌+◌, ◌*◌, List, [], ◌∷◌, ◌++◌, length, take, drop}
+use Rattle.std.specs.Prelude.{ℕ, ◌≡◌, ◌<◌, ◌≤◌, ◌-◌, ◌+◌, ◌*◌, List, [], ◌∷◌, ◌++◌, length, take, drop}
 use Rattle.command_shell.specs.Lines.{newline, IsOneLine}
 use Rattle.command_shell.specs.Meanings.{longest_line}
 use Rattle.command_shell.specs.Reading.{buffer_size, most_calls, BeginsLine}
@@ -33,3 +33,7 @@ Finds at_end TooLong bytes left = (line : List ℕ) × (longest_line < length li
     × (bytes ≡ line ++ newline ∷ left)
 Finds at_end LastTooLong bytes left = (longest_line < length bytes) × IsOneLine bytes × (left ≡ []) × at_end
 Finds at_end End bytes left = (left ≡ []) × (bytes ≡ []) × at_end
+
+-- no more calls are counted here than the reader tells
+abbrev pub AreCounted : LineReader → ℕ → Type 0
+AreCounted r calls = r.calls ≤ calls

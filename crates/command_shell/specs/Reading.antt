@@ -1,5 +1,5 @@
 -- What a reader gave, where its bytes are known, and the text that was taken of it.
-use Rattle.std.specs.Prelude.{ℕ, ◌≡◌, ◌^◌, ◌<◌, Bool, true, false, List, [], ◌∷◌, ◌++◌, length, take, drop}
+use Rattle.std.specs.Prelude.{ℕ, ◌≡◌, ◌⊎◌, ◌^◌, ◌<◌, ◌≤◌, Bool, true, false, List, [], ◌∷◌, ◌++◌, length, take, drop}
 use Rattle.std.specs.Prelude.{suc, Option}
 use Rattle.std.specs.Io.KnownBytes.{Consumes, IsAtEnd}
 use Rattle.command_shell.specs.Lines.{newline, IsOneLine, IsWhole}
@@ -35,3 +35,7 @@ StopsAt true at_end text left = (left ≡ []) × at_end
 pub record Reads (ended : Bool) (old new : Option (List ℕ)) (pending left text : List ℕ) : Type 0 where
   pub stops : StopsAt ended (IsAtEnd new) text left
   pub read : ReadsTo old new (λ more. pending ++ more ≡ text ++ left)
+
+-- the last read of a reader failed, or it was called so often
+abbrev pub IsReadersFault : Bool → ℕ → Type 0
+IsReadersFault is_failing calls = (is_failing ≡ true) ⊎ (most_calls ≤ calls)

@@ -3,6 +3,7 @@
 ghost use Rattle.std.specs.Prelude.{IfSome};
 ghost use Rattle.command_shell.specs.TextAnswers.{AnswersText};
 
+use crate::counted::CountedReader;
 use crate::session::{RunEnd, run};
 use block_device::MemoryDevice;
 use layer_store::create_store;
@@ -22,7 +23,7 @@ pub fn answers_to(alloc: Global, text: &[u8]) -> Option<Vec<u8>>
     let Ok(mut store) = create_store(alloc, MemoryDevice::new(alloc), CACHE) else {
         return None;
     };
-    let mut input = text;
+    let mut input = CountedReader::over(text);
     let mut output = Vec::new(alloc);
     let end = run(&mut store, &mut input, &mut output);
     match end {

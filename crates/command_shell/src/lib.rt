@@ -5,6 +5,7 @@
 //! and a reply's text. `run_and_close` is what the program does.
 #![tactic(auto)]
 
+mod counted;
 mod flushing;
 mod in_memory;
 mod lines;
@@ -17,6 +18,7 @@ mod rows;
 mod session;
 mod words;
 
+pub use counted::{CountedRead, CountedReader};
 pub use flushing::FlushedWrite;
 pub use in_memory::answers_to;
 pub use parse::{Line, MAX_LINE, parse_entry, parse_line};

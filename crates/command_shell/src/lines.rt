@@ -3,13 +3,14 @@
 ghost use Rattle.std.specs.Prelude.{◌≡◌, ℕ, ◌+◌, ◌<◌, ◌≤◌, ◌++◌, []};
 ghost use Rattle.std.specs.Prelude.{length, take, drop, MatchOption, MatchResult, OnOk, OnErr, IfOk, IfSome};
 ghost use Rattle.command_shell.specs.Lines.{IsOneLine};
-ghost use Rattle.command_shell.specs.Reading.{buffer_size, most_calls, BeginsLine, ReadsTo};
+ghost use Rattle.command_shell.specs.Reading.{buffer_size, most_calls, BeginsLine, IsReadersFault, ReadsTo};
 ghost use Rattle.std.specs.Io.KnownBytes.{IsAtEnd, Keeps};
 
+use crate::counted::CountedRead;
 use crate::parse::MAX_LINE;
 use memchr::memchr;
 use std::io;
-use std::io::{ErrorKind, Read};
+use std::io::ErrorKind;
 
 // The size of the buffer, in bytes. It has room for the longest line and its newline, and for many lines a
 // read.
@@ -47,11 +48,12 @@ pub struct LineReader {
 }
 
 impl LineReader {
-    ghost use Rattle.command_shell.specs.Pending.{pending, Finds, work_left, work_done};
+    ghost use Rattle.command_shell.specs.Pending.{AreCounted, pending, Finds, work_left, work_done};
 
     /// A reader with nothing pending.
     pub fn new() -> Self
-        ensures { pending result ≡ [] }
+        ensures pending { pending result ≡ [] }
+        ensures uncounted { result.calls ≡ 0 }
     {
         LineReader {
             buffer: [0; CAPACITY],
@@ -62,13 +64,16 @@ impl LineReader {
     }
 
     // Reads once, after what is pending. It answers how many bytes came, none only at the end.
-    fn fill<R: Read>(&mut self, reader: &mut R) -> io::Result<usize>
+    fn fill<R: CountedRead>(&mut self, reader: &mut R) -> io::Result<usize>
         requires { length (pending self.old) < CAPACITY }
         ensures ok { IfOk result (λ n. ReadsTo (R.remaining reader.old) (R.remaining reader.new)
             (λ more. (length more ≡ n) × (pending self.new ≡ pending self.old ++ more))) }
         ensures end { IfOk result (λ n. n ≡ 0 → IsAtEnd (R.remaining reader.new)) }
         ensures err { OnErr result (Keeps (R.remaining reader.old) (R.remaining reader.new)) }
         ensures fewer { OnOk result (work_left self.new < work_left self.old) }
+        ensures counted { AreCounted self.old (R.calls reader.old) → AreCounted self.new (R.calls reader.new) }
+        ensures blamed { AreCounted self.old (R.calls reader.old) →
+            OnErr result (IsReadersFault (R.is_failing reader.new) (R.calls reader.new)) }
     {
         if self.calls == MOST_CALLS {
             return Err(io::Error::from(ErrorKind::Other));
@@ -76,7 +81,7 @@ impl LineReader {
         self.calls += 1;
         self.make_room();
         let end = self.end;
-        let count = reader.read(&mut self.buffer[end..])?;
+        let count = reader.read_once(&mut self.buffer[end..])?;
         self.end += count;
         Ok(count)
     }
@@ -119,6 +124,7 @@ impl LineReader {
         requires { count ≤ length (pending self.old) }
         ensures pending { pending self.new ≡ drop count (pending self.old) }
         ensures fewer { work_left self.new + count ≡ work_left self.old }
+        ensures calls { self.new.calls ≡ self.old.calls }
     {
         self.start += count;
     }
@@ -128,7 +134,7 @@ impl LineReader {
     ///
     /// A line is known to be too long once more than `MAX_LINE` bytes of it are pending and no newline is. A
     /// line whose newline is pending is given whatever its length.
-    pub fn find<R: Read>(&mut self, line: Option<usize>, reader: &mut R) -> io::Result<Found>
+    pub fn find<R: CountedRead>(&mut self, line: Option<usize>, reader: &mut R) -> io::Result<Found>
         requires { IfSome line (BeginsLine (pending self.old)) }
         ensures found { MatchResult result
             (λ found. ReadsTo (R.remaining reader.old) (R.remaining reader.new) (λ more.
@@ -137,6 +143,9 @@ impl LineReader {
             (λ more. IsOneLine (pending self.old ++ more))) }
         ensures lazy { (n : ℕ) → BeginsLine (pending self.old) n → reader.new ≡ reader.old }
         ensures fewer { IfOk result (λ found. work_left self.new + work_done found ≤ work_left self.old) }
+        ensures counted { AreCounted self.old (R.calls reader.old) → AreCounted self.new (R.calls reader.new) }
+        ensures blamed { AreCounted self.old (R.calls reader.old) →
+            OnErr result (IsReadersFault (R.is_failing reader.new) (R.calls reader.new)) }
     {
         match line {
             Some(len) => Ok(Found::Line(len)),
@@ -145,7 +154,7 @@ impl LineReader {
     }
 
     // Finds the next line by looking for it, and by reading where it is not pending.
-    fn read_line<R: Read>(&mut self, reader: &mut R) -> io::Result<Found>
+    fn read_line<R: CountedRead>(&mut self, reader: &mut R) -> io::Result<Found>
         ensures found { MatchResult result
             (λ found. ReadsTo (R.remaining reader.old) (R.remaining reader.new) (λ more.
             Finds (IsAtEnd (R.remaining reader.new)) found (pending self.old ++ more) (pending self.new)))
@@ -153,6 +162,9 @@ impl LineReader {
             (λ more. IsOneLine (pending self.old ++ more))) }
         ensures lazy { (n : ℕ) → BeginsLine (pending self.old) n → reader.new ≡ reader.old }
         ensures fewer { IfOk result (λ found. work_left self.new + work_done found ≤ work_left self.old) }
+        ensures counted { AreCounted self.old (R.calls reader.old) → AreCounted self.new (R.calls reader.new) }
+        ensures blamed { AreCounted self.old (R.calls reader.old) →
+            OnErr result (IsReadersFault (R.is_failing reader.new) (R.calls reader.new)) }
     {
         let mut seen = 0;
         loop {
@@ -187,7 +199,7 @@ impl LineReader {
     }
 
     // Takes the rest of a line that is too long.
-    fn pass_line<R: Read>(&mut self, reader: &mut R) -> io::Result<Found>
+    fn pass_line<R: CountedRead>(&mut self, reader: &mut R) -> io::Result<Found>
         requires long { MAX_LINE < length (pending self.old) }
         requires line { IsOneLine (pending self.old) }
         ensures found { MatchResult result
@@ -196,6 +208,9 @@ impl LineReader {
             (λ _. ReadsTo (R.remaining reader.old) (R.remaining reader.new)
             (λ more. IsOneLine (pending self.old ++ more))) }
         ensures fewer { IfOk result (λ found. work_left self.new + work_done found ≤ work_left self.old) }
+        ensures counted { AreCounted self.old (R.calls reader.old) → AreCounted self.new (R.calls reader.new) }
+        ensures blamed { AreCounted self.old (R.calls reader.old) →
+            OnErr result (IsReadersFault (R.is_failing reader.new) (R.calls reader.new)) }
     {
         let len = self.pending().len();
         self.take(len);

@@ -3,15 +3,17 @@
 ghost use Rattle.std.specs.Prelude.{◌≡◌, ℕ, ◌<◌, ◌≤◌, ◌++◌, ◌∷◌, [], false, List, OnOk, OnErr, IfErr};
 ghost use Rattle.std.specs.Io.KnownBytes.{Keeps};
 ghost use Rattle.command_shell.specs.Gathering.{GathersTo, IsGathered, TakesEntry};
-ghost use Rattle.command_shell.specs.Pending.{pending, work_left};
+ghost use Rattle.command_shell.specs.Pending.{AreCounted, pending, work_left};
+ghost use Rattle.command_shell.specs.Reading.{IsReadersFault};
 ghost use Rattle.command_shell.specs.declared.session.RunEnd.TheVariants as run_end;
 
+use crate::counted::CountedRead;
 use crate::lines::{Found, LineReader};
 use crate::parse::parse_entry;
 use crate::session::{RunEnd, hand_on};
 use layer_store::RawBox;
 use std::alloc::Allocator;
-use std::io::{Read, Write};
+use std::io::Write;
 
 /// What was gathered of a load so far.
 #[derive(Drop)]
@@ -93,7 +95,7 @@ impl<A: Allocator + Copy> Gathered<A> {
 }
 
 // Takes the next entry line, and gathers what it gives. The replies so far are flushed where more is read.
-fn take_entry<A: Allocator + Copy, R: Read, W: Write>(
+fn take_entry<A: Allocator + Copy, R: CountedRead, W: Write>(
     gathered: &mut Gathered<A>,
     lines: &mut LineReader,
     input: &mut R,
@@ -105,6 +107,9 @@ fn take_entry<A: Allocator + Copy, R: Read, W: Write>(
     ensures kept { Keeps (W.contents output.old) (W.contents output.new) }
     ensures going { IfErr result (λ end. end ≡ run_end.Finished → ⊥) }
     ensures fewer { OnOk result (work_left lines.new ≤ work_left lines.old) }
+    ensures counted { AreCounted lines.old (R.calls input.old) → AreCounted lines.new (R.calls input.new) }
+    ensures blamed { AreCounted lines.old (R.calls input.old) → IfErr result (λ end. end ≡ run_end.ReadFault
+        → IsReadersFault (R.is_failing input.new) (R.calls input.new)) }
 {
     let line = lines.line();
     if hand_on(line, output).is_err() {
@@ -135,7 +140,7 @@ fn take_entry<A: Allocator + Copy, R: Read, W: Write>(
 }
 
 /// Takes so many entry lines, and gathers what they give.
-pub fn gather<A: Allocator + Copy, R: Read, W: Write>(
+pub fn gather<A: Allocator + Copy, R: CountedRead, W: Write>(
     gathered: &mut Gathered<A>,
     count: u64,
     lines: &mut LineReader,
@@ -147,6 +152,9 @@ pub fn gather<A: Allocator + Copy, R: Read, W: Write>(
     ensures kept { Keeps (W.contents output.old) (W.contents output.new) }
     ensures going { result ≡ Gathering.Broken run_end.Finished → ⊥ }
     ensures fewer { result ≡ Gathering.Full false → work_left lines.new ≤ work_left lines.old }
+    ensures counted { AreCounted lines.old (R.calls input.old) → AreCounted lines.new (R.calls input.new) }
+    ensures blamed { AreCounted lines.old (R.calls input.old) → result ≡ Gathering.Broken run_end.ReadFault
+        → IsReadersFault (R.is_failing input.new) (R.calls input.new) }
 {
     for taken in 0..count {
         match take_entry(gathered, lines, input, output) {

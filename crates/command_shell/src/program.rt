@@ -10,6 +10,7 @@ ghost use Rattle.command_shell.specs.Serving.{run_state};
 ghost use Rattle.command_shell.specs.Texts.{told_refusal};
 ghost use Rattle.command_shell.specs.Writing.{Writes};
 
+use crate::counted::CountedRead;
 use crate::flushing::FlushedWrite;
 use crate::replies::{Reply, write_reply};
 use crate::reply_line::put;
@@ -18,7 +19,7 @@ use block_device::BlockDevice;
 use layer_store::{Refusal, Store};
 use std::alloc::{Allocator, Global};
 use std::io;
-use std::io::{Read, Write};
+use std::io::Write;
 
 /// What is left of a run of the program.
 #[derive(Drop)]
@@ -41,12 +42,13 @@ pub struct Ended<D: BlockDevice> {
 /// Whatever file was opened, on an honest device: from the first `check` on that was answered ok, the rest of
 /// the commands is answered lawfully, from some table on, and where all went well the blocks are an image of
 /// the table at the end.
-pub fn run_and_close<D: BlockDevice, A: Allocator + Copy, R: Read, W: FlushedWrite, E: Write>(
-    store: Store<D, A>,
-    input: &mut R,
-    output: &mut W,
-    errors: &mut E,
-) -> Ended<D>
+pub fn run_and_close<
+    D: BlockDevice,
+    A: Allocator + Copy,
+    R: CountedRead,
+    W: FlushedWrite,
+    E: Write,
+>(store: Store<D, A>, input: &mut R, output: &mut W, errors: &mut E) -> Ended<D>
     ensures run { (s : SessionState) → Represents store s → (s' : SessionState) ×
         RunsToClose result.went_well (D.shown result.device) (D.left_since result.device s.stops.since)
         (FoundSince D.recovery result.device s.stops.since)

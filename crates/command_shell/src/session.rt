@@ -19,14 +19,15 @@ ghost use Rattle.command_shell.specs.Gathering.{IsGathered};
 ghost use Rattle.command_shell.specs.Lines.{IsOneLine, newline};
 ghost use Rattle.command_shell.specs.Meanings.{meaning_of};
 ghost use Rattle.command_shell.specs.Meanings.Meaning.{Loads};
-ghost use Rattle.command_shell.specs.Pending.{pending, work_left};
-ghost use Rattle.command_shell.specs.Reading.{BeginsLine, Reads, ReadsTo};
+ghost use Rattle.command_shell.specs.Pending.{AreCounted, pending, work_left};
+ghost use Rattle.command_shell.specs.Reading.{BeginsLine, IsReadersFault, Reads, ReadsTo};
 ghost use Rattle.command_shell.specs.Runs.{Runs, RunsBy, RunsOnceChecked, StepsTo};
 ghost use Rattle.command_shell.specs.Said.{said};
 ghost use Rattle.command_shell.specs.Serving.{run_state};
 ghost use Rattle.command_shell.specs.TextCommands.{load_request};
 ghost use Rattle.command_shell.specs.Texts.{reply_answer};
 
+use crate::counted::CountedRead;
 use crate::lines::{Found, LineReader};
 use crate::loading::{Gathered, Gathering, gather};
 use crate::parse::{Line, parse_line};
@@ -37,15 +38,15 @@ use layer_store::{AnyBox, Refusal, Store};
 use plain_table::{DumpRow, LayerInfo, MOST_LAYERS};
 use std::alloc::Allocator;
 use std::io;
-use std::io::{Read, Write};
+use std::io::Write;
 
 /// How a run ended. The commands that were answered stand, whichever it was.
 #[derive(Clone, Copy, Debug, PartialEq, Eq)]
 pub enum RunEnd {
     /// All that the reader had was read, and each of its commands was answered.
     Finished,
-    /// Given where the reader fails, or was called 2^62 times. Each command that was read to its last newline
-    /// was answered.
+    /// Given where the last read failed, or the reader was called 2^62 times, and nowhere else. Each command
+    /// that was read to its last newline was answered.
     ReadFault,
     /// Given where a write or a flush fails. What [`run`] promises of it is this: the last reply is written
     /// in part, and no line after it was answered; or each command that was read to its last newline was
@@ -69,7 +70,7 @@ pub enum RunEnd {
 /// The writer is flushed before more is read, unless a whole line is pending; at the end it is not. An
 /// interrupted read is a fault like any other. Beside what the store takes, it takes memory for the objects
 /// of a load alone.
-pub fn run<D: BlockDevice, A: Allocator + Copy, R: Read, W: Write>(
+pub fn run<D: BlockDevice, A: Allocator + Copy, R: CountedRead, W: Write>(
     store: &mut Store<D, A>,
     input: &mut R,
     output: &mut W,
@@ -81,18 +82,20 @@ pub fn run<D: BlockDevice, A: Allocator + Copy, R: Read, W: Write>(
     ensures checked { D.honest (device_in store.old) → RunsOnceChecked (StandsAs store.new) result
         (R.remaining input.old) (R.remaining input.new) (W.contents output.old) (W.contents output.new) }
     ensures honest { D.honest (device_in store.old) → D.honest (device_in store.new) }
+    ensures blamed { result ≡ RunEnd.ReadFault → IsReadersFault (R.is_failing input.new) (R.calls input.new) }
 {
     answer_lines(store, input, output)
 }
 
 // The same: the commands of the text that was read were made of the store in turn.
-fn answer_lines<D: BlockDevice, A: Allocator + Copy, R: Read, W: Write>(
+fn answer_lines<D: BlockDevice, A: Allocator + Copy, R: CountedRead, W: Write>(
     store: &mut Store<D, A>,
     input: &mut R,
     output: &mut W,
 ) -> RunEnd
-    ensures { RunsBy (Calls store.old store.new) result
+    ensures runs { RunsBy (Calls store.old store.new) result
         (R.remaining input.old) (R.remaining input.new) (W.contents output.old) (W.contents output.new) }
+    ensures blamed { result ≡ RunEnd.ReadFault → IsReadersFault (R.is_failing input.new) (R.calls input.new) }
 {
     let mut lines = LineReader::new();
     loop {
@@ -119,7 +122,7 @@ pub(crate) fn hand_on<W: Write>(line: Option<usize>, output: &mut W) -> io::Resu
 }
 
 // Answers the next line, which is so long where it is pending, or says how the run ends.
-fn step<D: BlockDevice, A: Allocator + Copy, R: Read, W: Write>(
+fn step<D: BlockDevice, A: Allocator + Copy, R: CountedRead, W: Write>(
     store: &mut Store<D, A>,
     lines: &mut LineReader,
     line: Option<usize>,
@@ -131,6 +134,9 @@ fn step<D: BlockDevice, A: Allocator + Copy, R: Read, W: Write>(
         (R.remaining input.old) (R.remaining input.new) (W.contents output.old) (W.contents output.new)
         (pending lines.old) (pending lines.new) }
     ensures fewer { IfNone result (work_left lines.new < work_left lines.old) }
+    ensures counted { AreCounted lines.old (R.calls input.old) → AreCounted lines.new (R.calls input.new) }
+    ensures blamed { AreCounted lines.old (R.calls input.old) → result ≡ Some RunEnd.ReadFault
+        → IsReadersFault (R.is_failing input.new) (R.calls input.new) }
 {
     match lines.find(line, input) {
         Ok(Found::Line(len)) => step_line(store, lines, len, input, output),
@@ -147,7 +153,7 @@ fn step<D: BlockDevice, A: Allocator + Copy, R: Read, W: Write>(
 }
 
 // Answers the line of this length that is pending with its newline, and its entry lines if it begins a load.
-fn step_line<D: BlockDevice, A: Allocator + Copy, R: Read, W: Write>(
+fn step_line<D: BlockDevice, A: Allocator + Copy, R: CountedRead, W: Write>(
     store: &mut Store<D, A>,
     lines: &mut LineReader,
     len: usize,
@@ -161,6 +167,9 @@ fn step_line<D: BlockDevice, A: Allocator + Copy, R: Read, W: Write>(
         before (R.remaining input.new) (W.contents output.old) (W.contents output.new)
         unread (pending lines.new) }
     ensures fewer { IfNone result (work_left lines.new < work_left lines.old) }
+    ensures counted { AreCounted lines.old (R.calls input.old) → AreCounted lines.new (R.calls input.new) }
+    ensures blamed { AreCounted lines.old (R.calls input.old) → result ≡ Some RunEnd.ReadFault
+        → IsReadersFault (R.is_failing input.new) (R.calls input.new) }
 {
     let line = parse_line(lines.front(len));
     if let Line::Load { layer, count } = line {
@@ -175,7 +184,7 @@ fn step_line<D: BlockDevice, A: Allocator + Copy, R: Read, W: Write>(
 
 // Answers a load whose first line was taken: takes its entry lines, makes the call of the store and writes
 // the reply.
-fn load<D: BlockDevice, A: Allocator + Copy, R: Read, W: Write>(
+fn load<D: BlockDevice, A: Allocator + Copy, R: CountedRead, W: Write>(
     store: &mut Store<D, A>,
     lines: &mut LineReader,
     gathered: Gathered<A>,
@@ -190,6 +199,9 @@ fn load<D: BlockDevice, A: Allocator + Copy, R: Read, W: Write>(
         before (R.remaining input.new) (W.contents output.old) (W.contents output.new)
         unread (pending lines.new) }
     ensures fewer { IfNone result (work_left lines.new ≤ work_left lines.old) }
+    ensures counted { AreCounted lines.old (R.calls input.old) → AreCounted lines.new (R.calls input.new) }
+    ensures blamed { AreCounted lines.old (R.calls input.old) → result ≡ Some RunEnd.ReadFault
+        → IsReadersFault (R.is_failing input.new) (R.calls input.new) }
 {
     let mut gathered = gathered;
     match gather(&mut gathered, count, lines, input, output) {

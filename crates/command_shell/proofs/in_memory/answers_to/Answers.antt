@@ -18,7 +18,8 @@ returns-in-Finished c =
     let serves = end.so.0 in
     let reads = serves.reads in
     let same : serves.text ≡ c.args.text.now =
-    all_read c.args.text.now c.run-end.new.input.now reads.read.more serves.text reads.read.read
+    all_read c.args.text.now c.run-end.new.input.reader.now reads.read.more serves.text
+    (sym (ap (λ r. r.now) c.over-input.ensures.inner) ∙ reads.read.read)
     reads.stops.1 reads.read.so in
     record {
       requests = serves.requests;

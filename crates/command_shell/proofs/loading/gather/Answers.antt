@@ -30,6 +30,7 @@ loop-taken-init g c = record {
   };
   kept = Keeps-refl (g.W.Write.contents c.args.output.now);
   fewer = omega arith;
+  counted = λ before. before;
 }
 
 pub returns-in-Err-clause-gathers : goal.returns-in-Err-clause-gathers
@@ -115,4 +116,5 @@ loop-taken-preserved g c =
       };
       kept = Keeps-trans _ _ _ c.loop-taken.invariant.kept c.in-Ok-Line.ensures.kept;
       fewer = omega (arith, c.loop-taken.invariant.fewer, c.in-Ok-Line.ensures.fewer);
+      counted = λ before. c.in-Ok-Line.ensures.counted (c.loop-taken.invariant.counted before);
     }

@@ -11,7 +11,7 @@ returns-clause-session g c = λ s represents.
     run_of_session (λ store honest b left. g.met.D.BlockDevice.only_now (device_in store) b honest left)
     c.args.store.now lines.new.store lines.result
     (g.R.Read.remaining c.args.input.now) (g.R.Read.remaining lines.new.input)
-    (g.W.Write.contents c.args.output.now) (g.W.Write.contents lines.new.output) lines.ensures s
+    (g.W.Write.contents c.args.output.now) (g.W.Write.contents lines.new.output) lines.ensures.runs s
     represents
 
 pub returns-clause-checked : goal.returns-clause-checked
@@ -20,12 +20,12 @@ returns-clause-checked g c = λ honest.
     runs_so _ _ (λ rs xs calls. calls_once_checked c.args.store.now lines.new.store rs xs honest calls)
     lines.result
     (g.R.Read.remaining c.args.input.now) (g.R.Read.remaining lines.new.input)
-    (g.W.Write.contents c.args.output.now) (g.W.Write.contents lines.new.output) lines.ensures
+    (g.W.Write.contents c.args.output.now) (g.W.Write.contents lines.new.output) lines.ensures.runs
 
 pub returns-clause-honest : goal.returns-clause-honest
 returns-clause-honest g c = λ honest.
     let lines = c.answer_lines in
     let calls = served_by _ lines.result
     (g.R.Read.remaining c.args.input.now) (g.R.Read.remaining lines.new.input)
-    (g.W.Write.contents c.args.output.now) (g.W.Write.contents lines.new.output) lines.ensures in
+    (g.W.Write.contents c.args.output.now) (g.W.Write.contents lines.new.output) lines.ensures.runs in
     calls_stay_honest c.args.store.now lines.new.store calls.requests calls.answers calls.lawful honest

@@ -57,6 +57,9 @@ loop-self-preserved g c = record {
       c.requires.long c.requires.line c.loop-self.invariant.none c.loop-self.invariant.text
       c.in_ok-fill.ensures.ok c.in_default.ensures;
   fewer = omega (arith, c.in_ok-fill.ensures.fewer);
+  counted = λ before.
+      let now = c.in_ok-fill.ensures.counted (c.loop-self.invariant.counted before) in
+      omega (arith, now, c.take-in-loop-self.ensures.calls);
 }
 
 pub returns-clause-found : goal.returns-clause-found

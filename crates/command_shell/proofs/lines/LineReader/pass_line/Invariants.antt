@@ -1,6 +1,6 @@
 -- What holds at each turn of the loop of `LineReader::pass_line`.
 use Rattle.std.proofs.Common.{◌≡◌, ◌<◌, []}
-use Rattle.command_shell.specs.Pending.{pending, work_left}
+use Rattle.command_shell.specs.Pending.{AreCounted, pending, work_left}
 use Rattle.command_shell.specs.Lines.{IsOneLine}
 use Rattle.command_shell.specs.Reading.{ReadsTo}
 use Rattle.command_shell.proofs.lines.LineReader.pass_line.Given as goal
@@ -10,6 +10,8 @@ invariant-loop-self g l = record {
   none : pending l.self ≡ [];
   text : ReadsTo (g.R.Read.remaining l.fn.reader) (g.R.Read.remaining l.reader) (λ more. IsOneLine more);
   fewer : work_left l.self < work_left l.fn.self;
+  counted : AreCounted l.fn.self (g.R.CountedRead.calls l.fn.reader)
+      → AreCounted l.self (g.R.CountedRead.calls l.reader);
 }
 
 abbrev pub decreases-loop-self : goal.decreases-loop-self

@@ -1,7 +1,7 @@
 -- What holds at each turn of the loop of `LineReader::read_line`.
 use Rattle.std.proofs.Common.{◌≡◌, ◌≤◌, ℕ, ◌++◌, length, take}
 use Rattle.command_shell.specs.Lines.{IsOneLine}
-use Rattle.command_shell.specs.Pending.{pending, work_left}
+use Rattle.command_shell.specs.Pending.{AreCounted, pending, work_left}
 use Rattle.command_shell.specs.Reading.{BeginsLine, ReadsTo}
 use Rattle.command_shell.proofs.lines.LineReader.read_line.Given as goal
 
@@ -14,6 +14,8 @@ invariant-loop-at g l = record {
   fewer : work_left l.self ≤ work_left l.fn.self;
   lazy : (n : ℕ) → BeginsLine (pending l.fn.self) n
       → (l.reader ≡ l.fn.reader) × (pending l.self ≡ pending l.fn.self);
+  counted : AreCounted l.fn.self (g.R.CountedRead.calls l.fn.reader)
+      → AreCounted l.self (g.R.CountedRead.calls l.reader);
 }
 
 abbrev pub decreases-loop-at : goal.decreases-loop-at
