@@ -1,10 +1,12 @@
 -- A fact of an answer from facts of it.
 use Rattle.std.proofs.Common.{◌≡◌, ◌∙◌, ℕ, Bool, true, false, ◌||◌, Some, eqb, not, refl, sym, ap}
 use Rattle.std.proofs.lemmas.Bool.{eqb-true, eq-eqb}
-use Rattle.std.specs.Prelude.{Result, Ok, Err, OnOk, OnErr, IfOk, IfErr, is_ok}
+use Rattle.std.proofs.Common.{subst}
+use Rattle.std.specs.Prelude.{Result, Ok, Err, OnOk, OnErr, IfOk, IfErr, IsErrAnd, is_ok}
+use Rattle.page_file.specs.Fault.{HasCause, faults_after}
 use Rattle.page_file.specs.declared.fault.Fault.{Fault}
 use Rattle.page_file.specs.declared.fault.Fault.TheVariants as fault
-use Rattle.page_cache.specs.Calls.{fault_in, faults_behind}
+use Rattle.page_cache.specs.Calls.{ends_so, fault_in, faults_behind, has_cause}
 
 module _ {T E : Type 0} where
   -- an answer of the one kind or the other
@@ -68,6 +70,29 @@ module _ {T E : Type 0} where
   pub on_err_any : {P : Type 0} (r : Result T E) → P → OnErr r P
   on_err_any (Ok x) p = tt
   on_err_any (Err e) p = p
+
+-- ---- an answer that hands on a fault
+
+module _ {T E : Type 0} where
+  -- nothing is said of what it answers
+  pub no_answer : (r : Result T E) (f : E) (P : T → Type 0) → IsErrAnd r (λ e. e ≡ f) → IfOk r P
+  no_answer (Ok x) f P is = absurd is
+  no_answer (Err e) f P is = tt
+
+  pub no_success : (r : Result T E) (f : E) (X : Type 0) → IsErrAnd r (λ e. e ≡ f) → OnOk r X
+  no_success (Ok x) f X is = absurd is
+  no_success (Err e) f X is = tt
+
+  -- and what is said of the fault holds
+  pub at_error : (r : Result T E) (f : E) (P : E → Type 0) → IsErrAnd r (λ e. e ≡ f) → P f → IfErr r P
+  at_error (Ok x) f P is p = tt
+  at_error (Err e) f P is p = subst P (sym is) p
+
+-- the device's faults are counted as the fault has it
+pub refused_cause : {T : Type 0} (before now : ℕ) (r : Result T Fault) (f : Fault)
+    → IsErrAnd r (λ e. e ≡ f) → now ≡ faults_after f before → HasCause before now r
+refused_cause before now r f is counted =
+    has_cause before now r (counted ∙ ap (λ x. faults_behind x before) (sym (ends_so r f is)))
 
 -- ---- a flag that is set by an answer that is no refusal, or by a loss
 

@@ -33,7 +33,7 @@ pub record Covers {D A : Type 0} {m : _} (file : PageFile D m) (most : ℕ)
 -- The gate is open for a change, or unsure after a refusal.
 pub record BeginsChange {D A : Type 0} {m : _} {T : Type 0} (old new : PageCache D A m)
     (result : Result T Fault) : Type 0 where
-  pub open : OnOk result (gate_of new ≡ Open)
+  pub «open» : OnOk result (gate_of new ≡ Open)
   pub untouched : touched_of new ≡ false
   pub refused : OnErr result (gate_of new ≡ Unsure)
   pub was_open : gate_of old ≡ Open → IsUnchanged old new × IsOk result
