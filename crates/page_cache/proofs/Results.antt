@@ -108,6 +108,12 @@ pub unset_by_err : {T E P : Type 0} (was ok : Bool) (r : Result T E) → ok ≡ 
 unset_by_err was ok (Ok x) is unset p = never_set was (ap (λ b. was || b) (sym is) ∙ unset)
 unset_by_err was ok (Err e) is unset p = p
 
+pub untouched_by : {T E : Type 0} (was : Bool) (r : Result T E) (f : E) → IsErrAnd r (λ e. e ≡ f)
+    → (was || is_ok r) ≡ was
+untouched_by was (Ok x) f is = absurd is
+untouched_by true (Err e) f is = refl
+untouched_by false (Err e) f is = refl
+
 pub stays_unless_lost : {T E : Type 0} (was ok : Bool) (left had : ℕ) (r : Result T E) → ok ≡ is_ok r
     → OnErr r (left ≡ had → (was || (ok || not (eqb left had))) ≡ was)
 stays_unless_lost was ok left had (Ok x) is = tt
