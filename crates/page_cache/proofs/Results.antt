@@ -108,6 +108,10 @@ pub unset_by_err : {T E P : Type 0} (was ok : Bool) (r : Result T E) → ok ≡ 
 unset_by_err was ok (Ok x) is unset p = never_set was (ap (λ b. was || b) (sym is) ∙ unset)
 unset_by_err was ok (Err e) is unset p = p
 
+pub or_none : (was : Bool) → (was || false) ≡ was
+or_none true = refl
+or_none false = refl
+
 pub untouched_by : {T E : Type 0} (was : Bool) (r : Result T E) (f : E) → IsErrAnd r (λ e. e ≡ f)
     → (was || is_ok r) ≡ was
 untouched_by was (Ok x) f is = absurd is
@@ -120,10 +124,6 @@ stays_unless_lost was ok left had (Ok x) is = tt
 stays_unless_lost was ok left had (Err e) is =
     λ same. ap (λ b. was || (b || not (eqb left had))) is
     ∙ ap (λ b. was || not b) (eq-eqb left had same) ∙ or_none was
-  where
-    or_none : (b : Bool) → (b || false) ≡ b
-    or_none true = refl
-    or_none false = refl
 
 pub none_lost : {T E P : Type 0} (was ok : Bool) (left had : ℕ) (r : Result T E) → ok ≡ is_ok r
     → (was || (ok || not (eqb left had))) ≡ false → OnErr r (left ≡ had → P) → P

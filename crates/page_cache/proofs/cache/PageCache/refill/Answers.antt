@@ -7,23 +7,26 @@ use Rattle.block_device.specs.Device.{IsBlock}
 use Rattle.page_file.specs.Fault.{IsDamage, IsOfDevice, faults_after}
 use Rattle.page_file.specs.File as below
 use Rattle.page_file.specs.declared.fault.Fault.{Fault}
+use Rattle.page_file.specs.declared.fault.Fault.TheVariants as fault
 use Rattle.page_file.specs.declared.file.PageFile.{PageFile}
 use Rattle.page_file.specs.declared.header.Header.{Header}
 use Rattle.page_cache.specs.declared.cache.PageCache.{PageCache}
 use Rattle.page_cache.specs.Cache.{IsHonest, capacity_of, device_of, held_pages, next_of}
 use Rattle.page_cache.specs.Calls.{asks_changes, changes_and_refuses, counted_by_end, no_call_changes}
-use Rattle.page_cache.specs.Frames.{frame_at}
+use Rattle.page_cache.specs.Frames.{frame_at, newer_bytes}
 use Rattle.page_cache.specs.Keeps.{KeepsBlocks, SameFrames}
 use Rattle.page_cache.specs.PageSteps.{Refills}
 use Rattle.page_cache.specs.Uses.{with_room}
 use Rattle.page_cache.proofs.Behind.{kept_asks, keeps_in_turn, keeps_same, map_kept, map_through}
+use Rattle.page_cache.proofs.Behind.{unchanged}
 use Rattle.page_cache.proofs.Lookups.{first-found}
 use Rattle.page_cache.proofs.Putting.{given_others_there, given_there, held_after, held_within, held_written}
 use Rattle.page_cache.proofs.Putting.{live_there, others_there, sound_there, there}
 use Rattle.page_cache.proofs.Results.{at_error, either, no_device, no_success, on_err_all, on_err_map, on_ok_map}
-use Rattle.page_cache.proofs.Results.{unset_by_err, untouched_by}
+use Rattle.page_cache.proofs.Results.{or_none, unset_by_err, untouched_by}
 use Rattle.page_cache.proofs.Uses.{not_held, used_absent, uses_refused}
 use Rattle.page_cache.proofs.cache.PageCache.refill.Goals as goal
+use Rattle.page_cache.proofs.cache.PageCache.refill.Goals.{then-n-lt2-via-then-n-lt2, then-n-lt2-via-else-n-lt2+then-n-next_number}
 
 -- after room was made, as many are held as there is room for beside one more
 module _ {D A : Type 0} {m : _} (old mid : PageCache D A m) (same : SameFrames old mid)
@@ -101,6 +104,45 @@ returns-then-promote g c =
       other_faults = tt;
     }
 
+-- its number is of no page given out
+pub returns-then-n-lt2 : goal.returns-then-n-lt2
+returns-then-n-lt2 g c =
+    let old = c.args.self.now in let mid = c.promote.new.self in let n = c.args.n in
+    let same = c.promote.ensures.same in let f = fault.Damaged n in
+    let kept = keeps_same old mid same in let map = map_kept old mid kept in
+    let out : (n < 2) ⊎ (next_of old ≤ n) = elim c.then-n-lt2.branch [
+      | then-n-lt2-via-then-n-lt2 w ↦ inl (omega (arith, w.if-n-lt2.true))
+      | then-n-lt2-via-else-n-lt2+then-n-next_number w ↦ inr (omega (
+          arith,
+          w.if-n-next_number.true,
+          w.next_number.ensures,
+          ap (λ (x : PageFile _ _). below.next_of x) same.file,
+        ))
+    ] in
+    record {
+      changes = asks_changes old mid (Some f) (kept_asks old mid (Some f) kept
+          (ap (λ (x : PageFile _ _). g.D.BlockDevice.faults (below.device_of x)) same.file));
+      filled = λ h. tt;
+      live = λ h live. ap is_some (map.pages_stay h n) ∙ live;
+      others = λ h live k ne. map.pages_stay h k;
+      given_others = λ h k ne. map.given_stay h k;
+      refused = map;
+      sound = λ was live. map.sound.0 was;
+      next = map.next;
+      grows = search rules;
+      looks = same.looks;
+      holds = tt;
+      uses = record { used = tt; refused = inl (c.promote.ensures.absent c.if-promote.false) };
+      touched = same.touched ∙ sym (or_none old.touched);
+      outside = λ _. (
+        refl,
+        unchanged old mid same.file (λ k. ap newer_bytes (same.frames k)) same.looks same.capacity,
+      );
+      faults = λ h low within. absurd (⊎_elim (λ (less : n < 2). omega (arith, less, low))
+          (λ (more : next_of old ≤ n). omega (arith, more, within)) out);
+      other_faults = inr (n, refl);
+    }
+
 -- no room is made for it
 pub returns-in_err-make_room : goal.returns-in_err-make_room
 returns-in_err-make_room g c =
@@ -149,7 +191,7 @@ returns-in_err-bytes g c =
       c.next_number.ensures,
       ap (λ (x : PageFile _ _). below.next_of x) c.promote.ensures.same.file,
     ))
-    (λ h. subst (λ x. IsOfDevice x) (sym memory) (search rules)) (inl (subst (λ x. IsOfDevice x) (sym memory) (search rules)))
+    (λ h. inl memory) (inl (inl memory))
 
 -- it comes in, or there is no memory to hold it
 pub returns : goal.returns
