@@ -1,5 +1,5 @@
 -- What private calls make of frames and of the file below.
-use Rattle.std.specs.Prelude.{◌≡◌, ◌⊎◌, ◌∷◌, ℕ, List, Option, None, Some, IsSome, Result, false, true}
+use Rattle.std.specs.Prelude.{◌≡◌, ◌⊎◌, ◌∷◌, ℕ, None, Some, IsSome, Result, false, true}
 use Rattle.std.specs.Prelude.{if◌then◌else◌, ◌==◌, IfErr, IsOk, OnErr, OnOk, nat_eq, option_map, slice_get}
 use Rattle.std.specs.Map.{remove_entry}
 use Rattle.block_device.specs.Device.{Torn, written}

@@ -113,11 +113,11 @@ returns-then-n-lt2 g c =
     let out : (n < 2) ⊎ (next_of old ≤ n) = elim c.then-n-lt2.branch [
       | then-n-lt2-via-then-n-lt2 w ↦ inl (omega (arith, w.if-n-lt2.true))
       | then-n-lt2-via-else-n-lt2+then-n-next_number w ↦ inr (omega (
-          arith,
-          w.if-n-next_number.true,
-          w.next_number.ensures,
-          ap (λ (x : PageFile _ _). below.next_of x) same.file,
-        ))
+        arith,
+        w.if-n-next_number.true,
+        w.next_number.ensures,
+        ap (λ (x : PageFile _ _). below.next_of x) same.file,
+      ))
     ] in
     record {
       changes = asks_changes old mid (Some f) (kept_asks old mid (Some f) kept

@@ -1,5 +1,5 @@
 -- The goals of `PageCache::settle` that are proved by hand.
-use Rattle.std.proofs.Common.{inl, inr, ◌≡◌, ◌∙◌, ◌⊎◌, ap, rules, sym, subst, ⊎_elim}
+use Rattle.std.proofs.Common.{inl, inr, ◌≡◌, ◌∙◌, ◌⊎◌, rules, sym, subst, ⊎_elim}
 use Rattle.page_file.specs.Fault.{HasCause, IsDamage, IsOfDevice}
 use Rattle.page_file.specs.File as below
 use Rattle.page_file.specs.Laws.{is_open}
