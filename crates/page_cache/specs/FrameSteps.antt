@@ -1,4 +1,4 @@
--- What private calls make of frames and of the file below.
+-- What private calls make of frames and of the file below, also where they are refused.
 use Rattle.std.specs.Prelude.{◌≡◌, ◌⊎◌, ◌∷◌, ℕ, None, Some, IsSome, Result, false, true}
 use Rattle.std.specs.Prelude.{if◌then◌else◌, ◌==◌, IfErr, IsOk, OnErr, OnOk, nat_eq, option_map, slice_get}
 use Rattle.std.specs.Map.{remove_entry}
@@ -16,7 +16,7 @@ use Rattle.page_cache.specs.Keeps.{KeepsBlocks, SameFrames}
 use Rattle.page_cache.specs.declared.cache.PageCache.{PageCache}
 use Rattle.page_cache.specs.declared.frame.Frame.{Frame}
 
--- Page n of the file was written where its frame is changed, and nothing was called where it is not.
+-- Page n of the file was written if its frame is changed; no call was made if it is not.
 pub record WritesBack {D A : Type 0} {m : _} {T : Type 0} (n : ℕ) (frame : Frame A) (old new : PageFile D m)
     (result : Result T Fault) : Type 0 where
   pub gate : below.KeepsGate old new
@@ -36,7 +36,7 @@ pub record WritesBack {D A : Type 0} {m : _} {T : Type 0} (n : ℕ) (frame : Fra
   pub other_faults : IfErr result (λ f. IsOfDevice f ⊎ IsDamage f)
   pub cause : HasCause (m.faults (below.device_of old)) (m.faults (below.device_of new)) result
 
--- Page n was written where it is changed, and let go; after a refusal it is held as before.
+-- Page n was written if it was changed, and let go; after a refusal the same frames are held.
 pub record Releases {D A : Type 0} {m : _} {T : Type 0} (n : ℕ) (old new : PageCache D A m)
     (result : Result T Fault) : Type 0 where
   pub kept : KeepsBlocks old new

@@ -1,5 +1,5 @@
--- What calls make of a cache as a whole: it is put over a file, its gate opened and shut, and it is closed. In
--- the words of contracts: `old` is the cache before, `new` the one after, and `result` the call's answer.
+-- What calls make of a cache as a whole, also where they are refused: it is put over a file, its gate opened
+-- and shut, and it is closed. `old` is the cache before, `new` the one after, `result` the call's answer.
 use Rattle.std.specs.Prelude.{◌≡◌, ◌⊎◌, ◌↔◌, ℕ, Result, Ok, false, IfErr, IfOk, IsOk, OnErr, OnOk}
 use Rattle.block_device.specs.Device.{Blocks, LeavesOnly, Only}
 use Rattle.page_file.specs.Fault.{HasCause, IsDamage, IsOfDevice, faults_after}
@@ -15,7 +15,7 @@ use Rattle.page_cache.specs.Cache.{capacity_of, device_of, gate_of, given, looks
 use Rattle.page_cache.specs.Cache.{touched_of}
 use Rattle.page_cache.specs.declared.cache.PageCache.{PageCache}
 
--- A cache of so many pages is put over a file: it shows what the file shows.
+-- A cache of at most so many pages was put over a file, and shows what that shows.
 pub record Covers {D A : Type 0} {m : _} (file : PageFile D m) (most : ℕ)
     (result : Result (PageCache D A m) (Fault × D)) : Type 0 where
   pub device : IfOk result (λ cache. device_of cache ≡ below.device_of file)
@@ -30,7 +30,7 @@ pub record Covers {D A : Type 0} {m : _} (file : PageFile D m) (most : ℕ)
   pub looks : IfOk result (λ cache. looks_of cache ≡ 0)
   pub refused : IfErr result (λ e. (e.0 ≡ fault.Memory) × (e.1 ≡ below.device_of file))
 
--- The gate is open for a change, or unsure after a refusal.
+-- The gate was opened for a change, if it was not open.
 pub record BeginsChange {D A : Type 0} {m : _} {T : Type 0} (old new : PageCache D A m)
     (result : Result T Fault) : Type 0 where
   pub «open» : OnOk result (gate_of new ≡ Open)
@@ -49,7 +49,7 @@ pub record BeginsChange {D A : Type 0} {m : _} {T : Type 0} (old new : PageCache
   pub faults : IfErr result IsOfDevice
   pub cause : HasCause (m.faults (device_of old)) (m.faults (device_of new)) result
 
--- The gate is shut after all that was put, or unsure, or open as before, after a refusal.
+-- The gate was shut, after all that was put was written.
 pub record Settles {D A : Type 0} {m : _} {T : Type 0} (old new : PageCache D A m) (result : Result T Fault)
     : Type 0 where
   pub shut : OnOk result (gate_of new ≡ Shut)
@@ -59,8 +59,8 @@ pub record Settles {D A : Type 0} {m : _} {T : Type 0} (old new : PageCache D A 
   pub was_unsure : IsHonest old → gate_of old ≡ Unsure → SameButGate (blocks_of new) (blocks_of old)
   pub map : KeepsMap old new
   pub holds : (k : ℕ) → IsHeld old k → IsHeld new k
-  -- a stop leaves blocks that opening refuses, or those that are read afterwards, the gate aside, in which the
-  -- map lies
+  -- a stop leaves blocks that opening refuses, or those that are read afterwards, the gate aside, in which
+  -- the map lies
   pub stops : IsHonest old
       → LeavesOnly m.moment m.left_since m.recovery (device_of old) (device_of new)
       (λ c. IsRefused c ⊎ (SameButGate c (blocks_of new) × LiesIn new c))
@@ -71,14 +71,14 @@ pub record Settles {D A : Type 0} {m : _} {T : Type 0} (old new : PageCache D A 
   pub other_faults : IfErr result (λ f. IsOfDevice f ⊎ IsDamage f)
   pub cause : HasCause (m.faults (device_of old)) (m.faults (device_of new)) result
 
--- A cache is settled, and its device handed back, also after a refusal.
+-- The cache was settled, and its device handed back.
 pub record Closes {D A : Type 0} {m : _} (cache : PageCache D A m) (result : Result D (Fault × D))
     : Type 0 where
   pub lies : IfOk result (λ device. IsHonest cache → LiesIn cache (m.shown device))
   pub durable : IfOk result (λ device. IsHonest cache → Only (m.shown device) (m.may_leave device))
   pub was_shut : gate_of cache ≡ Shut → result ≡ Ok (device_of cache)
-  -- a stop leaves blocks that opening refuses, or those that are read afterwards, the gate aside, in which the
-  -- map lies
+  -- a stop leaves blocks that opening refuses, or those that are read afterwards, the gate aside, in which
+  -- the map lies
   pub stops : IfOk result (λ device. IsHonest cache
       → LeavesOnly m.moment m.left_since m.recovery (device_of cache) device
       (λ c. IsRefused c ⊎ (SameButGate c (m.shown device) × LiesIn cache c)))

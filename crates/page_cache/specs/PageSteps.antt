@@ -1,5 +1,5 @@
--- What a cache's pages are after each call that changes, gives out or frees one. In the words of contracts:
--- `old` is the cache before, `new` the one after, and `result` the call's answer.
+-- What each call does that changes, gives out or frees a page, also where it is refused: `old` is the cache
+-- before, `new` the one after, and `result` the call's answer.
 use Rattle.std.specs.Prelude.{◌≡◌, ◌⊎◌, ◌≤◌, ◌<◌, ◌+◌, ◌^◌, ◌||◌, ℕ, List, None, Some, Result, Err, true}
 use Rattle.std.specs.Prelude.{IfErr, IfOk, IsErrOf, OnErr, OnOk, is_ok}
 use Rattle.block_bytes.specs.Numbers.{zeros}
@@ -14,13 +14,13 @@ use Rattle.page_cache.specs.Calls.{Changes}
 use Rattle.page_cache.specs.Uses.{Uses}
 use Rattle.page_cache.specs.declared.cache.PageCache.{PageCache}
 
--- Page n was changed where it lies in memory, by a function that, given the bytes before, answered and left
--- the bytes after as `did` says.
+-- Page n was changed where it lies in memory. `did` says what may be answered, and which bytes left, of the
+-- bytes that were there.
 pub record Edits {D A : Type 0} {m : _} {T : Type 0} (n : ℕ) (did : List ℕ → T → List ℕ → Type 0)
     (old new : PageCache D A m) (result : Result T Fault) : Type 0 where
   pub changes : Changes old new result
   pub answered : IfOk result (λ answer. (page after : List ℕ) × did page answer after)
-  -- its bytes before are those of the page
+  -- those that were there are those of the page
   pub edited : IsHonest old → (page : List ℕ) → given old n ≡ Some page
       → IfOk result (λ answer. (after : List ℕ) × (given new n ≡ Some after)
       × (IsLive old n → pages new n ≡ Some after) × did page answer after)
@@ -31,7 +31,7 @@ pub record Edits {D A : Type 0} {m : _} {T : Type 0} (n : ℕ) (did : List ℕ �
   pub sound : IsPageMap old → IsLive old n → IsPageMap new
   pub next : next_of new ≡ next_of old
   pub grows : Grows 0 old new
-  -- it is no look
+  -- none is counted
   pub looks : looks_of new ≡ looks_of old
   pub holds : OnOk result (IsHeld new n)
   pub uses : Uses old new n result
@@ -42,7 +42,7 @@ pub record Edits {D A : Type 0} {m : _} {T : Type 0} (n : ℕ) (did : List ℕ �
   pub faults : IsHonest old → 2 ≤ n → n < next_of old → IfErr result IsOfDevice
   pub other_faults : IfErr result (λ f. IsOfDevice f ⊎ IsDamage f)
 
--- Page n was filled in memory, by a function that left the bytes after of any bytes before, as `did` says.
+-- Page n was filled in memory. `did` says which bytes may be left of others, which may be any.
 pub record Refills {D A : Type 0} {m : _} {T : Type 0} (n : ℕ) (did : List ℕ → List ℕ → Type 0)
     (old new : PageCache D A m) (result : Result T Fault) : Type 0 where
   pub changes : Changes old new result
@@ -56,7 +56,7 @@ pub record Refills {D A : Type 0} {m : _} {T : Type 0} (n : ℕ) (did : List ℕ
   pub sound : IsPageMap old → IsLive old n → IsPageMap new
   pub next : next_of new ≡ next_of old
   pub grows : Grows 0 old new
-  -- it is no look
+  -- none is counted
   pub looks : looks_of new ≡ looks_of old
   pub holds : OnOk result (IsHeld new n)
   pub uses : Uses old new n result
@@ -66,7 +66,7 @@ pub record Refills {D A : Type 0} {m : _} {T : Type 0} (n : ℕ) (did : List ℕ
   pub faults : IsHonest old → 2 ≤ n → n < next_of old → IfErr result IsOfDevice
   pub other_faults : IfErr result (λ f. IsOfDevice f ⊎ IsDamage f)
 
--- Page n was made these bytes in memory.
+-- Page n was given these bytes in memory.
 pub record Puts {D A : Type 0} {m : _} {T : Type 0} (n : ℕ) (bytes : List ℕ) (old new : PageCache D A m)
     (result : Result T Fault) : Type 0 where
   pub changes : Changes old new result
@@ -79,7 +79,7 @@ pub record Puts {D A : Type 0} {m : _} {T : Type 0} (n : ℕ) (bytes : List ℕ)
   pub sound : IsPageMap old → IsLive old n → IsPageMap new
   pub next : next_of new ≡ next_of old
   pub grows : Grows 0 old new
-  -- it is no look
+  -- none is counted
   pub looks : looks_of new ≡ looks_of old
   pub holds : OnOk result (IsHeld new n)
   pub uses : Uses old new n result
@@ -94,8 +94,9 @@ pub record Allocates {D A : Type 0} {m : _} (old new : PageCache D A m) (result 
     : Type 0 where
   pub changes : Changes old new result
   pub fresh : IsPageMap old
-      → IfOk result (λ n. (pages old n ≡ None) × (pages new n ≡ Some zeros) × SameBut n (pages old) (pages new))
-  -- it is the first free one where there is one, and else of a new number
+      → IfOk result (λ n. (pages old n ≡ None) × (pages new n ≡ Some zeros)
+      × SameBut n (pages old) (pages new))
+  -- it is the first free one where there is one, and else one of a new number
   pub taken : IsPageMap old
       → IfOk result (λ n. TakesFirst n (free_of old) (next_of old) (free_of new) (next_of new))
   pub given_others : IsHonest old → IfOk result (λ n. SameBut n (given old) (given new))

@@ -7,7 +7,8 @@ use Rattle.block_device.specs.Device.{Blocks, block_at}
 use Rattle.page_file.specs.Fault.{IsOfDevice}
 use Rattle.page_file.specs.File as below
 use Rattle.page_file.specs.Laws.{the_gate_is_kept_in_turn}
-use Rattle.page_file.specs.Pages.{HasFreeChain, HasGiven, MayHaveGiven, SameBut, TakesFirst, free_page_link, free_pages_of}
+use Rattle.page_file.specs.Pages.{HasFreeChain, HasGiven, MayHaveGiven, SameBut, TakesFirst}
+use Rattle.page_file.specs.Pages.{free_page_link, free_pages_of}
 use Rattle.page_file.specs.Pages.{given_pages, next_given, page_of}
 use Rattle.page_file.specs.Reused.{all_live, chain_refused, chain_stays, chain_unchanged, given_is_zeros}
 use Rattle.page_file.specs.Reused.{given_refused, given_stays, given_unchanged, none_before, others_refused}
@@ -25,7 +26,8 @@ use Rattle.page_cache.specs.declared.cache.PageCache.{PageCache}
 use Rattle.page_cache.specs.declared.frame.Frame.{Frame}
 use Rattle.page_cache.proofs.Behind.{map_from, map_kept}
 use Rattle.page_cache.proofs.Kept.{kept_below}
-use Rattle.page_cache.proofs.Results.{either, if_err_map, if_ok_both, none_lost, on_err_and, on_err_given, on_err_map}
+use Rattle.page_cache.proofs.Results.{either, if_err_map, if_ok_both, none_lost, on_err_and, on_err_given}
+use Rattle.page_cache.proofs.Results.{on_err_map}
 use Rattle.page_cache.proofs.Results.{stays_unless_lost}
 use Rattle.page_cache.proofs.Reused.{either_given, first_same, gives_behind, may_behind}
 use Rattle.page_cache.proofs.cache.PageCache.allocate.Goals as goal
@@ -101,7 +103,8 @@ module _ {D A : Type 0} {m : _} (old mid new : PageCache D A m) (keeps : KeepsBl
       → new.file.header.count ≡ old.file.header.count → KeepsMap old new
   map_stays next honest gave count =
       let X = blocks_behind old in let Y = after old mid new.file keeps first is gone in
-      let roomy : IsHonest old → old.file.header.next ≤ length X = room old mid new.file keeps first is gone in
+      let roomy : IsHonest old → old.file.header.next ≤ length X =
+      room old mid new.file keeps first is gone in
       let may_of : IsHonest old → MayHaveGiven X Y old.file.header new.file.header =
       λ h. may old mid new.file keeps first is gone h (gave (keeps.gate.honest.0 h)) in
       record {
@@ -140,7 +143,8 @@ invariant_of-self g c =
     at_given c.args.self.now mid new c.release.ensures.kept c.first_free-first.result first
     c.in_ok-release.ensures.gone in let some = sym (ap (frame_at mid.frames.entries) e) ∙ is in
     absurd (let bad = sym none ∙ some in cc) in
-    either c.allocate-allocated.result (c.allocate-allocated.ensures.gives h) (c.allocate-allocated.ensures.may_give h)
+    either c.allocate-allocated.result (c.allocate-allocated.ensures.gives h)
+    (c.allocate-allocated.ensures.may_give h)
     (λ gives. given_stays (blocks_of mid) (below.blocks_of new) mid.file.header new.header mid.file.sound
     (mid.file.room h) gives n apart)
     (λ may. given_refused (blocks_of mid) (below.blocks_of new) mid.file.header new.header mid.file.sound
@@ -162,7 +166,7 @@ returns g c =
     let gone = c.in_ok-release.ensures.gone in
     let X = blocks_behind old in let Y = after old mid new k at first gone in
     let was = old.file.header in let sound = old.file.sound in let honest = k.gate.honest.0 in
-    let counts = ap (λ (x : Header). x.count) k.header in
+    let counts = ap (λ (x : Header). x.count) k.header in let left = c.free_count-free.result in
     let roomy = λ (h : IsHonest old). room old mid new k at first gone h in
     let gave = λ (h : IsHonest old). gives old mid new k at first gone h in
     let may_have = λ (h : IsHonest old). may old mid new k at first gone h in
@@ -172,14 +176,15 @@ returns g c =
         next = omega (arith, did.next.0, ap (λ (x : Header). x.next) k.header);
         capacity = k.capacity;
         looks = omega (arith, k.looks);
-        touched = λ set. ap (λ t. t || (c.is_ok.result || not (eqb c.free_count.result c.free_count-free.result)))
-            (k.touched ∙ set);
-        untouched = λ none. none_lost mid.touched c.is_ok.result c.free_count.result c.free_count-free.result r
-            c.is_ok.ensures.value none
+        touched = λ set.
+            ap (λ t. t || (c.is_ok.result || not (eqb c.free_count.result left))) (k.touched ∙ set);
+        untouched = λ none.
+            none_lost mid.touched c.is_ok.result c.free_count.result left r c.is_ok.ensures.value none
             (on_err_given r did.refused_next did.may_give (λ next may. λ same.
             map_stays old mid _ k at first gone refl next did.gate.honest may
             (sym c.free_count.ensures ∙ same ∙ c.free_count-free.ensures ∙ counts)));
-        faults = counted_by_end _ _ r did.cause ∙ ap (faults_behind (fault_in r)) c.in_ok-release.ensures.cause.ok;
+        faults = counted_by_end _ _ r did.cause
+            ∙ ap (faults_behind (fault_in r)) c.in_ok-release.ensures.cause.ok;
       };
       fresh = λ map. let h = map.honest in
           if_ok_both r did.which (did.gives (honest h))
@@ -194,7 +199,8 @@ returns g c =
       taken = λ map. let h = map.honest in
           if_ok_both r did.which (did.gives (honest h))
           (λ n is given. subst
-          (λ (i : ℕ). TakesFirst i (free_pages_of X was) was.next (free_pages_of Y new.header) new.header.next)
+          (λ (i : ℕ).
+          TakesFirst i (free_pages_of X was) was.next (free_pages_of Y new.header) new.header.next)
           (sym (which old mid new k at first gone n is))
           (takes_first X Y was new.header sound (roomy h) map.free (gave h given)));
       given_others = λ h.
@@ -214,8 +220,7 @@ returns g c =
             others_refused X Y was new.header sound (roomy h) map.free (may_have h given),
           ));
       kept = on_err_and r did.refused_next did.may_give
-          (stays_unless_lost mid.touched c.is_ok.result c.free_count.result c.free_count-free.result r
-          c.is_ok.ensures.value)
+          (stays_unless_lost mid.touched c.is_ok.result c.free_count.result left r c.is_ok.ensures.value)
           (λ next may stays. λ count. (
             map_stays old mid _ k at first gone refl next did.gate.honest may count,
             stays (c.free_count.ensures ∙ count ∙ sym counts ∙ sym c.free_count-free.ensures) ∙ k.touched,

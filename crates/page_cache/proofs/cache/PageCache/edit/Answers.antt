@@ -31,7 +31,8 @@ returns g c =
             after,
             given_there old mid new n after kept file within h (behind h),
             λ live. there old mid new n after did.2 kept file h live (behind h),
-            subst (λ x. FnOnceReturnsAtMut g.F.FnOnce c.args.change x c.change_held.result after) page_is did.3,
+            subst (λ x. FnOnceReturnsAtMut g.F.FnOnce c.args.change x c.change_held.result after) page_is
+                did.3,
           );
       live = λ h live. live_there old mid new n after did.2 kept file h live (behind h);
       others = λ h live. others_there old mid new n after did.2 kept file h live (behind h);

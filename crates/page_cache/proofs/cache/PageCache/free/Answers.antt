@@ -111,7 +111,8 @@ returns g c =
     λ h. is_block cache mid new n within file frames h (free.torn (still h))
     (d.whole (below.device_of new) (below.blocks_of new) (free.gate.honest.0 (still h))
     (d.shown_counts (below.device_of new) (free.gate.honest.0 (still h)))) in
-    let behind_new = λ (h : IsHonest cache). behind_is cache mid new n within file frames h (free.torn (still h)) in
+    let behind_new =
+    λ (h : IsHonest cache). behind_is cache mid new n within file frames h (free.torn (still h)) in
     let one_free = ap (λ (f : PageFile _ _). with_one_free n f.header) file in
     let same_header = ap (λ (f : PageFile _ _). f.header) file in
     let link = λ (h : IsHonest cache). linked cache mid new n within file frames h (free.torn (still h)) in
@@ -130,7 +131,8 @@ returns g c =
       given_others = λ h.
           given_stay n (block_at n (below.blocks_of new)) (blocks_behind cache) Y cache.file.header.next
           new.header.next (behind cache mid new n within file frames h (free.torn (still h)))
-          (free.next ∙ ap (λ (f : PageFile _ _). f.header.next) file) (omega (arith, low)) within (room cache h);
+          (free.next ∙ ap (λ (f : PageFile _ _). f.header.next) file) (omega (arith, low)) within
+          (room cache h);
       sound = λ map live. let h = map.honest in record {
         honest = free.gate.honest.0 (still h);
         free = either_both r free.header (free.block (still h)) free.refused_header

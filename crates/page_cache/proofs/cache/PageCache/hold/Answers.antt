@@ -61,7 +61,8 @@ returns-in-Some g c =
       frames = frames;
       first = ap (λ d. option_map (λ e. e.0) (slice_get d.entries 0)) entries ∙ first-put old.frames n frame;
       refused = tt;
-      held = λ none. ap (λ d. keys_of d.entries) entries ∙ keys_put old.frames n frame (c.requires.room none) none;
+      held = λ none.
+          ap (λ d. keys_of d.entries) entries ∙ keys_put old.frames n frame (c.requires.room none) none;
       refused_held = tt;
       kept = λ clean none.
           held_clean old _ n frame refl refl refl frames (ap (λ d. d.cap) entries) clean none;
@@ -85,7 +86,8 @@ returns-in_default g c =
       frames = frames;
       first = ap (λ d. option_map (λ e. e.0) (slice_get d.entries 0)) entries ∙ first-put old.frames n frame;
       refused = tt;
-      held = λ none. ap (λ d. keys_of d.entries) entries ∙ keys_put old.frames n frame (c.requires.room none) none;
+      held = λ none.
+          ap (λ d. keys_of d.entries) entries ∙ keys_put old.frames n frame (c.requires.room none) none;
       refused_held = tt;
       kept = λ clean none.
           held_clean old _ n frame refl refl refl frames (ap (λ d. d.cap) entries) clean none;

@@ -22,11 +22,13 @@ use Rattle.page_cache.proofs.Behind.{unchanged}
 use Rattle.page_cache.proofs.Lookups.{first-found}
 use Rattle.page_cache.proofs.Putting.{given_others_there, given_there, held_after, held_within, held_written}
 use Rattle.page_cache.proofs.Putting.{live_there, others_there, sound_there, there}
-use Rattle.page_cache.proofs.Results.{at_error, either, no_device, no_success, on_err_all, on_err_map, on_ok_map}
+use Rattle.page_cache.proofs.Results.{at_error, either, no_device, no_success, on_err_all, on_err_map}
+use Rattle.page_cache.proofs.Results.{on_ok_map}
 use Rattle.page_cache.proofs.Results.{or_none, unset_by_err, untouched_by}
 use Rattle.page_cache.proofs.Uses.{not_held, used_absent, uses_refused}
 use Rattle.page_cache.proofs.cache.PageCache.refill.Goals as goal
-use Rattle.page_cache.proofs.cache.PageCache.refill.Goals.{then-n-lt2-via-then-n-lt2, then-n-lt2-via-else-n-lt2+then-n-next_number}
+use Rattle.page_cache.proofs.cache.PageCache.refill.Goals.{then-n-lt2-via-then-n-lt2}
+use Rattle.page_cache.proofs.cache.PageCache.refill.Goals.{then-n-lt2-via-else-n-lt2+then-n-next_number}
 
 -- after room was made, as many are held as there is room for beside one more
 module _ {D A : Type 0} {m : _} (old mid : PageCache D A m) (same : SameFrames old mid)
@@ -36,7 +38,7 @@ module _ {D A : Type 0} {m : _} (old mid : PageCache D A m) (same : SameFrames o
   room_made_for now is = is ∙ ap (with_room (capacity_of mid)) absent
       ∙ ap (λ k. with_room k (held_pages old)) same.capacity
 
--- Calls that only came for room, of which the last is refused: the page is not filled, and nothing is changed.
+-- Calls that only made room, of which the last is refused: the page is not filled, and nothing is changed.
 gives_up : {D A : Type 0} {m : _} {T : Type 0} {did : List ℕ → List ℕ → Type 0} (old new : PageCache D A m)
     (n : ℕ) (r : Result T Fault) (f : Fault) → IsErrAnd r (λ e. e ≡ f) → KeepsBlocks old new
     → m.faults (device_of new) ≡ faults_after f (m.faults (device_of old))
@@ -253,7 +255,8 @@ returns g c =
       live = λ h live.
           either r (written h) held.refused (live_there old mid new n after block kept file h live)
           (λ (same : SameFrames mid new). ap is_some
-          ((map_kept old new (keeps_in_turn old mid new kept (keeps_same mid new same))).pages_stay h n) ∙ live);
+          ((map_kept old new (keeps_in_turn old mid new kept (keeps_same mid new same))).pages_stay h n)
+          ∙ live);
       others = λ h live.
           either r (written h) held.refused (others_there old mid new n after block kept file h live)
           (λ (same : SameFrames mid new). λ k ne.

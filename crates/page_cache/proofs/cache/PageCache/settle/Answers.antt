@@ -29,7 +29,8 @@ returns-in_err-write_all g c =
     let refused = c.from_residual.ensures.1 in let kept = c.write_all.ensures.kept in
     let opened : gate_of old ≡ Open =
     ⊎_elim (λ (is : gate_of old ≡ Open). is)
-    (λ (closed : ¬ (gate_of old ≡ Open)). absurd (let never = (c.in_err-write_all.ensures.quiet closed).1 in cc))
+    (λ (closed : ¬ (gate_of old ≡ Open)).
+    absurd (let never = (c.in_err-write_all.ensures.quiet closed).1 in cc))
     (is_open (gate_of old)) in
     record {
       shut = no_success r f _ refused;
@@ -45,7 +46,8 @@ returns-in_err-write_all g c =
       capacity = kept.capacity;
       honest = kept.gate.honest;
       faults = λ h. at_error r f IsOfDevice refused (c.in_err-write_all.ensures.faults h);
-      other_faults = at_error r f (λ e. IsOfDevice e ⊎ IsDamage e) refused c.in_err-write_all.ensures.other_faults;
+      other_faults =
+          at_error r f (λ e. IsOfDevice e ⊎ IsDamage e) refused c.in_err-write_all.ensures.other_faults;
       cause = refused_cause _ _ r f refused c.in_err-write_all.ensures.cause.refused;
     }
 
@@ -57,7 +59,8 @@ returns g c =
     let quiet = c.write_all.ensures.quiet in
     record {
       shut = settled.shut;
-      lies = λ h. on_ok_map c.settle.result (settled.lies (honest.0 h)) (λ lies. (lies_below _ none _).1 lies);
+      lies = λ h.
+          on_ok_map c.settle.result (settled.lies (honest.0 h)) (λ lies. (lies_below _ none _).1 lies);
       refused = on_err_map c.settle.result settled.refused (λ is. ⊎_elim
           (λ (unsure : below.gate_of c.settle.new.self ≡ Unsure). inl unsure)
           (λ opened. inr (opened.0, sym kept.gate.gate ∙ opened.1)) is);
@@ -83,7 +86,8 @@ returns g c =
       honest = (λ h. settled.honest.0 (honest.0 h), λ h. honest.1 (settled.honest.1 h));
       faults = λ h. settled.faults (honest.0 h);
       other_faults = search rules;
-      cause = subst (λ n. HasCause n (g.D.BlockDevice.faults (below.device_of c.settle.new.self)) c.settle.result)
+      cause = subst
+          (λ n. HasCause n (g.D.BlockDevice.faults (below.device_of c.settle.new.self)) c.settle.result)
           c.in_ok-write_all.ensures.cause.ok settled.cause;
     }
 
