@@ -14,6 +14,18 @@ use Rattle.page_cache.specs.Calls.{Changes}
 use Rattle.page_cache.specs.Uses.{Uses}
 use Rattle.page_cache.specs.declared.cache.PageCache.{PageCache}
 
+-- Page n was changed in memory alone: it is held then, and used as the last one. None is given out or freed,
+-- no look is counted, and all that was given out stays but for the page.
+pub record ChangesInMemory {D A : Type 0} {m : _} {T : Type 0} (n : ℕ) (old new : PageCache D A m)
+    (result : Result T Fault) : Type 0 where
+  pub given_others : IsHonest old → SameBut n (given old) (given new)
+  pub refused : OnErr result (KeepsMap old new)
+  pub grows : Grows 0 old new
+  pub looks : looks_of new ≡ looks_of old
+  pub holds : OnOk result (IsHeld new n)
+  pub uses : Uses old new n result
+  pub touched : touched_of new ≡ (touched_of old || is_ok result)
+
 -- Page n was changed where it lies in memory. `did` says what may be answered, and which bytes left, of the
 -- bytes that were there.
 pub record Edits {D A : Type 0} {m : _} {T : Type 0} (n : ℕ) (did : List ℕ → T → List ℕ → Type 0)
@@ -26,16 +38,9 @@ pub record Edits {D A : Type 0} {m : _} {T : Type 0} (n : ℕ) (did : List ℕ �
       × (IsLive old n → pages new n ≡ Some after) × did page answer after)
   pub live : IsHonest old → IsLive old n → IsLive new n
   pub others : IsHonest old → IsLive old n → SameBut n (pages old) (pages new)
-  pub given_others : IsHonest old → SameBut n (given old) (given new)
-  pub refused : OnErr result (KeepsMap old new)
   pub sound : IsPageMap old → IsLive old n → IsPageMap new
   pub next : next_of new ≡ next_of old
-  pub grows : Grows 0 old new
-  -- none is counted
-  pub looks : looks_of new ≡ looks_of old
-  pub holds : OnOk result (IsHeld new n)
-  pub uses : Uses old new n result
-  pub touched : touched_of new ≡ (touched_of old || is_ok result)
+  pub in_memory : ChangesInMemory n old new result
   -- a number of no page given out is named as damaged, without a call of the device
   pub outside : (n < 2) ⊎ (next_of old ≤ n)
       → IsErrOf result (fault.Damaged n) × (device_of new ≡ device_of old)
@@ -51,16 +56,9 @@ pub record Refills {D A : Type 0} {m : _} {T : Type 0} (n : ℕ) (did : List ℕ
       × (IsLive old n → pages new n ≡ Some after) × did before after)
   pub live : IsHonest old → IsLive old n → IsLive new n
   pub others : IsHonest old → IsLive old n → SameBut n (pages old) (pages new)
-  pub given_others : IsHonest old → SameBut n (given old) (given new)
-  pub refused : OnErr result (KeepsMap old new)
   pub sound : IsPageMap old → IsLive old n → IsPageMap new
   pub next : next_of new ≡ next_of old
-  pub grows : Grows 0 old new
-  -- none is counted
-  pub looks : looks_of new ≡ looks_of old
-  pub holds : OnOk result (IsHeld new n)
-  pub uses : Uses old new n result
-  pub touched : touched_of new ≡ (touched_of old || is_ok result)
+  pub in_memory : ChangesInMemory n old new result
   -- a number of no page given out is named as damaged, without a call of the device
   pub outside : (n < 2) ⊎ (next_of old ≤ n) → (result ≡ Err (fault.Damaged n)) × IsUnchanged old new
   pub faults : IsHonest old → 2 ≤ n → n < next_of old → IfErr result IsOfDevice
@@ -73,17 +71,10 @@ pub record Puts {D A : Type 0} {m : _} {T : Type 0} (n : ℕ) (bytes : List ℕ)
   pub written : IsHonest old → IsLive old n → OnOk result (pages new n ≡ Some bytes)
   pub live : IsHonest old → IsLive old n → IsLive new n
   pub others : IsHonest old → IsLive old n → SameBut n (pages old) (pages new)
-  pub given_others : IsHonest old → SameBut n (given old) (given new)
   pub given : IsHonest old → OnOk result (given new n ≡ Some bytes)
-  pub refused : OnErr result (KeepsMap old new)
   pub sound : IsPageMap old → IsLive old n → IsPageMap new
   pub next : next_of new ≡ next_of old
-  pub grows : Grows 0 old new
-  -- none is counted
-  pub looks : looks_of new ≡ looks_of old
-  pub holds : OnOk result (IsHeld new n)
-  pub uses : Uses old new n result
-  pub touched : touched_of new ≡ (touched_of old || is_ok result)
+  pub in_memory : ChangesInMemory n old new result
   -- a number of no page given out is named as damaged, without a call of the device
   pub outside : (n < 2) ⊎ (next_of old ≤ n) → (result ≡ Err (fault.Damaged n)) × IsUnchanged old new
   pub faults : IsHonest old → 2 ≤ n → n < next_of old → IfErr result IsOfDevice

@@ -36,18 +36,20 @@ returns g c =
           );
       live = λ h live. live_there old mid new n after did.2 kept file h live (behind h);
       others = λ h live. others_there old mid new n after did.2 kept file h live (behind h);
-      given_others = λ h. given_others_there old mid new n after kept file within h (behind h);
-      refused = tt;
       sound = λ map live.
           sound_there old mid new n after did.2 kept file map live
           (λ h. subst (λ (f : PageFile _ _). below.IsHonest f) (sym file) (kept.gate.honest.0 h))
           (behind map.honest);
       next = search rules;
-      grows = search rules;
-      looks = search rules;
-      holds = held_after old mid new n was.0 did.0 kept file was.2 did.4;
-      uses = search rules;
-      touched = search rules;
+      in_memory = record {
+        given_others = λ h. given_others_there old mid new n after kept file within h (behind h);
+        refused = tt;
+        grows = search rules;
+        looks = search rules;
+        holds = held_after old mid new n was.0 did.0 kept file was.2 did.4;
+        uses = search rules;
+        touched = search rules;
+      };
       outside = search rules;
       faults = λ h low within. tt;
       other_faults = tt;

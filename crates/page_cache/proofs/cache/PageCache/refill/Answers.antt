@@ -53,15 +53,17 @@ gives_up old new n r f refused kept faults room low within of_device other =
       filled = λ h. no_success r f _ refused;
       live = λ h live. ap is_some (map.pages_stay h n) ∙ live;
       others = λ h live k ne. map.pages_stay h k;
-      given_others = λ h k ne. map.given_stay h k;
-      refused = on_err_all r map;
       sound = λ was live. map.sound.0 was;
       next = map.next;
-      grows = search rules;
-      looks = kept.looks;
-      holds = no_success r f _ refused;
-      uses = uses_refused old new n f r refused room;
-      touched = kept.touched ∙ sym (untouched_by old.touched r f refused);
+      in_memory = record {
+        given_others = λ h k ne. map.given_stay h k;
+        refused = on_err_all r map;
+        grows = search rules;
+        looks = kept.looks;
+        holds = no_success r f _ refused;
+        uses = uses_refused old new n f r refused room;
+        touched = kept.touched ∙ sym (untouched_by old.touched r f refused);
+      };
       outside = λ out. absurd (⊎_elim (λ (less : n < 2). omega (arith, less, low))
           (λ (more : next_of old ≤ n). omega (arith, more, within)) out);
       faults = λ h _ _. at_error r f IsOfDevice refused (of_device h);
@@ -89,18 +91,20 @@ returns-then-promote g c =
       );
       live = λ h live. live_there old mid new n after did.2 kept file h live (behind h);
       others = λ h live. others_there old mid new n after did.2 kept file h live (behind h);
-      given_others = λ h. given_others_there old mid new n after kept file within h (behind h);
-      refused = tt;
       sound = λ map live.
           sound_there old mid new n after did.2 kept file map live
           (λ h. subst (λ (f : PageFile _ _). below.IsHonest f) (sym file) (kept.gate.honest.0 h))
           (behind map.honest);
       next = search rules;
-      grows = search rules;
-      looks = search rules;
-      holds = held_after old mid new n was.0 did.0 kept file was.2 did.4;
-      uses = search rules;
-      touched = search rules;
+      in_memory = record {
+        given_others = λ h. given_others_there old mid new n after kept file within h (behind h);
+        refused = tt;
+        grows = search rules;
+        looks = search rules;
+        holds = held_after old mid new n was.0 did.0 kept file was.2 did.4;
+        uses = search rules;
+        touched = search rules;
+      };
       outside = search rules;
       faults = λ h low below. tt;
       other_faults = tt;
@@ -127,15 +131,17 @@ returns-then-n-lt2 g c =
       filled = λ h. tt;
       live = λ h live. ap is_some (map.pages_stay h n) ∙ live;
       others = λ h live k ne. map.pages_stay h k;
-      given_others = λ h k ne. map.given_stay h k;
-      refused = map;
       sound = λ was live. map.sound.0 was;
       next = map.next;
-      grows = search rules;
-      looks = same.looks;
-      holds = tt;
-      uses = record { used = tt; refused = inl (c.promote.ensures.absent c.if-promote.false) };
-      touched = same.touched ∙ sym (or_none old.touched);
+      in_memory = record {
+        given_others = λ h k ne. map.given_stay h k;
+        refused = map;
+        grows = search rules;
+        looks = same.looks;
+        holds = tt;
+        uses = record { used = tt; refused = inl (c.promote.ensures.absent c.if-promote.false) };
+        touched = same.touched ∙ sym (or_none old.touched);
+      };
       outside = λ _. (
         refl,
         unchanged old mid same.file (λ k. ap newer_bytes (same.frames k)) same.looks same.capacity,
@@ -261,32 +267,34 @@ returns g c =
           either r (written h) held.refused (others_there old mid new n after block kept file h live)
           (λ (same : SameFrames mid new). λ k ne.
           (map_kept old new (keeps_in_turn old mid new kept (keeps_same mid new same))).pages_stay h k);
-      given_others = λ h.
-          either r (written h) held.refused (given_others_there old mid new n after kept file within h)
-          (λ (same : SameFrames mid new). λ k ne.
-          (map_kept old new (keeps_in_turn old mid new kept (keeps_same mid new same))).given_stay h k);
-      refused = on_err_map r held.refused (λ same. map_through old mid _ kept same.file same.frames);
       sound = λ map live.
           either r (written map.honest) held.refused
           (sound_there old mid _ n after block kept file map live
           (λ h. subst (λ (f : PageFile _ _). below.IsHonest f) (sym file) (kept.gate.honest.0 h)))
           (λ (same : SameFrames mid new). (map_through old mid _ kept same.file same.frames).sound.0 map);
       next = search rules;
-      grows = search rules;
-      looks = held.looks ∙ kept.looks;
-      holds = search rules;
-      uses = record {
-        used = on_ok_map r (held.held absent)
-            (λ is. is ∙ ap (λ l. n ∷ l) room ∙ used_absent old.frames.cap n old.frames.entries
-            (omega (
-              arith,
-              c.in_ok-make_room.ensures.room,
-              c.make_room.ensures.kept.capacity,
-              c.promote.ensures.same.capacity,
-            )) was);
-        refused = on_err_map r held.refused_held (λ same. inr (same ∙ room));
+      in_memory = record {
+        given_others = λ h.
+            either r (written h) held.refused (given_others_there old mid new n after kept file within h)
+            (λ (same : SameFrames mid new). λ k ne.
+            (map_kept old new (keeps_in_turn old mid new kept (keeps_same mid new same))).given_stay h k);
+        refused = on_err_map r held.refused (λ same. map_through old mid _ kept same.file same.frames);
+        grows = search rules;
+        looks = held.looks ∙ kept.looks;
+        holds = search rules;
+        uses = record {
+          used = on_ok_map r (held.held absent)
+              (λ is. is ∙ ap (λ l. n ∷ l) room ∙ used_absent old.frames.cap n old.frames.entries
+              (omega (
+                arith,
+                c.in_ok-make_room.ensures.room,
+                c.make_room.ensures.kept.capacity,
+                c.promote.ensures.same.capacity,
+              )) was);
+          refused = on_err_map r held.refused_held (λ same. inr (same ∙ room));
+        };
+        touched = search rules;
       };
-      touched = search rules;
       outside = search rules;
       faults = search rules;
       other_faults = search rules;
