@@ -1,10 +1,12 @@
 -- A fact of an answer from facts of it.
 use Rattle.std.proofs.Common.{◌≡◌, ◌∙◌, ℕ, Bool, true, false, ◌||◌, Some, eqb, not, refl, sym, ap}
 use Rattle.std.proofs.lemmas.Bool.{eqb-true, eq-eqb}
-use Rattle.std.specs.Prelude.{Result, Ok, Err, OnOk, OnErr, IfOk, IfErr, is_ok}
+use Rattle.std.proofs.Common.{subst}
+use Rattle.std.specs.Prelude.{Result, Ok, Err, OnOk, OnErr, IfOk, IfErr, IsErrAnd, is_ok}
+use Rattle.page_file.specs.Fault.{HasCause, faults_after}
 use Rattle.page_file.specs.declared.fault.Fault.{Fault}
 use Rattle.page_file.specs.declared.fault.Fault.TheVariants as fault
-use Rattle.page_cache.specs.Calls.{fault_in, faults_behind}
+use Rattle.page_cache.specs.Calls.{ends_so, fault_in, faults_behind, has_cause}
 
 module _ {T E : Type 0} where
   -- an answer of the one kind or the other
@@ -69,6 +71,29 @@ module _ {T E : Type 0} where
   on_err_any (Ok x) p = tt
   on_err_any (Err e) p = p
 
+-- ---- an answer that hands on a fault
+
+module _ {T E : Type 0} where
+  -- nothing is said of what it answers
+  pub no_answer : (r : Result T E) (f : E) (P : T → Type 0) → IsErrAnd r (λ e. e ≡ f) → IfOk r P
+  no_answer (Ok x) f P is = absurd is
+  no_answer (Err e) f P is = tt
+
+  pub no_success : (r : Result T E) (f : E) (X : Type 0) → IsErrAnd r (λ e. e ≡ f) → OnOk r X
+  no_success (Ok x) f X is = absurd is
+  no_success (Err e) f X is = tt
+
+  -- and what is said of the fault holds
+  pub at_error : (r : Result T E) (f : E) (P : E → Type 0) → IsErrAnd r (λ e. e ≡ f) → P f → IfErr r P
+  at_error (Ok x) f P is p = tt
+  at_error (Err e) f P is p = subst P (sym is) p
+
+-- the device's faults are counted as the fault has it
+pub refused_cause : {T : Type 0} (before now : ℕ) (r : Result T Fault) (f : Fault)
+    → IsErrAnd r (λ e. e ≡ f) → now ≡ faults_after f before → HasCause before now r
+refused_cause before now r f is counted =
+    has_cause before now r (counted ∙ ap (λ x. faults_behind x before) (sym (ends_so r f is)))
+
 -- ---- a flag that is set by an answer that is no refusal, or by a loss
 
 set_by : (was : Bool) → (was || true) ≡ true
@@ -83,16 +108,22 @@ pub unset_by_err : {T E P : Type 0} (was ok : Bool) (r : Result T E) → ok ≡ 
 unset_by_err was ok (Ok x) is unset p = never_set was (ap (λ b. was || b) (sym is) ∙ unset)
 unset_by_err was ok (Err e) is unset p = p
 
+pub or_none : (was : Bool) → (was || false) ≡ was
+or_none true = refl
+or_none false = refl
+
+pub untouched_by : {T E : Type 0} (was : Bool) (r : Result T E) (f : E) → IsErrAnd r (λ e. e ≡ f)
+    → (was || is_ok r) ≡ was
+untouched_by was (Ok x) f is = absurd is
+untouched_by true (Err e) f is = refl
+untouched_by false (Err e) f is = refl
+
 pub stays_unless_lost : {T E : Type 0} (was ok : Bool) (left had : ℕ) (r : Result T E) → ok ≡ is_ok r
     → OnErr r (left ≡ had → (was || (ok || not (eqb left had))) ≡ was)
 stays_unless_lost was ok left had (Ok x) is = tt
 stays_unless_lost was ok left had (Err e) is =
     λ same. ap (λ b. was || (b || not (eqb left had))) is
     ∙ ap (λ b. was || not b) (eq-eqb left had same) ∙ or_none was
-  where
-    or_none : (b : Bool) → (b || false) ≡ b
-    or_none true = refl
-    or_none false = refl
 
 pub none_lost : {T E P : Type 0} (was ok : Bool) (left had : ℕ) (r : Result T E) → ok ≡ is_ok r
     → (was || (ok || not (eqb left had))) ≡ false → OnErr r (left ≡ had → P) → P

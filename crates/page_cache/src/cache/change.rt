@@ -8,6 +8,7 @@ ghost use Rattle.page_cache.specs.Cache.{IsHeld, IsHonest, IsUnchanged, IsWritte
 ghost use Rattle.page_cache.specs.Cache.{blocks_of};
 ghost use Rattle.page_cache.specs.Cache.{capacity_of, device_of, gate_of, looks_of, touched_of};
 ghost use Rattle.page_cache.specs.Calls.{Asks};
+ghost use Rattle.page_cache.specs.GateSteps.{BeginsChange};
 
 use crate::cache::PageCache;
 use block_device::BlockDevice;
@@ -20,23 +21,7 @@ impl<D: BlockDevice, A: Allocator + Copy> PageCache<D, A> {
     ///
     /// After a refusal, which is `Memory` or `Device`, the gate is unsure. The map stays.
     pub fn begin_change(&mut self) -> Result<(), Fault>
-        ensures open { OnOk result (gate_of self.new ≡ Open) }
-        ensures untouched { touched_of self.new ≡ false }
-        ensures refused { OnErr result (gate_of self.new ≡ Unsure) }
-        ensures was_open { gate_of self.old ≡ Open → IsUnchanged self.old self.new × IsOk result }
-        ensures map { KeepsMap self.old self.new }
-        ensures blocks { IsHonest self.old → SameButGate (blocks_of self.new) (blocks_of self.old) }
-
-        // A stop leaves the blocks as they were, the gate aside.
-        ensures stops { IsHonest self.old → ¬ (gate_of self.old ≡ Open) →
-            LeavesOnly D.moment D.left_since D.recovery (device_of self.old) (device_of self.new)
-            (λ c. SameButGate c (blocks_of self.old)) }
-
-        ensures looks { looks_of self.new ≡ looks_of self.old }
-        ensures capacity { capacity_of self.new ≡ capacity_of self.old }
-        ensures honest { IsHonest self.old ↔ IsHonest self.new }
-        ensures faults { IfErr result IsOfDevice }
-        ensures cause { HasCause (D.faults (device_of self.old)) (D.faults (device_of self.new)) result }
+        ensures { BeginsChange self.old self.new result }
     {
         self.touched = false;
         self.file.begin_change()

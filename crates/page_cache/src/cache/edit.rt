@@ -14,6 +14,7 @@ ghost use Rattle.page_cache.specs.Cache.{touched_of};
 ghost use Rattle.page_cache.specs.Calls.{Changes};
 ghost use Rattle.page_cache.specs.Frames.{frame_at};
 ghost use Rattle.page_cache.specs.Uses.{Uses};
+ghost use Rattle.page_cache.specs.PageSteps.{Edits, Refills};
 
 use crate::cache::PageCache;
 use crate::frame::Frame;
@@ -43,28 +44,8 @@ impl<D: BlockDevice, A: Allocator + Copy> PageCache<D, A> {
     ) -> Result<T, Fault>
         requires open { gate_of self.old ≡ Open }
         requires change { F.IsAlwaysCallable change }
-        ensures changes { Changes self.old self.new result }
-        ensures answered { IfOk result (λ answer. (page after : List ℕ)
-            × FnOnceReturnsAtMut F.FnOnce change page answer after) }
-        ensures edited { IsHonest self.old → (page : List ℕ) → given self.old n ≡ Some page
-            → IfOk result (λ answer. (after : List ℕ) × (given self.new n ≡ Some after)
-            × (IsLive self.old n → pages self.new n ≡ Some after)
-            × FnOnceReturnsAtMut F.FnOnce change page answer after) }
-        ensures live { IsHonest self.old → IsLive self.old n → IsLive self.new n }
-        ensures others { IsHonest self.old → IsLive self.old n → SameBut n (pages self.old) (pages self.new) }
-        ensures given_others { IsHonest self.old → SameBut n (given self.old) (given self.new) }
-        ensures refused { OnErr result (KeepsMap self.old self.new) }
-        ensures sound { IsPageMap self.old → IsLive self.old n → IsPageMap self.new }
-        ensures next { next_of self.new ≡ next_of self.old }
-        ensures grows { Grows 0 self.old self.new }
-        ensures looks { looks_of self.new ≡ looks_of self.old }
-        ensures holds { OnOk result (IsHeld self.new n) }
-        ensures uses { Uses self.old self.new n result }
-        ensures touched { touched_of self.new ≡ (touched_of self.old || is_ok result) }
-        ensures outside { (n < 2) ⊎ (next_of self.old ≤ n) →
-            IsErrOf result (fault.Damaged n) × (device_of self.new ≡ device_of self.old) }
-        ensures faults { IsHonest self.old → 2 ≤ n → n < next_of self.old → IfErr result IsOfDevice }
-        ensures other_faults { IfErr result (λ f. IsOfDevice f ⊎ IsDamage f) }
+        ensures { Edits n (λ page answer after. FnOnceReturnsAtMut F.FnOnce change page answer after)
+            self.old self.new result }
     {
         self.load(n)?;
         Ok(self.change_held(n, change))
@@ -80,26 +61,8 @@ impl<D: BlockDevice, A: Allocator + Copy> PageCache<D, A> {
     pub fn refill<F: FnOnce(&mut [u8; 4096])>(&mut self, n: u32, fill: F) -> Result<(), Fault>
         requires open { gate_of self.old ≡ Open }
         requires fill { F.IsAlwaysCallable fill }
-        ensures changes { Changes self.old self.new result }
-        ensures filled { IsHonest self.old →
-            OnOk result ((before after : List ℕ) × (given self.new n ≡ Some after)
-            × (IsLive self.old n → pages self.new n ≡ Some after)
-            × FnOnceReturnsAtMut F.FnOnce fill before tt after) }
-        ensures live { IsHonest self.old → IsLive self.old n → IsLive self.new n }
-        ensures others { IsHonest self.old → IsLive self.old n → SameBut n (pages self.old) (pages self.new) }
-        ensures given_others { IsHonest self.old → SameBut n (given self.old) (given self.new) }
-        ensures refused { OnErr result (KeepsMap self.old self.new) }
-        ensures sound { IsPageMap self.old → IsLive self.old n → IsPageMap self.new }
-        ensures next { next_of self.new ≡ next_of self.old }
-        ensures grows { Grows 0 self.old self.new }
-        ensures looks { looks_of self.new ≡ looks_of self.old }
-        ensures holds { OnOk result (IsHeld self.new n) }
-        ensures uses { Uses self.old self.new n result }
-        ensures touched { touched_of self.new ≡ (touched_of self.old || is_ok result) }
-        ensures outside { (n < 2) ⊎ (next_of self.old ≤ n) →
-            (result ≡ Err (fault.Damaged n)) × IsUnchanged self.old self.new }
-        ensures faults { IsHonest self.old → 2 ≤ n → n < next_of self.old → IfErr result IsOfDevice }
-        ensures other_faults { IfErr result (λ f. IsOfDevice f ⊎ IsDamage f) }
+        ensures { Refills n (λ before after. FnOnceReturnsAtMut F.FnOnce fill before tt after)
+            self.old self.new result }
     {
         if self.promote(n) {
             self.change_held(n, fill);

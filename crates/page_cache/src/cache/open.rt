@@ -7,6 +7,7 @@ ghost use Rattle.page_file.specs.declared.fault.Fault.TheVariants as fault;
 ghost use Rattle.page_file.specs.declared.gate.Gate.TheVariants.{Shut};
 ghost use Rattle.page_cache.specs.Cache.{IsHeld, IsHonest, IsPageMap, KeepsGate, KeepsMap, LiesIn, blocks_of};
 ghost use Rattle.page_cache.specs.Cache.{capacity_of, device_of, gate_of, given, looks_of, next_of, pages};
+ghost use Rattle.page_cache.specs.GateSteps.{Covers};
 
 use crate::cache::PageCache;
 use block_device::BlockDevice;
@@ -23,18 +24,7 @@ impl<D: BlockDevice, A: Allocator + Copy> PageCache<D, A> {
     pub fn over(alloc: A, file: PageFile<D>, capacity: u32) -> Result<PageCache<D, A>, (Fault, D)>
         requires few { 8 ≤ capacity }
         requires many { capacity ≤ 4096 }
-        ensures device { IfOk result (λ cache. device_of cache ≡ below.device_of file) }
-        ensures gate { IfOk result (λ cache. gate_of cache ≡ below.gate_of file) }
-        ensures next { IfOk result (λ cache. next_of cache ≡ below.next_of file) }
-        ensures pages { IfOk result (λ cache. (k : ℕ) → pages cache k ≡ below.pages file k) }
-        ensures given { IfOk result (λ cache. (k : ℕ) → given cache k ≡ below.given file k) }
-        ensures sound { IfOk result (λ cache. IsPageMap cache ↔ below.IsPageMap file) }
-        ensures lies { IfOk result (λ cache. (blocks : Blocks) →
-            LiesIn cache blocks ↔ below.LiesIn file blocks) }
-        ensures holds_none { IfOk result (λ cache. (n : ℕ) → ¬ (IsHeld cache n)) }
-        ensures capacity { IfOk result (λ cache. capacity_of cache ≡ capacity) }
-        ensures looks { IfOk result (λ cache. looks_of cache ≡ 0) }
-        ensures refused { IfErr result (λ e. (e.0 ≡ fault.Memory) × (e.1 ≡ below.device_of file)) }
+        ensures { Covers file capacity result }
     {
         let Some(capacity) = NonZeroUsize::new(capacity as usize) else {
             unreachable!()

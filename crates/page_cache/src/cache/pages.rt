@@ -16,6 +16,7 @@ ghost use Rattle.page_cache.specs.Calls.{Asks, Changes, IsLookedAt};
 ghost use Rattle.page_cache.specs.Keeps.{KeepsBlocks};
 ghost use Rattle.page_cache.specs.Loan.{EndsLookedAt};
 ghost use Rattle.page_cache.specs.Uses.{Uses};
+ghost use Rattle.page_cache.specs.PageSteps.{Allocates, Frees, Puts};
 
 use crate::cache::PageCache;
 use block_device::BlockDevice;
@@ -88,25 +89,7 @@ impl<D: BlockDevice, A: Allocator + Copy> PageCache<D, A> {
     #[tactic(auto, using(crate::specs::Calls::counted_by_end))]
     pub fn put(&mut self, n: u32, bytes: &[u8; 4096]) -> Result<(), Fault>
         requires { gate_of self.old ≡ Open }
-        ensures changes { Changes self.old self.new result }
-        ensures written { IsHonest self.old → IsLive self.old n →
-            OnOk result (pages self.new n ≡ Some bytes.now) }
-        ensures live { IsHonest self.old → IsLive self.old n → IsLive self.new n }
-        ensures others { IsHonest self.old → IsLive self.old n → SameBut n (pages self.old) (pages self.new) }
-        ensures given { IsHonest self.old → OnOk result (given self.new n ≡ Some bytes.now) }
-        ensures given_others { IsHonest self.old → SameBut n (given self.old) (given self.new) }
-        ensures sound { IsPageMap self.old → IsLive self.old n → IsPageMap self.new }
-        ensures next { next_of self.new ≡ next_of self.old }
-        ensures grows { Grows 0 self.old self.new }
-        ensures looks { looks_of self.new ≡ looks_of self.old }
-        ensures holds { OnOk result (IsHeld self.new n) }
-        ensures uses { Uses self.old self.new n result }
-        ensures refused { OnErr result (KeepsMap self.old self.new) }
-        ensures touched { touched_of self.new ≡ (touched_of self.old || is_ok result) }
-        ensures outside { (n < 2) ⊎ (next_of self.old ≤ n) →
-            (result ≡ Err (fault.Damaged n)) × IsUnchanged self.old self.new }
-        ensures faults { IsHonest self.old → 2 ≤ n → n < next_of self.old → IfErr result IsOfDevice }
-        ensures other_faults { IfErr result (λ f. IsOfDevice f ⊎ IsDamage f) }
+        ensures { Puts n bytes.now self.old self.new result }
     {
         self.refill(n, |page: &mut [u8; 4096]| *page = *bytes)
     }
@@ -121,34 +104,7 @@ impl<D: BlockDevice, A: Allocator + Copy> PageCache<D, A> {
     #[tactic(auto, using(crate::specs::Calls::counted_by_end))]
     pub fn allocate(&mut self) -> Result<u32, Fault>
         requires { gate_of self.old ≡ Open }
-        ensures changes { Changes self.old self.new result }
-        ensures fresh { IsPageMap self.old →
-            IfOk result (λ n. (pages self.old n ≡ None) × (pages self.new n ≡ Some zeros) ×
-            SameBut n (pages self.old) (pages self.new)) }
-        ensures taken { IsPageMap self.old →
-            IfOk result (λ n. TakesFirst n (free_of self.old) (next_of self.old) (free_of self.new)
-            (next_of self.new)) }
-        ensures given_others { IsHonest self.old →
-            IfOk result (λ n. SameBut n (given self.old) (given self.new)) }
-        ensures given_refused { IsHonest self.old →
-            OnErr result ((n : ℕ) × SameBut n (given self.old) (given self.new)) }
-        ensures refused { IsPageMap self.old →
-            OnErr result ((n : ℕ) × (pages self.old n ≡ None) × SameBut n (pages self.old) (pages self.new)) }
-        ensures kept { OnErr result (free_count_of self.new ≡ free_count_of self.old →
-            KeepsMap self.old self.new × (touched_of self.new ≡ touched_of self.old)) }
-        ensures touched { OnOk result (touched_of self.new ≡ true) }
-        ensures holds { (n : ℕ) × ((k : ℕ) → ¬ (k ≡ n) → IsHeld self.old k → IsHeld self.new k) }
-        ensures sound { IsPageMap self.old → IsPageMap self.new }
-        ensures number { IfOk result (λ n. (3 ≤ n) × (n < next_of self.new)) }
-        ensures next { (next_of self.old ≤ next_of self.new) × (next_of self.new ≤ next_of self.old + 1) }
-        ensures looks { looks_of self.new ≡ looks_of self.old }
-        ensures grows { Grows 1 self.old self.new }
-        ensures full { IsErrOf result fault.NoPages → IsFull self.new }
-        ensures all_live { IsErrOf result fault.NoPages → (n : ℕ) → 2 ≤ n → n < 2 ^ 31 → IsLive self.old n }
-        ensures faults { IsPageMap self.old → IfErr result (λ f. IsOfDevice f ⊎ (f ≡ fault.NoPages)) }
-        ensures damaged { IsHonest self.old →
-            IfErr result (λ f. IsOfDevice f ⊎ ((f ≡ fault.NoPages) ⊎ IsBroken self.old self.new f)) }
-        ensures other_faults { IfErr result (λ f. IsOfDevice f ⊎ ((f ≡ fault.NoPages) ⊎ IsDamage f)) }
+        ensures { Allocates self.old self.new result }
     {
         // The block of the page that is given out next is read and written below, so that page is not held.
         let first = self.file.first_free();
@@ -167,21 +123,7 @@ impl<D: BlockDevice, A: Allocator + Copy> PageCache<D, A> {
     #[tactic(auto, using(crate::specs::Calls::counted_by_end))]
     pub fn free(&mut self, n: u32) -> Result<(), Fault>
         requires { gate_of self.old ≡ Open }
-        ensures changes { Changes self.old self.new result }
-        ensures freed { IsHonest self.old → IsLive self.old n → OnOk result (pages self.new n ≡ None) }
-        ensures others { IsHonest self.old → IsLive self.old n → SameBut n (pages self.old) (pages self.new) }
-        ensures given_others { IsHonest self.old → SameBut n (given self.old) (given self.new) }
-        ensures sound { IsPageMap self.old → IsLive self.old n → IsPageMap self.new }
-        ensures next { next_of self.new ≡ next_of self.old }
-        ensures grows { Grows 0 self.old self.new }
-        ensures looks { looks_of self.new ≡ looks_of self.old }
-        ensures holds { (k : ℕ) → ¬ (k ≡ n) → IsHeld self.old k → IsHeld self.new k }
-        ensures touched { 3 ≤ n → n < next_of self.old → touched_of self.new ≡ true }
-        ensures outside { (n < 3) ⊎ (next_of self.old ≤ n) →
-            (result ≡ Err (fault.Damaged n)) × IsUnchanged self.old self.new
-            × (touched_of self.new ≡ touched_of self.old) }
-        ensures faults { IsPageMap self.old → IsLive self.old n → ¬ (n ≡ 2) → IfErr result IsOfDevice }
-        ensures other_faults { IfErr result (λ f. IsOfDevice f ⊎ IsDamage f) }
+        ensures { Frees n self.old self.new result }
     {
         if n < 3 || n >= self.file.next_number() {
             return Err(Fault::Damaged(n));

@@ -1,12 +1,14 @@
 -- The goals of `PageCache::allocate` that are proved by hand.
 use Rattle.std.proofs.Common.{inl, inr, ◌≡◌, ◌∙◌, ℕ, ◌≤◌, ◌<◌, length, Option, Some, None, is_some, IsSome}
-use Rattle.std.proofs.Common.{◌||◌, ap, eqb, not, refl, sym, subst, arith, ⊎_elim}
+use Rattle.std.specs.Prelude.{◌↔◌}
+use Rattle.std.proofs.Common.{◌||◌, ap, eqb, rules, not, refl, sym, subst, arith, ⊎_elim}
 use Rattle.block_bytes.specs.Numbers.{zeros}
 use Rattle.block_device.specs.Device.{Blocks, block_at}
 use Rattle.page_file.specs.Fault.{IsOfDevice}
 use Rattle.page_file.specs.File as below
 use Rattle.page_file.specs.Laws.{the_gate_is_kept_in_turn}
-use Rattle.page_file.specs.Pages.{HasGiven, MayHaveGiven, SameBut, TakesFirst, free_page_link, free_pages_of}
+use Rattle.page_file.specs.Pages.{HasFreeChain, HasGiven, MayHaveGiven, SameBut, TakesFirst}
+use Rattle.page_file.specs.Pages.{free_page_link, free_pages_of}
 use Rattle.page_file.specs.Pages.{given_pages, next_given, page_of}
 use Rattle.page_file.specs.Reused.{all_live, chain_refused, chain_stays, chain_unchanged, given_is_zeros}
 use Rattle.page_file.specs.Reused.{given_refused, given_stays, given_unchanged, none_before, others_refused}
@@ -14,7 +16,7 @@ use Rattle.page_file.specs.Reused.{others_stay, pages_unchanged, sound_link, tak
 use Rattle.page_file.specs.declared.fault.Fault.TheVariants as fault
 use Rattle.page_file.specs.declared.file.PageFile.{PageFile}
 use Rattle.page_file.specs.declared.header.Header.{Header}
-use Rattle.page_cache.specs.Cache.{IsHonest, blocks_behind, blocks_of}
+use Rattle.page_cache.specs.Cache.{IsHonest, KeepsMap, blocks_behind, blocks_of}
 use Rattle.page_cache.specs.Calls.{counted_by_end, fault_in, faults_behind}
 use Rattle.page_cache.specs.Frames.{changed_pages, frame_at, laid_over, newer_bytes}
 use Rattle.page_cache.specs.Keeps.{KeepsBlocks}
@@ -24,7 +26,8 @@ use Rattle.page_cache.specs.declared.cache.PageCache.{PageCache}
 use Rattle.page_cache.specs.declared.frame.Frame.{Frame}
 use Rattle.page_cache.proofs.Behind.{map_from, map_kept}
 use Rattle.page_cache.proofs.Kept.{kept_below}
-use Rattle.page_cache.proofs.Results.{either, if_err_map, if_ok_both, none_lost, on_err_and, on_err_map}
+use Rattle.page_cache.proofs.Results.{either, if_err_map, if_ok_both, none_lost, on_err_and, on_err_given}
+use Rattle.page_cache.proofs.Results.{on_err_map}
 use Rattle.page_cache.proofs.Results.{stays_unless_lost}
 use Rattle.page_cache.proofs.Reused.{either_given, first_same, gives_behind, may_behind}
 use Rattle.page_cache.proofs.cache.PageCache.allocate.Goals as goal
@@ -91,6 +94,41 @@ module _ {D A : Type 0} {m : _} (old mid : PageCache D A m) (file : PageFile D m
       (block_at mid.file.header.first b)) (keeps.blocks h)
       ∙ ap (λ (x : Header). free_page_link x.count x.next (block_at x.first (blocks_behind old))) keeps.header
 
+-- a refusal that leaves as many pages free leaves the map
+module _ {D A : Type 0} {m : _} (old mid new : PageCache D A m) (keeps : KeepsBlocks old mid) (first : ℕ)
+    (is : first ≡ mid.file.header.first) (gone : frame_at mid.frames.entries first ≡ None)
+    (behind : blocks_behind new ≡ after old mid new.file keeps first is gone) where
+  map_stays : new.file.header.next ≡ mid.file.header.next → (IsHonest mid ↔ IsHonest new)
+      → (IsHonest mid → MayHaveGiven (blocks_of mid) (blocks_of new) mid.file.header new.file.header)
+      → new.file.header.count ≡ old.file.header.count → KeepsMap old new
+  map_stays next honest gave count =
+      let X = blocks_behind old in let Y = after old mid new.file keeps first is gone in
+      let roomy : IsHonest old → old.file.header.next ≤ length X =
+      room old mid new.file keeps first is gone in
+      let may_of : IsHonest old → MayHaveGiven X Y old.file.header new.file.header =
+      λ h. may old mid new.file keeps first is gone h (gave (keeps.gate.honest.0 h)) in
+      record {
+        next = next ∙ ap (λ (x : Header). x.next) keeps.header;
+        free_count = count;
+        pages_stay = λ h n. ap (λ (b : Blocks). page_of b new.file.header n) behind
+            ∙ pages_unchanged X Y old.file.header new.file.header old.file.sound (roomy h) (may_of h) count n;
+        given_stay = λ h n. ap (λ (b : Blocks). given_pages b new.file.header.next n) behind
+            ∙ given_unchanged X Y old.file.header new.file.header old.file.sound (roomy h) (may_of h) count n;
+        sound = (
+          λ p. record {
+            honest = honest.0 (keeps.gate.honest.0 p.honest);
+            free = subst (λ (b : Blocks). HasFreeChain b new.file.header) (sym behind)
+                (chain_refused X Y old.file.header new.file.header old.file.sound (roomy p.honest) p.free
+                (may_of p.honest));
+          },
+          λ p. let h = keeps.gate.honest.1 (honest.1 p.honest) in record {
+            honest = h;
+            free = chain_unchanged X Y old.file.header new.file.header old.file.sound (roomy h) (may_of h)
+                count (subst (λ (b : Blocks). HasFreeChain b new.file.header) behind p.free);
+          },
+        );
+      }
+
 pub invariant_of-self : goal.invariant_of-self
 invariant_of-self g c =
     let mid = c.release.new.self in let new = c.allocate-allocated.new.self in
@@ -105,7 +143,8 @@ invariant_of-self g c =
     at_given c.args.self.now mid new c.release.ensures.kept c.first_free-first.result first
     c.in_ok-release.ensures.gone in let some = sym (ap (frame_at mid.frames.entries) e) ∙ is in
     absurd (let bad = sym none ∙ some in cc) in
-    either c.allocate-allocated.result (c.allocate-allocated.ensures.gives h) (c.allocate-allocated.ensures.may_give h)
+    either c.allocate-allocated.result (c.allocate-allocated.ensures.gives h)
+    (c.allocate-allocated.ensures.may_give h)
     (λ gives. given_stays (blocks_of mid) (below.blocks_of new) mid.file.header new.header mid.file.sound
     (mid.file.room h) gives n apart)
     (λ may. given_refused (blocks_of mid) (below.blocks_of new) mid.file.header new.header mid.file.sound
@@ -118,212 +157,121 @@ invariant_of-self g c =
       counted = mid.counted;
     }
 
-pub returns-clause-fresh : goal.returns-clause-fresh
-returns-clause-fresh g c = λ map.
+pub returns : goal.returns
+returns g c =
     let old = c.args.self.now in let mid = c.release.new.self in let new = c.allocate-allocated.new.self in
-    let h = map.honest in let k = c.release.ensures.kept in
+    let r = c.allocate-allocated.result in let did = c.allocate-allocated.ensures in
+    let k = c.release.ensures.kept in let at = c.first_free-first.result in
     let first = c.first_free-first.ensures ∙ ap (λ (x : Header). x.first) (sym k.header) in
     let gone = c.in_ok-release.ensures.gone in
-    let X = blocks_behind old in let Y = after old mid new k c.first_free-first.result first gone in
-    if_ok_both c.allocate-allocated.result c.allocate-allocated.ensures.which (c.allocate-allocated.ensures.gives (k.gate.honest.0 h))
-    (λ n is given. subst
-    (λ (i : ℕ). (page_of X old.file.header i ≡ None) × (page_of Y new.header i ≡ Some zeros)
-    × SameBut i (page_of X old.file.header) (page_of Y new.header))
-    (sym (which old mid new k c.first_free-first.result first gone n is)) (
-      none_before X Y old.file.header new.header old.file.sound
-          (room old mid new k c.first_free-first.result first gone h) map.free,
-      given_is_zeros X Y old.file.header new.header old.file.sound
-          (room old mid new k c.first_free-first.result first gone h) map.free
-          (gives old mid new k c.first_free-first.result first gone h given),
-      others_stay X Y old.file.header new.header old.file.sound
-          (room old mid new k c.first_free-first.result first gone h) map.free
-          (gives old mid new k c.first_free-first.result first gone h given),
-    ))
-
-pub returns-clause-taken : goal.returns-clause-taken
-returns-clause-taken g c = λ map.
-    let old = c.args.self.now in let mid = c.release.new.self in let new = c.allocate-allocated.new.self in
-    let h = map.honest in let k = c.release.ensures.kept in
-    let first = c.first_free-first.ensures ∙ ap (λ (x : Header). x.first) (sym k.header) in
-    let gone = c.in_ok-release.ensures.gone in
-    let X = blocks_behind old in let Y = after old mid new k c.first_free-first.result first gone in
-    if_ok_both c.allocate-allocated.result c.allocate-allocated.ensures.which (c.allocate-allocated.ensures.gives (k.gate.honest.0 h))
-    (λ n is given. subst
-    (λ (i : ℕ). TakesFirst i (free_pages_of X old.file.header) old.file.header.next
-    (free_pages_of Y new.header) new.header.next)
-    (sym (which old mid new k c.first_free-first.result first gone n is))
-    (takes_first X Y old.file.header new.header old.file.sound
-    (room old mid new k c.first_free-first.result first gone h) map.free
-    (gives old mid new k c.first_free-first.result first gone h given)))
-
-pub returns-clause-given_others : goal.returns-clause-given_others
-returns-clause-given_others g c = λ h.
-    let old = c.args.self.now in let mid = c.release.new.self in let new = c.allocate-allocated.new.self in
-    let k = c.release.ensures.kept in
-    let first = c.first_free-first.ensures ∙ ap (λ (x : Header). x.first) (sym k.header) in
-    let gone = c.in_ok-release.ensures.gone in
-    let X = blocks_behind old in let Y = after old mid new k c.first_free-first.result first gone in
-    if_ok_both c.allocate-allocated.result c.allocate-allocated.ensures.which (c.allocate-allocated.ensures.gives (k.gate.honest.0 h))
-    (λ n is given. subst
-    (λ (i : ℕ). SameBut i (given_pages X old.file.header.next) (given_pages Y new.header.next))
-    (sym (which old mid new k c.first_free-first.result first gone n is))
-    (given_stays X Y old.file.header new.header old.file.sound
-    (room old mid new k c.first_free-first.result first gone h)
-    (gives old mid new k c.first_free-first.result first gone h given)))
-
-pub returns-clause-given_refused : goal.returns-clause-given_refused
-returns-clause-given_refused g c = λ h.
-    let old = c.args.self.now in let mid = c.release.new.self in let new = c.allocate-allocated.new.self in
-    let k = c.release.ensures.kept in
-    let first = c.first_free-first.ensures ∙ ap (λ (x : Header). x.first) (sym k.header) in
-    let gone = c.in_ok-release.ensures.gone in
-    let X = blocks_behind old in let Y = after old mid new k c.first_free-first.result first gone in
-    on_err_map c.allocate-allocated.result (c.allocate-allocated.ensures.may_give (k.gate.honest.0 h))
-    (λ given. (
-      next_given old.file.header,
-      given_refused X Y old.file.header new.header old.file.sound
-          (room old mid new k c.first_free-first.result first gone h)
-          (may old mid new k c.first_free-first.result first gone h given),
-    ))
-
-pub returns-clause-refused : goal.returns-clause-refused
-returns-clause-refused g c = λ map.
-    let old = c.args.self.now in let mid = c.release.new.self in let new = c.allocate-allocated.new.self in
-    let h = map.honest in let k = c.release.ensures.kept in
-    let first = c.first_free-first.ensures ∙ ap (λ (x : Header). x.first) (sym k.header) in
-    let gone = c.in_ok-release.ensures.gone in
-    let X = blocks_behind old in let Y = after old mid new k c.first_free-first.result first gone in
-    on_err_map c.allocate-allocated.result (c.allocate-allocated.ensures.may_give (k.gate.honest.0 h))
-    (λ given. (
-      next_given old.file.header,
-      none_before X Y old.file.header new.header old.file.sound
-          (room old mid new k c.first_free-first.result first gone h) map.free,
-      others_refused X Y old.file.header new.header old.file.sound
-          (room old mid new k c.first_free-first.result first gone h) map.free
-          (may old mid new k c.first_free-first.result first gone h given),
-    ))
-
-pub returns-clause-kept : goal.returns-clause-kept
-returns-clause-kept g c =
-    let old = c.args.self.now in let mid = c.release.new.self in let new = c.allocate-allocated.new.self in
-    let k = c.release.ensures.kept in
-    let first = c.first_free-first.ensures ∙ ap (λ (x : Header). x.first) (sym k.header) in
-    let gone = c.in_ok-release.ensures.gone in
-    let X = blocks_behind old in let Y = after old mid new k c.first_free-first.result first gone in
-    on_err_and c.allocate-allocated.result c.allocate-allocated.ensures.refused_next
-    c.allocate-allocated.ensures.may_give
-    (stays_unless_lost mid.touched c.is_ok.result c.free_count.result c.free_count-free.result
-    c.allocate-allocated.result c.is_ok.ensures.value)
-    (λ next may_give stays. λ count.
-    let roomy : IsHonest old
-    → old.file.header.next ≤ length X = room old mid new k c.first_free-first.result first gone in
-    let may_of : IsHonest old
-    → MayHaveGiven X Y old.file.header new.header =
-    λ h. may old mid new k c.first_free-first.result first gone h (may_give (k.gate.honest.0 h)) in (
-      record {
-        next = next ∙ ap (λ (x : Header). x.next) k.header;
-        free_count = count;
-        pages_stay =
-            λ h n. pages_unchanged X Y old.file.header new.header old.file.sound (roomy h) (may_of h) count n;
-        given_stay =
-            λ h n. given_unchanged X Y old.file.header new.header old.file.sound (roomy h) (may_of h) count n;
-        sound = (
-          λ p. record {
-            honest = c.allocate-allocated.ensures.gate.honest.0 (k.gate.honest.0 p.honest);
-            free = chain_refused X Y old.file.header new.header old.file.sound (roomy p.honest) p.free
-                (may_of p.honest);
-          },
-          λ p. let h = k.gate.honest.1 (c.allocate-allocated.ensures.gate.honest.1 p.honest) in record {
-            honest = h;
-            free = chain_unchanged X Y old.file.header new.header old.file.sound (roomy h) (may_of h) count
-                p.free;
-          },
-        );
-      },
-      stays (c.free_count.ensures ∙ count ∙ sym (ap (λ (x : Header). x.count) k.header)
-          ∙ sym c.free_count-free.ensures) ∙ k.touched,
-    ))
-
-pub returns-clause-changes : goal.returns-clause-changes
-returns-clause-changes g c =
-    let old = c.args.self.now in let mid = c.release.new.self in let new = c.allocate-allocated.new.self in
-    let k = c.release.ensures.kept in let r = c.allocate-allocated.result in record {
-      gate = the_gate_is_kept_in_turn old.file mid.file new k.gate c.allocate-allocated.ensures.gate;
-      next = omega (arith, c.allocate-allocated.ensures.next.0, ap (λ (x : Header). x.next) k.header);
-      capacity = k.capacity;
-      looks = omega (arith, k.looks);
-      touched = λ was. ap (λ t. t || (c.is_ok.result || not (eqb c.free_count.result c.free_count-free.result)))
-          (k.touched ∙ was);
-      untouched = λ none. none_lost mid.touched c.is_ok.result c.free_count.result c.free_count-free.result r
-          c.is_ok.ensures.value none (on_err_map r (returns-clause-kept g c)
-          (λ kept. λ same. (kept (sym c.free_count.ensures ∙ same ∙ c.free_count-free.ensures
-          ∙ ap (λ (x : Header). x.count) k.header)).0));
-      faults = counted_by_end _ _ r c.allocate-allocated.ensures.cause
-          ∙ ap (faults_behind (fault_in r)) c.in_ok-release.ensures.cause.ok;
+    let X = blocks_behind old in let Y = after old mid new k at first gone in
+    let was = old.file.header in let sound = old.file.sound in let honest = k.gate.honest.0 in
+    let counts = ap (λ (x : Header). x.count) k.header in let left = c.free_count-free.result in
+    let roomy = λ (h : IsHonest old). room old mid new k at first gone h in
+    let gave = λ (h : IsHonest old). gives old mid new k at first gone h in
+    let may_have = λ (h : IsHonest old). may old mid new k at first gone h in
+    record {
+      changes = record {
+        gate = the_gate_is_kept_in_turn old.file mid.file new k.gate did.gate;
+        next = omega (arith, did.next.0, ap (λ (x : Header). x.next) k.header);
+        capacity = k.capacity;
+        looks = omega (arith, k.looks);
+        touched = λ set.
+            ap (λ t. t || (c.is_ok.result || not (eqb c.free_count.result left))) (k.touched ∙ set);
+        untouched = λ none.
+            none_lost mid.touched c.is_ok.result c.free_count.result left r c.is_ok.ensures.value none
+            (on_err_given r did.refused_next did.may_give (λ next may. λ same.
+            map_stays old mid _ k at first gone refl next did.gate.honest may
+            (sym c.free_count.ensures ∙ same ∙ c.free_count-free.ensures ∙ counts)));
+        faults = counted_by_end _ _ r did.cause
+            ∙ ap (faults_behind (fault_in r)) c.in_ok-release.ensures.cause.ok;
+      };
+      fresh = λ map. let h = map.honest in
+          if_ok_both r did.which (did.gives (honest h))
+          (λ n is given. subst
+          (λ (i : ℕ). (page_of X was i ≡ None) × (page_of Y new.header i ≡ Some zeros)
+          × SameBut i (page_of X was) (page_of Y new.header))
+          (sym (which old mid new k at first gone n is)) (
+            none_before X Y was new.header sound (roomy h) map.free,
+            given_is_zeros X Y was new.header sound (roomy h) map.free (gave h given),
+            others_stay X Y was new.header sound (roomy h) map.free (gave h given),
+          ));
+      taken = λ map. let h = map.honest in
+          if_ok_both r did.which (did.gives (honest h))
+          (λ n is given. subst
+          (λ (i : ℕ).
+          TakesFirst i (free_pages_of X was) was.next (free_pages_of Y new.header) new.header.next)
+          (sym (which old mid new k at first gone n is))
+          (takes_first X Y was new.header sound (roomy h) map.free (gave h given)));
+      given_others = λ h.
+          if_ok_both r did.which (did.gives (honest h))
+          (λ n is given. subst
+          (λ (i : ℕ). SameBut i (given_pages X was.next) (given_pages Y new.header.next))
+          (sym (which old mid new k at first gone n is))
+          (given_stays X Y was new.header sound (roomy h) (gave h given)));
+      given_refused = λ h.
+          on_err_map r (did.may_give (honest h))
+          (λ given. (next_given was, given_refused X Y was new.header sound (roomy h) (may_have h given)));
+      refused = λ map. let h = map.honest in
+          on_err_map r (did.may_give (honest h))
+          (λ given. (
+            next_given was,
+            none_before X Y was new.header sound (roomy h) map.free,
+            others_refused X Y was new.header sound (roomy h) map.free (may_have h given),
+          ));
+      kept = on_err_and r did.refused_next did.may_give
+          (stays_unless_lost mid.touched c.is_ok.result c.free_count.result left r c.is_ok.ensures.value)
+          (λ next may stays. λ count. (
+            map_stays old mid _ k at first gone refl next did.gate.honest may count,
+            stays (c.free_count.ensures ∙ count ∙ sym counts ∙ sym c.free_count-free.ensures) ∙ k.touched,
+          ));
+      touched = search rules;
+      holds = (at, c.release.ensures.others);
+      sound = λ map. let h = map.honest in record {
+        honest = did.gate.honest.0 (honest h);
+        free = either r (did.gives (honest h)) (did.may_give (honest h))
+            (λ given. chain_stays X Y was new.header sound (roomy h) map.free (gave h given))
+            (λ given. chain_refused X Y was new.header sound (roomy h) map.free (may_have h given));
+      };
+      number = did.number;
+      next = (
+        omega (arith, did.next.0, ap (λ (x : Header). x.next) k.header),
+        omega (arith, did.next.1, ap (λ (x : Header). x.next) k.header),
+      );
+      looks = k.looks;
+      grows = search rules;
+      full = λ is. (did.full is).1;
+      all_live = λ is n low below.
+          all_live X was (sym counts ∙ (did.full is).0.1) n low
+          (omega (arith, below, (did.full is).0.0, ap (λ (x : Header). x.next) k.header));
+      faults = λ map. let h = map.honest in
+          if_err_map r (did.damaged (honest h))
+          (λ f is. ⊎_elim
+          (λ (device : IsOfDevice f). inl device)
+          (λ rest. ⊎_elim
+          (λ (none : f ≡ fault.NoPages). inr none)
+          (λ (broken : below.IsBroken mid.file new f).
+          let some : 0 < was.count = subst (λ (x : Header). 0 < x.count) k.header broken.some in
+          let link = sound_link X was map.free some in
+          let none = sym (same_link old mid new k at first gone h) ∙ broken.no_link in
+          absurd (let bad = sym none ∙ link in cc))
+          rest)
+          is);
+      damaged = λ h.
+          if_err_map r (did.damaged (honest h))
+          (λ f is. ⊎_elim
+          (λ (device : IsOfDevice f). inl device)
+          (λ rest. ⊎_elim
+          (λ (none : f ≡ fault.NoPages). inr (inl none))
+          (λ (broken : below.IsBroken mid.file new f). inr (inr (record {
+            is = broken.is ∙ ap (λ (x : Header). fault.Damaged x.first) k.header;
+            some = subst (λ (x : Header). 0 < x.count) k.header broken.some;
+            no_link = sym (same_link old mid new k at first gone h) ∙ broken.no_link;
+            map = the_map_is_kept_in_turn old mid _ honest (map_kept old mid k)
+                (map_from mid _ broken.header did.gate.honest
+                (λ h2. ap (laid_over (changed_pages mid.frames.entries)) broken.blocks));
+          })))
+          rest)
+          is);
+      other_faults = did.other_faults;
     }
-
-pub returns-clause-sound : goal.returns-clause-sound
-returns-clause-sound g c = λ map.
-    let old = c.args.self.now in let mid = c.release.new.self in let new = c.allocate-allocated.new.self in
-    let h = map.honest in let k = c.release.ensures.kept in
-    let first = c.first_free-first.ensures ∙ ap (λ (x : Header). x.first) (sym k.header) in
-    let gone = c.in_ok-release.ensures.gone in
-    let X = blocks_behind old in let Y = after old mid new k c.first_free-first.result first gone in record {
-      honest = c.allocate-allocated.ensures.gate.honest.0 (k.gate.honest.0 h);
-      free = either c.allocate-allocated.result (c.allocate-allocated.ensures.gives (k.gate.honest.0 h))
-          (c.allocate-allocated.ensures.may_give (k.gate.honest.0 h))
-          (λ given. chain_stays X Y old.file.header new.header old.file.sound
-          (room old mid new k c.first_free-first.result first gone h) map.free
-          (gives old mid new k c.first_free-first.result first gone h given))
-          (λ given. chain_refused X Y old.file.header new.header old.file.sound
-          (room old mid new k c.first_free-first.result first gone h) map.free
-          (may old mid new k c.first_free-first.result first gone h given));
-    }
-
-pub returns-clause-all_live : goal.returns-clause-all_live
-returns-clause-all_live g c = λ is n low below.
-    let old = c.args.self.now in let header = c.release.ensures.kept.header in
-    all_live (blocks_behind old) old.file.header
-    (sym (ap (λ (x : Header). x.count) header) ∙ (c.allocate-allocated.ensures.full is).0.1) n low
-    (omega (arith, below, (c.allocate-allocated.ensures.full is).0.0, ap (λ (x : Header). x.next) header))
-
-pub returns-clause-faults : goal.returns-clause-faults
-returns-clause-faults g c = λ map.
-    let old = c.args.self.now in let mid = c.release.new.self in let new = c.allocate-allocated.new.self in
-    let h = map.honest in let k = c.release.ensures.kept in
-    let first = c.first_free-first.ensures ∙ ap (λ (x : Header). x.first) (sym k.header) in
-    let gone = c.in_ok-release.ensures.gone in
-    if_err_map c.allocate-allocated.result (c.allocate-allocated.ensures.damaged (k.gate.honest.0 h))
-    (λ f is. ⊎_elim
-    (λ (device : IsOfDevice f). inl device)
-    (λ rest. ⊎_elim
-    (λ (none : f ≡ fault.NoPages). inr none)
-    (λ (broken : below.IsBroken mid.file new f).
-    let some : 0 < old.file.header.count = subst (λ (x : Header). 0 < x.count) k.header broken.some in
-    let link = sound_link (blocks_behind old) old.file.header map.free some in
-    let none = sym (same_link old mid new k c.first_free-first.result first gone h) ∙ broken.no_link in
-    absurd (let bad = sym none ∙ link in cc))
-    rest)
-    is)
-
-pub returns-clause-damaged : goal.returns-clause-damaged
-returns-clause-damaged g c = λ h.
-    let old = c.args.self.now in let mid = c.release.new.self in let new = c.allocate-allocated.new.self in
-    let k = c.release.ensures.kept in
-    let first = c.first_free-first.ensures ∙ ap (λ (x : Header). x.first) (sym k.header) in
-    let gone = c.in_ok-release.ensures.gone in
-    if_err_map c.allocate-allocated.result (c.allocate-allocated.ensures.damaged (k.gate.honest.0 h))
-    (λ f is. ⊎_elim
-    (λ (device : IsOfDevice f). inl device)
-    (λ rest. ⊎_elim
-    (λ (none : f ≡ fault.NoPages). inr (inl none))
-    (λ (broken : below.IsBroken mid.file new f). inr (inr (record {
-      is = broken.is ∙ ap (λ (x : Header). fault.Damaged x.first) k.header;
-      some = subst (λ (x : Header). 0 < x.count) k.header broken.some;
-      no_link = sym (same_link old mid new k c.first_free-first.result first gone h) ∙ broken.no_link;
-      map = the_map_is_kept_in_turn old mid _ k.gate.honest.0 (map_kept old mid k)
-          (map_from mid _ broken.header c.allocate-allocated.ensures.gate.honest
-          (λ h2. ap (laid_over (changed_pages mid.frames.entries)) broken.blocks));
-    })))
-    rest)
-    is)

@@ -1,6 +1,6 @@
 -- The goals of `PageCache::free` that are proved by hand.
 use Rattle.std.proofs.Common.{◌≡◌, ◌∙◌, ℕ, ◌<◌, ◌≤◌, ◌-◌, ◌^◌, [], length, true, cond, nat_eq, eq-eqb, Option}
-use Rattle.std.proofs.Common.{Some, None, ap, sym, subst, arith}
+use Rattle.std.proofs.Common.{Some, None, ap, refl, rules, sym, subst, arith}
 use Rattle.std.specs.List.{All}
 use Rattle.block_device.specs.Device.{IsBlock, Torn, block_at, written}
 use Rattle.block_device.specs.Written.{block_at-written, torn_length}
@@ -12,6 +12,7 @@ use Rattle.page_file.specs.Settled.{sound_says}
 use Rattle.page_file.specs.declared.file.PageFile.{PageFile}
 use Rattle.page_file.specs.declared.header.Header.{Header}
 use Rattle.page_cache.specs.Cache.{IsHonest, IsLive, blocks_behind, blocks_of}
+use Rattle.page_cache.specs.Calls.{counted_by_end}
 use Rattle.page_cache.specs.Frames.{changed_pages, frame_at, laid_over}
 use Rattle.page_cache.specs.Laid.{length-laid}
 use Rattle.page_cache.specs.declared.cache.PageCache.{PageCache}
@@ -94,97 +95,63 @@ invariant_of-self g c =
       counted = mid.counted;
     }
 
-pub returns-clause-freed : goal.returns-clause-freed
-returns-clause-freed g c = λ h live.
+pub returns : goal.returns
+returns g c =
     let cache = c.args.self.now in let mid = c.forget.new.self in let new = c.free.new.self in
     let n = c.args.n in let d = g.met.D.BlockDevice in
-    let still : IsHonest mid = subst (λ (f : PageFile _ _). below.IsHonest f) (sym c.forget.ensures.file) h in
+    let r = c.free.result in let free = c.free.ensures in
+    let file = c.forget.ensures.file in let frames = c.forget.ensures.frames in
     let Y = laid_over (changed_pages mid.frames.entries) (below.blocks_of new) in
-    let within = below_next cache n live in let torn = c.free.ensures.torn still in
-    let honest = c.free.ensures.gate.honest.0 still in
-    let block =
-    is_block cache mid new n within c.forget.ensures.file c.forget.ensures.frames h torn
-    (d.whole (below.device_of new) (below.blocks_of new) honest
-    (d.shown_counts (below.device_of new) honest)) in
-    let behind = behind_is cache mid new n within c.forget.ensures.file c.forget.ensures.frames h torn in
-    on_ok_both c.free.result c.free.ensures.header (c.free.ensures.block still)
-    (λ header is. gone_none n (blocks_behind cache) Y cache.file.header new.header block behind
-    (room cache h) live (omega (arith, c.if-n-lt3.false))
-    (header ∙ ap (λ (f : PageFile _ _). with_one_free n f.header) c.forget.ensures.file) (small cache)
-    (linked cache mid new n within c.forget.ensures.file c.forget.ensures.frames h torn is))
-
-pub returns-clause-others : goal.returns-clause-others
-returns-clause-others g c = λ h live.
-    let cache = c.args.self.now in let mid = c.forget.new.self in let new = c.free.new.self in
-    let n = c.args.n in let d = g.met.D.BlockDevice in
-    let still : IsHonest mid = subst (λ (f : PageFile _ _). below.IsHonest f) (sym c.forget.ensures.file) h in
-    let Y = laid_over (changed_pages mid.frames.entries) (below.blocks_of new) in
-    let within = below_next cache n live in let torn = c.free.ensures.torn still in
-    let honest = c.free.ensures.gate.honest.0 still in
-    let block =
-    is_block cache mid new n within c.forget.ensures.file c.forget.ensures.frames h torn
-    (d.whole (below.device_of new) (below.blocks_of new) honest
-    (d.shown_counts (below.device_of new) honest)) in
-    let behind = behind_is cache mid new n within c.forget.ensures.file c.forget.ensures.frames h torn in
-    either_both c.free.result c.free.ensures.header (c.free.ensures.block still) c.free.ensures.refused_header
-    (λ freed_header is. gone_others n (blocks_behind cache) Y cache.file.header new.header block behind
-    (room cache h) live (omega (arith, c.if-n-lt3.false))
-    (freed_header ∙ ap (λ (f : PageFile _ _). with_one_free n f.header) c.forget.ensures.file) (small cache)
-    (linked cache mid new n within c.forget.ensures.file c.forget.ensures.frames h torn is))
-    (λ same. kept_others n (blocks_behind cache) Y cache.file.header new.header block behind (room cache h)
-    live (same ∙ ap (λ (f : PageFile _ _). f.header) c.forget.ensures.file))
-
-pub returns-clause-sound : goal.returns-clause-sound
-returns-clause-sound g c = λ map live.
-    let h = map.honest in
-    let cache = c.args.self.now in let mid = c.forget.new.self in let new = c.free.new.self in
-    let n = c.args.n in let d = g.met.D.BlockDevice in
-    let still : IsHonest mid = subst (λ (f : PageFile _ _). below.IsHonest f) (sym c.forget.ensures.file) h in
-    let Y = laid_over (changed_pages mid.frames.entries) (below.blocks_of new) in
-    let within = below_next cache n live in let torn = c.free.ensures.torn still in
-    let honest = c.free.ensures.gate.honest.0 still in
-    let block =
-    is_block cache mid new n within c.forget.ensures.file c.forget.ensures.frames h torn
-    (d.whole (below.device_of new) (below.blocks_of new) honest
-    (d.shown_counts (below.device_of new) honest)) in
-    let behind = behind_is cache mid new n within c.forget.ensures.file c.forget.ensures.frames h torn in
-    record {
-      honest = honest;
-      free = either_both c.free.result c.free.ensures.header (c.free.ensures.block still)
-          c.free.ensures.refused_header
-          (λ freed_header is. gone_free n (blocks_behind cache) Y cache.file.header new.header block behind
-          (room cache h) live (omega (arith, c.if-n-lt3.false))
-          (freed_header ∙ ap (λ (f : PageFile _ _). with_one_free n f.header) c.forget.ensures.file)
-          (small cache)
-          (linked cache mid new n within c.forget.ensures.file c.forget.ensures.frames h torn is) map.free)
-          (λ same. kept_free n (blocks_behind cache) Y cache.file.header new.header block behind
-          (room cache h) live (same ∙ ap (λ (f : PageFile _ _). f.header) c.forget.ensures.file)
-          map.free);
-    }
-
-pub returns-clause-faults : goal.returns-clause-faults
-returns-clause-faults g c = λ map live other.
-    let cache = c.args.self.now in let mid = c.forget.new.self in let n = c.args.n in
-    let l = lives (blocks_behind cache) cache.file.header n live in
     let low : 3 ≤ n = omega (arith, c.if-n-lt3.false) in
-    let header = ap (λ (f : PageFile _ _). f.header) c.forget.ensures.file in
-    c.free.ensures.room_faults
-    (subst (λ (f : PageFile _ _). below.IsHonest f) (sym c.forget.ensures.file) map.honest) low
-    (subst (λ (x : Header). n < x.next) (sym header) l.below)
-    (subst (λ (x : Header). x.count < x.next - 3) (sym header)
-    (room_for_one (blocks_behind cache) cache.file.header n map.free low l))
-
-pub returns-clause-given_others : goal.returns-clause-given_others
-returns-clause-given_others g c = λ h.
-    let cache = c.args.self.now in let mid = c.forget.new.self in let new = c.free.new.self in
-    let n = c.args.n in
-    let still : IsHonest mid = subst (λ (f : PageFile _ _). below.IsHonest f) (sym c.forget.ensures.file) h in
     let within : n < cache.file.header.next =
     omega (arith, c.if-n-next_number.false, c.next_number.ensures) in
-    given_stay n (block_at n (below.blocks_of new)) (blocks_behind cache)
-    (laid_over (changed_pages mid.frames.entries) (below.blocks_of new)) cache.file.header.next
-    new.header.next
-    (behind cache mid new n within c.forget.ensures.file c.forget.ensures.frames h
-    (c.free.ensures.torn still))
-    (c.free.ensures.next ∙ ap (λ (f : PageFile _ _). f.header.next) c.forget.ensures.file)
-    (omega (arith, c.if-n-lt3.false)) within (room cache h)
+    let still : IsHonest cache → IsHonest mid =
+    λ h. subst (λ (f : PageFile _ _). below.IsHonest f) (sym file) h in
+    let block : IsHonest cache → IsBlock (block_at n Y) =
+    λ h. is_block cache mid new n within file frames h (free.torn (still h))
+    (d.whole (below.device_of new) (below.blocks_of new) (free.gate.honest.0 (still h))
+    (d.shown_counts (below.device_of new) (free.gate.honest.0 (still h)))) in
+    let behind_new =
+    λ (h : IsHonest cache). behind_is cache mid new n within file frames h (free.torn (still h)) in
+    let one_free = ap (λ (f : PageFile _ _). with_one_free n f.header) file in
+    let same_header = ap (λ (f : PageFile _ _). f.header) file in
+    let link = λ (h : IsHonest cache). linked cache mid new n within file frames h (free.torn (still h)) in
+    record {
+      changes = search (rules, counted_by_end);
+      freed = λ h live.
+          on_ok_both r free.header (free.block (still h))
+          (λ header is. gone_none n (blocks_behind cache) Y cache.file.header new.header (block h)
+          (behind_new h) (room cache h) live low (header ∙ one_free) (small cache) (link h is));
+      others = λ h live.
+          either_both r free.header (free.block (still h)) free.refused_header
+          (λ header is. gone_others n (blocks_behind cache) Y cache.file.header new.header (block h)
+          (behind_new h) (room cache h) live low (header ∙ one_free) (small cache) (link h is))
+          (λ same. kept_others n (blocks_behind cache) Y cache.file.header new.header (block h)
+          (behind_new h) (room cache h) live (same ∙ same_header));
+      given_others = λ h.
+          given_stay n (block_at n (below.blocks_of new)) (blocks_behind cache) Y cache.file.header.next
+          new.header.next (behind cache mid new n within file frames h (free.torn (still h)))
+          (free.next ∙ ap (λ (f : PageFile _ _). f.header.next) file) (omega (arith, low)) within
+          (room cache h);
+      sound = λ map live. let h = map.honest in record {
+        honest = free.gate.honest.0 (still h);
+        free = either_both r free.header (free.block (still h)) free.refused_header
+            (λ header is. gone_free n (blocks_behind cache) Y cache.file.header new.header (block h)
+            (behind_new h) (room cache h) live low (header ∙ one_free) (small cache) (link h is) map.free)
+            (λ same. kept_free n (blocks_behind cache) Y cache.file.header new.header (block h)
+            (behind_new h) (room cache h) live (same ∙ same_header) map.free);
+      };
+      next = free.next ∙ ap (λ (f : PageFile _ _). f.header.next) file;
+      grows = search rules;
+      looks = c.forget.ensures.looks;
+      holds = search rules;
+      touched = λ low within. refl;
+      outside = search rules;
+      faults = λ map live other.
+          let l = lives (blocks_behind cache) cache.file.header n live in
+          free.room_faults (still map.honest) low
+          (subst (λ (x : Header). n < x.next) (sym same_header) l.below)
+          (subst (λ (x : Header). x.count < x.next - 3) (sym same_header)
+          (room_for_one (blocks_behind cache) cache.file.header n map.free low l));
+      other_faults = search rules;
+    }

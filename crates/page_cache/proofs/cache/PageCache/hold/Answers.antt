@@ -1,5 +1,5 @@
 -- The goals of `PageCache::hold` that are proved by hand.
-use Rattle.std.proofs.Common.{◌∙◌, ap, refl, arith, option_map, slice_get}
+use Rattle.std.proofs.Common.{◌∙◌, ℕ, ap, refl, arith, option_map, slice_get}
 use Rattle.page_cache.specs.Frames.{frame_at}
 use Rattle.page_cache.proofs.Lookups.{first-put, lookup-put}
 use Rattle.page_cache.specs.Cache.{blocks_of}
@@ -51,59 +51,52 @@ invariant_of-self-in_default g c =
       counted = cache.counted;
     }
 
-pub returns-in-Some-clause-frames : goal.returns-in-Some-clause-frames
-returns-in-Some-clause-frames g c = λ k. ap (λ d. frame_at d.entries k) c.in_ok-old.ensures.entries
-    ∙ lookup-put c.args.self.now.frames c.args.n k c.args.frame c.len-count.ensures.valid.0 c.requires.room
+pub returns-in-Some : goal.returns-in-Some
+returns-in-Some g c =
+    let old = c.args.self.now in let n = c.args.n in let frame = c.args.frame in
+    let entries = c.in_ok-old.ensures.entries in
+    let frames = λ (k : ℕ). ap (λ d. frame_at d.entries k) entries
+    ∙ lookup-put old.frames n k frame c.len-count.ensures.valid.0 c.requires.room in
+    record {
+      frames = frames;
+      first = ap (λ d. option_map (λ e. e.0) (slice_get d.entries 0)) entries ∙ first-put old.frames n frame;
+      refused = tt;
+      held = λ none.
+          ap (λ d. keys_of d.entries) entries ∙ keys_put old.frames n frame (c.requires.room none) none;
+      refused_held = tt;
+      kept = λ clean none.
+          held_clean old _ n frame refl refl refl frames (ap (λ d. d.cap) entries) clean none;
+      written = λ h changed.
+          laid_changed (frame_at old.frames.entries) (frame_at c.put.new.self.entries) n frame (blocks_of old)
+          (omega (arith, c.requires.within.1, old.file.room h)) changed frames;
+      file = refl;
+      looks = refl;
+      touched = refl;
+      capacity = ap (λ d. d.cap) entries;
+      memory = tt;
+    }
 
-pub returns-in_default-clause-frames : goal.returns-in_default-clause-frames
-returns-in_default-clause-frames g c = λ k. ap (λ d. frame_at d.entries k) c.in_ok-old.ensures.entries
-    ∙ lookup-put c.args.self.now.frames c.args.n k c.args.frame c.len-count.ensures.valid.0 c.requires.room
-
-pub returns-in-Some-clause-first : goal.returns-in-Some-clause-first
-returns-in-Some-clause-first g c =
-    ap (λ d. option_map (λ e. e.0) (slice_get d.entries 0)) c.in_ok-old.ensures.entries
-    ∙ first-put c.args.self.now.frames c.args.n c.args.frame
-
-pub returns-in_default-clause-first : goal.returns-in_default-clause-first
-returns-in_default-clause-first g c =
-    ap (λ d. option_map (λ e. e.0) (slice_get d.entries 0)) c.in_ok-old.ensures.entries
-    ∙ first-put c.args.self.now.frames c.args.n c.args.frame
-
-pub returns-in-Some-clause-kept : goal.returns-in-Some-clause-kept
-returns-in-Some-clause-kept g c = λ clean none. held_clean c.args.self.now _ c.args.n c.args.frame refl refl refl
-    (λ k. ap (λ d. frame_at d.entries k) c.in_ok-old.ensures.entries
-    ∙ lookup-put c.args.self.now.frames c.args.n k c.args.frame c.len-count.ensures.valid.0
-    c.requires.room) (ap (λ d. d.cap) c.in_ok-old.ensures.entries) clean none
-
-pub returns-in_default-clause-kept : goal.returns-in_default-clause-kept
-returns-in_default-clause-kept g c =
-    λ clean none. held_clean c.args.self.now _ c.args.n c.args.frame refl refl refl
-    (λ k. ap (λ d. frame_at d.entries k) c.in_ok-old.ensures.entries
-    ∙ lookup-put c.args.self.now.frames c.args.n k c.args.frame c.len-count.ensures.valid.0
-    c.requires.room) (ap (λ d. d.cap) c.in_ok-old.ensures.entries) clean none
-
-pub returns-in-Some-clause-written : goal.returns-in-Some-clause-written
-returns-in-Some-clause-written g c =
-    λ h changed. laid_changed (frame_at c.args.self.now.frames.entries) (frame_at c.put.new.self.entries)
-    c.args.n c.args.frame (blocks_of c.args.self.now)
-    (omega (arith, c.requires.within.1, c.args.self.now.file.room h)) changed
-    (λ k. ap (λ d. frame_at d.entries k) c.in_ok-old.ensures.entries
-    ∙ lookup-put c.args.self.now.frames c.args.n k c.args.frame c.len-count.ensures.valid.0
-    c.requires.room)
-
-pub returns-in_default-clause-written : goal.returns-in_default-clause-written
-returns-in_default-clause-written g c =
-    λ h changed. laid_changed (frame_at c.args.self.now.frames.entries) (frame_at c.put.new.self.entries)
-    c.args.n c.args.frame (blocks_of c.args.self.now)
-    (omega (arith, c.requires.within.1, c.args.self.now.file.room h)) changed
-    (λ k. ap (λ d. frame_at d.entries k) c.in_ok-old.ensures.entries
-    ∙ lookup-put c.args.self.now.frames c.args.n k c.args.frame c.len-count.ensures.valid.0
-    c.requires.room)
-
-pub returns-in-Some-clause-held : goal.returns-in-Some-clause-held
-returns-in-Some-clause-held g c = λ none. ap (λ d. keys_of d.entries) c.in_ok-old.ensures.entries
-    ∙ keys_put c.args.self.now.frames c.args.n c.args.frame (c.requires.room none) none
-
-pub returns-in_default-clause-held : goal.returns-in_default-clause-held
-returns-in_default-clause-held g c = λ none. ap (λ d. keys_of d.entries) c.in_ok-old.ensures.entries
-    ∙ keys_put c.args.self.now.frames c.args.n c.args.frame (c.requires.room none) none
+pub returns-in_default : goal.returns-in_default
+returns-in_default g c =
+    let old = c.args.self.now in let n = c.args.n in let frame = c.args.frame in
+    let entries = c.in_ok-old.ensures.entries in
+    let frames = λ (k : ℕ). ap (λ d. frame_at d.entries k) entries
+    ∙ lookup-put old.frames n k frame c.len-count.ensures.valid.0 c.requires.room in
+    record {
+      frames = frames;
+      first = ap (λ d. option_map (λ e. e.0) (slice_get d.entries 0)) entries ∙ first-put old.frames n frame;
+      refused = tt;
+      held = λ none.
+          ap (λ d. keys_of d.entries) entries ∙ keys_put old.frames n frame (c.requires.room none) none;
+      refused_held = tt;
+      kept = λ clean none.
+          held_clean old _ n frame refl refl refl frames (ap (λ d. d.cap) entries) clean none;
+      written = λ h changed.
+          laid_changed (frame_at old.frames.entries) (frame_at c.put.new.self.entries) n frame (blocks_of old)
+          (omega (arith, c.requires.within.1, old.file.room h)) changed frames;
+      file = refl;
+      looks = refl;
+      touched = refl;
+      capacity = ap (λ d. d.cap) entries;
+      memory = tt;
+    }

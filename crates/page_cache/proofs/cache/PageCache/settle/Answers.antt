@@ -1,5 +1,6 @@
 -- The goals of `PageCache::settle` that are proved by hand.
-use Rattle.std.proofs.Common.{◌≡◌, ◌∙◌, ap, sym, subst, ⊎_elim}
+use Rattle.std.proofs.Common.{inl, inr, ◌≡◌, ◌∙◌, ◌⊎◌, rules, sym, subst, ⊎_elim}
+use Rattle.page_file.specs.Fault.{HasCause, IsDamage, IsOfDevice}
 use Rattle.page_file.specs.File as below
 use Rattle.page_file.specs.Laws.{is_open}
 use Rattle.page_file.specs.Stops.{SameButGate}
@@ -10,7 +11,7 @@ use Rattle.page_cache.specs.Cache.{device_of, gate_of}
 use Rattle.page_cache.specs.Frames.{frame_at}
 use Rattle.page_cache.specs.Laws.{the_map_is_kept_in_turn}
 use Rattle.page_cache.proofs.Behind.{lies_below, map_by_file, map_kept, none_changed, unchanged}
-use Rattle.page_cache.proofs.Results.{on_ok_map}
+use Rattle.page_cache.proofs.Results.{at_error, no_success, on_err_all, on_err_map, on_ok_map, refused_cause}
 use Rattle.page_cache.proofs.Stops.{stops_refused, stops_settled}
 use Rattle.page_cache.proofs.Kept.{kept_clean}
 use Rattle.page_cache.proofs.cache.PageCache.settle.Goals as goal
@@ -21,55 +22,74 @@ shut_not_open x a b = let e = sym a ∙ b in cc
 unsure_not_open : (x : Gate) → x ≡ Unsure → x ≡ Open → ⊥
 unsure_not_open x a b = let e = sym a ∙ b in cc
 
-pub returns-clause-map : goal.returns-clause-map
-returns-clause-map g c =
-    let none = c.in_ok-write_all.ensures.clean in
-    the_map_is_kept_in_turn c.args.self.now c.write_all.new.self _ c.write_all.ensures.kept.gate.honest.0
-    (map_kept c.args.self.now c.write_all.new.self c.write_all.ensures.kept)
-    (map_by_file c.write_all.new.self _ none none c.settle.ensures.map)
+pub returns-in_err-write_all : goal.returns-in_err-write_all
+returns-in_err-write_all g c =
+    let old = c.args.self.now in let new = c.write_all.new.self in
+    let r = c.from_residual.result in let f = c.in_err-write_all.field-0.0 in
+    let refused = c.from_residual.ensures.1 in let kept = c.write_all.ensures.kept in
+    let opened : gate_of old ≡ Open =
+    ⊎_elim (λ (is : gate_of old ≡ Open). is)
+    (λ (closed : ¬ (gate_of old ≡ Open)).
+    absurd (let never = (c.in_err-write_all.ensures.quiet closed).1 in cc))
+    (is_open (gate_of old)) in
+    record {
+      shut = no_success r f _ refused;
+      lies = λ h. no_success r f _ refused;
+      refused = on_err_all r (inr (kept.gate.gate ∙ opened, opened));
+      was_shut = λ shut. absurd (shut_not_open (gate_of old) shut opened);
+      was_unsure = λ h unsure. absurd (unsure_not_open (gate_of old) unsure opened);
+      map = map_kept old new kept;
+      holds = c.write_all.ensures.holds;
+      stops = λ h. stops_refused old new h opened
+          (λ b left. g.met.D.BlockDevice.only_now (device_of old) b h left) kept.gate;
+      looks = kept.looks;
+      capacity = kept.capacity;
+      honest = kept.gate.honest;
+      faults = λ h. at_error r f IsOfDevice refused (c.in_err-write_all.ensures.faults h);
+      other_faults =
+          at_error r f (λ e. IsOfDevice e ⊎ IsDamage e) refused c.in_err-write_all.ensures.other_faults;
+      cause = refused_cause _ _ r f refused c.in_err-write_all.ensures.cause.refused;
+    }
 
-pub returns-clause-lies : goal.returns-clause-lies
-returns-clause-lies g c = λ h.
-    on_ok_map c.settle.result (c.settle.ensures.lies (c.write_all.ensures.kept.gate.honest.0 h))
-    (λ lies. (lies_below _ c.in_ok-write_all.ensures.clean _).1 lies)
-
-pub returns-clause-stops : goal.returns-clause-stops
-returns-clause-stops g c = λ h.
-    let d = g.met.D.BlockDevice in let old = c.args.self.now in
-    stops_settled old _ c.write_all.new.self.file
-    c.in_ok-write_all.ensures.clean h
-    (λ b left. d.only_now (device_of old) b h left) c.write_all.ensures.kept.gate
-    (λ closed. (c.write_all.ensures.quiet closed).0)
-    (c.settle.ensures.stops (c.write_all.ensures.kept.gate.honest.0 h))
-
-pub returns-clause-was_shut : goal.returns-clause-was_shut
-returns-clause-was_shut g c = λ shut.
-    let old = c.args.self.now in let closed = shut_not_open (gate_of old) shut in
-    let quiet = c.write_all.ensures.quiet closed in
-    let still = c.settle.ensures.was_shut (ap (λ (f : PageFile _ _). below.gate_of f) quiet.0 ∙ shut) in (
-      unchanged old _ (still.0 ∙ quiet.0)
-          (λ k. c.in_ok-write_all.ensures.clean k
-          ∙ sym (none_changed old closed k)) c.write_all.ensures.kept.looks c.write_all.ensures.kept.capacity,
-      still.1,
-    )
-
-pub returns-clause-was_unsure : goal.returns-clause-was_unsure
-returns-clause-was_unsure g c = λ h unsure.
-    let old = c.args.self.now in
-    let quiet = c.write_all.ensures.quiet (unsure_not_open (gate_of old) unsure) in
-    subst (λ (f : PageFile _ _). SameButGate (below.blocks_of c.settle.new.self) (below.blocks_of f)) quiet.0
-    (c.settle.ensures.was_unsure (c.write_all.ensures.kept.gate.honest.0 h)
-    (ap (λ (f : PageFile _ _). below.gate_of f) quiet.0 ∙ unsure))
-
-pub returns-in_err-write_all-clause-stops : goal.returns-in_err-write_all-clause-stops
-returns-in_err-write_all-clause-stops g c = λ h.
-    let d = g.met.D.BlockDevice in let old = c.args.self.now in
-    ⊎_elim
-    (λ (opened : gate_of old ≡ Open). stops_refused old c.write_all.new.self h opened
-    (λ b left. d.only_now (device_of old) b h left) c.write_all.ensures.kept.gate)
-    (λ (closed : ¬ (gate_of old ≡ Open)). let quiet = c.in_err-write_all.ensures.quiet closed in
-    absurd (let never = quiet.1 in cc))
-    (is_open (gate_of old))
+pub returns : goal.returns
+returns g c =
+    let old = c.args.self.now in let mid = c.write_all.new.self in
+    let none = c.in_ok-write_all.ensures.clean in let kept = c.write_all.ensures.kept in
+    let honest = kept.gate.honest in let settled = c.settle.ensures in
+    let quiet = c.write_all.ensures.quiet in
+    record {
+      shut = settled.shut;
+      lies = λ h.
+          on_ok_map c.settle.result (settled.lies (honest.0 h)) (λ lies. (lies_below _ none _).1 lies);
+      refused = on_err_map c.settle.result settled.refused (λ is. ⊎_elim
+          (λ (unsure : below.gate_of c.settle.new.self ≡ Unsure). inl unsure)
+          (λ opened. inr (opened.0, sym kept.gate.gate ∙ opened.1)) is);
+      was_shut = λ shut.
+          let closed = shut_not_open (gate_of old) shut in
+          let still = settled.was_shut (kept.gate.gate ∙ shut) in (
+            unchanged old _ (still.0 ∙ (quiet closed).0) (λ k. none k ∙ sym (none_changed old closed k))
+                kept.looks kept.capacity,
+            still.1,
+          );
+      was_unsure = λ h unsure.
+          subst (λ (f : PageFile _ _). SameButGate (below.blocks_of c.settle.new.self) (below.blocks_of f))
+          (quiet (unsure_not_open (gate_of old) unsure)).0
+          (settled.was_unsure (honest.0 h) (kept.gate.gate ∙ unsure));
+      map = the_map_is_kept_in_turn old mid _ honest.0 (map_kept old mid kept)
+          (map_by_file mid _ none none settled.map);
+      holds = c.write_all.ensures.holds;
+      stops = λ h. stops_settled old _ mid.file none h
+          (λ b left. g.met.D.BlockDevice.only_now (device_of old) b h left) kept.gate
+          (λ closed. (quiet closed).0) (settled.stops (honest.0 h));
+      looks = kept.looks;
+      capacity = kept.capacity;
+      honest = (λ h. settled.honest.0 (honest.0 h), λ h. honest.1 (settled.honest.1 h));
+      faults = λ h. settled.faults (honest.0 h);
+      other_faults = search rules;
+      cause = subst
+          (λ n. HasCause n (g.D.BlockDevice.faults (below.device_of c.settle.new.self)) c.settle.result)
+          c.in_ok-write_all.ensures.cause.ok settled.cause;
+    }
 
 pub invariant_of-self : goal.invariant_of-self
 invariant_of-self g c =
