@@ -1,6 +1,6 @@
--- Candidates: sums of their margins, the least of them, and the boxes of an order one entry on.
+-- Candidates: the least of them, and the boxes of an order one entry on.
 use Rattle.std.proofs.Common.{◌≡◌, ℕ, suc, ◌+◌, ◌*◌, ◌<◌, ◌≤◌, List, [], ◌∷◌, ◌++◌, length, get_or, set, take}
-use Rattle.std.proofs.Common.{drop, refl, ap, arith, subst, sym, ◌∙◌, add-one, inl, inr, drop-cons}
+use Rattle.std.proofs.Common.{drop, ap, arith, subst, sym, ◌∙◌, add-one, inl, inr, drop-cons}
 use Rattle.std.proofs.Common.{length-take-le, append-nil}
 use Rattle.std.proofs.lemmas.Bool.{cases_eq}
 use Rattle.std.proofs.lemmas.List.{length-drop, drop_all, get_or_default, get_or-set_same, get_or-set_other}
@@ -8,7 +8,7 @@ use Rattle.std.proofs.lemmas.Grind.{take_at_read}
 use Rattle.std.specs.List.{All}
 use Rattle.std.proofs.lemmas.List.Elements.{All-take, All-drop}
 use Rattle.box_math.specs.Bounds.{Bounds, join_of}
-use Rattle.box_math.specs.Measures.{volume_of, margin_of, overlap_of}
+use Rattle.box_math.specs.Measures.{volume_of, overlap_of}
 use Rattle.tree_node.specs.Nodes.{Item}
 use Rattle.tree_node.specs.Boxes.{no_item, box_at, least_box}
 use Rattle.tree_node.specs.Positions.{pick}
@@ -18,7 +18,7 @@ use Rattle.tree_node.proofs.KeyLemmas.{first_least_takes}
 use Rattle.tree_node.proofs.PickLemmas.{one_at, pick-append, length-pick}
 use Rattle.tree_node.proofs.LeastBoxes.{least_box-more, least_box-cons, least_box-one}
 use Rattle.rstar_split.specs.declared.sorting.Bound.{Bound}
-use Rattle.rstar_split.specs.Cuts.{front_box, back_box, margins_of, rank_of, order_key, AreFronts, AreBacks}
+use Rattle.rstar_split.specs.Cuts.{front_box, back_box, rank_of, order_key, AreBacks}
 use Rattle.rstar_split.specs.Cuts.{IsLeastCut}
 
 -- ---- boxes of the first and the last entries
@@ -89,21 +89,6 @@ pub all_below : (items : List Item) (order : List ℕ) (n : ℕ) → length item
 all_below items order n e h = λ k d l. let same = get_or_default order k d 0 l in
     omega (arith, same, e, h k l)
 
-pub fronts_none : (dims : ℕ) (items : List Item) (order : List ℕ) (boxes : List Bounds)
-    → AreFronts dims items order 0 boxes
-fronts_none dims items order boxes = λ size d some few. absurd (omega arith)
-
-pub fronts_set : (dims : ℕ) (items : List Item) (order : List ℕ) (k : ℕ) (boxes : List Bounds) (b : Bounds)
-    → k + 1 < length boxes → AreFronts dims items order k boxes → b ≡ front_box dims items order (k + 1)
-    → AreFronts dims items order (k + 1) (set boxes (k + 1) b)
-fronts_set dims items order k boxes b within all is =
-    λ size d some few.
-    elim (cases_eq size (k + 1)) [
-      | inl z ↦ subst (λ s. get_or (set boxes (k + 1) b) s d ≡ front_box dims items order s) (sym z)
-          (get_or-set_same boxes (k + 1) b d within ∙ is)
-      | inr o ↦ get_or-set_other boxes (k + 1) size b d o ∙ all size d some (omega arith)
-    ]
-
 pub backs_none : (dims : ℕ) (items : List Item) (order : List ℕ) (n : ℕ) (boxes : List Bounds)
     → AreBacks dims items order n n boxes
 backs_none dims items order n boxes = λ size d l u. absurd (omega arith)
@@ -118,20 +103,6 @@ backs_set dims items order k n boxes b within all is =
           (get_or-set_same boxes k b d within ∙ is)
       | inr o ↦ get_or-set_other boxes k size b d o ∙ all size d (omega arith) high
     ]
-
--- ---- margins
-
-pub margins_of-none : (dims : ℕ) (items : List Item) (order : List ℕ) (m : ℕ)
-    → 0 ≡ margins_of dims items order m 0
-unfolding margins_of
-margins_of-none dims items order m = refl
-
-pub margins_of-more : (dims : ℕ) (items : List Item) (order : List ℕ) (m k s t u : ℕ)
-    → s ≡ margins_of dims items order m k → t ≡ margin_of dims (front_box dims items order (m + k))
-    → u ≡ margin_of dims (back_box dims items order (m + k))
-    → s + (t + u) ≡ margins_of dims items order m (k + 1)
-unfolding margins_of
-margins_of-more dims items order m k s t u a b d = rw add-one (omega (arith, a, b, d))
 
 -- ---- the least candidate
 

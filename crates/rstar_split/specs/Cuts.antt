@@ -98,11 +98,6 @@ pub record Splits (dims most : ℕ) (items : List Item) (first second : List ℕ
 
 -- ---- what the code knows of an order
 
--- the boxes of the first 1, 2 and more entries of an order up to so many, at these sizes
-abbrev pub AreFronts : ℕ → List Item → List ℕ → ℕ → List Bounds → Type 0
-AreFronts dims items order most boxes = (size : ℕ) (d : Bounds) → 0 < size → size ≤ most
-    → slice_index_or boxes size d ≡ front_box dims items order size
-
 -- the boxes of those of n entries that come after the first so many and more, at these sizes
 abbrev pub AreBacks : ℕ → List Item → List ℕ → ℕ → ℕ → List Bounds → Type 0
 AreBacks dims items order least n boxes = (size : ℕ) (d : Bounds) → least ≤ size → size < n

@@ -1,30 +1,45 @@
-//! The boxes of the first and of the last entries of an order, each at the place that is how many entries are
-//! first.
+//! The boxes of the first and of the last entries of an order, each named by how many entries are first.
 
 ghost use Rattle.std.specs.Prelude.{◌≡◌, ℕ, ◌<◌, ◌≤◌, length, slice_index};
 ghost use Rattle.tree_node.specs.Nodes.{items_of};
-ghost use Rattle.rstar_split.specs.Cuts.{AreFronts, AreBacks};
+ghost use Rattle.rstar_split.specs.Cuts.{front_box, back_box, AreBacks};
 
 use box_math::BBox;
 use tree_node::{Entry, box_of};
 
-/// Writes down the boxes of the first 1, 2 and more entries, up to so many.
-pub(crate) fn front_boxes<const D: usize>(
+/// The box of the first so many entries.
+pub(crate) fn front_at<const D: usize>(
     entries: &[Entry<D>],
     places: &[usize],
-    most: usize,
-    boxes: &mut [BBox<D>; 101],
-)
-    requires most { (0 < most) × (most ≤ length places.now) × (most ≤ 100) }
+    size: usize,
+) -> BBox<D>
+    requires size { (0 < size) × (size ≤ length places.now) }
     requires below { (k : ℕ) → k < length places.now → slice_index places.now k < length entries.now }
-    ensures { AreFronts D (items_of entries.now) places.now most boxes.new }
+    ensures { result ≡ front_box D (items_of entries.now) places.now size }
 {
     let mut all = box_of(entries, places[0]);
-    boxes[1] = all;
-    for size in 1..most {
-        all = all.join(&box_of(entries, places[size]));
-        boxes[size + 1] = all;
+    for k in 1..size {
+        all = all.join(&box_of(entries, places[k]));
     }
+    all
+}
+
+/// The box of the entries after the first so many.
+pub(crate) fn back_at<const D: usize>(
+    entries: &[Entry<D>],
+    places: &[usize],
+    size: usize,
+) -> BBox<D>
+    requires size { size < length places.now }
+    requires below { (k : ℕ) → k < length places.now → slice_index places.now k < length entries.now }
+    ensures { result ≡ back_box D (items_of entries.now) places.now size }
+{
+    let last = places.len() - 1;
+    let mut all = box_of(entries, places[last]);
+    for behind in 1..places.len() - size {
+        all = box_of(entries, places[last - behind]).join(&all);
+    }
+    all
 }
 
 /// Writes down the boxes of the entries after the first `least`, and after more.

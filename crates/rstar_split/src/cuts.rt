@@ -1,38 +1,15 @@
-//! The candidates of an order and the least of them.
+//! The least candidate of an order.
 
-ghost use Rattle.std.specs.Prelude.{◌≡◌, ℕ, ◌+◌, ◌-◌, ◌*◌, ◌^◌, ◌<◌, ◌≤◌, ◌↔◌, List, IsTrue};
+ghost use Rattle.std.specs.Prelude.{◌≡◌, ℕ, ◌+◌, ◌-◌, ◌*◌, ◌<◌, ◌≤◌, ◌↔◌, length, slice_index, List, IsTrue};
 ghost use Rattle.box_math.specs.Bounds.{IsDims};
-ghost use Rattle.tree_node.specs.Nodes.{Item};
+ghost use Rattle.tree_node.specs.Nodes.{Item, items_of};
 ghost use Rattle.tree_node.specs.Keys.{AtMost};
-ghost use Rattle.rstar_split.specs.Cuts.{AreFronts, AreBacks, margins_of, cuts_of, rank_of, order_key};
-ghost use Rattle.rstar_split.specs.Cuts.{numbers_of};
-ghost use Rattle.rstar_split.specs.Cuts.{IsLeastCut};
+ghost use Rattle.rstar_split.specs.Cuts.{front_box, back_box, rank_of, order_key, numbers_of, IsLeastCut};
 
+use crate::boxes::{back_boxes, front_at};
 use crate::sorting::Bound;
 use box_math::BBox;
-
-/// The sum of the margins over the candidates of an order.
-pub(crate) fn margins<const D: usize>(
-    fronts: &[BBox<D>; 101],
-    backs: &[BBox<D>; 101],
-    n: usize,
-    m: usize,
-) -> u64
-    requires dims { IsDims D }
-    requires few { n ≤ 101 }
-    requires some { 0 < m }
-    requires enough { 2 * m ≤ n }
-    ensures value { (items : List Item) (order : List ℕ) → AreFronts D items order (n - m) fronts.now
-        → AreBacks D items order m n backs.now →
-        result ≡ margins_of D items order m (cuts_of n m) }
-    ensures bound { result < 2 ^ 42 }
-{
-    let mut sum = 0;
-    for k in 0..n + 1 - 2 * m {
-        sum += fronts[m + k].margin() + backs[m + k].margin();
-    }
-    sum
-}
+use tree_node::{Entry, box_of};
 
 /// A candidate, with what decides.
 #[derive(Clone, Copy)]
@@ -60,52 +37,46 @@ pub(crate) fn at_most(a: &Cut, b: &Cut) -> bool
     (a.overlap, a.volumes, rank(a.bound), a.size) <= (b.overlap, b.volumes, rank(b.bound), b.size)
 }
 
-// The cut after so many entries.
-fn cut_at<const D: usize>(
-    fronts: &[BBox<D>; 101],
-    backs: &[BBox<D>; 101],
-    bound: Bound,
-    size: usize,
-) -> Cut
+// The cut between two groups, of which the first has so many entries.
+fn cut_between<const D: usize>(front: &BBox<D>, back: &BBox<D>, bound: Bound, size: usize) -> Cut
     requires dims { IsDims D }
-    requires within { (0 < size) × (size ≤ 100) }
     ensures bound { result.bound ≡ bound }
     ensures size { result.size ≡ size }
-    ensures key { (items : List Item) (order : List ℕ) (least most n : ℕ) →
-        AreFronts D items order most fronts.now
-        → AreBacks D items order least n backs.now → least ≤ size → size ≤ most → size < n →
+    ensures key { (items : List Item) (order : List ℕ) → front.now ≡ front_box D items order size
+        → back.now ≡ back_box D items order size →
         numbers_of result ≡ order_key D items order bound size }
 {
-    let front = fronts[size];
-    let back = backs[size];
     Cut {
-        overlap: front.overlap(&back),
+        overlap: front.overlap(back),
         volumes: front.volume() + back.volume(),
         bound,
         size,
     }
 }
 
-/// The least candidate of an order of n entries.
+/// The least candidate of an order.
 pub(crate) fn best_cut<const D: usize>(
-    fronts: &[BBox<D>; 101],
-    backs: &[BBox<D>; 101],
-    n: usize,
+    entries: &[Entry<D>],
+    places: &[usize],
     m: usize,
     bound: Bound,
+    backs: &mut [BBox<D>; 101],
 ) -> Cut
     requires dims { IsDims D }
-    requires few { n ≤ 101 }
+    requires few { length places.now ≤ 101 }
     requires some { 0 < m }
-    requires enough { 2 * m ≤ n }
+    requires enough { 2 * m ≤ length places.now }
+    requires below { (k : ℕ) → k < length places.now → slice_index places.now k < length entries.now }
     ensures bound { result.bound ≡ bound }
-    ensures least { (items : List Item) (order : List ℕ) → AreFronts D items order (n - m) fronts.now
-        → AreBacks D items order m n backs.now →
-        IsLeastCut D items order n m bound (n + 1 - m) result.size (numbers_of result) }
+    ensures least { IsLeastCut D (items_of entries.now) places.now (length places.now) m bound
+        (length places.now + 1 - m) result.size (numbers_of result) }
 {
-    let mut best = cut_at(fronts, backs, bound, m);
-    for size in m + 1..n + 1 - m {
-        let cut = cut_at(fronts, backs, bound, size);
+    back_boxes(entries, places, m, backs);
+    let mut front = front_at(entries, places, m);
+    let mut best = cut_between(&front, &backs[m], bound, m);
+    for size in m + 1..places.len() + 1 - m {
+        front = front.join(&box_of(entries, places[size - 1]));
+        let cut = cut_between(&front, &backs[size], bound, size);
         if !at_most(&best, &cut) {
             best = cut;
         }

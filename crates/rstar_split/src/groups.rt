@@ -6,40 +6,25 @@ ghost use Rattle.box_math.specs.Bounds.{IsDims};
 ghost use Rattle.tree_node.specs.Nodes.{items_of};
 ghost use Rattle.tree_node.specs.Keys.{IsFirstLeast};
 ghost use Rattle.tree_node.specs.Shape.{least_entries};
-ghost use Rattle.rstar_split.specs.Cuts.{axis_margin, order_of};
+ghost use Rattle.rstar_split.specs.Cuts.{order_of, margins_of, cuts_of, axis_margin};
 ghost use Rattle.rstar_split.specs.Divided.{IsDividedBySplit};
-ghost use Rattle.rstar_split.specs.Sorts.{IsSort, IsAxis};
+ghost use Rattle.rstar_split.specs.Sorts.{AreSorts, CutsAxis};
 
-use crate::boxes::{back_boxes, front_boxes};
-use crate::cuts::{Cut, at_most, best_cut, margins};
+use crate::cuts::{Cut, at_most, best_cut};
+use crate::margins::margins;
 use crate::sorting::{Bound, order};
 use arrayvec::ArrayVec;
 use box_math::BBox;
 use tree_node::{Entry, picked};
 
-/// A sort: the sum of its margins and its least candidate.
-#[derive(Clone, Copy)]
-pub(crate) struct Sort {
-    pub(crate) margin: u64,
-    pub(crate) cut: Cut,
-}
-
-/// An axis: the sum of the margins of both its sorts and its least candidate.
-#[derive(Clone, Copy)]
-pub(crate) struct Axis {
-    pub(crate) number: usize,
-    pub(crate) margin: u64,
-    pub(crate) cut: Cut,
-}
-
-// Sorts the entries by a bound on an axis: writes down their positions.
+// Sorts the entries on an axis: writes down their positions, and answers the sum of the margins.
 fn sort_on<const D: usize>(
     entries: &[Entry<D>],
     m: usize,
     axis: usize,
     bound: Bound,
     places: &mut [usize],
-) -> Sort
+) -> u64
     requires dims { IsDims D }
     requires few { length entries.now ≤ 101 }
     requires some { 0 < m }
@@ -48,77 +33,75 @@ fn sort_on<const D: usize>(
     requires whole { length places.old ≡ length entries.now }
     ensures order { places.new ≡ order_of (items_of entries.now) axis bound }
     ensures whole { length places.new ≡ length entries.now }
-    ensures sort { IsSort D (items_of entries.now) m axis bound result }
-    ensures small { result.margin < 2 ^ 42 }
+    ensures margin { result ≡ margins_of D (items_of entries.now) (order_of (items_of entries.now) axis bound)
+        m (cuts_of (length (items_of entries.now)) m) }
+    ensures small { result < 2 ^ 42 }
 {
     order(entries, axis, bound, places);
-    let n = entries.len();
-    let mut fronts = [BBox::default(); 101];
-    front_boxes(entries, places, n - m, &mut fronts);
-    let mut backs = [BBox::default(); 101];
-    back_boxes(entries, places, m, &mut backs);
-    Sort {
-        margin: margins(&fronts, &backs, n, m),
-        cut: best_cut(&fronts, &backs, n, m, bound),
-    }
+    margins(entries, places, m)
 }
 
-// An axis with its two sorts. The positions are those of the sort that its least candidate cuts.
-fn axis_at<const D: usize>(
+// The first axis whose margin sum is least. The positions are those of its two sorts.
+fn best_axis<const D: usize>(
     entries: &[Entry<D>],
     m: usize,
-    number: usize,
-    places: &mut [usize],
-) -> Axis
+    lower: &mut [usize],
+    upper: &mut [usize],
+) -> usize
     requires dims { IsDims D }
     requires few { length entries.now ≤ 101 }
     requires some { 0 < m }
     requires enough { 2 * m ≤ length entries.now }
-    requires axis { number < D }
-    requires whole { length places.old ≡ length entries.now }
-    ensures number { result.number ≡ number }
-    ensures order { places.new ≡ order_of (items_of entries.now) number result.cut.bound }
-    ensures whole { length places.new ≡ length entries.now }
-    ensures axis { IsAxis D (items_of entries.now) m result }
+    requires lower { length lower.old ≡ length entries.now }
+    requires upper { length upper.old ≡ length entries.now }
+    ensures axis { result < D }
+    ensures sorts { AreSorts (items_of entries.now) result lower.new upper.new }
+    ensures first { IsFirstLeast D (λ axis. axis_margin D (items_of entries.now) m axis ∷ []) result }
 {
-    let mut room = [0; 101];
-    let others = &mut room[..entries.len()];
-    let lower = sort_on(entries, m, number, Bound::Lower, places);
-    let upper = sort_on(entries, m, number, Bound::Upper, others);
-    let mut cut = lower.cut;
-    if !at_most(&lower.cut, &upper.cut) {
-        cut = upper.cut;
-        places.copy_from_slice(others);
-    }
-    Axis {
-        number,
-        margin: lower.margin + upper.margin,
-        cut,
-    }
-}
-
-// The first axis whose margin sum is least. The positions are those of the sort that is cut.
-fn best_axis<const D: usize>(entries: &[Entry<D>], m: usize, places: &mut [usize]) -> Axis
-    requires dims { IsDims D }
-    requires few { length entries.now ≤ 101 }
-    requires some { 0 < m }
-    requires enough { 2 * m ≤ length entries.now }
-    requires whole { length places.old ≡ length entries.now }
-    ensures order { places.new ≡ order_of (items_of entries.now) result.number result.cut.bound }
-    ensures axis { IsAxis D (items_of entries.now) m result }
-    ensures first { IsFirstLeast D (λ axis. axis_margin D (items_of entries.now) m axis ∷ []) result.number }
-{
-    let mut room = [0; 101];
-    let others = &mut room[..entries.len()];
-    let mut best = axis_at(entries, m, 0, places);
-    for number in 1..D {
-        let axis = axis_at(entries, m, number, others);
-        if axis.margin < best.margin {
+    let n = entries.len();
+    let mut lower_room = [0; 101];
+    let next_lower = &mut lower_room[..n];
+    let mut upper_room = [0; 101];
+    let next_upper = &mut upper_room[..n];
+    let mut best = 0;
+    let mut least = sort_on(entries, m, 0, Bound::Lower, lower)
+        + sort_on(entries, m, 0, Bound::Upper, upper);
+    for axis in 1..D {
+        let margin = sort_on(entries, m, axis, Bound::Lower, next_lower)
+            + sort_on(entries, m, axis, Bound::Upper, next_upper);
+        if margin < least {
             best = axis;
-            places.copy_from_slice(others);
+            least = margin;
+            lower.copy_from_slice(next_lower);
+            upper.copy_from_slice(next_upper);
         }
     }
     best
+}
+
+// The least candidate of the two sorts of an axis. The positions are then those of the sort that it cuts.
+fn least_cut<const D: usize>(
+    entries: &[Entry<D>],
+    m: usize,
+    places: &mut [usize],
+    upper: &[usize],
+) -> Cut
+    requires dims { IsDims D }
+    requires few { length entries.now ≤ 101 }
+    requires some { 0 < m }
+    requires enough { 2 * m ≤ length entries.now }
+    requires sorts { (axis : ℕ) × AreSorts (items_of entries.now) axis places.old upper.now }
+    ensures { (axis : ℕ) → AreSorts (items_of entries.now) axis places.old upper.now
+        → CutsAxis D (items_of entries.now) m axis places.new result }
+{
+    let mut backs = [BBox::default(); 101];
+    let mut cut = best_cut(entries, places, m, Bound::Lower, &mut backs);
+    let other = best_cut(entries, upper, m, Bound::Upper, &mut backs);
+    if !at_most(&cut, &other) {
+        cut = other;
+        places.copy_from_slice(upper);
+    }
+    cut
 }
 
 /// The two groups of the chosen split of a node that has one entry more than the most.
@@ -139,7 +122,10 @@ pub fn split<const D: usize>(
     let m = (2 * m_max / 5).max(2);
     let mut room = [0; 101];
     let places = &mut room[..all.len()];
-    let best = best_axis(all, m, places);
-    let (front, back) = places.split_at(best.cut.size);
+    let mut upper_room = [0; 101];
+    let upper = &mut upper_room[..all.len()];
+    let _ = best_axis(all, m, places, upper);
+    let cut = least_cut(all, m, places, upper);
+    let (front, back) = places.split_at(cut.size);
     (picked(all, front), picked(all, back))
 }

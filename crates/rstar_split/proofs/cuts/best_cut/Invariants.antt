@@ -1,12 +1,12 @@
-use Rattle.std.proofs.Common.{◌≡◌, ◌-◌, ℕ, List}
-use Rattle.tree_node.specs.Nodes.{Item}
-use Rattle.rstar_split.specs.Cuts.{AreFronts, AreBacks, numbers_of, IsLeastCut}
+use Rattle.std.proofs.Common.{◌≡◌, ◌-◌, length}
+use Rattle.tree_node.specs.Nodes.{items_of}
+use Rattle.rstar_split.specs.Cuts.{front_box, numbers_of, IsLeastCut}
 use Rattle.rstar_split.proofs.cuts.best_cut.Given as goal
 
 abbrev pub invariant-loop-size : goal.invariant-loop-size
 invariant-loop-size g l = record {
   bound : l.best.bound ≡ l.bound;
-  least : (items : List Item) (order : List ℕ) → AreFronts g.row.D items order (l.n - l.m) l.fronts
-      → AreBacks g.row.D items order l.m l.n l.backs
-      → IsLeastCut g.row.D items order l.n l.m l.bound l.size l.best.size (numbers_of l.best);
+  front : l.front ≡ front_box g.row.D (items_of l.entries) l.places (l.size - 1);
+  least : IsLeastCut g.row.D (items_of l.entries) l.places (length l.places) l.m l.bound l.size l.best.size
+      (numbers_of l.best);
 }

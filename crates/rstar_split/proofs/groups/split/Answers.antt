@@ -5,6 +5,7 @@ use Rattle.std.proofs.lemmas.List.{length-map}
 use Rattle.std.proofs.lemmas.List.Elements.{All-take, All-drop}
 use Rattle.tree_node.specs.declared.node.Entry.{Entry}
 use Rattle.tree_node.specs.Nodes.{item_of, items_of}
+use Rattle.tree_node.specs.Positions.{pick}
 use Rattle.tree_node.specs.Shape.{least_entries}
 use Rattle.tree_node.specs.Keys.{AtMost, IsFirstLeast}
 use Rattle.rstar_split.specs.declared.sorting.Bound.{Bound}
@@ -16,20 +17,20 @@ use Rattle.rstar_split.proofs.groups.split.Goals as goal
 pub picked-requires : goal.picked-requires
 picked-requires g c =
     let all = c.as_slice-all.result.now in
-    let best = c.best_axis-best.result in
+    let axis = c.best_axis.result in
+    let cut = c.least_cut-cut.result in
+    let places = c.least_cut-cut.new.places in
+    let cuts = c.least_cut-cut.ensures axis c.best_axis.ensures.sorts in
     let long = length-map all item_of in
     let P : ℕ → Type 0 = λ p. p < length (items_of all) in
-    let is = c.best_axis-best.ensures.order in
-    let good : All P c.best_axis-best.new.places =
-    subst (All P) (sym is) (below-order_of (items_of all) best.number best.cut.bound) in
+    let good : All P places = subst (All P) (sym cuts.order) (below-order_of (items_of all) axis cut.bound) in
     let front : All P c.split_at.result.0.now =
-    subst (All P) (sym c.split_at.ensures.front)
-    (All-take P best.cut.size c.best_axis-best.new.places good) in
+    subst (All P) (sym c.split_at.ensures.front) (All-take P cut.size places good) in
     let few : length c.split_at.result.0.now ≤ 101 =
     omega (
       arith,
       c.split_at.ensures.front_len,
-      c.best_axis-best.ensures.axis.second_full,
+      cuts.second_full,
       long,
       ap length c.as_slice-all.ensures.value,
       c.requires.count,
@@ -40,16 +41,16 @@ picked-requires g c =
 pub picked-requires-2 : goal.picked-requires-2
 picked-requires-2 g c =
     let all = c.as_slice-all.result.now in
-    let best = c.best_axis-best.result in
+    let axis = c.best_axis.result in
+    let cut = c.least_cut-cut.result in
+    let places = c.least_cut-cut.new.places in
+    let cuts = c.least_cut-cut.ensures axis c.best_axis.ensures.sorts in
     let long = length-map all item_of in
     let P : ℕ → Type 0 = λ p. p < length (items_of all) in
-    let is = c.best_axis-best.ensures.order in
-    let whole = ap length is ∙ length-order_of (items_of all) best.number best.cut.bound in
-    let good : All P c.best_axis-best.new.places =
-    subst (All P) (sym is) (below-order_of (items_of all) best.number best.cut.bound) in
+    let whole = ap length cuts.order ∙ length-order_of (items_of all) axis cut.bound in
+    let good : All P places = subst (All P) (sym cuts.order) (below-order_of (items_of all) axis cut.bound) in
     let back : All P c.split_at.result.1.now =
-    subst (All P) (sym c.split_at.ensures.back)
-    (All-drop P best.cut.size c.best_axis-best.new.places good) in
+    subst (All P) (sym c.split_at.ensures.back) (All-drop P cut.size places good) in
     let few : length c.split_at.result.1.now ≤ 101 =
     omega (
       arith,
@@ -68,40 +69,39 @@ returns-clause-divided g c =
     let es = c.args.entries.now.items in
     let all = c.as_slice-all.result.now in
     let is : all ≡ es = c.as_slice-all.ensures.value in
-    let most = c.args.m_max in
-    let long : length (items_of es) ≡ length es = length-map es item_of in
-    let best = c.best_axis-best.result in
-    let number = best.number in
-    let bound = best.cut.bound in
-    let axis = c.best_axis-best.ensures.axis in
-    let m : c.max-m.result ≡ least_entries most = search rules in
-    let o : List ℕ = order_of (items_of es) number bound in
-    let places : c.best_axis-best.new.places ≡ o = c.best_axis-best.ensures.order
-    ∙ ap (λ xs. order_of (items_of xs) number bound) is in
+    let axis = c.best_axis.result in
+    let cut = c.least_cut-cut.result in
+    let cuts = c.least_cut-cut.ensures axis c.best_axis.ensures.sorts in
+    let m : c.max-m.result ≡ least_entries c.args.m_max = search rules in
+    let o : List ℕ = order_of (items_of es) axis cut.bound in
+    let places : c.least_cut-cut.new.places ≡ o = cuts.order
+    ∙ ap (λ xs. order_of (items_of xs) axis cut.bound) is in
     let AxisLeast : List (Entry D) → ℕ
-    → Type 0 = λ xs n. IsFirstLeast D (λ a. axis_margin D (items_of xs) n a ∷ []) number in
+    → Type 0 = λ xs n. IsFirstLeast D (λ a. axis_margin D (items_of xs) n a ∷ []) axis in
     let Least : List (Entry D) → ℕ → Type 0 = λ xs n. (b : Bound) (s : ℕ) → n ≤ s
     → s + n ≤ length (items_of xs)
-    → AtMost (cut_key D (items_of xs) number bound best.cut.size) (cut_key D (items_of xs) number b s) in
+    → AtMost (cut_key D (items_of xs) axis cut.bound cut.size) (cut_key D (items_of xs) axis b s) in
     let same = ap (λ xs. length (items_of xs)) is in
     record {
-      places = take best.cut.size o;
-      others = drop best.cut.size o;
+      places = take cut.size o;
+      others = drop cut.size o;
       splits = record {
-        axis = number;
-        bound = bound;
-        size = best.cut.size;
+        axis = axis;
+        bound = cut.bound;
+        size = cut.size;
         axis_least =
             subst (λ n. AxisLeast es n) m
-            (subst (λ xs. AxisLeast xs c.max-m.result) is c.best_axis-best.ensures.first);
-        first_full = omega (arith, m, axis.first_full);
-        second_full = omega (arith, m, same, axis.second_full);
-        least = subst (λ n. Least es n) m (subst (λ xs. Least xs c.max-m.result) is axis.least);
+            (subst (λ xs. AxisLeast xs c.max-m.result) is c.best_axis.ensures.first);
+        first_full = omega (arith, m, cuts.first_full);
+        second_full = omega (arith, m, same, cuts.second_full);
+        least = subst (λ n. Least es n) m (subst (λ xs. Least xs c.max-m.result) is cuts.least);
         first_is = refl;
         second_is = refl;
       };
-      first_is = cc;
-      second_is = cc;
+      first_is = c.picked.ensures.value ∙ ap (pick all) (c.split_at.ensures.front ∙ ap (take cut.size) places)
+          ∙ ap (λ xs. pick xs (take cut.size o)) is;
+      second_is = c.picked-2.ensures.value ∙ ap (pick all) (c.split_at.ensures.back ∙ ap (drop cut.size) places)
+          ∙ ap (λ xs. pick xs (drop cut.size o)) is;
     }
 
 pub returns-clause-all : goal.returns-clause-all
