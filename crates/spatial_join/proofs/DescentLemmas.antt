@@ -1,10 +1,13 @@
 -- What a descent into pairs of nodes has added and looked at, entry by entry.
-use Rattle.std.proofs.Common.{◌≡◌, ◌∙◌, ℕ, zero, suc, ◌+◌, ◌-◌, ◌*◌, ◌^◌, ◌<◌, ◌≤◌, true, false, None, Result}
+use Rattle.std.proofs.Common.{◌≡◌, ◌∙◌, ℕ, zero, suc, ◌+◌, ◌-◌, ◌*◌, ◌^◌, ◌<◌, ◌≤◌, true, false, None, Some, Result}
 use Rattle.std.proofs.Common.{IsErrAnd, List, [], ◌∷◌, ◌++◌, length, drop, get_or, map, All, refl, sym, ap}
 use Rattle.std.proofs.Common.{subst, arith, add-one}
 use Rattle.std.specs.Prelude.{◌↔◌}
+use Rattle.std.specs.List.{flat_map}
 use Rattle.std.proofs.lemmas.List.{get_or_default, length-map}
 use Rattle.std.proofs.lemmas.List.Elements.{All-get_or}
+use Rattle.block_device.specs.Device.{one_more}
+use Rattle.box_math.specs.Bounds.{Within}
 use Rattle.box_math.specs.Objects.{Object, bounds_of, tag_of}
 use Rattle.box_math.specs.Measures.{near_test}
 use Rattle.box_math.specs.Masks.{has_bit}
@@ -21,15 +24,16 @@ use Rattle.tree_node.specs.Positions.{total}
 use Rattle.tree_node.specs.Trees.{Row, end, more, object, child, objects_in, row_items}
 use Rattle.tree_node.proofs.PositionLemmas.{total-append}
 use Rattle.tree_node.proofs.RowLemmas.{all_dropped, entry_item, items_from, row_drop, row_drop_more, row_tail}
-use Rattle.node_page.specs.Standing.{PageMap, RowStands, StandsAt}
+use Rattle.node_page.specs.Standing.{PageMap, RowStands, StandsAt, node_in}
 use Rattle.node_page.proofs.LeafLemmas.{dropped_stands, stands_on}
 use Rattle.node_page.proofs.StandingLemmas.{row_stays}
-use Rattle.spatial_join.specs.Pairs.{GainsPairs, near_objects, pairs_of}
+use Rattle.spatial_join.specs.Pairs.{GainsItems, GainsPairs, near_objects, pairs_of}
 use Rattle.spatial_join.specs.Opening.{Encloses, HasRow, opened, opened_level, sole}
 use Rattle.spatial_join.specs.Masks.{Tells}
+use Rattle.spatial_join.proofs.LeafJoin.{items_within, leaves_near}
 use Rattle.spatial_join.proofs.LeafPairs.{leaf_sum}
 use Rattle.spatial_join.proofs.OpeningLemmas.{fewer_pairs, objects_opened, only, opened_encloses}
-use Rattle.spatial_join.proofs.OpeningLemmas.{opened_stands}
+use Rattle.spatial_join.proofs.OpeningLemmas.{leaves_alone, opened_here, opened_stands}
 use Rattle.spatial_join.proofs.PairLemmas.{heads_apart, near_sum, near_sum-left, near_sum-none}
 use Rattle.spatial_join.proofs.PairLemmas.{near_sum-right, pairs_below, pairs_below-left, pairs_below-right}
 use Rattle.spatial_join.proofs.PairLemmas.{row_head}
@@ -529,6 +533,81 @@ module _ {B A : Type 0} {m : _} where
                   so_far.looked h s t first second,
                   nodes_next dims limit j s t,
                   found,
+                  fewer,
+                  looks,
+                  few,
+                );
+          }
+
+        -- of two leaves whose boxes meet the left one was opened before, and the pairs of their objects are
+        -- added in one look
+        module _ (leaf : NodeContent) (level_is : leaf.level ≡ opened_level (level - 1) (right.level - 1))
+            (is_leaf : leaf.level ≡ 0)
+            (entries_are : IsHonest old → (row : Row) → StandsAt dims (pages old) x.reference (level - 1) row
+            → row_items (opened (level - 1) (right.level - 1) x.bounds x.reference row) ≡ leaf.entries) where
+          levels : (level - 1 ≡ 0) × (right.level - 1 ≡ 0)
+          levels = leaves_alone (level - 1) (right.level - 1) (sym level_is ∙ is_leaf)
+
+          -- the right leaf, as the pages are now
+          pub leaf_beside : IsHonest old → (t : Row) → HasRow dims (pages old) right t
+              → (c : NodeContent) × (node_in dims (pages now y.reference) ≡ Some c) × (c.level ≡ 0)
+          leaf_beside h t second =
+              let at = second_stands now (no_call_asks now) h t second in
+              (record { level = right.level - 1; entries = row_items at.0 }, at.1.node, levels.1)
+
+          pub leaves_joined : near_test dims limit x.bounds y.bounds ≡ true → ahead ≤ 1
+              → (next : PageCache B A m) (pairs_next : List (ℕ × ℕ)) → AsksUntil now next None
+              → looks_of next ≡ one_more (looks_of now)
+              → (IsHonest now → (c : NodeContent) → node_in dims (pages now y.reference) ≡ Some c
+              → c.level ≡ 0 → All (λ (item : Item). Within dims item.bounds y.bounds) c.entries
+              → GainsItems dims limit leaf.entries c.entries pairs_now pairs_next)
+              → Progress dims limit old next (sole level x) right (left_beside dims limit (j + 1))
+              (nodes_beside dims limit (j + 1)) (1 - (j + 1)) pairs pairs_next
+          unfolding below_of beside_of second_stands
+          leaves_joined meets few next pairs_next asks looks adds = record {
+            asks = asks_in_turn old now next None so_far.asks asks;
+            added = λ h s t first second e e' f.
+                let b = below_of s first in
+                let c = beside_of t second in
+                let m : PageMap = pages old in
+                let at = second_stands now (no_call_asks now) h t second in
+                let outer =
+                subst (Encloses dims) c.head_is
+                (Encloses-row_head dims (row_drop j t) (Encloses-row_drop dims j t e')) in
+                let stands = subst (λ (l : ℕ). RowStands dims m l b.below) levels.0 b.stands.below in
+                let stands' = subst (λ (l : ℕ). RowStands dims m l c.below) levels.1 c.stands.below in
+                let items : row_items b.below ≡ leaf.entries =
+                ap row_items
+                (sym
+                (opened_here (level - 1) (right.level - 1) x.bounds x.reference b.below
+                (omega (arith, levels.0, levels.1))))
+                ∙ entries_are h b.below b.stands in
+                let found =
+                adds (so_far.asks.gate.honest.0 h)
+                (record { level = right.level - 1; entries = row_items c.below }) at.1.node levels.1
+                (items_within dims m y.bounds c.below stands' outer.0) f in
+                let same =
+                opened_sum dims limit f 0 0 s (row_drop j t) x y b.below c.below b.head_is c.head_is
+                ∙ ap (total f) (leaves_near dims limit m b.below c.below stands stands')
+                ∙ ap (λ (l : List Item). total f (flat_map (pairs_of dims limit (row_items c.below)) l)) items
+                in
+                omega (
+                  arith,
+                  so_far.added h s t first second e e' f,
+                  left_next dims limit j f s t,
+                  found,
+                  same,
+                );
+            looked = λ h s t first second.
+                let b = below_of s first in
+                let c = beside_of t second in
+                let fewer =
+                opened_pairs dims limit (level - 1) (right.level - 1) s (row_drop j t) x y b.below
+                c.below b.head_is c.head_is meets in
+                omega (
+                  arith,
+                  so_far.looked h s t first second,
+                  nodes_next dims limit j s t,
                   fewer,
                   looks,
                   few,

@@ -104,7 +104,7 @@ of_object x other = (x.reference, other.0)
 abbrev of_item : Item → Item → ℕ × ℕ
 of_item x other = (x.reference, other.reference)
 
-leaf_pairs : (dims limit : ℕ) (m : PageMap) (t : Row) (x : Item) → RowStands dims m 0 t
+pub leaf_pairs : (dims limit : ℕ) (m : PageMap) (t : Row) (x : Item) → RowStands dims m 0 t
     → pairs_with dims limit (objects_in t) (x.reference, (x.bounds, x.tag)) ≡ pairs_of dims limit
     (row_items t) x
 leaf_pairs dims limit m end x stands = refl

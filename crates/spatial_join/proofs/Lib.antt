@@ -4,6 +4,7 @@ pub mod OpeningLemmas
 pub mod DamageLemmas
 pub mod MaskLemmas
 pub mod LeafPairs
+pub mod LeafJoin
 pub mod DescentLemmas
 pub mod RootLemmas
 pub mod Examples

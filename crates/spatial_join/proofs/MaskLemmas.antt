@@ -25,7 +25,7 @@ use Rattle.tree_node.proofs.RowLemmas.{entry_item}
 use Rattle.node_page.specs.Columns.{cell}
 use Rattle.spatial_join.specs.Masks.{HaveBoxes, Tells}
 
-same_tests : (a b : Bool) → (a ≡ true → b ≡ true) → (b ≡ true → a ≡ true) → a ≡ b
+pub same_tests : (a b : Bool) → (a ≡ true → b ≡ true) → (b ≡ true → a ≡ true) → a ≡ b
 same_tests true true f g = refl
 same_tests true false f g = sym (f refl)
 same_tests false true f g = g refl
@@ -36,7 +36,7 @@ both true b e = refl
 both false b e = absurd (false≢true e)
 
 -- a box of the same coordinates meets what the other meets
-column_meets : (dims : ℕ) (b c x : Bounds)
+pub column_meets : (dims : ℕ) (b c x : Bounds)
     → ((axis : ℕ) → axis < dims → on_axis c.low axis ≡ on_axis b.low axis)
     → ((axis : ℕ) → axis < dims → on_axis c.high axis ≡ on_axis b.high axis)
     → meets_test dims c x ≡ meets_test dims x b

@@ -141,6 +141,14 @@ leaves_together a b = at (nat_le b a) (nat_le a b) refl refl
     at true false f g = (λ h. absurd (grind (arith, nat_tests)), λ h. absurd (omega (arith, h)))
     at false true f g = (λ h. absurd (omega (arith, h)), λ h. absurd (grind (arith, nat_tests)))
 
+-- two nodes of which a leaf is opened are leaves
+pub leaves_alone : (a b : ℕ) → opened_level a b ≡ 0 → (a ≡ 0) × (b ≡ 0)
+leaves_alone a b leaf = at (nat_le b a) refl leaf
+  where
+    at : (d : Bool) → nat_le b a ≡ d → cond d a (a + 1) ≡ 0 → (a ≡ 0) × (b ≡ 0)
+    at true f h = let below : b ≤ a = grind (arith, nat_tests) in (h, omega (arith, h, below))
+    at false f h = absurd (omega (arith, h))
+
 pub opened_here : (level other : ℕ) (b : Bounds) (page : ℕ) (row : Row) → other ≤ level
     → opened level other b page row ≡ row
 opened_here level other b page row h =

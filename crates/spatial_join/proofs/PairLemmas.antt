@@ -154,7 +154,7 @@ pairs_below-right dims limit s t =
 
 -- ---- boxes that are too far apart have nothing within them that is nearer
 
-fails_below : (dims limit : ℕ) (a b c d : Bounds) → Within dims a b → Within dims c d
+pub fails_below : (dims limit : ℕ) (a b c d : Bounds) → Within dims a b → Within dims c d
     → near_test dims limit b d ≡ false → near_test dims limit a c ≡ false
 fails_below dims limit a b c d inner outer fails = at (near_test dims limit a c) refl
   where

@@ -47,3 +47,8 @@ pub record IsJoinAnswer (dims limit : ℕ) (s t : Tree) (pairs : List (ℕ × �
 abbrev pub GainsPairs : ℕ → ℕ → Row → Row → List (ℕ × ℕ) → List (ℕ × ℕ) → Type 0
 GainsPairs dims limit s t old now = (f : ℕ × ℕ → ℕ)
     → total f now ≡ total f old + total f (near_below dims limit s t)
+
+-- the pairs of the objects in entries of one leaf and in those of another are added, in this sense
+abbrev pub GainsItems : ℕ → ℕ → List Item → List Item → List (ℕ × ℕ) → List (ℕ × ℕ) → Type 0
+GainsItems dims limit items others old now = (f : ℕ × ℕ → ℕ)
+    → total f now ≡ total f old + total f (flat_map (pairs_of dims limit others) items)

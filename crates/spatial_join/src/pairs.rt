@@ -17,6 +17,7 @@ ghost use Rattle.spatial_join.specs.Opening.{Encloses, HasPages, HasRow, sole};
 ghost use Rattle.spatial_join.specs.Pairs.{GainsPairs, pairs_of};
 
 use crate::columns::{columns_of, next_place};
+use crate::leaves::add_leaf_pairs;
 use crate::opening::open;
 use crate::reach::Reach;
 use block_device::BlockDevice;
@@ -113,6 +114,7 @@ fn add_pairs_of_entry<const D: usize, B: BlockDevice, A: Allocator + Copy, H: Al
         level: level - 1,
     };
     let first = open::<D, B, A>(cache, below, &entry.bounds, right.level - 1)?;
+    let (lows, highs) = columns_of(&first);
     let mut from = 0;
     'other: while let Some(place) = next_place(mask, from) {
         from = place + 1;
@@ -121,6 +123,20 @@ fn add_pairs_of_entry<const D: usize, B: BlockDevice, A: Allocator + Copy, H: Al
             page: other.reference as u32,
             level: right.level - 1,
         };
+        if first.level == 0 {
+            let page = beside.page;
+            add_leaf_pairs::<D, B, A, H>(
+                cache,
+                &first,
+                &lows,
+                &highs,
+                page,
+                &other.bounds,
+                reach,
+                pairs,
+            )?;
+            continue;
+        }
         let second = open::<D, B, A>(cache, beside, &other.bounds, below.level)?;
         add_pairs::<D, B, A, H>(cache, &first, &second, reach, pairs)?;
     }

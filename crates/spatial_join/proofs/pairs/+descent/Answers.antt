@@ -6,16 +6,17 @@ use Rattle.std.proofs.lemmas.List.{length-map}
 use Rattle.box_math.specs.Measures.{near_test}
 use Rattle.page_file.specs.Fault.{IsOfDevice}
 use Rattle.page_file.specs.declared.fault.Fault.TheVariants as fault
-use Rattle.page_cache.specs.Cache.{given}
+use Rattle.page_cache.specs.Cache.{given, pages}
 use Rattle.page_cache.specs.Calls.{AsksUntil, asks_and_refuses, asks_in_turn, no_call_asks}
 use Rattle.tree_node.specs.Nodes.{content_of, item_of}
 use Rattle.node_page.specs.Checked.{ComesBelow, ComesTo}
 use Rattle.node_page.proofs.DamageLemmas.{comes_below_so, comes_to_child, damaged_read}
+use Rattle.node_page.proofs.LeafLemmas.{below_first}
 use Rattle.node_page.proofs.NodeLemmas.{at_error}
 use Rattle.spatial_join.proofs.DamageLemmas.{names_here}
 use Rattle.spatial_join.proofs.DescentLemmas.{all_added, all_looked, all_passed, asks_and_runs_out, begins}
 use Rattle.spatial_join.proofs.DescentLemmas.{beside_begins, both_above, end_added, end_looked, entry_added}
-use Rattle.spatial_join.proofs.DescentLemmas.{entry_here, here_alone, next_reached, nothing_near}
+use Rattle.spatial_join.proofs.DescentLemmas.{entry_here, here_alone, leaf_beside, leaves_joined, next_reached, nothing_near}
 use Rattle.spatial_join.proofs.DescentLemmas.{object_added, opened_first, opened_second, page_fits}
 use Rattle.spatial_join.proofs.DescentLemmas.{right_here, second_stands, went_below}
 use Rattle.spatial_join.proofs.MaskLemmas.{near_here, none_set, place_within, some_before}
@@ -184,6 +185,97 @@ add_pairs_of_entry-returns-in_err-second-clause-stands g t c = λ h s r first se
     at_error c.from_residual-in_err-second.result c.in_err-second.field-0.0 IsOfDevice
     c.from_residual-in_err-second.ensures.1
     (c.in_err-second.ensures.stands (c.other.invariant.0.asks.gate.honest.0 h) b.0 b.1)
+
+pub add_pairs_of_entry-returns-in_err-first-clause-stands : goal.add_pairs_of_entry-returns-in_err-first-clause-stands
+add_pairs_of_entry-returns-in_err-first-clause-stands g t c = λ h s r first second.
+    let b =
+    below_first g.row.D (pages c.args.cache.now) c.args.level s (item_of c.args.entry.now) [] first.items
+    c.requires.above first.below in
+    at_error c.from_residual.result c.in_err-first.field-0.0 IsOfDevice c.from_residual.ensures.1
+    (c.in_err-first.ensures.stands h b.0 b.1)
+
+pub add_pairs_of_entry-overflow_cast-beside : goal.add_pairs_of_entry-overflow_cast-beside
+add_pairs_of_entry-overflow_cast-beside g t c =
+    let within =
+    place_within c.deref.result.now c.args.right.now.entries.items c.in-Some.place c.args.mask
+    c.requires.mask c.in-Some.ensures.set.2 c.deref.ensures.0 in
+    record {
+      fits = page_fits c.args.right.now.entries.items c.deref.result.now c.in-Some.place
+          c.index-deref-place.result (c.requires.right_pages c.requires.right_above) c.deref.ensures.0 within
+          c.index-deref-place.is;
+    }
+
+-- ---- the leaves below two entries
+
+pub add_pairs_of_entry-returns-in_err-add_leaf_pairs-clause-asks : goal.add_pairs_of_entry-returns-in_err-add_leaf_pairs-clause-asks
+add_pairs_of_entry-returns-in_err-add_leaf_pairs-clause-asks g t c =
+    asks_and_refuses c.args.cache.now c.other.cache c.add_leaf_pairs.new.cache
+    c.in_err-add_leaf_pairs.field-0.0 c.from_residual-in_err-add_leaf_pairs.result
+    c.from_residual-in_err-add_leaf_pairs.ensures.1 c.other.invariant.0.asks
+    c.in_err-add_leaf_pairs.ensures.asks
+
+pub add_pairs_of_entry-returns-in_err-add_leaf_pairs-clause-stands : goal.add_pairs_of_entry-returns-in_err-add_leaf_pairs-clause-stands
+add_pairs_of_entry-returns-in_err-add_leaf_pairs-clause-stands g t c = λ h s r first second.
+    let set = c.in-Some.ensures.set.2 in
+    let within =
+    place_within c.deref.result.now c.args.right.now.entries.items c.in-Some.place c.args.mask
+    c.requires.mask set c.deref.ensures.0 in
+    let reached =
+    next_reached c.other.from c.args.mask c.other.invariant.0 c.requires.mask c.in-Some.place
+    c.in-Some.ensures.set.0 (omega (arith, c.requires.mask.within c.in-Some.place set))
+    c.in-Some.ensures.first in
+    let b = leaf_beside c.in-Some.place reached (item_of c.index-deref-place.result) _
+    (λ r same. entry_here r c.deref.result.now c.args.right.now.entries.items c.in-Some.place
+    c.index-deref-place.result same c.deref.ensures.0 within c.index-deref-place.is)
+    c.requires.above c.requires.right_above (content_of c.in_ok-first.first) c.in_ok-first.ensures.level
+    c.if-first-eq0.true (λ h row at. c.in_ok-first.ensures.entries h row at) h r second in
+    at_error c.from_residual-in_err-add_leaf_pairs.result c.in_err-add_leaf_pairs.field-0.0 IsOfDevice
+    c.from_residual-in_err-add_leaf_pairs.ensures.1
+    (c.in_err-add_leaf_pairs.ensures.there (c.other.invariant.0.asks.gate.honest.0 h) b.0 b.1 b.2)
+
+pub add_pairs_of_entry-returns-in_err-add_leaf_pairs-clause-damage : goal.add_pairs_of_entry-returns-in_err-add_leaf_pairs-clause-damage
+add_pairs_of_entry-returns-in_err-add_leaf_pairs-clause-damage g t c = λ h.
+    let other = c.index-deref-place.result in
+    let within =
+    place_within c.deref.result.now c.args.right.now.entries.items c.in-Some.place c.args.mask
+    c.requires.mask c.in-Some.ensures.set.2 c.deref.ensures.0 in
+    let names =
+    names_here (content_of c.args.right.now) c.deref.result.now c.args.right.now.entries.items
+    c.in-Some.place other refl c.deref.ensures.0 c.requires.right_above within c.index-deref-place.is in
+    at_error c.from_residual-in_err-add_leaf_pairs.result c.in_err-add_leaf_pairs.field-0.0
+    (λ f. (n : ℕ) → f ≡ fault.Damaged n → ComesTo g.row.D (given c.args.cache.now)
+    c.args.entry.now.reference n ⊎ ComesBelow g.row.D (given c.args.cache.now)
+    (content_of c.args.right.now) n)
+    c.from_residual-in_err-add_leaf_pairs.ensures.1
+    (λ n damaged. inr
+    (comes_to_child g.row.D (given c.args.cache.now) (content_of c.args.right.now) other.reference n names
+    (damaged_read c.in_err-add_leaf_pairs.field-0.0 other.reference n
+    (c.in_err-add_leaf_pairs.ensures.faults (c.other.invariant.0.asks.gate.honest.0 h)) damaged)))
+
+pub add_pairs_of_entry-other-preserved-then-first-eq0 : goal.add_pairs_of_entry-other-preserved-then-first-eq0
+add_pairs_of_entry-other-preserved-then-first-eq0 g t c =
+    let set = c.in-Some.ensures.set.2 in
+    let within =
+    place_within c.deref.result.now c.args.right.now.entries.items c.in-Some.place c.args.mask
+    c.requires.mask set c.deref.ensures.0 in
+    let reached =
+    next_reached c.other.from c.args.mask c.other.invariant.0 c.requires.mask c.in-Some.place
+    c.in-Some.ensures.set.0 (omega (arith, c.requires.mask.within c.in-Some.place set))
+    c.in-Some.ensures.first in (
+      leaves_joined c.in-Some.place reached (item_of c.index-deref-place.result) _
+          (λ r same. entry_here r c.deref.result.now c.args.right.now.entries.items c.in-Some.place
+          c.index-deref-place.result same c.deref.ensures.0 within c.index-deref-place.is)
+          c.requires.above c.requires.right_above (content_of c.in_ok-first.first)
+          c.in_ok-first.ensures.level c.if-first-eq0.true
+          (λ h row at. c.in_ok-first.ensures.entries h row at)
+          (near_here (near_test g.row.D c.args.reach.limit (item_of c.args.entry.now).bounds)
+          c.deref.result.now c.args.right.now.entries.items c.in-Some.place c.args.mask
+          c.index-deref-place.result c.requires.mask set c.deref.ensures.0 c.index-deref-place.is)
+          (omega arith) c.add_leaf_pairs.new.cache c.add_leaf_pairs.new.pairs.items
+          c.in_ok-add_leaf_pairs.ensures.asks c.in_ok-add_leaf_pairs.ensures.looks
+          (λ h content there leaf all. c.in_ok-add_leaf_pairs.ensures.pairs h content there leaf all),
+      omega (arith, within, ap length c.deref.ensures.0),
+    )
 
 pub add_pairs_of_entry-add_pairs-requires : goal.add_pairs_of_entry-add_pairs-requires
 add_pairs_of_entry-add_pairs-requires g t c κs within =
