@@ -3,3 +3,4 @@ pub mod BetweenLemmas
 pub mod NearLemmas
 pub mod SignLemmas
 pub mod ScaledLemmas
+pub mod RowLemmas

@@ -171,7 +171,7 @@ impl<'a> Json<'a> {
     // Takes what is behind a value: the ends of those that it is in, and a comma. It answers whether a value
     // follows.
     fn end(&mut self, open: &mut ArrayVec<u8, MOST_OPEN>) -> Option<bool> {
-        while let Some(closing) = open.pop() {
+        'closing: while let Some(closing) = open.pop() {
             if self.take(b',') {
                 open.try_push(closing).ok()?;
                 if closing == b'}' {

@@ -1,5 +1,7 @@
 //! A reader that gives no more than a line at a time, and counts the lines.
 
+ghost use Rattle.std.specs.Prelude.{◌≤◌, length};
+
 use std::io::{self, BufRead, Read};
 
 /// Reads from `input`, and counts the lines that it has begun to give.
@@ -43,7 +45,9 @@ impl<R: BufRead> Read for LineReader<R> {
 }
 
 // Copies what there is of the first line, as far as there is room, and answers how much that is.
-fn first_line(text: &[u8], room: &mut [u8]) -> usize {
+fn first_line(text: &[u8], room: &mut [u8]) -> usize
+    ensures { result ≤ length room.old }
+{
     let most = text.len().min(room.len());
     let len = match text[..most].iter().position(|byte| *byte == b'\n') {
         Some(at) => at + 1,

@@ -1,7 +1,7 @@
 //! Decimal numbers times a scale, rounded outward to whole numbers.
 
 ghost use Rattle.std.specs.Prelude.{◌≡◌, ◌+◌, ◌-◌, ◌*◌, ◌^◌, ◌<◌, ◌≤◌, ◌==◌, ◌++◌, length};
-ghost use Rattle.std.specs.Prelude.{MatchOption, IfOk, IfErr, IsTrue, false, slice_index, pos, neg_ℤ};
+ghost use Rattle.std.specs.Prelude.{MatchOption, IfOk, IfErr, IsTrue, false, slice_index, pos, neg_ℤ, ◌≤ℤ◌};
 ghost use Rattle.std.specs.Str.Parse.{AllDigits, digits_value};
 ghost use Rattle.fast_float.specs.Text.{minus, digits_of, tens_up, tens_down};
 ghost use Rattle.box_import.specs.Decimals.{is_decimal, is_negative, unsigned};
@@ -29,6 +29,7 @@ const MOST_EXPONENT_DIGITS: usize = 3;
 pub fn scaled(text: &[u8], scale: Scale) -> Result<(i32, i32), NumberError>
     ensures rounded { IfOk result (λ p. IsTrue (is_decimal text.now)
         × IsRoundedOutward p.0 p.1 text.now scale.value) }
+    ensures ordered { IfOk result (λ p. p.0 ≤ℤ p.1) }
     ensures refused { IfErr result (λ e. MatchError e (is_decimal text.now ≡ false)
         (IsTrue (is_decimal text.now) × IsOutOfRange text.now scale.value)) }
 {

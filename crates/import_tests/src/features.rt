@@ -138,7 +138,7 @@ fn what_is_no_feature_is_told(rt: HostRuntime) -> Result<(), Fail> {
         ),
         (r#"{"geometry":{"coordinates":[[1,2],[[3,4]]]}}"#, "line 1, member coordinates: \"[3,4]]]}}\" is no position"),
         (r#"{"geometry":{"coordinates":[1e10,2]}}"#, "line 1, member coordinates: \"1e10\" is out of range"),
-        (r#"{"geometry":{"coordinates":["1",2]}}"#, "line 1, member coordinates: \"[\\\"1\\\",2]}}\" is no position"),
+        (r#"{"geometry":{"coordinates":["1",2]}}"#, "line 1, member coordinates: \"\\\"1\\\",2]}}\" is no position"),
     ];
     let properties = Properties {
         id: None,

@@ -1,5 +1,5 @@
 use Rattle.std.proofs.Common.{◌+◌, ◌*◌}
-use Rattle.box_import.proofs.+geometry.Given as goal
+use Rattle.box_import.proofs.geometry.+geometry.Given as goal
 
 abbrev pub decreases-read_geometry : goal.decreases-read_geometry
 decreases-read_geometry l = 2 * l.nested
