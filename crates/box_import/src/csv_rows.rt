@@ -1,5 +1,9 @@
 //! Objects from the rows of a CSV text.
 
+ghost use Rattle.std.specs.Prelude.{IfOk, IfSome};
+ghost use Rattle.csv.specs.Records.{fields_of};
+ghost use Rattle.box_import.specs.Rows.{IsObjectOf};
+
 use crate::ImportedObject;
 use crate::columns::Columns;
 use crate::coordinates::{FieldFault, object_of};
@@ -59,7 +63,10 @@ impl<R: BufRead + Drop> CsvRows<R> {
     }
 
     /// The object of the next row, `None` at the end of the text. Rows of blanks alone are passed over.
-    pub fn next(&mut self) -> Result<Option<ImportedObject>, ImportError> {
+    pub fn next(&mut self) -> Result<Option<ImportedObject>, ImportError>
+        ensures { IfOk result (λ found. IfSome found (λ o. IsObjectOf (fields_of self.new.row) self.new.places
+            self.new.scale.value self.new.count o.0 o.1 o.2)) }
+    {
         if !self.read_row()? {
             return Ok(None);
         }
@@ -89,7 +96,10 @@ impl<R: BufRead + Drop> CsvRows<R> {
     }
 
     // The object of the row.
-    fn object(&mut self) -> Result<ImportedObject, FieldFault> {
+    fn object(&mut self) -> Result<ImportedObject, FieldFault>
+        ensures { IfOk result (λ o. IsObjectOf (fields_of self.new.row) self.new.places self.new.scale.value
+            self.new.count o.0 o.1 o.2) }
+    {
         let width = *self.width.get_or_insert(self.row.len());
         let len = self.row.len();
         if len < width {
