@@ -1,5 +1,6 @@
 -- The whole numbers on both sides of a fraction.
-use Rattle.std.proofs.Common.{◌≡◌, ℕ, zero, suc, ◌+◌, ◌-◌, ◌*◌, ◌/◌, ◌^◌, ◌<◌, ◌≤◌, List, ◌++◌, length, take, drop, get_or, min}
+use Rattle.std.proofs.Common.{◌≡◌, ℕ, zero, suc, ◌+◌, ◌-◌, ◌*◌, ◌/◌, ◌^◌, ◌<◌, ◌≤◌, List, ◌++◌, length}
+use Rattle.std.proofs.Common.{take, drop, get_or, min}
 use Rattle.std.proofs.Common.{refl, sym, ap, ◌∙◌, subst, arith, add-one}
 use Rattle.std.proofs.Math.Nat.{pow-suc, mul-le-mul_right}
 use Rattle.std.specs.Char.{digit_value}
@@ -48,11 +49,11 @@ pub between_digit : (ds : List ℕ) (i scale low high digit : ℕ) → i < lengt
 between_digit ds i scale low high digit within is h =
     let power = 10 ^ (length ds - suc i) in
     let cut : digits_value 10 (drop i ds) ≡ digit * power + digits_value 10 (drop (suc i) ds)
-        = digits_value-from ds i within ∙ ap (λ k. k * power + digits_value 10 (drop (suc i) ds)) (sym is) in
+    = digits_value-from ds i within ∙ ap (λ k. k * power + digits_value 10 (drop (suc i) ds)) (sym is) in
     let scaled = ap (λ k. k * scale) cut in
     let left : length ds - i ≡ suc (length ds - suc i) = omega arith in
     let tens : 10 ^ (length ds - i) ≡ power * 10
-        = ap (λ k. 10 ^ k) left ∙ pow-suc 10 (length ds - suc i) in
+    = ap (λ k. 10 ^ k) left ∙ pow-suc 10 (length ds - suc i) in
     between_same _ _ _ _ _ _ (omega (arith, scaled)) (sym tens)
     (between_tenth low high (digits_value 10 (drop (suc i) ds) * scale) power (digit * scale) h)
 
@@ -79,15 +80,15 @@ pub shrunk_more : (first_low first_high times scale low high : ℕ) (tenth_low t
 shrunk_more first_low first_high times scale low high tenth_low tenth_high h is_low is_high small ordered =
     record {
       value = λ n d first.
-        let tens : 10 ^ (times + 1) ≡ 10 ^ times * 10 = rw add-one (pow-suc 10 times) in
-        let more : d * 10 ^ (times + 1) ≡ d * (10 ^ times * 10) = ap (λ p. d * p) tens in
-        let power : d * 10 ^ (times + 1) ≡ d * 10 ^ times * 10 = omega (arith, more) in
-        let step = between_tenth low high n (d * 10 ^ times) (0 * scale) (h.value n d first) in
-        let here : IsBetween ((0 * scale + low) / 10) ((0 * scale + high + 9) / 10) n (d * 10 ^ (times + 1))
-            = between_same _ _ _ _ _ _ (omega arith) (sym power) step in
-        let P : ℕ → Type 0 = λ k. IsBetween k ((0 * scale + high + 9) / 10) n (d * 10 ^ (times + 1)) in
-        let Q : ℕ → Type 0 = λ k. IsBetween tenth_low k n (d * 10 ^ (times + 1)) in
-        subst Q (sym is_high) (subst P (sym is_low) here);
+          let tens : 10 ^ (times + 1) ≡ 10 ^ times * 10 = rw add-one (pow-suc 10 times) in
+          let more : d * 10 ^ (times + 1) ≡ d * (10 ^ times * 10) = ap (λ p. d * p) tens in
+          let power : d * 10 ^ (times + 1) ≡ d * 10 ^ times * 10 = omega (arith, more) in
+          let step = between_tenth low high n (d * 10 ^ times) (0 * scale) (h.value n d first) in
+          let here : IsBetween ((0 * scale + low) / 10) ((0 * scale + high + 9) / 10) n (d * 10 ^ (times + 1))
+          = between_same _ _ _ _ _ _ (omega arith) (sym power) step in
+          let P : ℕ → Type 0 = λ k. IsBetween k ((0 * scale + high + 9) / 10) n (d * 10 ^ (times + 1)) in
+          let Q : ℕ → Type 0 = λ k. IsBetween tenth_low k n (d * 10 ^ (times + 1)) in
+          subst Q (sym is_high) (subst P (sym is_low) here);
       small = small;
       ordered = ordered;
     }
@@ -102,20 +103,21 @@ pub read_more : (ds : List ℕ) (count from place at scale low high digit more_l
 read_more ds count from place at scale low high digit more_low more_high all next below h is is_low is_high
     small ordered =
     let within = h.within in
-    let Here : ℕ → Type 0 = λ k. IsBetween low high (digits_value 10 (drop k ds) * scale) (10 ^ (length ds - k)) in
+    let Here : ℕ → Type 0
+    = λ k. IsBetween low high (digits_value 10 (drop k ds) * scale) (10 ^ (length ds - k)) in
     let All : ℕ → Type 0
-        = λ k. IsBetween low high (digits_value 10 (drop at ds) * scale) (10 ^ (k - at)) in
+    = λ k. IsBetween low high (digits_value 10 (drop at ds) * scale) (10 ^ (k - at)) in
     let here : IsBetween ((digit * scale + low) / 10) ((digit * scale + high + 9) / 10)
-        (digits_value 10 (drop place ds) * scale) (10 ^ (length ds - place))
-        = between_digit ds place scale low high digit (omega arith) is
-        (subst Here (sym next) (subst All all h.value)) in
+    (digits_value 10 (drop place ds) * scale) (10 ^ (length ds - place))
+    = between_digit ds place scale low high digit (omega arith) is
+    (subst Here (sym next) (subst All all h.value)) in
     let P : ℕ → Type 0
-        = λ k. IsBetween k ((digit * scale + high + 9) / 10) (digits_value 10 (drop place ds) * scale)
-        (10 ^ (length ds - place)) in
+    = λ k. IsBetween k ((digit * scale + high + 9) / 10) (digits_value 10 (drop place ds) * scale)
+    (10 ^ (length ds - place)) in
     let Q : ℕ → Type 0
-        = λ k. IsBetween more_low k (digits_value 10 (drop place ds) * scale) (10 ^ (length ds - place)) in
+    = λ k. IsBetween more_low k (digits_value 10 (drop place ds) * scale) (10 ^ (length ds - place)) in
     let R : ℕ → Type 0
-        = λ k. IsBetween more_low more_high (digits_value 10 (drop place ds) * scale) (10 ^ (k - place)) in
+    = λ k. IsBetween more_low more_high (digits_value 10 (drop place ds) * scale) (10 ^ (k - place)) in
     record {
       not_below = omega arith;
       within = omega arith;

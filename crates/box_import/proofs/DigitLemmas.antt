@@ -1,5 +1,6 @@
 -- The number that digits write, cut in two.
-use Rattle.std.proofs.Common.{◌≡◌, ℕ, zero, suc, ◌+◌, ◌-◌, ◌*◌, ◌^◌, ◌%◌, ◌<◌, ◌≤◌, List, [], ◌∷◌, ◌++◌, length, take, drop, get_or}
+use Rattle.std.proofs.Common.{◌≡◌, ℕ, zero, suc, ◌+◌, ◌-◌, ◌*◌, ◌^◌, ◌%◌, ◌<◌, ◌≤◌, List, [], ◌∷◌, ◌++◌}
+use Rattle.std.proofs.Common.{length, take, drop, get_or}
 use Rattle.std.proofs.Common.{refl, sym, ap, ◌∙◌, arith, length-drop, take-append-drop}
 use Rattle.std.proofs.Math.Nat.{pow-suc}
 use Rattle.std.proofs.Math.Seq.{drop-cons}
@@ -15,11 +16,11 @@ digits_value_after-is n [] = omega arith
 digits_value_after-is n (c ∷ cs) =
     let digit = digit_value c in
     let here : digits_value_after 10 n (c ∷ cs) ≡ (n * 10 + digit) * 10 ^ length cs + digits_value 10 cs
-        = digits_value_after-is (n * 10 + digit) cs in
+    = digits_value_after-is (n * 10 + digit) cs in
     let alone : digits_value 10 (c ∷ cs) ≡ (0 * 10 + digit) * 10 ^ length cs + digits_value 10 cs
-        = digits_value_after-is (0 * 10 + digit) cs in
+    = digits_value_after-is (0 * 10 + digit) cs in
     let power : n * 10 ^ length (c ∷ cs) ≡ n * (10 ^ length cs * 10)
-        = ap (λ p. n * p) (pow-suc 10 (length cs)) in
+    = ap (λ p. n * p) (pow-suc 10 (length cs)) in
     omega (arith, here, alone, power)
 
 pub digits_value_after-append : (n : ℕ) (xs ys : List ℕ)
@@ -32,14 +33,14 @@ pub digits_value-cut : (ds : List ℕ) (k : ℕ) → k ≤ length ds
     → digits_value 10 ds ≡ digits_value 10 (take k ds) * 10 ^ (length ds - k) + digits_value 10 (drop k ds)
 digits_value-cut ds k within =
     let whole : digits_value 10 (take k ds ++ drop k ds) ≡ digits_value 10 ds
-        = ap (digits_value 10) (take-append-drop k ds) in
+    = ap (digits_value 10) (take-append-drop k ds) in
     let cut = digits_value_after-append 0 (take k ds) (drop k ds) in
     let value = digits_value_after-is (digits_value 10 (take k ds)) (drop k ds) in
     let long : length (drop k ds) ≡ length ds - k = length-drop k ds in
     let power : 10 ^ length (drop k ds) ≡ 10 ^ (length ds - k) = ap (λ n. 10 ^ n) long in
     let e : digits_value 10 (take k ds) * 10 ^ length (drop k ds)
-        ≡ digits_value 10 (take k ds) * 10 ^ (length ds - k)
-        = ap (λ n. digits_value 10 (take k ds) * n) power in
+    ≡ digits_value 10 (take k ds) * 10 ^ (length ds - k)
+    = ap (λ n. digits_value 10 (take k ds) * n) power in
     omega (arith, whole, cut, value, e)
 
 -- the digits from a place on: the first of them stands so many places higher as there are others
@@ -48,12 +49,12 @@ pub digits_value-from : (ds : List ℕ) (i : ℕ) → i < length ds
     ≡ digit_value (get_or ds i 0) * 10 ^ (length ds - suc i) + digits_value 10 (drop (suc i) ds)
 digits_value-from ds i within =
     let first : digits_value 10 (drop i ds) ≡ digits_value 10 (get_or ds i 0 ∷ drop (suc i) ds)
-        = ap (digits_value 10) (drop-cons ds i 0 within) in
+    = ap (digits_value 10) (drop-cons ds i 0 within) in
     let value = digits_value_after-is (0 * 10 + digit_value (get_or ds i 0)) (drop (suc i) ds) in
     let long : length (drop (suc i) ds) ≡ length ds - suc i = length-drop (suc i) ds in
     let e : digit_value (get_or ds i 0) * 10 ^ length (drop (suc i) ds)
-        ≡ digit_value (get_or ds i 0) * 10 ^ (length ds - suc i)
-        = ap (λ n. digit_value (get_or ds i 0) * 10 ^ n) long in
+    ≡ digit_value (get_or ds i 0) * 10 ^ (length ds - suc i)
+    = ap (λ n. digit_value (get_or ds i 0) * 10 ^ n) long in
     omega (arith, first, value, e)
 
 -- each of them is below ten

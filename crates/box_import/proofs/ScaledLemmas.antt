@@ -1,5 +1,6 @@
 -- The numbers beside a decimal, from its size and its sign.
-use Rattle.std.proofs.Common.{◌≡◌, ℕ, ◌+◌, ◌*◌, ◌^◌, ◌<◌, ◌≤◌, ◌⊎◌, inl, inr, Bool, true, false, List, length, ℤ, pos, negsuc, neg_ℤ}
+use Rattle.std.proofs.Common.{◌≡◌, ℕ, ◌+◌, ◌*◌, ◌^◌, ◌<◌, ◌≤◌, ◌⊎◌, inl, inr, Bool, true, false, List}
+use Rattle.std.proofs.Common.{length, ℤ, pos, negsuc, neg_ℤ}
 use Rattle.std.proofs.Common.{refl, sym, ap, ◌∙◌, subst, arith}
 use Rattle.std.proofs.Math.Nat.{one-le-pow}
 use Rattle.std.specs.Prelude.{◌≤ℤ◌, ◌<ℤ◌}
@@ -10,13 +11,13 @@ use Rattle.box_import.specs.Decimals.{IsNear, IsRoundedDown, IsRoundedUp, IsRoun
 use Rattle.box_import.proofs.SignLemmas.{negative_down, negative_up, positive_down, positive_up, too_large}
 
 module _ (text : List ℕ) (scale low high : ℕ) (p : Parts) (is : p ≡ numeral text)
-    (near : IsNear low high (digits_of p * 10 ^ tens_up p * scale) (10 ^ tens_down p)) (ordered : low ≤ high) where
-  top : ℕ
-  top = digits_of (numeral text) * 10 ^ tens_up (numeral text) * scale
-
-  its_near : IsNear low high (digits_of (numeral text) * 10 ^ tens_up (numeral text) * scale) (denominator text)
+    (near : IsNear low high (digits_of p * 10 ^ tens_up p * scale) (10 ^ tens_down p))
+    (ordered : low ≤ high) where
+  its_near : IsNear low high (digits_of (numeral text) * 10 ^ tens_up (numeral text) * scale)
+      (denominator text)
   its_near =
-      let P : Parts → Type 0 = λ q. IsNear low high (digits_of q * 10 ^ tens_up q * scale) (10 ^ tens_down q) in
+      let P : Parts → Type 0
+      = λ q. IsNear low high (digits_of q * 10 ^ tens_up q * scale) (10 ^ tens_down q) in
       subst P is near
 
   some : 0 < denominator text

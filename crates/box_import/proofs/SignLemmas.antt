@@ -1,5 +1,6 @@
 -- Signed numbers on both sides of a signed fraction.
-use Rattle.std.proofs.Common.{◌≡◌, ℕ, zero, suc, ◌+◌, ◌-◌, ◌*◌, ◌^◌, ◌<◌, ◌≤◌, ◌⊎◌, inl, inr, ℤ, pos, negsuc, neg_ℤ, ◌+ℤ◌, ◌*ℤ◌}
+use Rattle.std.proofs.Common.{◌≡◌, ℕ, zero, suc, ◌+◌, ◌-◌, ◌*◌, ◌^◌, ◌<◌, ◌≤◌, ◌⊎◌, inl, inr, ℤ, pos}
+use Rattle.std.proofs.Common.{negsuc, neg_ℤ, ◌+ℤ◌, ◌*ℤ◌}
 use Rattle.std.proofs.Common.{refl, sym, ap, ◌∙◌, subst, arith}
 use Rattle.std.proofs.Math.Nat.{mul-le-mul_right}
 use Rattle.std.specs.Prelude.{◌≤ℤ◌, ◌<ℤ◌}
@@ -53,17 +54,17 @@ negative_up low high n d h =
     }
 
 -- a size beyond all coordinates
-pub too_large : (low high n d most : ℕ) → 0 < d → IsNear low high n d → low ≤ high → most < high → most < 2 ^ 32
-    → most * d < n
+pub too_large : (low high n d most : ℕ) → 0 < d → IsNear low high n d → low ≤ high → most < high
+    → most < 2 ^ 32 → most * d < n
 too_large low high n d most some h ordered above small = elim (cases_lt low (2 ^ 32)) [
   | inl near ↦
-    let before = (h.near near).one_before_is_less in
-    let next : most + 1 ≤ high = omega arith in
-    let times = mul-le-mul_right d next in
-    omega (arith, before, times)
+      let before = (h.near near).one_before_is_less in
+      let next : most + 1 ≤ high = omega arith in
+      let times = mul-le-mul_right d next in
+      omega (arith, before, times)
   | inr far ↦
-    let large = h.far far in
-    let next : most + 1 ≤ 2 ^ 32 = omega arith in
-    let times = mul-le-mul_right d next in
-    omega (arith, large, times)
+      let large = h.far far in
+      let next : most + 1 ≤ 2 ^ 32 = omega arith in
+      let times = mul-le-mul_right d next in
+      omega (arith, large, times)
 ]

@@ -1,6 +1,7 @@
 -- Decimal numbers as texts write them, times a scale, and the whole numbers beside them. Our rule,
 -- docs/COMMANDS.md.
-use Rattle.std.specs.Prelude.{ℕ, ◌+◌, ◌*◌, ◌^◌, ◌<◌, ◌≤◌, Bool, ◌&&◌, ◌==◌, nat_le, ℤ, pos, negsuc, ◌+ℤ◌, ◌*ℤ◌}
+use Rattle.std.specs.Prelude.{ℕ, ◌+◌, ◌*◌, ◌^◌, ◌<◌, ◌≤◌, Bool, ◌&&◌, ◌==◌, nat_le, ℤ, pos, negsuc, ◌+ℤ◌}
+use Rattle.std.specs.Prelude.{◌*ℤ◌}
 use Rattle.std.specs.Prelude.{◌≤ℤ◌, ◌<ℤ◌, ◌⊎◌, List, length, drop, slice_index}
 use Rattle.std.specs.Float.Parse.{sign_len}
 use Rattle.fast_float.specs.Text.{Parts, scan, minus, has_digits, digits_of, tens_up, tens_down, with_sign}
@@ -13,21 +14,22 @@ is_negative text = slice_index text 0 == minus
 abbrev pub unsigned : List ℕ → List ℕ
 unsigned text = drop (sign_len text) text
 
--- the longest numeral behind the sign, in its parts: `12.5e-3` has the whole digits `12`, the fraction `5` and
--- the exponent `3`, which is negative
+-- the longest numeral behind the sign, in its parts: `12.5e-3` has the whole digits `12`, the fraction `5`
+-- and the exponent `3`, which is negative
 abbrev pub numeral : List ℕ → Parts
 numeral text = scan (unsigned text)
 
--- a decimal: a sign or none, and behind it a numeral and no more, of one digit or more, and of three digits of
--- exponent at most
+-- a decimal: a sign or none, and behind it a numeral and no more, of one digit or more, and of three digits
+-- of exponent at most
 abbrev pub is_decimal : List ℕ → Bool
 is_decimal text =
     has_digits (numeral text)
     && (numeral text).len == length (unsigned text)
     && nat_le (length (numeral text).exponent) 3
 
--- The value of a decimal, times a scale, is this fraction: its digits, whole and fraction in a row, times ten
--- as often as a positive exponent says, over ten as often as the fraction has digits and a negative exponent says.
+-- The value of a decimal, times a scale, is this fraction: its digits, whole and fraction in a row, times
+-- ten as often as a positive exponent says, over ten as often as the fraction has digits and a negative
+-- exponent says.
 abbrev pub numerator : List ℕ → ℕ → ℤ
 numerator text scale =
     with_sign (is_negative text) (digits_of (numeral text) * 10 ^ tens_up (numeral text) * scale)

@@ -1,5 +1,6 @@
 -- The objects of rows of CSV, as their fields say them. Our rule, docs/COMMANDS.md.
-use Rattle.std.specs.Prelude.{◌≡◌, ℕ, ◌<◌, ◌^◌, ℤ, pos, ◌≤ℤ◌, ◌⊎◌, List, [], Some, IsTrue, MatchOption, slice_index, slice_index_or}
+use Rattle.std.specs.Prelude.{◌≡◌, ℕ, ◌<◌, ◌^◌, ℤ, pos, ◌≤ℤ◌, ◌⊎◌, List, [], Some, IsTrue, MatchOption}
+use Rattle.std.specs.Prelude.{slice_index, slice_index_or}
 use Rattle.std.specs.Str.{IsTrimAscii}
 use Rattle.std.specs.Str.Parse.{IsNumeral, digits_value}
 use Rattle.csv.specs.Records.{field_at}
@@ -56,8 +57,8 @@ pub record IsNumberAt (row : List (List ℕ)) (place number : ℕ) : Type 0 wher
 abbrev pub IsTagAt : List (List ℕ) → ℕ → ℕ → Type 0
 IsTagAt row place tag = (IsFieldText row place [] × (tag ≡ 0)) ⊎ IsNumberAt row place tag
 
--- what a row says of an object: its box; its identifier, the number of the row where no column has one; and its
--- tag, 0 where no column has one
+-- what a row says of an object: its box; its identifier, the number of the row where no column has one; and
+-- its tag, 0 where no column has one
 pub record IsObjectOf (row : List (List ℕ)) (places : Places) (scale count id : ℕ) (bounds : RawBox) (tag : ℕ)
     : Type 0 where
   pub id_is : MatchOption places.id (id ≡ count) (λ place. IsNumberAt row place id)

@@ -111,7 +111,8 @@ pub(crate) fn other_digits(whole: &[u8], fraction: &[u8], from: usize, scale: u6
     requires digits { AllDigits 10 (whole.now ++ fraction.now) }
     requires within { from ≤ length whole.now + length fraction.now }
     requires scale { scale ≤ 10 ^ 9 }
-    ensures value { IsBetween result.low result.high (digits_value 10 (drop from (whole.now ++ fraction.now)) * scale)
+    ensures value { IsBetween result.low result.high
+        (digits_value 10 (drop from (whole.now ++ fraction.now)) * scale)
         (10 ^ (length whole.now + length fraction.now - from)) }
     ensures within { result.high ≤ scale }
     ensures ordered { result.low ≤ result.high }

@@ -98,7 +98,12 @@ fn box_at(row: &ByteRecord, places: BoxPlaces, scale: Scale) -> Result<RawBox, F
 }
 
 // The box of two lows and two highs.
-fn two_axes(row: &ByteRecord, low: [usize; 2], high: [usize; 2], scale: Scale) -> Result<RawBox, FieldFault>
+fn two_axes(
+    row: &ByteRecord,
+    low: [usize; 2],
+    high: [usize; 2],
+    scale: Scale,
+) -> Result<RawBox, FieldFault>
     ensures { IfOk result (λ bounds. IsBoxOf (fields_of row.now) (at.Two low high) scale.value bounds) }
 {
     let x = span(row, low[0], high[0], scale)?;

@@ -8,9 +8,9 @@ use crate::ImportedObject;
 use crate::columns::Columns;
 use crate::coordinates::{FieldFault, object_of};
 use crate::error::{ImportError, Why, shown};
+use crate::line_reader::LineReader;
 use crate::places::Places;
 use crate::scale::Scale;
-use crate::line_reader::LineReader;
 use csv::{ByteRecord, Reader, ReaderBuilder};
 use std::alloc::Global;
 use std::io::BufRead;
@@ -88,7 +88,12 @@ impl<R: BufRead + Drop> CsvRows<R> {
             if !self.reader.read_byte_record(&mut self.row)? {
                 return Ok(false);
             }
-            if self.row.len() != 1 || self.row.get(0).is_some_and(|field| !field.trim_ascii().is_empty()) {
+            if self.row.len() != 1
+                || self
+                    .row
+                    .get(0)
+                    .is_some_and(|field| !field.trim_ascii().is_empty())
+            {
                 return Ok(true);
             }
         }
@@ -119,8 +124,16 @@ impl<R: BufRead + Drop> CsvRows<R> {
 
     // The line that the row begins in: that it ends in, less the newlines in its fields.
     fn line(&self) -> u64 {
-        let newlines = self.row.as_slice().iter().filter(|byte| **byte == b'\n').count();
-        self.reader.get_ref().lines().saturating_sub(newlines as u64)
+        let newlines = self
+            .row
+            .as_slice()
+            .iter()
+            .filter(|byte| **byte == b'\n')
+            .count();
+        self.reader
+            .get_ref()
+            .lines()
+            .saturating_sub(newlines as u64)
     }
 
     // What is said of a fault of the row.
@@ -131,7 +144,10 @@ impl<R: BufRead + Drop> CsvRows<R> {
             Some(name) => shown(self.alloc, name.trim_ascii()),
             None => format!(in self.alloc; "{}", place.saturating_add(1)),
         };
-        let text = shown(self.alloc, self.row.get(place).unwrap_or_default().trim_ascii());
+        let text = shown(
+            self.alloc,
+            self.row.get(place).unwrap_or_default().trim_ascii(),
+        );
         match (column, text) {
             (Ok(column), Ok(text)) => ImportError::Row {
                 line,

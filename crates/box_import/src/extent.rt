@@ -1,5 +1,9 @@
 //! The least box of positions.
 
+ghost use Rattle.std.specs.Prelude.{◌≡◌, Some, IfOk, IsTrue, option_map};
+ghost use Rattle.box_import.specs.Decimals.{is_decimal, IsRoundedOutward};
+ghost use Rattle.box_import.specs.Extents.{join, join_ranges, and_position, bounds_of};
+
 use crate::number::{NumberError, scaled};
 use crate::scale::Scale;
 use plain_table::RawBox;
@@ -22,11 +26,44 @@ pub(crate) struct Span {
 
 impl Span {
     /// The least range of two.
-    pub fn join(self, other: Span) -> Span {
+    pub fn join(self, other: Span) -> Span
+        ensures { result ≡ join self other }
+    {
         Span {
             low: self.low.min(other.low),
             high: self.high.max(other.high),
         }
+    }
+}
+
+/// A range for each of three axes: that of a position, or of several.
+#[derive(Clone, Copy)]
+pub(crate) struct Ranges {
+    pub x: Span,
+    pub y: Span,
+    pub z: Span,
+}
+
+impl Ranges {
+    /// The least ranges of two.
+    pub fn join(self, other: Ranges) -> Ranges
+        ensures { result ≡ join_ranges self other }
+    {
+        Ranges {
+            x: self.x.join(other.x),
+            y: self.y.join(other.y),
+            z: self.z.join(other.z),
+        }
+    }
+}
+
+// The ranges of the positions so far, and of one more.
+fn and_position(ranges: Option<Ranges>, position: Ranges) -> Ranges
+    ensures { result ≡ and_position ranges position }
+{
+    match ranges {
+        None => position,
+        Some(ranges) => ranges.join(position),
     }
 }
 
@@ -35,7 +72,7 @@ impl Span {
 pub(crate) struct Extent {
     axes: Axes,
     scale: Scale,
-    spans: Option<[Span; 3]>,
+    ranges: Option<Ranges>,
 }
 
 impl Extent {
@@ -44,7 +81,7 @@ impl Extent {
         Extent {
             axes,
             scale,
-            spans: None,
+            ranges: None,
         }
     }
 
@@ -57,26 +94,26 @@ impl Extent {
     }
 
     /// A coordinate.
-    pub fn coordinate(&self, text: &[u8]) -> Result<Span, NumberError> {
+    pub fn coordinate(&self, text: &[u8]) -> Result<Span, NumberError>
+        ensures { IfOk result (λ span. IsTrue (is_decimal text.now)
+            × IsRoundedOutward span.low span.high text.now self.now.scale.value) }
+    {
         let (low, high) = scaled(text, self.scale)?;
         Ok(Span { low, high })
     }
 
     /// Takes in a position.
-    pub fn add(&mut self, position: [Span; 3]) {
-        self.spans = match self.spans {
-            None => Some(position),
-            Some(spans) => Some([
-                spans[0].join(position[0]),
-                spans[1].join(position[1]),
-                spans[2].join(position[2]),
-            ]),
-        };
+    pub fn add(&mut self, position: Ranges)
+        ensures { self.new ≡ record self.old { ranges = Some (and_position self.old.ranges position) } }
+    {
+        self.ranges = Some(and_position(self.ranges, position));
     }
 
     /// The box, if there was a position.
-    pub fn bounds(&self) -> Option<RawBox> {
-        let [x, y, z] = self.spans?;
+    pub fn bounds(&self) -> Option<RawBox>
+        ensures { result ≡ option_map (bounds_of self.now.axes) self.now.ranges }
+    {
+        let Ranges { x, y, z } = self.ranges?;
         Some(match self.axes {
             Axes::Two => RawBox::Two([x.low, y.low], [x.high, y.high]),
             Axes::Three => RawBox::Three([x.low, y.low, z.low], [x.high, y.high, z.high]),

@@ -30,7 +30,13 @@ pub struct FeatureLines<'a, R: BufRead> {
 
 impl<'a, R: BufRead + Drop> FeatureLines<'a, R> {
     /// The lines of an input.
-    pub fn new(alloc: Global, input: R, properties: Properties<'a>, axes: Axes, scale: Scale) -> Self {
+    pub fn new(
+        alloc: Global,
+        input: R,
+        properties: Properties<'a>,
+        axes: Axes,
+        scale: Scale,
+    ) -> Self {
         FeatureLines {
             alloc,
             input,

@@ -1,7 +1,7 @@
 //! The positions of a geometry.
 
 use crate::error::Why;
-use crate::extent::{Extent, Span};
+use crate::extent::{Extent, Ranges, Span};
 use crate::json::{Json, Member};
 use crate::json_text::spells;
 use crate::member::{MemberFault, no_json, value_at};
@@ -132,7 +132,10 @@ fn fits<'a>(parts: &Parts, line: &'a [u8]) -> Result<(), MemberFault<'a>> {
     let fits = match parts.coordinates {
         None => depth == 0 && parts.is_collection,
         Some(found) => {
-            depth != 0 && depth != NO_DEPTH && (found == depth || found == 0) && !parts.is_collection
+            depth != 0
+                && depth != NO_DEPTH
+                && (found == depth || found == 0)
+                && !parts.is_collection
         }
     };
     if fits {
@@ -204,7 +207,8 @@ fn read_position<'a>(json: &mut Json<'a>, extent: &mut Extent) -> Result<(), Mem
             if at + 1 < extent.dims() {
                 return Err(MemberFault::new(b"coordinates", line, Why::NoPosition));
             }
-            extent.add(position);
+            let [x, y, z] = position;
+            extent.add(Ranges { x, y, z });
             return Ok(());
         }
         if !json.take(b',') {

@@ -4,7 +4,8 @@ ghost use Rattle.std.specs.Prelude.{◌≡◌, ◌^◌, ◌<◌, ◌≤◌, leng
 
 use fast_float::Numeral;
 
-/// How long a string is up to its closing quote, if it is one of JSON. The text begins behind the opening quote.
+/// How long a string is up to its closing quote, if it is one of JSON. The text begins behind the opening
+/// quote.
 pub(crate) fn string_len(text: &[u8]) -> Option<usize>
     ensures { IfSome result (λ n. n < length text.now) }
 {
@@ -26,7 +27,11 @@ fn escape_len(text: &[u8]) -> Option<usize>
     ensures few { IfSome result (λ n. n ≤ 6) }
 {
     match text {
-        [_, b'"' | b'\\' | b'/' | b'b' | b'f' | b'n' | b'r' | b't', ..] => Some(2),
+        [
+            _,
+            b'"' | b'\\' | b'/' | b'b' | b'f' | b'n' | b'r' | b't',
+            ..
+        ] => Some(2),
         [_, b'u', a, b, c, d, ..] => {
             code_of(*a, *b, *c, *d)?;
             Some(6)

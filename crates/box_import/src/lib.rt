@@ -26,9 +26,8 @@ pub use extent::Axes;
 pub use feature::Properties;
 pub use feature_lines::{FeatureLines, read_features};
 pub use number::{NumberError, scaled};
-pub use scale::Scale;
-
 use plain_table::RawBox;
+pub use scale::Scale;
 
 /// An object: its identifier, its box and its tag.
 pub type ImportedObject = (u64, RawBox, u32);

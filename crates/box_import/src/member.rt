@@ -28,7 +28,10 @@ pub(crate) fn no_json<'a>(member: &'a [u8], json: &Json<'a>) -> MemberFault<'a> 
 }
 
 /// Takes a value, and gives its text.
-pub(crate) fn value_at<'a>(json: &mut Json<'a>, member: &'a [u8]) -> Result<&'a [u8], MemberFault<'a>> {
+pub(crate) fn value_at<'a>(
+    json: &mut Json<'a>,
+    member: &'a [u8],
+) -> Result<&'a [u8], MemberFault<'a>> {
     let mut at = *json;
     let value = json.value();
     match value {

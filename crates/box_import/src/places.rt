@@ -195,7 +195,8 @@ impl Named {
 
     // Whether a part of a box is named.
     fn has_box(&self) -> bool {
-        self.low.iter().any(|place| place.is_some()) || self.high.iter().any(|place| place.is_some())
+        self.low.iter().any(|place| place.is_some())
+            || self.high.iter().any(|place| place.is_some())
     }
 
     fn box_places(&self) -> Result<BoxPlaces, Role> {

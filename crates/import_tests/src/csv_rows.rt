@@ -56,12 +56,32 @@ fn three_axes_are_read(rt: HostRuntime) -> Result<(), Fail> {
 #[test]
 fn columns_are_read_by_a_list(rt: HostRuntime) -> Result<(), Fail> {
     let rows = [
-        ("id,a,b,c,d,t", "t,d,c,b,a,id\n9,4,3,2,1,8\n", "[(8, Two([1, 2], [3, 4]), 9)]"),
-        ("6,5,4,3,2,1", "9,4,3,2,1,8\n", "[(8, Two([1, 2], [3, 4]), 9)]"),
-        ("1,2,3", "8,1,2\n7,3,4\n", "[(8, Two([1, 2], [1, 2]), 0), (7, Two([3, 4], [3, 4]), 0)]"),
-        (" 1 , lon,lat,lon , lat,4", "id,LON,LAT,k\n8,1,2,3\n", "[(8, Two([1, 2], [1, 2]), 3)]"),
+        (
+            "id,a,b,c,d,t",
+            "t,d,c,b,a,id\n9,4,3,2,1,8\n",
+            "[(8, Two([1, 2], [3, 4]), 9)]",
+        ),
+        (
+            "6,5,4,3,2,1",
+            "9,4,3,2,1,8\n",
+            "[(8, Two([1, 2], [3, 4]), 9)]",
+        ),
+        (
+            "1,2,3",
+            "8,1,2\n7,3,4\n",
+            "[(8, Two([1, 2], [1, 2]), 0), (7, Two([3, 4], [3, 4]), 0)]",
+        ),
+        (
+            " 1 , lon,lat,lon , lat,4",
+            "id,LON,LAT,k\n8,1,2,3\n",
+            "[(8, Two([1, 2], [1, 2]), 3)]",
+        ),
         (",1,2,3", "4,5,6\n", "[(1, Three([4, 5, 6], [4, 5, 6]), 0)]"),
-        ("1,2,3,4,5,6,7,8", "1,2,3,4,5,6,7,8", "[(1, Three([2, 3, 4], [5, 6, 7]), 8)]"),
+        (
+            "1,2,3,4,5,6,7,8",
+            "1,2,3,4,5,6,7,8",
+            "[(1, Three([2, 3, 4], [5, 6, 7]), 8)]",
+        ),
     ];
     for (list, text, wanted) in rows {
         let columns = Columns::Listed(list.as_bytes());
@@ -74,26 +94,55 @@ fn columns_are_read_by_a_list(rt: HostRuntime) -> Result<(), Fail> {
 #[test]
 fn a_bad_row_is_told_by_its_line_and_column(rt: HostRuntime) -> Result<(), Fail> {
     let rows = [
-        ("1,1,2,\"12,5\",4", "line 2, column MaxX: \"12,5\" is no number"),
-        ("1,1,2,3,4\n\n\"2\",1,2,3,4.5.6", "line 4, column maxy: \"4.5.6\" is no number"),
-        ("1,1,2,3,4\n2,\"\n\",2,3,4", "line 3, column minx: \"\" is no number"),
-        ("1,1,2,3e10,4", "line 2, column MaxX: \"3e10\" is out of range"),
+        (
+            "1,1,2,\"12,5\",4",
+            "line 2, column MaxX: \"12,5\" is no number",
+        ),
+        (
+            "1,1,2,3,4\n\n\"2\",1,2,3,4.5.6",
+            "line 4, column maxy: \"4.5.6\" is no number",
+        ),
+        (
+            "1,1,2,3,4\n2,\"\n\",2,3,4",
+            "line 3, column minx: \"\" is no number",
+        ),
+        (
+            "1,1,2,3e10,4",
+            "line 2, column MaxX: \"3e10\" is out of range",
+        ),
         ("-1,1,2,3,4", "line 2, column id: \"-1\" is no identifier"),
-        ("18446744073709551616,1,2,3,4", "line 2, column id: \"18446744073709551616\" is no identifier"),
+        (
+            "18446744073709551616,1,2,3,4",
+            "line 2, column id: \"18446744073709551616\" is no identifier",
+        ),
         ("+1,1,2,3,4", "line 2, column id: \"+1\" is no identifier"),
         ("1,5,2,3,4", "line 2, column minx: \"5\" is above its high"),
-        ("1,1,4.3,3,4.2", "line 2, column miny: \"4.3\" is above its high"),
+        (
+            "1,1,4.3,3,4.2",
+            "line 2, column miny: \"4.3\" is above its high",
+        ),
         ("1,1,2,3", "line 2, column maxy: is missing"),
         ("1,1,2,3,4,5", "line 2, column 6: \"5\" is a field too many"),
-        ("1,1,2,\x1b[31m,4", "line 2, column MaxX: \"\\u{1b}[31m\" is no number"),
+        (
+            "1,1,2,\x1b[31m,4",
+            "line 2, column MaxX: \"\\u{1b}[31m\" is no number",
+        ),
     ];
     for (row, wanted) in rows {
         let text = format!(in rt.alloc(); "id,minx,miny,MaxX,maxy\n{row}\n")?;
         let found = told(rt.alloc(), text.as_bytes(), &Columns::Header, 10)?;
         assert_eq!(rt; found.as_str(), wanted);
     }
-    let found = told(rt.alloc(), b"id,x,y,tag\n1,2,3,4294967296", &Columns::Header, 1)?;
-    assert_eq!(rt; found.as_str(), "line 2, column tag: \"4294967296\" is no tag");
+    let found = told(
+        rt.alloc(),
+        b"id,x,y,tag\n1,2,3,4294967296",
+        &Columns::Header,
+        1,
+    )?;
+    assert_eq!(rt;
+        found.as_str(),
+        "line 2, column tag: \"4294967296\" is no tag"
+    );
     let found = told(rt.alloc(), b"1,2,3\n1,a,3\n", &Columns::Listed(b"1,2,3"), 1)?;
     assert_eq!(rt; found.as_str(), "line 2, column 2: \"a\" is no number");
     Ok(())
@@ -120,7 +169,10 @@ fn columns_that_lack_or_are_given_twice_are_told(rt: HostRuntime) -> Result<(), 
         ("a,b,0", "no column 0"),
         ("a,b", "\"a,b\" is no list of columns"),
         ("", "\"\" is no list of columns"),
-        ("1,2,3,4,5,6,7,8,9", "\"1,2,3,4,5,6,7,8,9\" is no list of columns"),
+        (
+            "1,2,3,4,5,6,7,8,9",
+            "\"1,2,3,4,5,6,7,8,9\" is no list of columns",
+        ),
         ("a,b,b", "column a,b,b is given twice"),
         ("a,a,b", "column a,a,b is given twice"),
         ("1,2,3,4,2", "column 1,2,3,4,2 is given twice"),
@@ -128,7 +180,12 @@ fn columns_that_lack_or_are_given_twice_are_told(rt: HostRuntime) -> Result<(), 
         ("c,a,b", "column c is given twice"),
     ];
     for (list, wanted) in lists {
-        let found = told(rt.alloc(), b"a,b,c,C\n", &Columns::Listed(list.as_bytes()), 1)?;
+        let found = told(
+            rt.alloc(),
+            b"a,b,c,C\n",
+            &Columns::Listed(list.as_bytes()),
+            1,
+        )?;
         assert_eq!(rt; found.as_str(), wanted);
     }
     Ok(())

@@ -4,7 +4,10 @@ use box_import::{Axes, Properties, Scale, read_features};
 use std::alloc::Global;
 use std::test::Fail;
 
-const NONE: Properties<'static> = Properties { id: None, tag: None };
+const NONE: Properties<'static> = Properties {
+    id: None,
+    tag: None,
+};
 
 // The objects of a text, or what is said of it.
 fn told(
@@ -24,9 +27,18 @@ fn told(
 #[test]
 fn each_geometry_has_its_least_box(rt: HostRuntime) -> Result<(), Fail> {
     let rows = [
-        (r#"{"type":"Point","coordinates":[1.5,-2]}"#, "Two([15, -20], [15, -20])"),
-        (r#"{"coordinates":[[1,2],[-3,4.01]],"type":"MultiPoint"}"#, "Two([-30, 20], [10, 41])"),
-        (r#"{"type":"LineString","coordinates":[[1e1,2],[3,4]]}"#, "Two([30, 20], [100, 40])"),
+        (
+            r#"{"type":"Point","coordinates":[1.5,-2]}"#,
+            "Two([15, -20], [15, -20])",
+        ),
+        (
+            r#"{"coordinates":[[1,2],[-3,4.01]],"type":"MultiPoint"}"#,
+            "Two([-30, 20], [10, 41])",
+        ),
+        (
+            r#"{"type":"LineString","coordinates":[[1e1,2],[3,4]]}"#,
+            "Two([30, 20], [100, 40])",
+        ),
         (
             r#"{"type":"MultiLineString","coordinates":[[[1,2],[3,4]],[[5,-6,7]]]}"#,
             "Two([10, -60], [50, 40])",
@@ -63,12 +75,17 @@ fn each_geometry_has_its_least_box(rt: HostRuntime) -> Result<(), Fail> {
 
 #[test]
 fn three_axes_want_three_coordinates(rt: HostRuntime) -> Result<(), Fail> {
-    let line = br#"{"type":"Feature","geometry":{"type":"MultiPoint","coordinates":[[1,2,3],[4,5,-6,7]]}}"#;
+    let line =
+        br#"{"type":"Feature","geometry":{"type":"MultiPoint","coordinates":[[1,2,3],[4,5,-6,7]]}}"#;
     let found = told(rt.alloc(), line, NONE, Axes::Three, 1)?;
     assert_eq!(rt; found.as_str(), "[(1, Three([1, 2, -6], [4, 5, 3]), 0)]");
-    let line = br#"{"type":"Feature","geometry":{"type":"MultiPoint","coordinates":[[1,2,3],[4,5]]}}"#;
+    let line =
+        br#"{"type":"Feature","geometry":{"type":"MultiPoint","coordinates":[[1,2,3],[4,5]]}}"#;
     let found = told(rt.alloc(), line, NONE, Axes::Three, 1)?;
-    assert_eq!(rt; found.as_str(), "line 1, member coordinates: \"4,5]]}}\" is no position");
+    assert_eq!(rt;
+        found.as_str(),
+        "line 1, member coordinates: \"4,5]]}}\" is no position"
+    );
     Ok(())
 }
 
@@ -82,7 +99,11 @@ fn identifiers_and_tags_are_read(rt: HostRuntime) -> Result<(), Fail> {
         (r#""id":null,"#, "1", "0"),
         (r#""properties":{"kind":7,"osm":5},"#, "1", "7"),
         (r#""properties":{"k\u0069nd":"8"},"#, "1", "8"),
-        (r#""properties":{"kind":null},"id":18446744073709551615,"#, "18446744073709551615", "0"),
+        (
+            r#""properties":{"kind":null},"id":18446744073709551615,"#,
+            "18446744073709551615",
+            "0",
+        ),
         (r#""properties":null,"#, "1", "0"),
     ];
     let properties = Properties {
@@ -99,7 +120,9 @@ fn identifiers_and_tags_are_read(rt: HostRuntime) -> Result<(), Fail> {
         id: Some("straße".as_bytes()),
         tag: None,
     };
-    let line = format!(in rt.alloc(); "{{\"id\":1,\"properties\":{{\"stra\\u00dfe\":9}},{point}}}\n\n\u{1e}{{{point}}}")?;
+    let line = format!(in rt.alloc();
+        "{{\"id\":1,\"properties\":{{\"stra\\u00dfe\":9}},{point}}}\n\n\u{1e}{{{point}}}"
+    )?;
     let found = told(rt.alloc(), line.as_bytes(), properties, Axes::Two, 1)?;
     let wanted = format!(in rt.alloc(); "line 3, member straße: is missing")?;
     assert_eq!(rt; found.as_str(), wanted.as_str());
@@ -108,10 +131,14 @@ fn identifiers_and_tags_are_read(rt: HostRuntime) -> Result<(), Fail> {
 
 #[test]
 fn lines_are_counted(rt: HostRuntime) -> Result<(), Fail> {
-    let text = b"\xef\xbb\xbf\n\x1e{\"type\":\"Feature\",\"geometry\":{\"type\":\"Point\",\"coordinates\":[1,2]}}\r\n\
+    let text =
+        b"\xef\xbb\xbf\n\x1e{\"type\":\"Feature\",\"geometry\":{\"type\":\"Point\",\"coordinates\":[1,2]}}\r\n\
         \t\n {\"geometry\" : { \"type\" : \"Point\" , \"coordinates\" : [ 3 , 4 ] } , \"type\" : \"Feature\" } ";
     let found = told(rt.alloc(), text, NONE, Axes::Two, 1)?;
-    assert_eq!(rt; found.as_str(), "[(2, Two([1, 2], [1, 2]), 0), (4, Two([3, 4], [3, 4]), 0)]");
+    assert_eq!(rt;
+        found.as_str(),
+        "[(2, Two([1, 2], [1, 2]), 0), (4, Two([3, 4], [3, 4]), 0)]"
+    );
     Ok(())
 }
 
@@ -121,24 +148,60 @@ fn what_is_no_feature_is_told(rt: HostRuntime) -> Result<(), Fail> {
         ("[1]", "line 1, member feature: \"[1]\" is no JSON"),
         ("{", "line 1, member feature: \"\" is no JSON"),
         ("{}", "line 1, member type: \"{}\" is no feature"),
-        (r#"{"type":"FeatureCollection"}"#, "line 1, member type: \"\\\"FeatureCollection\\\"}\" is no feature"),
-        (r#"{"type":"Feature"}"#, "line 1, member geometry: \"{\\\"type\\\":\\\"Feature\\\"}\" has no position"),
-        (r#"{"type":"Feature","geometry":null}x"#, "line 1, member feature: \"x\" is no JSON"),
+        (
+            r#"{"type":"FeatureCollection"}"#,
+            "line 1, member type: \"\\\"FeatureCollection\\\"}\" is no feature",
+        ),
+        (
+            r#"{"type":"Feature"}"#,
+            "line 1, member geometry: \"{\\\"type\\\":\\\"Feature\\\"}\" has no position",
+        ),
+        (
+            r#"{"type":"Feature","geometry":null}x"#,
+            "line 1, member feature: \"x\" is no JSON",
+        ),
         (r#"{"a":[1,]}"#, "line 1, member a: \"[1,]}\" is no JSON"),
-        (r#"{"a":{"b":tru}}"#, "line 1, member a: \"{\\\"b\\\":tru}}\" is no JSON"),
+        (
+            r#"{"a":{"b":tru}}"#,
+            "line 1, member a: \"{\\\"b\\\":tru}}\" is no JSON",
+        ),
         (r#"{"a":01}"#, "line 1, member a: \"01}\" is no JSON"),
-        (r#"{"a":"\x"}"#, "line 1, member a: \"\\\"\\\\x\\\"}\" is no JSON"),
-        (r#"{"id":1.0}"#, "line 1, member id: \"1.0\" is no identifier"),
-        (r#"{"id":"a1"}"#, "line 1, member id: \"\\\"a1\\\"\" is no identifier"),
-        (r#"{"properties":{"t":4294967296}}"#, "line 1, member t: \"4294967296\" is no tag"),
-        (r#"{"geometry":{"type":"Circle"}}"#, "line 1, member type: \"\\\"Circle\\\"}}\" is no geometry"),
+        (
+            r#"{"a":"\x"}"#,
+            "line 1, member a: \"\\\"\\\\x\\\"}\" is no JSON",
+        ),
+        (
+            r#"{"id":1.0}"#,
+            "line 1, member id: \"1.0\" is no identifier",
+        ),
+        (
+            r#"{"id":"a1"}"#,
+            "line 1, member id: \"\\\"a1\\\"\" is no identifier",
+        ),
+        (
+            r#"{"properties":{"t":4294967296}}"#,
+            "line 1, member t: \"4294967296\" is no tag",
+        ),
+        (
+            r#"{"geometry":{"type":"Circle"}}"#,
+            "line 1, member type: \"\\\"Circle\\\"}}\" is no geometry",
+        ),
         (
             r#"{"geometry":{"type":"Point","coordinates":[[1,2]]}}"#,
             "line 1, member geometry: \"{\\\"type\\\":\\\"Point\\\",\\\"coordinates\\\":[[1,2]]}}\" is no geometry",
         ),
-        (r#"{"geometry":{"coordinates":[[1,2],[[3,4]]]}}"#, "line 1, member coordinates: \"[3,4]]]}}\" is no position"),
-        (r#"{"geometry":{"coordinates":[1e10,2]}}"#, "line 1, member coordinates: \"1e10\" is out of range"),
-        (r#"{"geometry":{"coordinates":["1",2]}}"#, "line 1, member coordinates: \"\\\"1\\\",2]}}\" is no position"),
+        (
+            r#"{"geometry":{"coordinates":[[1,2],[[3,4]]]}}"#,
+            "line 1, member coordinates: \"[3,4]]]}}\" is no position",
+        ),
+        (
+            r#"{"geometry":{"coordinates":[1e10,2]}}"#,
+            "line 1, member coordinates: \"1e10\" is out of range",
+        ),
+        (
+            r#"{"geometry":{"coordinates":["1",2]}}"#,
+            "line 1, member coordinates: \"\\\"1\\\",2]}}\" is no position",
+        ),
     ];
     let properties = Properties {
         id: None,

@@ -1,6 +1,4 @@
-use Rattle.std.proofs.Common.{ℕ, ◌+◌, ◌-◌, ◌*◌, ◌^◌, ◌≤◌, ◌++◌, length, drop}
-use Rattle.std.specs.Str.Parse.{digits_value}
-use Rattle.box_import.specs.Decimals.{IsBetween}
+use Rattle.std.proofs.Common.{◌+◌, ◌++◌, length}
 use Rattle.box_import.proofs.BetweenLemmas.{HasRead}
 use Rattle.box_import.proofs.between.other_digits.Given as goal
 

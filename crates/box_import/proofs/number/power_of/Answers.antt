@@ -1,4 +1,4 @@
-use Rattle.std.proofs.Common.{◌≡◌, ℕ, ◌+◌, ◌^◌, ◌≤◌, ◌<◌, [], ◌++◌, length, take, ap, ◌∙◌, arith}
+use Rattle.std.proofs.Common.{◌≡◌, ◌^◌, ◌≤◌, [], ◌++◌, length, take, ap, ◌∙◌, arith}
 use Rattle.std.proofs.Math.Nat.{pow-le-pow_right}
 use Rattle.std.proofs.Math.Seq.{take-length}
 use Rattle.std.proofs.lemmas.List.{append-nil}
@@ -10,7 +10,7 @@ pub returns-clause-value : goal.returns-clause-value
 returns-clause-value c =
     let digits = c.args.digits.now in
     let all : take (length digits) (digits ++ []) ≡ digits
-        = ap (take (length digits)) (append-nil digits) ∙ take-length digits in
+    = ap (take (length digits)) (append-nil digits) ∙ take-length digits in
     let value = ap (digits_value 10) all in
     let small = digits_value-lt 10 digits c.requires.digits in
     let tens : 10 ^ length digits ≤ 10 ^ 3 = pow-le-pow_right (omega arith) c.requires.short in

@@ -1,4 +1,3 @@
-use Rattle.std.proofs.Common.{ℕ, ◌*◌, ◌^◌, ◌≤◌}
 use Rattle.box_import.proofs.BetweenLemmas.{HasShrunk}
 use Rattle.box_import.proofs.between.Between.behind_zeros.Given as goal
 
