@@ -1,6 +1,10 @@
 //! The levels of a tree, counted.
 
+ghost use Rattle.std.specs.Prelude.{◌≡◌, ◌+◌, ◌≤◌, IfOk};
 ghost use Rattle.box_math.specs.Bounds.{IsDims};
+ghost use Rattle.tree_statistics.specs.Levels.{entries_at, height_of, level_of, levels_down, nodes_at};
+ghost use Rattle.tree_statistics.specs.Levels.{overlap_after, overlap_at, overlap_if, overlap_with_later};
+ghost use Rattle.tree_statistics.specs.Levels.{per_mille_of, up_to};
 
 use box_math::BBox;
 use serde::Serialize;
@@ -31,21 +35,40 @@ pub fn levels_of<const D: usize, A: Allocator>(
     fanout: u8,
 ) -> Result<Vec<LevelStatistics, A>, AllocError>
     requires { IsDims D }
+    ensures { IfOk result (λ levels. levels.items ≡ levels_down rows.now fanout (height_of rows.now)) }
 {
     let mut levels = Vec::new(alloc);
-    let height = match rows.first() {
-        Some(root) => root.level,
-        None => return Ok(levels),
-    };
-    for below in 0..=height {
-        levels.push(level_of(rows, height - below, fanout))?;
+    let mut level = height_in(rows);
+    while level > 0 {
+        level -= 1;
+        levels.push(level_at(rows, level as u8, fanout))?;
     }
     Ok(levels)
 }
 
+// How many levels a tree has.
+fn height_in<const D: usize>(rows: &[NodeOutline<D>]) -> usize
+    ensures height { result ≡ height_of rows.now }
+    ensures few { result ≤ 256 }
+{
+    match rows.first() {
+        Some(root) => levels_up_to(root.level),
+        None => 0,
+    }
+}
+
+// How many levels there are up to this one.
+fn levels_up_to(level: u8) -> usize
+    ensures count { result ≡ level + 1 }
+    ensures few { result ≤ 256 }
+{
+    usize::from(level) + 1
+}
+
 // What the nodes of a level have.
-fn level_of<const D: usize>(rows: &[NodeOutline<D>], level: u8, fanout: u8) -> LevelStatistics
+fn level_at<const D: usize>(rows: &[NodeOutline<D>], level: u8, fanout: u8) -> LevelStatistics
     requires { IsDims D }
+    ensures { result ≡ level_of rows.now fanout level }
 {
     let nodes = nodes_on(rows, level);
     let entries = entries_on(rows, level);
@@ -59,7 +82,9 @@ fn level_of<const D: usize>(rows: &[NodeOutline<D>], level: u8, fanout: u8) -> L
 }
 
 // How many nodes a level has.
-fn nodes_on<const D: usize>(rows: &[NodeOutline<D>], level: u8) -> u64 {
+fn nodes_on<const D: usize>(rows: &[NodeOutline<D>], level: u8) -> u64
+    ensures { result ≡ up_to 64 (nodes_at level rows.now) }
+{
     let mut nodes = 0u64;
     for row in rows {
         if row.level == level {
@@ -70,7 +95,9 @@ fn nodes_on<const D: usize>(rows: &[NodeOutline<D>], level: u8) -> u64 {
 }
 
 // How many entries the nodes of a level have.
-fn entries_on<const D: usize>(rows: &[NodeOutline<D>], level: u8) -> u64 {
+fn entries_on<const D: usize>(rows: &[NodeOutline<D>], level: u8) -> u64
+    ensures { result ≡ up_to 64 (entries_at level rows.now) }
+{
     let mut entries = 0u64;
     for row in rows {
         if row.level == level {
@@ -81,7 +108,9 @@ fn entries_on<const D: usize>(rows: &[NodeOutline<D>], level: u8) -> u64 {
 }
 
 // Of a thousand entries that so many nodes have room for, how many there are.
-fn per_mille(entries: u64, nodes: u64, fanout: u8) -> u64 {
+fn per_mille(entries: u64, nodes: u64, fanout: u8) -> u64
+    ensures { result ≡ per_mille_of entries nodes fanout }
+{
     let room = u128::from(nodes) * u128::from(fanout);
     if room == 0 {
         return 0;
@@ -92,34 +121,55 @@ fn per_mille(entries: u64, nodes: u64, fanout: u8) -> u64 {
 // The sum of the overlaps of siblings on a level.
 fn overlap_on<const D: usize>(rows: &[NodeOutline<D>], level: u8) -> u128
     requires { IsDims D }
+    ensures { result ≡ up_to 128 (overlap_at level rows.now) }
 {
     let mut sum = 0u128;
     for place in 0..rows.len() {
-        let row = rows[place];
-        if row.level == level
-            && let Some(bounds) = row.bounds
-        {
-            sum = sum.saturating_add(overlap_after(&rows[place + 1..], level, &bounds));
-        }
+        sum = sum.saturating_add(overlap_from(&rows[place..], level));
     }
     sum
 }
 
+// The sum of the overlaps of the first node, where it is of the level, with its later siblings.
+fn overlap_from<const D: usize>(rows: &[NodeOutline<D>], level: u8) -> u128
+    requires { IsDims D }
+    ensures { result ≡ up_to 128 (overlap_with_later level rows.now) }
+{
+    match rows.split_first() {
+        Some((row, later)) if row.level == level => match row.bounds {
+            Some(bounds) => overlap_later(later, level, &bounds),
+            None => 0,
+        },
+        _ => 0,
+    }
+}
+
 // The sum of the overlaps of a box with those of the later siblings of its node, which are the nodes of its
 // level up to the next one above it.
-fn overlap_after<const D: usize>(rows: &[NodeOutline<D>], level: u8, bounds: &BBox<D>) -> u128
+fn overlap_later<const D: usize>(rows: &[NodeOutline<D>], level: u8, bounds: &BBox<D>) -> u128
     requires { IsDims D }
+    ensures { result ≡ up_to 128 (overlap_after level bounds.now rows.now) }
 {
     let mut sum = 0u128;
     for row in rows {
         if row.level > level {
             return sum;
         }
-        if row.level == level
-            && let Some(other) = row.bounds
-        {
-            sum = sum.saturating_add(bounds.overlap(&other));
-        }
+        sum = sum.saturating_add(overlap_here(row, level, bounds));
     }
     sum
+}
+
+// The overlap of a box with that of a node, where it is of the level.
+fn overlap_here<const D: usize>(row: &NodeOutline<D>, level: u8, bounds: &BBox<D>) -> u128
+    requires { IsDims D }
+    ensures { result ≡ overlap_if level bounds.now row.now }
+{
+    if row.level != level {
+        return 0;
+    }
+    match row.bounds {
+        Some(other) => bounds.overlap(&other),
+        None => 0,
+    }
 }
