@@ -1,6 +1,6 @@
 //! Where a box goes on the picture.
 
-ghost use Rattle.std.specs.Prelude.{◌≡◌, ◌≤◌, ◌<◌, ◌*◌};
+ghost use Rattle.std.specs.Prelude.{◌≡◌, ◌≤◌, ◌<◌, ◌*◌, ◌/◌};
 ghost use Rattle.box_math.specs.Bounds.{IsDims};
 
 use box_math::BBox;
@@ -11,10 +11,8 @@ pub(crate) const WIDTH: u64 = 10_000;
 /// What is left free round the map.
 pub(crate) const MARGIN: u64 = 300;
 
-/// How wide the map is at most, and how high.
-const MAP_WIDTH: u64 = 9_400;
-
-const MAP_HEIGHT: u64 = 9_400;
+// How wide the map is at most, and how high.
+const SIDE: u64 = 9_400;
 
 // A line that has no length would not be drawn.
 const LEAST: u64 = 6;
@@ -34,50 +32,37 @@ pub(crate) struct Rectangle {
 pub(crate) struct Frame {
     low: [i32; 2],
     high: [i32; 2],
-    // so many units of the picture for so many of the plane
-    units: u64,
-    steps: u64,
+    // the length in the plane that the side of the map shows
+    length: u64,
     left: u64,
     top: u64,
-    ghost few: { units ≤ 9400 },
-    ghost some: { 0 < steps },
-    ghost beside: { left ≤ 10000 },
-    ghost below: { top ≤ 10000 },
+    ghost some: { 0 < length },
 }
 
 impl Frame {
     /// The frame that just holds a box seen from above, its map below so much of the picture.
     pub(crate) fn round<const D: usize>(bounds: &BBox<D>, top: u64) -> Frame
-        requires dims { IsDims D }
-        requires within { top ≤ 10000 }
+        requires { IsDims D }
     {
         let (low, high) = (plane_low(bounds), plane_high(bounds));
-        let across = u64::from(high[0].abs_diff(low[0]));
-        let up = u64::from(high[1].abs_diff(low[1]));
-        let (units, steps) = if up * MAP_WIDTH > across * MAP_HEIGHT {
-            (MAP_HEIGHT, up)
-        } else {
-            (MAP_WIDTH, across.max(1))
-        };
-        let width = scaled(high[0].abs_diff(low[0]), units, steps);
-        let left = MARGIN + MAP_WIDTH.saturating_sub(width) / 2;
+        let across = high[0].abs_diff(low[0]);
+        let up = high[1].abs_diff(low[1]);
+        let length = u64::from(across.max(up).max(1));
+        let left = MARGIN + SIDE.saturating_sub(scaled(across, length)) / 2;
         Frame {
             low,
             high,
-            units,
-            steps,
+            length,
             left,
             top,
         }
     }
 
     /// How high the map is.
-    pub(crate) fn height(&self) -> u64 {
-        scaled(
-            self.high[1].abs_diff(self.low[1]),
-            self.units,
-            self.steps,
-        )
+    pub(crate) fn height(&self) -> u64
+        ensures { result ≤ 9400 }
+    {
+        scaled(self.high[1].abs_diff(self.low[1]), self.length)
     }
 
     /// Where a box goes, seen from above. What lies outside the frame goes to its edge.
@@ -99,8 +84,7 @@ impl Frame {
     fn across(&self, x: i32) -> u64 {
         scaled(
             x.max(self.low[0]).min(self.high[0]).abs_diff(self.low[0]),
-            self.units,
-            self.steps,
+            self.length,
         )
     }
 
@@ -108,19 +92,18 @@ impl Frame {
     fn down(&self, y: i32) -> u64 {
         scaled(
             y.max(self.low[1]).min(self.high[1]).abs_diff(self.high[1]),
-            self.units,
-            self.steps,
+            self.length,
         )
     }
 }
 
-// A length of the plane in units of the picture, rounded down.
-fn scaled(length: u32, units: u64, steps: u64) -> u64
-    requires few { units ≤ 9400 }
-    requires some { 0 < steps }
-    ensures { result * steps ≤ length * units }
+// A length of the plane in units of the picture, rounded down, where the side of the map shows so much.
+fn scaled(length: u32, whole: u64) -> u64
+    requires { 0 < whole }
+    ensures value { length ≤ whole → result ≡ length * 9400 / whole }
+    ensures within { result ≤ 9400 }
 {
-    u64::from(length) * units / steps
+    (u64::from(length) * SIDE / whole).min(SIDE)
 }
 
 // The corners of a box on the first two axes.

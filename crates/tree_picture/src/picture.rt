@@ -54,7 +54,7 @@ pub fn draw<const D: usize, W: Write>(
     match bounds {
         Some(bounds) => {
             let frame = Frame::round(&bounds, TOP);
-            let below = TOP + frame.height().min(WIDTH).max(LOW_MAP) + 2 * LINE;
+            let below = TOP + frame.height().max(LOW_MAP) + 2 * LINE;
             begin(layer, below, out)?;
             write_extent(&bounds, out)?;
             draw_entries(layer.entries, &frame, out)?;
@@ -96,11 +96,7 @@ fn begin<W: Write>(layer: &Drawn<'_>, below: u64, out: &mut W) -> io::Result<()>
 
 // Writes a line below the title.
 fn write_note<W: Write>(note: &str, out: &mut W) -> io::Result<()> {
-    write!(
-        out,
-        "<text x=\"{}\" y=\"500\">{}</text>\n",
-        MARGIN, note
-    )
+    write!(out, "<text x=\"{}\" y=\"500\">{}</text>\n", MARGIN, note)
 }
 
 // Writes which part of the plane is seen.
@@ -197,12 +193,6 @@ fn end<W: Write>(layer: &Drawn<'_>, below: u64, out: &mut W) -> io::Result<()> {
         top = top.saturating_add(LINE);
         name = "";
     }
-    write_entries(
-        layer.entries.len(),
-        layer.objects,
-        MOST_ENTRIES,
-        top,
-        out,
-    )?;
+    write_entries(layer.entries.len(), layer.objects, MOST_ENTRIES, top, out)?;
     out.write_all(b"</svg>\n")
 }
