@@ -30,8 +30,9 @@ pub(crate) struct Rectangle {
 /// upwards.
 #[derive(Clone, Copy, PartialEq, Eq, Debug)]
 pub(crate) struct Frame {
-    low: [i32; 2],
-    high: [i32; 2],
+    /// The corners of what is seen.
+    pub(crate) low: [i32; 2],
+    pub(crate) high: [i32; 2],
     // the length in the plane that the side of the map shows
     length: u64,
     left: u64,

@@ -4,7 +4,6 @@ ghost use Rattle.box_math.specs.Bounds.{IsDims};
 
 use crate::frame::{Frame, MARGIN, Rectangle, WIDTH};
 use crate::legend::{LINE, colour_of, stroke_of, write_entries, write_level};
-use box_math::BBox;
 use plain_table::AnyBox;
 use std::io;
 use std::io::Write;
@@ -56,7 +55,7 @@ pub fn draw<const D: usize, W: Write>(
             let frame = Frame::round(&bounds, TOP);
             let below = TOP + frame.height().max(LOW_MAP) + 2 * LINE;
             begin(layer, below, out)?;
-            write_extent(&bounds, out)?;
+            write_extent(layer, &frame, out)?;
             draw_entries(layer.entries, &frame, out)?;
             draw_levels(layer.levels, rows, &frame, out)?;
             end(layer, below, out)
@@ -100,15 +99,16 @@ fn write_note<W: Write>(note: &str, out: &mut W) -> io::Result<()> {
 }
 
 // Writes which part of the plane is seen.
-fn write_extent<const D: usize, W: Write>(bounds: &BBox<D>, out: &mut W) -> io::Result<()>
-    requires { IsDims D }
-{
-    let (low, high) = (bounds.low(), bounds.high());
-    let above = if D == 3 { "; seen from above" } else { "" };
+fn write_extent<W: Write>(layer: &Drawn<'_>, frame: &Frame, out: &mut W) -> io::Result<()> {
+    let above = if layer.axes == 3 {
+        "; seen from above"
+    } else {
+        ""
+    };
     write!(
         out,
         "<text x=\"{}\" y=\"500\">x {} to {}, y {} to {}{}</text>\n",
-        MARGIN, low[0], high[0], low[1], high[1], above
+        MARGIN, frame.low[0], frame.high[0], frame.low[1], frame.high[1], above
     )
 }
 
