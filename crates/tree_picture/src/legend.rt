@@ -23,6 +23,11 @@ pub(crate) fn stroke_of(level: u8) -> u64 {
     8 + 7 * u64::from(level).min(5)
 }
 
+/// How dense the boxes of a level are filled: leaves more than what lies above them.
+pub(crate) fn shade_of(level: u8) -> &'static str {
+    if level == 0 { "0.12" } else { "0.03" }
+}
+
 /// Writes the line of a level at such a height of the picture.
 pub(crate) fn write_level<W: Write>(
     level: &LevelStatistics,
@@ -33,17 +38,18 @@ pub(crate) fn write_level<W: Write>(
     let colour = colour_of(level.level);
     write!(
         out,
-        "<rect x=\"{}\" y=\"{}\" width=\"260\" height=\"140\" fill=\"{}\" fill-opacity=\"0.15\" \
+        "<rect x=\"{}\" y=\"{}\" width=\"260\" height=\"140\" fill=\"{}\" fill-opacity=\"{}\" \
 stroke=\"{}\" stroke-width=\"{}\"/>\n",
         MARGIN,
         top.saturating_sub(120),
         colour,
+        shade_of(level.level),
         colour,
         stroke_of(level.level)
     )?;
     write!(
         out,
-        "<text x=\"{}\" y=\"{}\">level {}{}: {} nodes, {} entries, {}.{} % full</text>\n",
+        "<text x=\"{}\" y=\"{}\">level {}{}: nodes {}, entries {}, fill {}.{} %</text>\n",
         MARGIN + 400,
         top,
         level.level,
@@ -65,7 +71,7 @@ pub(crate) fn write_entries<W: Write>(
 ) -> io::Result<()> {
     write!(
         out,
-        "<rect x=\"{}\" y=\"{}\" width=\"260\" height=\"140\" fill=\"none\" stroke=\"#555555\" \
+        "<rect x=\"{}\" y=\"{}\" width=\"260\" height=\"140\" fill=\"none\" stroke=\"#333333\" \
 stroke-width=\"5\"/>\n",
         MARGIN,
         top.saturating_sub(120)

@@ -3,7 +3,7 @@
 ghost use Rattle.box_math.specs.Bounds.{IsDims};
 
 use crate::frame::{Frame, MARGIN, Rectangle, WIDTH};
-use crate::legend::{LINE, colour_of, stroke_of, write_entries, write_level};
+use crate::legend::{LINE, colour_of, shade_of, stroke_of, write_entries, write_level};
 use plain_table::AnyBox;
 use std::io;
 use std::io::Write;
@@ -107,8 +107,8 @@ fn write_extent<W: Write>(layer: &Drawn<'_>, frame: &Frame, out: &mut W) -> io::
     };
     write!(
         out,
-        "<text x=\"{}\" y=\"500\">x {} to {}, y {} to {}{}</text>\n",
-        MARGIN, frame.low[0], frame.high[0], frame.low[1], frame.high[1], above
+        "<text x=\"{}\" y=\"500\">fanout {}; x {} to {}, y {} to {}{}</text>\n",
+        MARGIN, layer.fanout, frame.low[0], frame.high[0], frame.low[1], frame.high[1], above
     )
 }
 
@@ -119,7 +119,7 @@ fn draw_entries<W: Write>(
     out: &mut W,
 ) -> io::Result<()> {
     out.write_all(
-        b"<g fill=\"none\" stroke=\"#555555\" stroke-width=\"4\" stroke-opacity=\"0.55\">\n",
+        b"<g fill=\"none\" stroke=\"#333333\" stroke-width=\"5\" stroke-opacity=\"0.7\">\n",
     )?;
     for entry in entries {
         let place = match &entry.1 {
@@ -158,10 +158,11 @@ fn draw_level<const D: usize, W: Write>(
     let colour = colour_of(level);
     write!(
         out,
-        "<g id=\"level{}\" fill=\"{}\" fill-opacity=\"0.07\" stroke=\"{}\" stroke-width=\"{}\" \
+        "<g id=\"level{}\" fill=\"{}\" fill-opacity=\"{}\" stroke=\"{}\" stroke-width=\"{}\" \
 stroke-opacity=\"0.85\">\n",
         level,
         colour,
+        shade_of(level),
         colour,
         stroke_of(level)
     )?;
