@@ -6,8 +6,9 @@ usage: generate.py windows [N]    N windows (a million) on an empty layer, to st
        generate.py mixed WORD..   some thousand commands on small layers, those of WORDs among them, to standard output
        generate.py scene FOLDER BOXES [SHAPE [AXES [FANOUT]]]
            files in FOLDER, each of one operation on a layer of so many boxes (`scene` says which), and the file `counts`:
-           a line for each, its name and how many commands it has. SHAPE is `uniform` or `clustered`, AXES 2 or 3, and a node
-           of the layer has at most FANOUT entries (100)
+           a line for each, its name and how many commands it has. SHAPE is `uniform`, `clustered` or `coast`, AXES 2 or 3,
+           and a node of the layer has at most FANOUT entries (100). Boxes of `coast` are those of examples/coast.py, so
+           many of them as are asked for, in a shuffled order, and windows and points lie on them
 
        generate.py tags FOLDER [BOXES]
            files in FOLDER, each of one operation: so many boxes (100,000) with a hundred tags that are inserted, and windows
@@ -18,7 +19,10 @@ usage: generate.py windows [N]    N windows (a million) on an empty layer, to st
 
 A box of a scene has sides that are uniform from 0 to a length with which a point is held by a tenth of a box.
 """
+import itertools
+import os
 import random
+import subprocess
 import sys
 from statistics import NormalDist
 
@@ -58,6 +62,47 @@ class Scene:
         return lows + [low + sides for low in lows]
 
 
+class Coast:
+    """So many lines of the coast of the world, and windows and points on them."""
+
+    def __init__(self, boxes):
+        made = os.path.join(os.path.dirname(__file__), "..", "examples", "coast.py")
+        with subprocess.Popen([sys.executable, made, "coast"], stdout=subprocess.PIPE, text=True) as process:
+            rows = itertools.islice(process.stdout, 1, None)
+            self.all = [list(map(int, row.split(",")[1:5])) for row in rows]
+        random.shuffle(self.all)
+        del self.all[boxes:]
+        self.next, self.sides = itertools.cycle(self.all), {}
+
+    def width(self, rows):
+        """The sides of a window on the coast that meets about so many boxes, by a hundredth of them."""
+        if rows not in self.sides:
+            some, asked = self.all[:: max(1, len(self.all) // 20000)], [self.point() for _ in range(25)]
+            low, high = 0, 1 << 24
+            while high - low > 1 + low // 50:
+                side = (low + high) // 2
+                half = side // 2
+                met = sum(
+                    low_x <= x + half and x - half <= high_x and low_y <= y + half and y - half <= high_y
+                    for x, y in asked
+                    for low_x, low_y, high_x, high_y in some
+                )
+                low, high = (low, side) if met * len(self.all) > rows * len(some) * len(asked) else (side, high)
+            self.sides[rows] = high
+        return self.sides[rows]
+
+    def point(self):
+        return random.choice(self.all)[:2]
+
+    def box(self):
+        return next(self.next)
+
+    def window(self, rows):
+        side = int(self.width(rows))
+        lows = [at - side // 2 for at in self.point()]
+        return lows + [low + side for low in lows]
+
+
 def text(*words):
     return " ".join(str(each) for word in words for each in (word if isinstance(word, list) else [word]))
 
@@ -71,7 +116,7 @@ def shuffled(count):
 def scene(folder, boxes, shape="uniform", axes="2", fanout="100"):
     """Each operation's commands, but for how a layer is made and that changes are kept."""
     boxes, axes = int(boxes), int(axes)
-    at = Scene(boxes, shape, axes)
+    at = Coast(boxes) if shape == "coast" else Scene(boxes, shape, axes)
     changes = min(boxes // 10, 100000)
     operations = {
         "insert": (boxes, (text("insert a", place, at.box()) for place in shuffled(boxes))),

@@ -6,6 +6,7 @@
 #   bench/peers.sh                              100,000 uniform boxes of two axes in memory
 #   bench/peers.sh BOXES [SHAPE [AXES [PLACE]]] each may be a list, as '100000 1000000' 'uniform clustered' '2 3' 'memory file'
 #   bench/peers.sh all                          these four lists
+#   bench/peers.sh coast                        the coast of the world, 1.8 million boxes in a shuffled order (examples/coast.py)
 #   ROUNDS=N FANOUT=M bench/peers.sh ..         N rounds, and three where it is not said; at most M entries a node of
 #                                               the program's trees, and 100 where it is not said
 #
@@ -19,6 +20,7 @@
 # A reopening closes and opens the files, so the first question after it finds no page cached.
 set -eu
 here=$(cd "$(dirname "$0")" && pwd)
+[ "${1:-}" != coast ] || set -- 1835089 coast 2 'memory file'
 [ "${1:-}" != all ] || set -- '100000 1000000' 'uniform clustered' '2 3' 'memory file'
 sizes=${1:-100000} shapes=${2:-uniform} axes=${3:-2} places=${4:-memory}
 work=$(mktemp -d)

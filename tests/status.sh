@@ -103,7 +103,8 @@ open(path + "-journal", "wb").write(b"".join(blocks if what == "foreign" else bl
 END
 }
 
-unopened='rstore: cannot open the file'
+unopened='rstore: cannot open FILE'
+missing="$unopened: no such file"
 failed='rstore: input or output failed'
 in_use='rstore: FILE is in use'
 unended='rstore: the last run did not end; what it had closed is kept'
@@ -135,14 +136,20 @@ for made in "$program" "$program.by-rattle"; do
     mkdir folder
     mkfifo fifo
     printf 'some bytes' >bytes
-    line=$unopened status=1
+    line=$missing status=1
     refused _ _ store "$made" store
     [ ! -e store ] || wrong "a file was made without --create"
     for path in folder folder/none/store fifo /dev/null ''; do
+        case $path in
+        folder) line="$unopened: is a directory" ;;
+        */none/* | '') line=$missing ;;
+        *) line=$unopened ;;
+        esac
         refused _ _ "$path" "$made" "$path"
         refused _ _ "$path" "$made" --create "$path"
         refused _ _ "$path" "$made" --read-only "$path"
     done
+    line=$missing
     refused _ _ store "$made" --read-only store
     line='rstore: the file is not empty'
     refused _ _ bytes "$made" --create bytes
@@ -244,7 +251,7 @@ for made in "$program" "$program.by-rattle"; do
     chmod 600 store
     if [ "$(id -u)" -ne 0 ]; then
         chmod 000 store
-        line=$unopened
+        line="$unopened: permission denied"
         refused _ _ none "$made" store
         refused _ _ none "$made" --read-only store
         chmod 400 store

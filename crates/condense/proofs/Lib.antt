@@ -1,6 +1,7 @@
 -- The files of lemmas.
 pub mod BelowLemmas
 pub mod CutLemmas
+pub mod DamageLemmas
 pub mod FillLemmas
 pub mod FreeLemmas
 pub mod HoldLemmas

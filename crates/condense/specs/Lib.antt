@@ -3,3 +3,4 @@ pub mod Removal
 pub mod Taken
 pub mod Filled
 pub mod Removed
+pub mod Spelled

@@ -1,14 +1,16 @@
 //! What a removal has kept, inserted again.
 
-ghost use Rattle.std.specs.Prelude.{◌≡◌, ◌^◌, ◌*◌, ◌<◌, ◌≤◌, ℕ, List, IfOk, IfErr};
+ghost use Rattle.std.specs.Prelude.{◌≡◌, ◌^◌, ◌*◌, ◌<◌, ◌≤◌, ℕ, List, [], None, Ok, IfOk, IfErr};
+ghost use Rattle.std.specs.Prelude.{OnOk};
 ghost use Rattle.arrayvec.specs.ArrayVec.{array_vec_len};
 ghost use Rattle.box_math.specs.Bounds.{IsDims};
+ghost use Rattle.page_file.specs.declared.fault.Fault.TheVariants as fault;
 ghost use Rattle.page_file.specs.declared.gate.Gate.TheVariants.{Open};
 ghost use Rattle.page_cache.specs.Cache.{Grows, IsPageMap, gate_of, pages};
-ghost use Rattle.page_cache.specs.Calls.{Changes};
+ghost use Rattle.page_cache.specs.Calls.{AsksUntil, Changes};
 ghost use Rattle.tree_node.specs.Rows.{Waiter};
 ghost use Rattle.tree_node.specs.Trees.{Tree};
-ghost use Rattle.node_page.specs.Faults.{IsChangeFault, IsNoDamage};
+ghost use Rattle.node_page.specs.Faults.{IsChangeFault, IsNoDamage, NamesInRange};
 ghost use Rattle.reinsert.specs.Inserted.{most_new_pages};
 ghost use Rattle.condense.specs.Filled.{CanFill, CanFillShaped, FillsTo};
 ghost use Rattle.condense.specs.Removed.{IsRoot};
@@ -37,6 +39,7 @@ pub(crate) fn insert_kept<const D: usize, B: BlockDevice, A: Allocator + Copy>(
     ensures changes { Changes cache.old cache.new result }
     ensures grows { Grows (most_new_pages * array_vec_len kept.old.orphans) cache.old cache.new }
     ensures root { IfOk result IsRoot }
+    ensures none { kept.old.orphans.items ≡ [] → (result ≡ Ok root) × AsksUntil cache.old cache.new None }
     ensures filled { IsPageMap cache.old → (t : Tree) (ws : List Waiter) (elsewhere : ℕ → ℕ)
         → CanFill D (pages cache.old) root t ws elsewhere (held_now kept.old)
         → IfOk result (λ after. IsPageMap cache.new
@@ -44,6 +47,8 @@ pub(crate) fn insert_kept<const D: usize, B: BlockDevice, A: Allocator + Copy>(
     ensures faults { IsPageMap cache.old → (t : Tree) (ws : List Waiter) (elsewhere : ℕ → ℕ)
         → CanFill D (pages cache.old) root t ws elsewhere (held_now kept.old) → CanFillShaped D m_max t ws
         → IfErr result (IsNoDamage cache.new) }
+    ensures sound { IsPageMap cache.old → OnOk result (IsPageMap cache.new) }
+    ensures number { IsPageMap cache.old → IfErr result NamesInRange }
     ensures other_faults { IfErr result IsChangeFault }
 {
     let mut now = root;

@@ -1,15 +1,18 @@
 //! A tree freed.
 
-ghost use Rattle.std.specs.Prelude.{◌≡◌, ◌⊎◌, ◌≤◌, Some, false, OnOk, IfErr};
+ghost use Rattle.std.specs.Prelude.{◌≡◌, ◌⊎◌, ◌≤◌, ◌+◌, ℕ, Some, false, OnOk, IfErr};
 ghost use Rattle.box_math.specs.Bounds.{IsDims};
 ghost use Rattle.page_file.specs.Fault.{IsDamage, IsOfDevice};
+ghost use Rattle.page_file.specs.declared.fault.Fault.TheVariants as fault;
 ghost use Rattle.page_file.specs.declared.gate.Gate.TheVariants.{Open};
-ghost use Rattle.page_cache.specs.Cache.{Grows, IsPageMap, gate_of, pages, touched_of};
+ghost use Rattle.page_cache.specs.Cache.{Grows, IsHonest, IsPageMap, gate_of, given, pages, touched_of};
 ghost use Rattle.page_cache.specs.Calls.{AsksUntil, Changes};
 ghost use Rattle.tree_node.specs.Trees.{Tree, occurs_in};
+ghost use Rattle.node_page.specs.Checked.{ComesTo};
 ghost use Rattle.node_page.specs.Parts.{Moves, no_page};
 ghost use Rattle.node_page.specs.Standing.{Stands};
 ghost use Rattle.reinsert.specs.Inserted.{IsRootOf};
+ghost use Rattle.condense.specs.Spelled.{AddsNoNode, KeepsNodes};
 
 use crate::children::{child_count, child_of};
 use block_device::BlockDevice;
@@ -24,8 +27,11 @@ use tree_node::Root;
 /// Where the pages are a sound map, and stand for a tree there, none of the tree's pages is live after `Ok`,
 /// and all others are as before. A refusal is of memory or of the device then, and the map stays sound. One
 /// after which the cache is not touched (`is_touched`) came before the first page was freed: pages were only
-/// asked for. In other pages one may also be damaged. Also after a refusal no more pages are live than
-/// before.
+/// asked for. Also after a refusal no more pages are live than before.
+///
+/// In other pages one may also be damaged. Where the map is sound, or no page is touched, `Damaged` names a
+/// page that a walk down the nodes, as they were before the first page was freed, comes to. In a sound map
+/// that stays sound after `Ok`, nodes only went, and of those above the root's level none.
 pub fn free_tree<const D: usize, B: BlockDevice, A: Allocator + Copy>(
     cache: &mut PageCache<B, A>,
     root: Root,
@@ -42,6 +48,11 @@ pub fn free_tree<const D: usize, B: BlockDevice, A: Allocator + Copy>(
         → IsPageMap cache.new }
     ensures faults { IsPageMap cache.old → (t : Tree) → IsRootOf root t → Stands D (pages cache.old) t
         → 3 ≤ root.page → IfErr result IsOfDevice }
+    ensures nodes { IsPageMap cache.old → OnOk result (IsPageMap cache.new
+        × AddsNoNode D (pages cache.old) (pages cache.new)
+        × KeepsNodes D (root.level + 1) (pages cache.old) (pages cache.new)) }
+    ensures damage { IsHonest cache.old → IsPageMap cache.old ⊎ (touched_of cache.new ≡ false)
+        → IfErr result (λ f. (n : ℕ) → f ≡ fault.Damaged n → ComesTo D (given cache.old) root.page n) }
     ensures other_faults { IfErr result (λ f. IsOfDevice f ⊎ IsDamage f) }
 {
     let node = read_node::<D, B, A>(cache, root.page, root.level)?;

@@ -5,7 +5,8 @@ ghost use Rattle.std.specs.Prelude.{map};
 ghost use Rattle.std.specs.Prelude.{slice_index_or};
 ghost use Rattle.box_math.specs.Bounds.{IsDims};
 ghost use Rattle.page_file.specs.Fault.{IsDamage, IsOfDevice};
-ghost use Rattle.page_cache.specs.Cache.{IsHonest, pages};
+ghost use Rattle.page_file.specs.declared.fault.Fault.TheVariants as fault;
+ghost use Rattle.page_cache.specs.Cache.{IsHonest, given, pages};
 ghost use Rattle.page_cache.specs.Calls.{Asks};
 ghost use Rattle.tree_node.specs.Nodes.{Item, NodeContent, content_of, item_of};
 ghost use Rattle.node_page.specs.Standing.{node_in};
@@ -68,6 +69,9 @@ pub(crate) fn take_here<const D: usize, B: BlockDevice, A: Allocator + Copy>(
         → ¬ (slice_index_or c.entries at d ≡ record { bounds = bounds.now; reference = id; tag = tag })) }
     ensures there { IsHonest cache.old → (c : NodeContent) → node_in D (pages cache.old page) ≡ Some c
         → c.level ≡ 0 → IfErr result IsOfDevice }
+    ensures given_leaf { IsHonest cache.old → IfOk result (λ found. found ≡ true → (c : NodeContent)
+        × (node_in D (given cache.old page) ≡ Some c) × (c.level ≡ 0)) }
+    ensures faults { IsHonest cache.old → IfErr result (λ f. IsOfDevice f ⊎ (f ≡ fault.Damaged page)) }
     ensures other_faults { IfErr result (λ f. IsOfDevice f ⊎ IsDamage f) }
 {
     let leaf = view_node::<D, B, A>(cache, page, 0)?;

@@ -3,7 +3,8 @@
 ghost use Rattle.std.specs.Prelude.{◌≡◌, ◌⊎◌, ◌<◌, ℕ, IfErr, IfNone, IfOk, IfSome, Some, length};
 ghost use Rattle.box_math.specs.Bounds.{IsDims, Within};
 ghost use Rattle.page_file.specs.Fault.{IsDamage, IsOfDevice};
-ghost use Rattle.page_cache.specs.Cache.{IsHonest, IsLive, pages};
+ghost use Rattle.page_file.specs.declared.fault.Fault.TheVariants as fault;
+ghost use Rattle.page_cache.specs.Cache.{IsHonest, IsLive, given, pages};
 ghost use Rattle.page_cache.specs.Calls.{Asks};
 ghost use Rattle.tree_node.specs.Boxes.{box_at};
 ghost use Rattle.tree_node.specs.Nodes.{NodeContent, content_of};
@@ -48,6 +49,8 @@ pub(crate) fn read_enclosing<const D: usize, B: BlockDevice, A: Allocator + Copy
     ensures asks { Asks cache.old cache.new result }
     ensures node { IsHonest cache.old → IsLive cache.old at.page → IfOk result (λ first. IfSome first (λ _.
         node_in D (pages cache.old at.page) ≡ Some (content_of node.new))) }
+    ensures given_node { IsHonest cache.old → IfOk result (λ first. IfSome first (λ _.
+        node_in D (given cache.old at.page) ≡ Some (content_of node.new))) }
     ensures level { IfOk result (λ first. IfSome first (λ _. node.new.level ≡ at.level)) }
     ensures spellable { IfOk result (λ first. IfSome first (λ _. IsSpellable (content_of node.new))) }
     ensures before { IsHonest cache.old → (c : NodeContent) → node_in D (pages cache.old at.page) ≡ Some c
@@ -58,6 +61,7 @@ pub(crate) fn read_enclosing<const D: usize, B: BlockDevice, A: Allocator + Copy
         → ¬ Within D bounds.now (box_at c.entries k))) }
     ensures there { IsHonest cache.old → (c : NodeContent) → node_in D (pages cache.old at.page) ≡ Some c
         → c.level ≡ at.level → IfErr result IsOfDevice }
+    ensures faults { IsHonest cache.old → IfErr result (λ f. IsOfDevice f ⊎ (f ≡ fault.Damaged at.page)) }
     ensures other_faults { IfErr result (λ f. IsOfDevice f ⊎ IsDamage f) }
 {
     let view = view_node::<D, B, A>(cache, at.page, at.level)?;

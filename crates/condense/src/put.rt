@@ -10,14 +10,16 @@ ghost use Rattle.page_file.specs.Fault.{IsDamage, IsOfDevice};
 ghost use Rattle.page_file.specs.Pages.{SameBut};
 ghost use Rattle.page_file.specs.declared.gate.Gate.TheVariants.{Open};
 ghost use Rattle.page_cache.specs.Cache.{Grows, IsHonest, IsLive, IsPageMap, gate_of, pages};
+ghost use Rattle.page_cache.specs.Cache.{touched_of};
 ghost use Rattle.page_cache.specs.Calls.{Changes};
 ghost use Rattle.tree_node.specs.Boxes.{least_box};
-ghost use Rattle.tree_node.specs.Nodes.{content_of, item_of};
+ghost use Rattle.tree_node.specs.Nodes.{NodeContent, content_of, item_of};
 ghost use Rattle.tree_node.specs.Shape;
 ghost use Rattle.tree_node.specs.Trees.{Row};
 ghost use Rattle.node_page.specs.Layout.{IsSpellable};
 ghost use Rattle.node_page.specs.Standing.{PageMap, node_in};
 ghost use Rattle.reinsert.specs.Placed.{Held, held_with, set_box};
+ghost use Rattle.condense.specs.Spelled.{KeepsNodes, page_at};
 ghost use Rattle.condense.specs.Taken.{HasTaken, IsCut, IsSettledBelow, TookBelow, held_now, items_without};
 
 use crate::children::child_of;
@@ -80,6 +82,14 @@ pub(crate) fn put_child<const D: usize, B: BlockDevice, A: Allocator + Copy>(
         settled.old
         → IfErr result IsOfDevice }
     ensures settled { settled.new ≡ true → OnOk result (content_of node.new ≡ content_of node.old) }
+    ensures sound { IsPageMap cache.old → (c : NodeContent)
+        → node_in D (pages cache.old (page_at (map item_of node.old.entries.items) place)) ≡ Some c
+        → c.level < node.old.level
+        → IsPageMap cache.new × KeepsNodes D node.old.level (pages cache.old) (pages cache.new) }
+    ensures live_faults { IsPageMap cache.old
+        → IsLive cache.old (page_at (map item_of node.old.entries.items) place) → IfErr result IsOfDevice }
+    ensures touched { IsLive cache.old (page_at (map item_of node.old.entries.items) place)
+        → OnOk result ((kept.new.orphans.items ≡ kept.old.orphans.items) ⊎ (touched_of cache.new ≡ true)) }
     ensures other_faults { IfErr result (λ f. IsOfDevice f ⊎ IsDamage f) }
 {
     let page = child_of(node, place).page;
@@ -118,6 +128,7 @@ fn leave_out<const D: usize, B: BlockDevice, A: Allocator + Copy>(
         ≡ items_without (map item_of node.old.entries.items) place) }
     ensures held { OnOk result (held_now kept.new ≡ held_now kept.old
         ++ reverse (map (held_with (node.old.level - 1)) lower.now.entries.items)) }
+    ensures touched { IsLive cache.old page → OnOk result (touched_of cache.new ≡ true) }
     ensures faults { IsPageMap cache.old → IsLive cache.old page → IfErr result IsOfDevice }
     ensures other_faults { IfErr result (λ f. IsOfDevice f ⊎ IsDamage f) }
 {

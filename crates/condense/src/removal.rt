@@ -1,20 +1,24 @@
 //! A lawful removal: the object leaves, what is kept comes back, and the root gives way.
 
-ghost use Rattle.std.specs.Prelude.{◌≡◌, ◌*◌, ◌<◌, ◌≤◌, ◌∷◌, ℕ, IfOk, IfErr, true, false, map};
+ghost use Rattle.std.specs.Prelude.{◌≡◌, ◌⊎◌, ◌*◌, ◌<◌, ◌≤◌, [], ◌∷◌, ℕ, IfOk, IfErr, true, false, map};
+ghost use Rattle.std.specs.Prelude.{◌^◌};
 ghost use Rattle.std.specs.List.{Contains};
 ghost use Rattle.std.specs.List.Sorted.{IsPermutation};
 ghost use Rattle.arrayvec.specs.ArrayVec.{array_vec_len};
 ghost use Rattle.box_math.specs.Bounds.{IsDims};
 ghost use Rattle.box_math.specs.Objects.{Object};
+ghost use Rattle.page_file.specs.Fault.{IsOfDevice};
+ghost use Rattle.page_file.specs.declared.fault.Fault.TheVariants as fault;
 ghost use Rattle.page_file.specs.declared.gate.Gate.TheVariants.{Open};
-ghost use Rattle.page_cache.specs.Cache.{Grows, IsPageMap, gate_of, pages};
+ghost use Rattle.page_cache.specs.Cache.{Grows, IsLive, IsPageMap, gate_of, given, pages, touched_of};
 ghost use Rattle.page_cache.specs.Calls.{Changes};
 ghost use Rattle.tree_node.specs.Boxes.{RowHasBoxes};
 ghost use Rattle.tree_node.specs.Nodes.{content_of, item_of};
 ghost use Rattle.tree_node.specs.Shape.{HasShape};
 ghost use Rattle.tree_node.specs.Trees.{Tree, objects_in};
+ghost use Rattle.node_page.specs.Checked.{ComesTo};
 ghost use Rattle.node_page.specs.Standing.{PageMap, Stands, node_in};
-ghost use Rattle.node_page.specs.Faults.{IsChangeFault, IsNoDamage};
+ghost use Rattle.node_page.specs.Faults.{IsChangeFault, IsNoDamage, NamesInRange};
 ghost use Rattle.reinsert.specs.Inserted.{IsRootOf, most_new_pages};
 ghost use Rattle.condense.specs.Removed.{CanRemove, IsRefused, IsRoot, RemovesTo, TookOut};
 ghost use Rattle.condense.specs.Removed.{most_removal_pages};
@@ -46,6 +50,10 @@ use tree_node::{Node, Root};
 /// refusal is of memory or of the device, or each page number is live (`NoPages`). Where no leaf has the
 /// object, no page is touched, and that is `Damaged` with the root's page, unless memory or the device
 /// refused before. Also after a refusal, at most `most_removal_pages` more pages are live.
+///
+/// Whatever nodes the pages are, where the map is sound `Damaged` names a page from 3 to 2^31 - 1. Where the
+/// cache is not touched after it, that is one that a walk down the nodes comes to; else it may be that of a
+/// node that came meanwhile.
 pub fn remove<const D: usize, B: BlockDevice, A: Allocator + Copy, H: Allocator + Copy>(
     alloc: H,
     cache: &mut PageCache<B, A>,
@@ -78,6 +86,9 @@ pub fn remove<const D: usize, B: BlockDevice, A: Allocator + Copy, H: Allocator 
         → CanRemove D (pages cache.old) root t elsewhere → HasShape D m_max t → RowHasBoxes D t.row
         → Contains (objects_in t.row) (id, (bounds.now, tag)) →
         IfErr result (IsNoDamage cache.new) }
+    ensures damage { IsPageMap cache.old → touched_of cache.new ≡ false
+        → IfErr result (λ f. (n : ℕ) → f ≡ fault.Damaged n → ComesTo D (given cache.old) root.page n) }
+    ensures number { IsPageMap cache.old → IfErr result NamesInRange }
     ensures other_faults { IfErr result IsChangeFault }
 {
     let mut waiting = Waiting::make(alloc)?;
@@ -120,6 +131,9 @@ pub fn remove_with<const D: usize, B: BlockDevice, A: Allocator + Copy>(
         → CanRemove D (pages cache.old) root t elsewhere → HasShape D m_max t → RowHasBoxes D t.row
         → Contains (objects_in t.row) (id, (bounds.now, tag)) →
         IfErr result (IsNoDamage cache.new) }
+    ensures damage { IsPageMap cache.old → touched_of cache.new ≡ false
+        → IfErr result (λ f. (n : ℕ) → f ≡ fault.Damaged n → ComesTo D (given cache.old) root.page n) }
+    ensures number { IsPageMap cache.old → IfErr result NamesInRange }
     ensures other_faults { IfErr result IsChangeFault }
 {
     kept.begin();
@@ -177,6 +191,10 @@ fn put_root<const D: usize, B: BlockDevice, A: Allocator + Copy>(
         → (settled ≡ true → node_in D (pages cache.old root.page) ≡ Some (content_of node.now))
         → HasShape D m_max t → RowHasBoxes D t.row
         → IfErr result (IsNoDamage cache.new) }
+    ensures damage { IsPageMap cache.old → IsLive cache.old root.page
+        → (kept.old.orphans.items ≡ []) ⊎ (touched_of cache.old ≡ true) → touched_of cache.new ≡ false
+        → IfErr result (λ f. IsOfDevice f ⊎ (f ≡ fault.Damaged root.page)) }
+    ensures number { IsPageMap cache.old → IsLive cache.old root.page → IfErr result NamesInRange }
     ensures other_faults { IfErr result IsChangeFault }
 {
     if lacks_entries(node) {

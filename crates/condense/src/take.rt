@@ -1,16 +1,20 @@
 //! An object taken out below a node, and the nodes between condensed.
 
-ghost use Rattle.std.specs.Prelude.{◌≡◌, ◌⊎◌, ◌+◌, ◌*◌, ◌<◌, ◌≤◌, IfOk, IfErr, None, OnErr, false, true, map};
+ghost use Rattle.std.specs.Prelude.{◌≡◌, ◌⊎◌, ◌+◌, ◌*◌, ◌<◌, ◌≤◌, ℕ, IfOk, IfErr, None, OnErr, false, true};
+ghost use Rattle.std.specs.Prelude.{map};
 ghost use Rattle.std.specs.List.{Contains};
 ghost use Rattle.arrayvec.specs.ArrayVec.{array_vec_len};
 ghost use Rattle.box_math.specs.Bounds.{IsDims};
 ghost use Rattle.page_file.specs.Fault.{IsDamage, IsOfDevice};
+ghost use Rattle.page_file.specs.declared.fault.Fault.TheVariants as fault;
 ghost use Rattle.page_file.specs.declared.gate.Gate.TheVariants.{Open};
-ghost use Rattle.page_cache.specs.Cache.{Grows, IsPageMap, gate_of, pages, touched_of};
+ghost use Rattle.page_cache.specs.Cache.{Grows, IsPageMap, gate_of, given, pages, touched_of};
 ghost use Rattle.page_cache.specs.Calls.{AsksUntil, Changes};
 ghost use Rattle.tree_node.specs.Nodes.{content_of, item_of};
 ghost use Rattle.tree_node.specs.Trees.{Row, objects_in};
+ghost use Rattle.node_page.specs.Checked.{ComesTo};
 ghost use Rattle.node_page.specs.Standing.{Stands, node_in};
+ghost use Rattle.condense.specs.Spelled.{StaysAbove};
 ghost use Rattle.condense.specs.Taken.{HasTaken, IsCut, LeadsTo, held_now, tree_at};
 
 use crate::children::child_of;
@@ -30,7 +34,7 @@ use tree_node::{Node, Root};
 // its box, and condenses the nodes between: whether there was one. `node` is then what this node has become,
 // not yet written, and `settled` tells whether its page has it as it is. Where no such leaf has the object,
 // nothing is written. Pages are viewed, and only those decoded that have the object or a child where it may
-// be.
+// be. In a sound map `Damaged` names a page that a walk down the nodes, as they were, comes to.
 pub(crate) fn take_out<const D: usize, B: BlockDevice, A: Allocator + Copy>(
     cache: &mut PageCache<B, A>,
     at: Root,
@@ -66,6 +70,12 @@ pub(crate) fn take_out<const D: usize, B: BlockDevice, A: Allocator + Copy>(
         → OnErr result (touched_of cache.new ≡ touched_of cache.old) }
     ensures faults { IsPageMap cache.old → (row : Row) → Stands D (pages cache.old) (tree_at at row)
         → IfErr result IsOfDevice }
+    ensures sound { IsPageMap cache.old → IfOk result (λ found. found ≡ true → IsPageMap cache.new
+        × StaysAbove D at.page at.level (pages cache.old) (pages cache.new)) }
+    ensures touched { IsPageMap cache.old → IfOk result (λ found. found ≡ true
+        → (kept.new.orphans.items ≡ kept.old.orphans.items) ⊎ (touched_of cache.new ≡ true)) }
+    ensures damage { IsPageMap cache.old
+        → IfErr result (λ f. (n : ℕ) → f ≡ fault.Damaged n → ComesTo D (given cache.old) at.page n) }
     ensures other_faults { IfErr result (λ f. IsOfDevice f ⊎ IsDamage f) }
 {
     if at.level == 0 {

@@ -9,15 +9,26 @@ use crate::host::{HostFile, HostReader};
 use crate::{FileDevice, FileReader};
 use block_device::{BlockDevice, DeviceError};
 use std::alloc::AllocError;
-use std::fs::{self, File, Files, OpenOptions, TryLockError};
+use std::fs::{self, File, Files, Metadata, OpenOptions, TryLockError};
+use std::io::{self, ErrorKind};
 use std::os::fd::AsRawFd;
 use thiserror::Error;
 
 /// Why a file was not opened. It is as it was.
 #[derive(Clone, Copy, Debug, PartialEq, Eq, Drop, Error)]
 pub enum OpenError {
-    /// The system refuses it, it is no regular file, or it has more than 2^31 blocks of 4096 bytes.
-    #[error("cannot open the file")]
+    /// There is none, or a folder on its path is missing.
+    #[error("cannot open FILE: no such file")]
+    NotFound,
+    /// The system gives no right to open it so.
+    #[error("cannot open FILE: permission denied")]
+    PermissionDenied,
+    /// It is a folder.
+    #[error("cannot open FILE: is a directory")]
+    IsADirectory,
+    /// The system refuses it for another reason, it is no regular file, or it has more than 2^31 blocks of
+    /// 4096 bytes.
+    #[error("cannot open FILE")]
     Refused,
     /// Another program has locked it.
     #[error("FILE is in use")]
@@ -37,6 +48,29 @@ pub enum OpenError {
     /// Memory was refused.
     #[error("no memory")]
     Memory,
+}
+
+impl OpenError {
+    /// Whether the system refuses the file itself, or it is none that can be a device.
+    pub fn is_of_system(self) -> bool {
+        matches!(
+            self,
+            OpenError::NotFound
+                | OpenError::PermissionDenied
+                | OpenError::IsADirectory
+                | OpenError::Refused
+        )
+    }
+
+    // What the system says of a file that it doesn't open.
+    fn of_system(error: &io::Error) -> Self {
+        match error.kind() {
+            ErrorKind::NotFound => OpenError::NotFound,
+            ErrorKind::PermissionDenied => OpenError::PermissionDenied,
+            ErrorKind::IsADirectory => OpenError::IsADirectory,
+            _ => OpenError::Refused,
+        }
+    }
 }
 
 impl From<AllocError> for OpenError {
@@ -81,8 +115,8 @@ pub fn open_reader<R: Files<File = File>>(
 {
     // A pipe is not opened: the system waits for its writer.
     match fs::metadata(rt, path) {
-        Ok(found) if found.is_file() => {}
-        _ => return Err(OpenError::Refused),
+        Ok(found) => check_regular(&found)?,
+        Err(error) => return Err(OpenError::of_system(&error)),
     }
     let file = regular(rt, path, OpenOptions::new().read(true))?;
     locked(file.try_lock_shared())?;
@@ -108,8 +142,9 @@ fn made_or_opened<R: Files<File = File>>(
 pub(crate) fn made<R: Files<File = File>>(rt: &R, path: &str) -> Result<File, OpenError>
     ensures { IfOk result (λ f. IsOwnNumber (file_raw_fd f)) }
 {
-    let Ok(folder) = File::open(rt, folder_of(path)) else {
-        return Err(OpenError::Refused);
+    let folder = match File::open(rt, folder_of(path)) {
+        Ok(folder) => folder,
+        Err(error) => return Err(OpenError::of_system(&error)),
     };
     check_number(&folder)?;
     let file = opened(
@@ -136,14 +171,27 @@ fn opened<R: Files<File = File>>(rt: &R, path: &str, how: &OpenOptions) -> Resul
 fn regular<R: Files<File = File>>(rt: &R, path: &str, how: &OpenOptions) -> Result<File, OpenError>
     ensures { IfOk result (λ f. IsOwnNumber (file_raw_fd f)) }
 {
-    let Ok(file) = how.open(rt, path) else {
-        return Err(OpenError::Refused);
+    let file = match how.open(rt, path) {
+        Ok(file) => file,
+        Err(error) => return Err(OpenError::of_system(&error)),
     };
     check_number(&file)?;
     match file.metadata() {
-        Ok(found) if found.is_file() => Ok(file),
-        _ => Err(OpenError::Refused),
+        Ok(found) => check_regular(&found)?,
+        Err(error) => return Err(OpenError::of_system(&error)),
     }
+    Ok(file)
+}
+
+// Refuses what is no regular file.
+fn check_regular(found: &Metadata) -> Result<(), OpenError> {
+    if found.is_dir() {
+        return Err(OpenError::IsADirectory);
+    }
+    if !found.is_file() {
+        return Err(OpenError::Refused);
+    }
+    Ok(())
 }
 
 // Refuses a file that has the number of a standard stream.

@@ -66,6 +66,11 @@ pub next_is_low : (es : List Entry) → next_class es ≤ 1000
 next_is_low [] = omega arith
 next_is_low (e ∷ es) = omega arith
 
+pub class_of_first : (es : List Entry) (other : Entry) → 0 < length es
+    → class_of (get_or es 0 other).0 ≡ first_class es
+class_of_first [] other some = absurd (omega (arith, some))
+class_of_first (e ∷ es) other some = refl
+
 pub next_of_some : (es : List Entry) → 0 < length es
     → (next_class es ≡ first_class es) × (next_class es < 1000)
 next_of_some [] some = absurd (omega (arith, some))

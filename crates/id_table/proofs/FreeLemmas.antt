@@ -1,11 +1,11 @@
 -- Pages freed one after the other.
 use Rattle.std.proofs.Common.{◌≡◌, ◌∙◌, ℕ, ◌+◌, ◌<◌, ◌≤◌, cond, eqb, Some, None, List, [], ◌∷◌, ◌++◌, length}
-use Rattle.std.proofs.Common.{take, drop, sum_by, refl, sym, ap, subst, ⊎_elim, arith}
+use Rattle.std.proofs.Common.{take, drop, sum_by, refl, sym, ap, subst, true, ⊎_elim, arith}
 use Rattle.std.proofs.lemmas.Bool.{cases_eq}
 use Rattle.std.proofs.lemmas.List.{append_assoc, take-append-drop}
 use Rattle.std.proofs.lemmas.List.Sums.{sum_by-append, sum_by_more}
 use Rattle.bucket_page.specs.Layout.{BucketContent}
-use Rattle.page_cache.specs.Cache.{Grows, IsLive, IsPageMap, next_of, pages}
+use Rattle.page_cache.specs.Cache.{Grows, IsHonest, IsLive, IsPageMap, given, next_of, pages, touched_of}
 use Rattle.page_cache.specs.Calls.{ChangesUntil, changes_in_turn}
 use Rattle.page_cache.specs.declared.cache.PageCache.{PageCache}
 use Rattle.page_file.specs.Pages.{SameBut}
@@ -15,8 +15,10 @@ use Rattle.node_page.proofs.PartLemmas.{none_or_some}
 use Rattle.id_table.specs.Pages.{Frees}
 use Rattle.id_table.specs.Table.{Bucket, ChainStands, IdTable, IdsStand, bucket_in, chain_at, link_at}
 use Rattle.id_table.specs.Table.{occurs_in_chain, occurs_in_ids, part_of}
+use Rattle.id_table.specs.Walks.{IsAlong, MeetsAlong, NamesNext, NamesNoMore}
 use Rattle.id_table.proofs.BucketLemmas.{is_there, page_of_bucket}
 use Rattle.id_table.proofs.GetLemmas.{chain_is_short}
+use Rattle.id_table.proofs.MeetLemmas.{along_on, freed_names_no_more, meets_here, no_more_in_turn}
 use Rattle.id_table.proofs.PlaceLemmas.{here_at, occurs-append}
 use Rattle.id_table.proofs.ReplaceLemmas.{chain_stays}
 use Rattle.id_table.proofs.TableLemmas.{chain_in_table, not_there}
@@ -77,17 +79,27 @@ module _ {B A : Type 0} {m : _} where
     pub frees : Frees (pages old) (pages now) (chain_part before)
     pub long : length chain ≡ freed + length rest
 
-  pub record Freeing (dims first : ℕ) (old now : PageCache B A m) (freed number : ℕ) : Type 0 where
+  -- what a change leaves of the pages that it walks along: a sound map, and no page that names one more
+  abbrev pub Keeps : ℕ → PageCache B A m → PageCache B A m → Type 0
+  Keeps dims old now = IsPageMap now × NamesNoMore dims (given old) (given now)
+
+  pub record Freeing (dims first : ℕ) (old now : PageCache B A m) (freed before number : ℕ) : Type 0 where
     pub changes : ChangesUntil old now None
+    pub kept : IsPageMap old → Keeps dims old now
+    pub along : IsPageMap old → IsAlong dims (given old) first number
+    pub met : IsPageMap old → 0 < freed → MeetsAlong dims (given old) first before
     pub next : next_of now ≡ next_of old
     pub grows : Grows 0 old now
     pub left : IsPageMap old → (chain : List Bucket) → ChainStands dims (pages old) first chain
         → ((n : ℕ) → occurs_in_chain n chain ≤ 1) → Freed dims old now chain freed number
 
   pub freeing_begins : (dims first : ℕ) (cache : PageCache B A m) → ChangesUntil cache cache None
-      → Freeing dims first cache cache 0 first
+      → Freeing dims first cache cache 0 first first
   freeing_begins dims first cache changes = record {
     changes = changes;
+    kept = λ map. (map, λ page next names. names);
+    along = λ map. ([], refl);
+    met = λ map some. absurd (omega (arith, some));
     next = refl;
     grows = omega arith;
     left = λ map chain stands once.
@@ -102,8 +114,13 @@ module _ {B A : Type 0} {m : _} where
         };
   }
 
-  module _ {dims first : ℕ} {old now : PageCache B A m} {freed number : ℕ}
-      (so_far : Freeing dims first old now freed number) where
+  module _ {dims first : ℕ} {old now : PageCache B A m} {freed before number : ℕ}
+      (so_far : Freeing dims first old now freed before number) where
+    -- the walk has met the page that it is at
+    pub freeing_meets : ¬ (number ≡ 0) → IsPageMap old → (n : ℕ) → n ≡ number
+        → MeetsAlong dims (given old) first n
+    freeing_meets some map n is = meets_here dims (given old) first number n some (so_far.along map) is
+
     -- the bucket to be freed, which is there as it was
     pub bucket_left : ¬ (number ≡ 0) → (map : IsPageMap old) → (chain : List Bucket)
         → (stands : ChainStands dims (pages old) first chain) → (once : (n : ℕ) → occurs_in_chain n chain ≤ 1)
@@ -152,9 +169,20 @@ module _ {B A : Type 0} {m : _} where
         → (IsPageMap now → IsLive now number → pages new number ≡ None)
         → (IsPageMap now → IsLive now number → SameBut number (pages now) (pages new))
         → (IsPageMap now → IsLive now number → IsPageMap new)
-        → Freeing dims first old new (freed + 1) next_number
-    frees_on next_number new some changes next grows reads gone others sound = record {
+        → (IsHonest now → NamesNext dims (given now number) next_number)
+        → (IsPageMap now → Keeps dims now new)
+        → Freeing dims first old new (freed + 1) number next_number
+    frees_on next_number new some changes next grows reads gone others sound names kept = record {
       changes = changes_in_turn old now new None so_far.changes changes;
+      kept = λ map.
+          let k = so_far.kept map in
+          let more = kept k.0 in
+          (more.0, no_more_in_turn dims (given old) (given now) (given new) k.1 more.1);
+      along = λ map.
+          let k = so_far.kept map in
+          along_on dims (given old) first number next_number (so_far.along map)
+          (k.1 number next_number (names k.0.honest));
+      met = λ map later. freeing_meets some map number refl;
       next = next ∙ so_far.next;
       grows = omega (arith, grows, so_far.grows);
       left = λ map chain stands once.
@@ -220,6 +248,8 @@ module _ {B A : Type 0} {m : _} where
   pub record FreeingAll (dims directory : ℕ) (old now : PageCache B A m) (bytes : List ℕ) (class : ℕ) : Type
       0 where
     pub changes : ChangesUntil old now None
+    pub touched : touched_of now ≡ true
+    pub kept : IsPageMap old → IsLive old directory → Keeps dims old now
     pub next : next_of now ≡ next_of old
     pub grows : Grows 0 old now
     pub left : IsPageMap old → (t : IdTable) → t.page ≡ directory → IdsStand dims (pages old) t
@@ -230,9 +260,15 @@ module _ {B A : Type 0} {m : _} where
       → (IsPageMap old → IsLive old directory → pages now directory ≡ None)
       → (IsPageMap old → IsLive old directory → SameBut directory (pages old) (pages now))
       → (IsPageMap old → IsLive old directory → IsPageMap now)
+      → (IsHonest old → SameBut directory (given old) (given now)) → touched_of now ≡ true
       → FreeingAll dims directory old now bytes 0
-  all_begins dims directory old now bytes changes next grows gone others sound = record {
+  all_begins dims directory old now bytes changes next grows gone others sound given_others touched = record {
     changes = changes;
+    touched = touched;
+    kept = λ map live. (
+      sound map live,
+      freed_names_no_more dims old now directory (sound map live) (gone map live) (given_others map.honest),
+    );
     next = next;
     grows = grows;
     left = λ map t at stands there.
@@ -283,9 +319,15 @@ module _ {B A : Type 0} {m : _} where
         → ((n : ℕ) → occurs_in_chain n chain ≤ 1) → IsPageMap new)
         → (IsPageMap now → (chain : List Bucket) → ChainStands dims (pages now) first chain
         → ((n : ℕ) → occurs_in_chain n chain ≤ 1) → Frees (pages now) (pages new) (chain_part chain))
+        → (IsPageMap now → Keeps dims now new)
         → FreeingAll dims directory old new bytes (class + 1)
-    frees_all_on first new is changes next grows sound freed = record {
+    frees_all_on first new is changes next grows sound freed kept = record {
       changes = changes_in_turn old now new None so_far.changes changes;
+      touched = changes.touched so_far.touched;
+      kept = λ map live.
+          let k = so_far.kept map live in
+          let more = kept k.0 in
+          (more.0, no_more_in_turn dims (given old) (given now) (given new) k.1 more.1);
       next = next ∙ so_far.next;
       grows = omega (arith, grows, so_far.grows);
       left = λ map t at stands there.

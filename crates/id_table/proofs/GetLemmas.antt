@@ -1,15 +1,17 @@
 -- A search at a cache.
 use Rattle.std.proofs.Common.{◌≡◌, ◌∙◌, ℕ, ◌+◌, ◌<◌, ◌≤◌, true, false, is_some, Some, None, Option, List, []}
-use Rattle.std.proofs.Common.{◌∷◌, length, refl, sym, ap, subst, arith}
+use Rattle.std.proofs.Common.{◌∷◌, length, inl, inr, refl, sym, ap, subst, arith}
 use Rattle.box_math.specs.Objects.{Object}
 use Rattle.std.specs.FinMap as map
 use Rattle.bucket_page.specs.Layout.{BucketContent}
-use Rattle.page_cache.specs.Cache.{IsHonest, next_of, pages}
+use Rattle.page_cache.specs.Cache.{IsHonest, given, next_of, pages}
 use Rattle.page_cache.specs.Calls.{AsksUntil, asks_in_turn}
 use Rattle.page_cache.specs.Laws.{a_live_page_was_given_out}
 use Rattle.page_cache.specs.declared.cache.PageCache.{PageCache}
 use Rattle.id_table.specs.Table.{Bucket, ChainStands, IdTable, IdsStand, IsDirectory, kept_in, bucket_in}
 use Rattle.id_table.specs.Table.{chain_at, class_of, entries_in, link_at, objects_of}
+use Rattle.id_table.specs.Walks.{IsAlong, MeetsInChain, NamesFirst, NamesNext}
+use Rattle.id_table.proofs.MeetLemmas.{along_on, meets_here, same_names}
 use Rattle.id_table.proofs.TableLemmas.{chain_in_table, chain_short, found_by_class, table_there}
 use Rattle.id_table.proofs.WalkLemmas.{Rest, Here, all_left, found_here, is_here, nothing_left, walk_on}
 
@@ -29,17 +31,29 @@ module _ {B A : Type 0} {m : _} where
       omega (arith, few)
 
   -- the buckets so far have no such identifier, and what is left of the chain stands
-  pub record Walking (dims id directory : ℕ) (old now : PageCache B A m) (walked number : ℕ) : Type 0 where
+  pub record Walking (dims id directory : ℕ) (old now : PageCache B A m) (walked before number : ℕ) : Type
+      0 where
     pub asks : AsksUntil old now None
+    pub met : IsHonest old → MeetsInChain dims (given old) directory (class_of id) before
+    pub along : IsHonest old → (first : ℕ) × NamesFirst dims (given old directory) (class_of id) first
+        × IsAlong dims (given old) first number
     pub left : IsHonest old → (t : IdTable) → t.page ≡ directory → IdsStand dims (pages old) t
         → Rest dims (pages old) id (chain_at t (class_of id)) walked number
 
   pub begins : (dims id directory class number : ℕ) (old now : PageCache B A m) → AsksUntil old now None
       → class ≡ class_of id
       → (IsHonest old → (page : List ℕ) → pages old directory ≡ Some page → IsDirectory dims page
-      → number ≡ link_at class page) → Walking dims id directory old now 0 number
-  begins dims id directory class number old now asks is reads = record {
+      → number ≡ link_at class page)
+      → (IsHonest old → NamesFirst dims (given old directory) class number)
+      → Walking dims id directory old now 0 directory number
+  begins dims id directory class number old now asks is reads names = record {
     asks = asks;
+    met = λ h. inl refl;
+    along = λ h. (
+      number,
+      subst (λ (k : ℕ). NamesFirst dims (given old directory) k number) is (names h),
+      ([], refl),
+    );
     left = λ h t at stands.
         let first = reads h stands.directory (ap (pages old) (sym at) ∙ stands.there) stands.spelled
         ∙ ap (λ k. link_at k stands.directory) is in
@@ -49,8 +63,14 @@ module _ {B A : Type 0} {m : _} where
         (stands.chains (class_of id) within));
   }
 
-  module _ {dims id directory : ℕ} {old now : PageCache B A m} {walked number : ℕ}
-      (so_far : Walking dims id directory old now walked number) where
+  module _ {dims id directory : ℕ} {old now : PageCache B A m} {walked before number : ℕ}
+      (so_far : Walking dims id directory old now walked before number) where
+    -- the walk has met the page that it is at
+    pub meets : ¬ (number ≡ 0) → IsHonest old → (n : ℕ) → n ≡ number
+        → MeetsInChain dims (given old) directory (class_of id) n
+    meets some h n is = let a = so_far.along h in
+        inr (a.0, a.1, meets_here dims (given old) a.0 number n some a.2 is)
+
     -- what the chain has is what the table has
     has : (t : IdTable) → IdsStand dims (pages old) t
         → map.get (objects_of t) id ≡ kept_in id (entries_in (chain_at t (class_of id)))
@@ -90,9 +110,17 @@ module _ {B A : Type 0} {m : _} where
         → is_some b ≡ false → AsksUntil now next None
         → (IsHonest now → (c : BucketContent) → bucket_in dims (pages now number) ≡ Some c
         → (b ≡ kept_in id c.entries) × (next_number ≡ c.next))
-        → Walking dims id directory old next (walked + 1) next_number
-    goes_on b next_number next some none asks reads = record {
+        → (IsHonest now → NamesNext dims (given now number) next_number)
+        → Walking dims id directory old next (walked + 1) number next_number
+    goes_on b next_number next some none asks reads names = record {
       asks = asks_in_turn old now next None so_far.asks asks;
+      met = λ h. meets some h number refl;
+      along = λ h.
+          let a = so_far.along h in
+          let named =
+          same_names dims (given old) (given now) (λ k. so_far.asks.map.given_stay h k) number next_number
+          (names (so_far.asks.gate.honest.0 h)) in
+          (a.0, a.1, along_on dims (given old) a.0 number next_number a.2 named);
       left = λ h t at stands.
           let here = here_is some h t at stands in
           let read = reads (so_far.asks.gate.honest.0 h) here.content (there_now some h t at stands) in

@@ -7,6 +7,8 @@ pub mod BucketLemmas
 pub mod CheckLemmas
 pub mod CheckedLemmas
 pub mod DamageLemmas
+pub mod MeetLemmas
+pub mod FirstLemmas
 pub mod WalkLemmas
 pub mod GetLemmas
 pub mod MakingLemmas

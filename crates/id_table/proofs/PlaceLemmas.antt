@@ -1,16 +1,18 @@
 -- A search for the place of an identifier in a chain.
 use Rattle.std.proofs.Common.{◌≡◌, ◌∙◌, ℕ, ◌+◌, ◌<◌, ◌≤◌, Some, None, Option, List, [], ◌∷◌, ◌++◌, cond, eqb}
-use Rattle.std.proofs.Common.{length, length-append, refl, sym, ap, subst, arith}
+use Rattle.std.proofs.Common.{length, length-append, inl, inr, ◌⊎◌, refl, sym, ap, subst, arith}
 use Rattle.std.proofs.lemmas.Bool.Decides.{nat_tests}
 use Rattle.std.proofs.lemmas.List.{append_assoc}
 use Rattle.bucket_page.specs.Layout.{BucketContent, Entry}
-use Rattle.page_cache.specs.Cache.{IsHonest, pages}
+use Rattle.page_cache.specs.Cache.{IsHonest, given, pages}
 use Rattle.page_cache.specs.Calls.{AsksUntil, asks_in_turn}
 use Rattle.page_cache.specs.declared.cache.PageCache.{PageCache}
 use Rattle.node_page.specs.Standing.{PageMap}
 use Rattle.id_table.specs.Pages.{HasAt, HasObject, IsFoundAt, IsInChain}
 use Rattle.id_table.specs.Table.{Bucket, ChainStands, IdTable, IdsStand, kept_in, bucket_in, chain_at}
 use Rattle.id_table.specs.Table.{entries_in, occurs_in_chain}
+use Rattle.id_table.specs.Walks.{IsAlong, MeetsAlong, NamesNext}
+use Rattle.id_table.proofs.MeetLemmas.{along_on, meets_here, same_names}
 use Rattle.id_table.proofs.TableLemmas.{chain_in_table, not_here}
 use Rattle.id_table.proofs.WalkLemmas.{Begins, begins_at}
 use Rattle.node_page.proofs.PartLemmas.{there_not_missing}
@@ -26,21 +28,33 @@ pub record Passed (dims : ℕ) (pages : PageMap) (id : ℕ) (chain : List Bucket
   pub long : length chain ≡ walked + length rest
 
 module _ {B A : Type 0} {m : _} where
-  pub record Searching (dims id first : ℕ) (old now : PageCache B A m) (walked number : ℕ) : Type 0 where
+  pub record Searching (dims id directory first : ℕ) (old now : PageCache B A m) (walked before number : ℕ)
+      : Type 0 where
     pub asks : AsksUntil old now None
+    pub met : IsHonest old → (before ≡ directory) ⊎ MeetsAlong dims (given old) first before
+    pub along : IsHonest old → IsAlong dims (given old) first number
     pub left : IsHonest old → (chain : List Bucket) → ChainStands dims (pages old) first chain
         → Passed dims (pages old) id chain walked number
 
-  pub searches : (dims id first : ℕ) (cache : PageCache B A m) → AsksUntil cache cache None
-      → Searching dims id first cache cache 0 first
-  searches dims id first cache asks = record {
+  pub searches : (dims id directory first : ℕ) (cache : PageCache B A m) → AsksUntil cache cache None
+      → Searching dims id directory first cache cache 0 directory first
+  searches dims id directory first cache asks = record {
     asks = asks;
+    met = λ h. inl refl;
+    along = λ h. ([], refl);
     left = λ h chain stands.
         record { before = []; rest = chain; is = refl; stands = stands; same = refl; long = omega arith };
   }
 
-  module _ {dims id first : ℕ} {old now : PageCache B A m} {walked number : ℕ}
-      (so_far : Searching dims id first old now walked number) where
+  module _ {dims id directory first : ℕ} {old now : PageCache B A m} {walked before number : ℕ}
+      (so_far : Searching dims id directory first old now walked before number) where
+    -- what the page that the walk is at names, said of the pages before it
+    pub named_before : (next : ℕ) → IsHonest old
+        → (IsHonest now → NamesNext dims (given now number) next) → NamesNext dims (given old number) next
+    named_before next h names =
+        same_names dims (given old) (given now) (λ k. so_far.asks.map.given_stay h k) number next
+        (names (so_far.asks.gate.honest.0 h))
+
     pub begins_here : ¬ (number ≡ 0) → (h : IsHonest old) → (chain : List Bucket)
         → (stands : ChainStands dims (pages old) first chain)
         → Begins dims (pages old) number (so_far.left h chain stands).rest
@@ -96,9 +110,13 @@ module _ {B A : Type 0} {m : _} where
         → found ≡ None → AsksUntil now next None
         → (IsHonest now → (c : BucketContent) → bucket_in dims (pages now number) ≡ Some c
         → IsFoundAt id c.entries found × (next_number ≡ c.next))
-        → Searching dims id first old next (walked + 1) next_number
-    goes_past found next_number next some none asks reads = record {
+        → (IsHonest now → NamesNext dims (given now number) next_number)
+        → Searching dims id directory first old next (walked + 1) number next_number
+    goes_past found next_number next some none asks reads names = record {
       asks = asks_in_turn old now next None so_far.asks asks;
+      met = λ h. inr (meets_here dims (given old) first number number some (so_far.along h) refl);
+      along = λ h. along_on dims (given old) first number next_number (so_far.along h)
+          (named_before next_number h names);
       left = λ h chain stands.
           let p = so_far.left h chain stands in
           let b = begins_here some h chain stands in

@@ -1,4 +1,5 @@
 -- Answers of calls.
+use Rattle.std.proofs.Common.{◌≡◌, subst, refl}
 use Rattle.std.specs.Prelude.{Result, Ok, Err, IfOk, OnErr, OnOk}
 
 -- a fact of the answer that does not name it
@@ -15,3 +16,12 @@ pub if_both : {T E : Type 0} (r : Result T E) (P Q R : T → Type 0) → IfOk r 
     → ((x : T) → P x → Q x → R x) → IfOk r R
 if_both (Ok x) P Q R p q both = both x p q
 if_both (Err e) P Q R p q both = tt
+
+-- a fact where the call succeeds, by its answer
+pub on_done : {T E Q : Type 0} (r : Result T E) → ((x : T) → r ≡ Ok x → Q) → OnOk r Q
+on_done (Ok x) f = f x refl
+on_done (Err e) f = tt
+
+pub done_so : {T E : Type 0} (r : Result T E) (x : T) (P : T → Type 0) → r ≡ Ok x → IfOk r P → P x
+done_so (Ok y) x P is p = subst P (let same : y ≡ x = cc in same) p
+done_so (Err e) x P is p = absurd (cc)

@@ -1,21 +1,24 @@
 //! An object added.
 
 ghost use Rattle.std.specs.Prelude.{◌≡◌, ◌≤◌, ◌<◌, ◌⊎◌, List, ℕ, Some, false, length, take, IfErr, IfOk};
-ghost use Rattle.std.specs.Prelude.{OnOk};
+ghost use Rattle.std.specs.Prelude.{OnOk, true};
 ghost use Rattle.std.specs.FinMap as map;
 ghost use Rattle.block_bytes.specs.Numbers.{number_at};
 ghost use Rattle.box_math.specs.Bounds.{IsDims};
 ghost use Rattle.bucket_page.specs.Layout.{BucketContent, bucket_at};
 ghost use Rattle.page_file.specs.Fault.{IsDamage, IsOfDevice};
 ghost use Rattle.page_file.specs.Pages.{SameBut};
+ghost use Rattle.page_file.specs.declared.fault.Fault.TheVariants as fault;
 ghost use Rattle.page_file.specs.declared.gate.Gate.TheVariants.{Open};
-ghost use Rattle.page_cache.specs.Cache.{Grows, IsHonest, IsLive, IsPageMap, gate_of, next_of, pages};
+ghost use Rattle.page_cache.specs.Cache.{Grows, IsHonest, IsLive, IsPageMap, gate_of, given, next_of};
+ghost use Rattle.page_cache.specs.Cache.{pages, touched_of};
 ghost use Rattle.page_cache.specs.Calls.{Changes};
 ghost use Rattle.node_page.specs.Faults.{IsNoDamage};
 ghost use Rattle.id_table.specs.Changes.{AreNew, Fills, Sets};
 ghost use Rattle.id_table.specs.Pages.{IsRun, IsWholeRun, PushesRun, PutsBefore, first_class, with_more};
-ghost use Rattle.id_table.specs.Table.{IdTable, IdsStand, bucket_in, objects_of};
+ghost use Rattle.id_table.specs.Table.{IdTable, IdsStand, bucket_in, class_of, objects_of};
 ghost use Rattle.id_table.specs.Tidy.{IsTidyPage, KeepsTidy};
+ghost use Rattle.id_table.specs.Walks.{BeginsChain, IsBucket, KeepsFirst, MayBreakAt};
 
 use crate::bucket::{has_room, write_bucket};
 use crate::directory::{class_of, read_link, write_link};
@@ -33,7 +36,9 @@ use std::alloc::Allocator;
 /// Pages with zeros in all bytes that they do not name stay so, and so is a new one.
 ///
 /// With a sound map, where the pages stand for a table at that directory, a refusal is `Memory` or `Device`,
-/// or `NoPages` where each page number is live.
+/// or `NoPages` where each page number is live. On other pages of an honest device it may be `Damaged` too,
+/// with the number of the directory's page, of the first page of the chain, or, where the map is not sound, of
+/// a page given out that is not live.
 pub fn add<const D: usize, B: BlockDevice, A: Allocator + Copy>(
     cache: &mut PageCache<B, A>,
     directory: u32,
@@ -54,6 +59,8 @@ pub fn add<const D: usize, B: BlockDevice, A: Allocator + Copy>(
     ensures grows { Grows 1 cache.old cache.new }
     ensures faults { IsPageMap cache.old → (t : IdTable) → t.page ≡ directory → IdsStand D (pages cache.old) t
         → IfErr result (IsNoDamage cache.new) }
+    ensures damage { IsHonest cache.old → IfErr result (λ f. (n : ℕ) → f ≡ fault.Damaged n
+        → BeginsChain D (given cache.old) directory (class_of id) n ⊎ MayBreakAt cache.old n) }
     ensures other_faults { IfErr result (λ f. IsNoDamage cache.new f ⊎ IsDamage f) }
 {
     add_run(cache, directory, &[(id, (*bounds, tag))])?;
@@ -83,6 +90,12 @@ pub(crate) fn add_run<const D: usize, B: BlockDevice, A: Allocator + Copy>(
     ensures whole { IfOk result (λ count. Grows 0 cache.old cache.new ⊎ IsWholeRun objects.now count) }
     ensures faults { IsPageMap cache.old → (t : IdTable) → t.page ≡ directory → IdsStand D (pages cache.old) t
         → IfErr result (IsNoDamage cache.new) }
+    ensures touched { OnOk result (touched_of cache.new ≡ true) }
+    ensures damage { IsHonest cache.old → IfErr result (λ f. (n : ℕ) → f ≡ fault.Damaged n
+        → BeginsChain D (given cache.old) directory (first_class objects.now) n ⊎ MayBreakAt cache.old n) }
+    ensures spelled { IsPageMap cache.old → IfErr result (λ f. (n : ℕ) → f ≡ fault.Damaged n
+        → (n ≡ directory) ⊎ (¬ (IsBucket D (pages cache.old n)))) }
+    ensures kept { IsPageMap cache.old → OnOk result (KeepsFirst D directory cache.old cache.new) }
     ensures other_faults { IfErr result (λ f. IsNoDamage cache.new f ⊎ IsDamage f) }
 {
     let class = class_of(objects[0].0);
@@ -122,6 +135,8 @@ fn put_in<const D: usize, B: BlockDevice, A: Allocator + Copy>(
     ensures grows { Grows 0 cache.old cache.new }
     ensures faults { IsHonest cache.old → (c : BucketContent) → bucket_in D (pages cache.old number) ≡ Some c
         → length c.entries < 100 → IfErr result IsOfDevice }
+    ensures touched { OnOk result (touched_of cache.new ≡ true) }
+    ensures damage { IsHonest cache.old → IfErr result (λ f. IsOfDevice f ⊎ (f ≡ fault.Damaged number)) }
     ensures other_faults { IfErr result (λ f. IsOfDevice f ⊎ IsDamage f) }
 {
     let pushed = cache.edit(
@@ -205,6 +220,9 @@ fn put_alone<const D: usize, B: BlockDevice, A: Allocator + Copy>(
     ensures whole { IfOk result (IsWholeRun objects.now) }
     ensures faults { IsPageMap cache.old → IsLive cache.old directory
         → IfErr result (IsNoDamage cache.new) }
+    ensures touched { OnOk result (touched_of cache.new ≡ true) }
+    ensures damage { IsHonest cache.old → IfErr result (λ f. (n : ℕ) → f ≡ fault.Damaged n
+        → (n ≡ directory) ⊎ MayBreakAt cache.old n) }
     ensures other_faults { IfErr result (λ f. IsNoDamage cache.new f ⊎ IsDamage f) }
 {
     let bucket = Bucket {
@@ -255,6 +273,9 @@ pub(crate) fn put_before<const D: usize, B: BlockDevice, A: Allocator + Copy>(
     ensures grows { Grows 1 cache.old cache.new }
     ensures faults { IsPageMap cache.old → IsLive cache.old directory
         → IfErr result (IsNoDamage cache.new) }
+    ensures touched { OnOk result (touched_of cache.new ≡ true) }
+    ensures damage { IsHonest cache.old → IfErr result (λ f. (n : ℕ) → f ≡ fault.Damaged n
+        → (n ≡ directory) ⊎ MayBreakAt cache.old n) }
     ensures other_faults { IfErr result (λ f. IsNoDamage cache.new f ⊎ IsDamage f) }
 {
     let number = cache.allocate()?;

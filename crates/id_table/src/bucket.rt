@@ -1,18 +1,20 @@
 //! Buckets at the pages of a cache.
 
-ghost use Rattle.std.specs.Prelude.{◌≡◌, ◌<◌, ◌⊎◌, List, Some, true, false, length};
+ghost use Rattle.std.specs.Prelude.{◌≡◌, ◌<◌, ◌≤◌, ◌⊎◌, ℕ, List, Some, true, false, length};
 ghost use Rattle.std.specs.Prelude.{IfOk, IfErr, IfSome, IsSomeAnd, OnOk};
 ghost use Rattle.box_math.specs.Bounds.{IsDims};
-ghost use Rattle.bucket_page.specs.Layout.{BucketContent, bucket_at, content_of, Spells};
+ghost use Rattle.bucket_page.specs.Layout.{BucketContent, HasBucketHead, bucket_at, content_of, Spells};
 ghost use Rattle.page_file.specs.Fault.{IsDamage, IsOfDevice};
 ghost use Rattle.page_file.specs.Pages.{SameBut};
 ghost use Rattle.page_file.specs.declared.fault.Fault.TheVariants as fault;
 ghost use Rattle.page_file.specs.declared.gate.Gate.TheVariants.{Open};
-ghost use Rattle.page_cache.specs.Cache.{Grows, IsHonest, IsLive, IsPageMap, gate_of, next_of, pages};
+ghost use Rattle.page_cache.specs.Cache.{Grows, IsHonest, IsLive, IsPageMap, gate_of, given, next_of};
+ghost use Rattle.page_cache.specs.Cache.{pages};
 ghost use Rattle.page_cache.specs.Calls.{Asks, Changes};
 ghost use Rattle.id_table.specs.Pages.{BeginsFull, IsFoundAt};
 ghost use Rattle.id_table.specs.Table.{Bucket as Linked, ChainStands, kept_in, bucket_in};
 ghost use Rattle.id_table.specs.Tidy.{IsTidyPage};
+ghost use Rattle.id_table.specs.Walks.{NamesNext};
 
 use block_device::BlockDevice;
 use box_math::BBox;
@@ -28,6 +30,7 @@ pub(crate) fn kept_on<const D: usize>(page: &[u8; 4096], id: u64) -> Option<Opti
     requires dims { IsDims D }
     ensures of_bucket { (c : BucketContent) → bucket_at D page.now ≡ Some c →
         result ≡ Some (kept_in id c.entries) }
+    ensures head { IfSome result (λ kept. HasBucketHead D page.now) }
 {
     if !has_bucket_head::<D>(page) {
         return None;
@@ -55,6 +58,7 @@ pub(crate) fn look<const D: usize, B: BlockDevice, A: Allocator + Copy>(
     ensures asks { Asks cache.old cache.new result }
     ensures found { IsHonest cache.old → (c : BucketContent) → bucket_in D (pages cache.old number) ≡ Some c
         → IfOk result (λ r. (r.0 ≡ kept_in id c.entries) × (r.1 ≡ c.next)) }
+    ensures names { IsHonest cache.old → IfOk result (λ r. NamesNext D (given cache.old number) r.1) }
     ensures there { IsHonest cache.old → (c : BucketContent) → bucket_in D (pages cache.old number) ≡ Some c
         → IfErr result IsOfDevice }
     ensures damage { IsHonest cache.old → IfErr result (λ f. IsOfDevice f ⊎ (f ≡ fault.Damaged number)) }
@@ -74,6 +78,7 @@ pub(crate) fn place_on<const D: usize>(page: &[u8; 4096], id: u64) -> Option<Opt
     ensures of_bucket { (c : BucketContent) → bucket_at D page.now ≡ Some c
         → IsSomeAnd result (IsFoundAt id c.entries) }
     ensures within { IfSome result (λ found. IfSome found (λ place. place < 100)) }
+    ensures head { IfSome result (λ found. HasBucketHead D page.now) }
 {
     if !has_bucket_head::<D>(page) {
         return None;
@@ -98,6 +103,7 @@ pub(crate) fn place_at<const D: usize, B: BlockDevice, A: Allocator + Copy>(
     ensures asks { Asks cache.old cache.new result }
     ensures found { IsHonest cache.old → (c : BucketContent) → bucket_in D (pages cache.old number) ≡ Some c
         → IfOk result (λ r. IsFoundAt id c.entries r.0 × (r.1 ≡ c.next)) }
+    ensures names { IsHonest cache.old → IfOk result (λ r. NamesNext D (given cache.old number) r.1) }
     ensures within { IfOk result (λ r. IfSome r.0 (λ place. place < 100)) }
     ensures some { OnOk result (¬ (number ≡ 0)) }
     ensures there { IsHonest cache.old → (c : BucketContent) → bucket_in D (pages cache.old number) ≡ Some c
@@ -124,11 +130,16 @@ pub(crate) fn has_room<const D: usize, B: BlockDevice, A: Allocator + Copy>(
     ensures some { IfOk result (λ room. room ≡ true → ¬ (first ≡ 0)) }
     ensures room { IsHonest cache.old → (c : BucketContent) → bucket_in D (pages cache.old first) ≡ Some c
         → IfOk result (λ room. room ≡ true → length c.entries < 100) }
+    ensures head { IsHonest cache.old → IfOk result (λ room. room ≡ true →
+        (next : ℕ) × NamesNext D (given cache.old first) next) }
     ensures full { IsHonest cache.old → (chain : List Linked) → ChainStands D (pages cache.old) first chain
         → IfOk result (λ room. room ≡ false → BeginsFull chain) }
     ensures there { IsHonest cache.old → (chain : List Linked) → ChainStands D (pages cache.old) first chain
         → IfErr result IsOfDevice }
+    ensures spelled { IsHonest cache.old → (c : BucketContent) → bucket_in D (pages cache.old first) ≡ Some c
+        → IfErr result IsOfDevice }
     ensures damage { IsHonest cache.old → IfErr result (λ f. IsOfDevice f ⊎ (f ≡ fault.Damaged first)) }
+    ensures met { IfErr result (λ f. ¬ (first ≡ 0)) }
     ensures other_faults { IfErr result (λ f. IsOfDevice f ⊎ IsDamage f) }
 {
     if first == 0 {
@@ -165,6 +176,8 @@ pub(crate) fn write_bucket<const D: usize, B: BlockDevice, A: Allocator + Copy>(
     ensures sound { IsPageMap cache.old → IsLive cache.old number → IsPageMap cache.new }
     ensures grows { Grows 0 cache.old cache.new }
     ensures faults { IsHonest cache.old → IsLive cache.old number → IfErr result IsOfDevice }
+    ensures given_faults { IsHonest cache.old → 2 ≤ number → number < next_of cache.old →
+        IfErr result IsOfDevice }
     ensures other_faults { IfErr result (λ f. IsOfDevice f ⊎ IsDamage f) }
 {
     cache.refill(

@@ -1,16 +1,18 @@
 //! The directory page: the first page of each chain.
 
 ghost use Rattle.std.specs.Prelude.{◌≡◌, ◌<◌, ◌≤◌, ◌+◌, ◌⊎◌, ◌↔◌, List, ℕ, Some, IsTrue, IfOk, IfErr, OnOk};
+ghost use Rattle.std.specs.Prelude.{true};
 ghost use Rattle.box_math.specs.Bounds.{IsDims};
 ghost use Rattle.page_file.specs.Fault.{IsDamage, IsOfDevice};
 ghost use Rattle.page_file.specs.Pages.{SameBut};
 ghost use Rattle.page_file.specs.declared.fault.Fault.TheVariants as fault;
 ghost use Rattle.page_file.specs.declared.gate.Gate.TheVariants.{Open};
 ghost use Rattle.page_cache.specs.Cache.{Grows, IsHonest, IsLive, IsPageMap, gate_of, given, looks_of};
-ghost use Rattle.page_cache.specs.Cache.{next_of, pages};
+ghost use Rattle.page_cache.specs.Cache.{next_of, pages, touched_of};
 ghost use Rattle.page_cache.specs.Calls.{Asks, Changes};
 ghost use Rattle.id_table.specs.Table.{IsDirectory, class_of, link_at};
 ghost use Rattle.id_table.specs.Pages.{NewDirectory, SetsLink};
+ghost use Rattle.id_table.specs.Walks.{NamesFirst};
 
 use block_bytes::{DIRECTORY_KIND, read_u8, read_u32, write_u8, write_u32, zero_block};
 use block_device::BlockDevice;
@@ -71,6 +73,8 @@ pub(crate) fn read_link<const D: usize, B: BlockDevice, A: Allocator + Copy>(
     ensures link { IsHonest cache.old → (page : List ℕ) → pages cache.old directory ≡ Some page →
         IsDirectory D page
         → IfOk result (λ first. first ≡ link_at class page) }
+    ensures names { IsHonest cache.old →
+        IfOk result (λ first. NamesFirst D (given cache.old directory) class first) }
     ensures there { IsHonest cache.old → (page : List ℕ) → pages cache.old directory ≡ Some page →
         IsDirectory D page
         → IfErr result IsOfDevice }
@@ -125,6 +129,8 @@ pub(crate) fn write_link<B: BlockDevice, A: Allocator + Copy>(
     ensures sound { IsPageMap cache.old → IsLive cache.old directory → IsPageMap cache.new }
     ensures grows { Grows 0 cache.old cache.new }
     ensures faults { IsHonest cache.old → IsLive cache.old directory → IfErr result IsOfDevice }
+    ensures touched { OnOk result (touched_of cache.new ≡ true) }
+    ensures damage { IsHonest cache.old → IfErr result (λ f. IsOfDevice f ⊎ (f ≡ fault.Damaged directory)) }
     ensures other_faults { IfErr result (λ f. IsOfDevice f ⊎ IsDamage f) }
 {
     cache.edit(

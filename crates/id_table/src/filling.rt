@@ -1,16 +1,18 @@
 //! Many objects added.
 
-ghost use Rattle.std.specs.Prelude.{◌≡◌, ◌⊎◌, ◌+◌, ◌/◌, true, false, length, IfErr, OnOk};
+ghost use Rattle.std.specs.Prelude.{◌≡◌, ◌⊎◌, ◌+◌, ◌/◌, ℕ, true, false, length, IfErr, OnOk};
 ghost use Rattle.std.specs.List.Sorted.{IsNonDecreasingBy};
 ghost use Rattle.box_math.specs.Bounds.{IsDims};
 ghost use Rattle.page_file.specs.Fault.{IsDamage};
+ghost use Rattle.page_file.specs.declared.fault.Fault.TheVariants as fault;
 ghost use Rattle.page_file.specs.declared.gate.Gate.TheVariants.{Open};
-ghost use Rattle.page_cache.specs.Cache.{Grows, IsPageMap, gate_of, pages};
+ghost use Rattle.page_cache.specs.Cache.{Grows, IsHonest, IsPageMap, gate_of, given, pages, touched_of};
 ghost use Rattle.page_cache.specs.Calls.{Changes};
 ghost use Rattle.node_page.specs.Faults.{IsNoDamage};
 ghost use Rattle.id_table.specs.Changes.{AreNew, Fills};
 ghost use Rattle.id_table.specs.Table.{IdTable, IdsStand, class_of, objects_of};
 ghost use Rattle.id_table.specs.Tidy.{KeepsTidy};
+ghost use Rattle.id_table.specs.Walks.{BeginsInTable, MayBreakAt};
 
 use crate::adding::add_run;
 use block_device::BlockDevice;
@@ -30,7 +32,10 @@ use std::alloc::Allocator;
 /// Pages with zeros in all bytes that they do not name stay so, and so is a new one.
 ///
 /// With a sound map, where the pages stand for a table at that directory, a refusal is `Memory` or `Device`,
-/// or `NoPages` where each page number is live.
+/// or `NoPages` where each page number is live. On other pages it may be `Damaged` too. On an honest device,
+/// where the map is sound or no page is touched, that comes with the number of the directory's page or of the
+/// first page of a chain in the table as it stood before, or, where the map is not sound, of a page given out
+/// that is not live.
 pub fn fill<const D: usize, B: BlockDevice, A: Allocator + Copy>(
     cache: &mut PageCache<B, A>,
     directory: u32,
@@ -52,6 +57,9 @@ pub fn fill<const D: usize, B: BlockDevice, A: Allocator + Copy>(
         → Grows (length objects.now / 100 + 1000) cache.old cache.new }
     ensures faults { IsPageMap cache.old → (t : IdTable) → t.page ≡ directory → IdsStand D (pages cache.old) t
         → AreNew (objects_of t) objects.now → IfErr result (IsNoDamage cache.new) }
+    ensures damage { IsHonest cache.old → IsPageMap cache.old ⊎ (touched_of cache.new ≡ false)
+        → IfErr result (λ f. (n : ℕ) → f ≡ fault.Damaged n
+        → BeginsInTable D (given cache.old) directory n ⊎ MayBreakAt cache.old n) }
     ensures other_faults { IfErr result (λ f. IsNoDamage cache.new f ⊎ IsDamage f) }
 {
     let mut filled = 0;

@@ -1,18 +1,21 @@
 //! Tables given up.
 
 ghost use Rattle.std.specs.Prelude.{◌≡◌, ◌<◌, ◌≤◌, ◌⊎◌, List, ℕ, Some, None, length, IfErr, IfOk, OnOk};
+ghost use Rattle.std.specs.Prelude.{false};
 ghost use Rattle.box_math.specs.Bounds.{IsDims};
 ghost use Rattle.bucket_page.specs.Layout.{BucketContent};
 ghost use Rattle.page_file.specs.Fault.{IsDamage, IsOfDevice};
 ghost use Rattle.page_file.specs.Pages.{SameBut};
 ghost use Rattle.page_file.specs.declared.fault.Fault.TheVariants as fault;
 ghost use Rattle.page_file.specs.declared.gate.Gate.TheVariants.{Open};
-ghost use Rattle.page_cache.specs.Cache.{Grows, IsHonest, IsLive, IsPageMap, gate_of, next_of, pages};
+ghost use Rattle.page_cache.specs.Cache.{Grows, IsHonest, IsLive, IsPageMap, gate_of, given, next_of};
+ghost use Rattle.page_cache.specs.Cache.{pages, touched_of};
 ghost use Rattle.page_cache.specs.Calls.{Asks, Changes};
 ghost use Rattle.node_page.specs.Parts.{Moves, no_page};
 ghost use Rattle.id_table.specs.Pages.{Frees};
 ghost use Rattle.id_table.specs.Table.{Bucket, ChainStands, IdTable, IdsStand, bucket_in, occurs_in_chain};
-ghost use Rattle.id_table.specs.Table.{part_of};
+ghost use Rattle.id_table.specs.Table.{link_at, part_of};
+ghost use Rattle.id_table.specs.Walks.{MeetsAlong, MeetsInTable, NamesNext, NamesNoMore};
 
 use crate::directory::{copy_page, is_directory, link_of};
 use block_device::BlockDevice;
@@ -24,6 +27,9 @@ use std::alloc::Allocator;
 /// Frees all pages of the table. The gate has to be open.
 ///
 /// With a sound map, where the pages stand for a table at that directory, a refusal is `Memory` or `Device`.
+/// On other pages it may be `Damaged` too. On an honest device, where the map is sound or no page is touched,
+/// that comes with the number of the directory's page or of one that a walk along a chain meets in the table
+/// as it stood before.
 #[tactic(auto, using(page_cache::specs::Calls::changing))]
 pub fn free_all<const D: usize, B: BlockDevice, A: Allocator + Copy>(
     cache: &mut PageCache<B, A>,
@@ -40,6 +46,9 @@ pub fn free_all<const D: usize, B: BlockDevice, A: Allocator + Copy>(
     ensures grows { Grows 0 cache.old cache.new }
     ensures faults { IsPageMap cache.old → (t : IdTable) → t.page ≡ directory → IdsStand D (pages cache.old) t
         → IfErr result IsOfDevice }
+    ensures damage { IsHonest cache.old → IsPageMap cache.old ⊎ (touched_of cache.new ≡ false)
+        → IfErr result (λ f. (n : ℕ) → f ≡ fault.Damaged n
+        → MeetsInTable D (given cache.old) directory n) }
     ensures other_faults { IfErr result (λ f. IsOfDevice f ⊎ IsDamage f) }
 {
     let bytes = copy_page(cache, directory)?;
@@ -67,6 +76,10 @@ fn free_pages<const D: usize, B: BlockDevice, A: Allocator + Copy>(
     ensures grows { Grows 0 cache.old cache.new }
     ensures faults { IsPageMap cache.old → (t : IdTable) → t.page ≡ directory → IdsStand D (pages cache.old) t
         → pages cache.old directory ≡ Some bytes.now → IfErr result IsOfDevice }
+    ensures damage { IsHonest cache.old
+        → (IsPageMap cache.old × IsLive cache.old directory) ⊎ (touched_of cache.new ≡ false)
+        → IfErr result (λ f. (n : ℕ) → f ≡ fault.Damaged n → (n ≡ directory)
+        ⊎ ((class : ℕ) × (class < 1000) × MeetsAlong D (given cache.old) (link_at class bytes.now) n)) }
     ensures other_faults { IfErr result (λ f. IsOfDevice f ⊎ IsDamage f) }
 {
     cache.free(directory)?;
@@ -94,16 +107,22 @@ fn free_chain<const D: usize, B: BlockDevice, A: Allocator + Copy>(
     ensures faults { IsPageMap cache.old → (chain : List Bucket) → ChainStands D (pages cache.old) first chain
         → ((n : ℕ) → occurs_in_chain n chain ≤ 1) → length chain < next_of cache.old →
         IfErr result IsOfDevice }
+    ensures kept { IsPageMap cache.old → OnOk result (IsPageMap cache.new
+        × NamesNoMore D (given cache.old) (given cache.new)) }
+    ensures damage { IsPageMap cache.old → IfErr result (λ f. (n : ℕ) → f ≡ fault.Damaged n
+        → MeetsAlong D (given cache.old) first n) }
     ensures other_faults { IfErr result (λ f. IsOfDevice f ⊎ IsDamage f) }
 {
+    let mut before = first;
     let mut number = first;
     for freed in 0..cache.next_number() {
         if number == 0 {
             return Ok(());
         }
+        before = number;
         number = free_bucket::<D, B, A>(cache, number)?;
     }
-    Err(Fault::Damaged(number))
+    Err(Fault::Damaged(before))
 }
 
 // Frees the page of a bucket, and answers that of the next one.
@@ -126,6 +145,10 @@ fn free_bucket<const D: usize, B: BlockDevice, A: Allocator + Copy>(
     ensures grows { Grows 0 cache.old cache.new }
     ensures faults { IsPageMap cache.old → (c : BucketContent) → bucket_in D (pages cache.old number) ≡ Some c
         → 2 < number → IfErr result IsOfDevice }
+    ensures names { IsHonest cache.old → IfOk result (λ next. NamesNext D (given cache.old number) next) }
+    ensures kept { IsPageMap cache.old → OnOk result (IsPageMap cache.new
+        × NamesNoMore D (given cache.old) (given cache.new)) }
+    ensures damage { IsPageMap cache.old → IfErr result (λ f. IsOfDevice f ⊎ (f ≡ fault.Damaged number)) }
     ensures other_faults { IfErr result (λ f. IsOfDevice f ⊎ IsDamage f) }
 {
     let next = next_after::<D, B, A>(cache, number)?;
@@ -144,6 +167,7 @@ fn next_after<const D: usize, B: BlockDevice, A: Allocator + Copy>(
     ensures following { IsHonest cache.old → (c : BucketContent) →
         bucket_in D (pages cache.old number) ≡ Some c
         → IfOk result (λ next. next ≡ c.next) }
+    ensures names { IsHonest cache.old → IfOk result (λ next. NamesNext D (given cache.old number) next) }
     ensures there { IsHonest cache.old → (c : BucketContent) → bucket_in D (pages cache.old number) ≡ Some c
         → IfErr result IsOfDevice }
     ensures damage { IsHonest cache.old → IfErr result (λ f. IsOfDevice f ⊎ (f ≡ fault.Damaged number)) }

@@ -1,10 +1,11 @@
 //! Tables made.
 
-ghost use Rattle.std.specs.Prelude.{◌≡◌, ◌≤◌, ◌<◌, ◌⊎◌, IfOk, IfErr, OnOk};
+ghost use Rattle.std.specs.Prelude.{◌≡◌, ◌≤◌, ◌<◌, ◌⊎◌, ℕ, IfOk, IfErr, OnOk};
 ghost use Rattle.box_math.specs.Bounds.{IsDims};
 ghost use Rattle.page_file.specs.Fault.{IsDamage};
+ghost use Rattle.page_file.specs.declared.fault.Fault.TheVariants as fault;
 ghost use Rattle.page_file.specs.declared.gate.Gate.TheVariants.{Open};
-ghost use Rattle.page_cache.specs.Cache.{Grows, IsPageMap, gate_of, next_of, pages};
+ghost use Rattle.page_cache.specs.Cache.{BreaksAt, Grows, IsHonest, IsPageMap, gate_of, next_of, pages};
 ghost use Rattle.page_cache.specs.Calls.{Changes};
 ghost use Rattle.node_page.specs.Faults.{IsNoDamage};
 ghost use Rattle.id_table.specs.Changes.{Makes};
@@ -21,7 +22,8 @@ use std::alloc::Allocator;
 ///
 /// The new page has zeros in all bytes that it does not name.
 ///
-/// With a sound map a refusal is `Memory` or `Device`, or `NoPages` where each page number is live.
+/// With a sound map a refusal is `Memory` or `Device`, or `NoPages` where each page number is live. On an
+/// honest device it may be `Damaged` too, with the number of the page at which the chain of free pages breaks.
 pub fn make<const D: usize, B: BlockDevice, A: Allocator + Copy>(
     cache: &mut PageCache<B, A>,
 ) -> Result<u32, Fault>
@@ -35,6 +37,8 @@ pub fn make<const D: usize, B: BlockDevice, A: Allocator + Copy>(
     ensures number { IfOk result (λ directory. (3 ≤ directory) × (directory < next_of cache.new)) }
     ensures grows { Grows 1 cache.old cache.new }
     ensures faults { IsPageMap cache.old → IfErr result (IsNoDamage cache.new) }
+    ensures damage { IsHonest cache.old → IfErr result (λ f. (n : ℕ) → f ≡ fault.Damaged n
+        → BreaksAt cache.old n) }
     ensures other_faults { IfErr result (λ f. IsNoDamage cache.new f ⊎ IsDamage f) }
 {
     let directory = cache.allocate()?;

@@ -1,18 +1,20 @@
 //! The place of an object in its chain: found by a walk along it, and written anew.
 
-ghost use Rattle.std.specs.Prelude.{◌≡◌, ◌≤◌, ◌<◌, ◌⊎◌, List, Some, length, slice_index_or, IfErr, IfOk};
-ghost use Rattle.std.specs.Prelude.{OnErr, OnOk};
+ghost use Rattle.std.specs.Prelude.{◌≡◌, ◌≤◌, ◌<◌, ◌⊎◌, List, ℕ, Some, length, slice_index_or, IfErr, IfOk};
+ghost use Rattle.std.specs.Prelude.{OnErr, OnOk, true};
 ghost use Rattle.box_math.specs.Bounds.{IsDims};
 ghost use Rattle.bucket_page.specs.Layout.{BucketContent, Entry, bucket_at, replaced};
 ghost use Rattle.page_file.specs.Fault.{IsDamage, IsOfDevice};
 ghost use Rattle.page_file.specs.Pages.{SameBut};
+ghost use Rattle.page_file.specs.declared.fault.Fault.TheVariants as fault;
 ghost use Rattle.page_file.specs.declared.gate.Gate.TheVariants.{Open};
-ghost use Rattle.page_cache.specs.Cache.{Grows, IsHonest, IsLive, IsPageMap, KeepsMap, gate_of, next_of};
-ghost use Rattle.page_cache.specs.Cache.{pages};
+ghost use Rattle.page_cache.specs.Cache.{Grows, IsHonest, IsLive, IsPageMap, KeepsMap, gate_of, given};
+ghost use Rattle.page_cache.specs.Cache.{next_of, pages, touched_of};
 ghost use Rattle.page_cache.specs.Calls.{Asks, Changes};
 ghost use Rattle.id_table.specs.Pages.{HasObject, IsInChain, moved};
 ghost use Rattle.id_table.specs.Table.{Bucket, ChainStands, bucket_in};
 ghost use Rattle.id_table.specs.Tidy.{IsTidyPage, KeepsTidy};
+ghost use Rattle.id_table.specs.Walks.{MeetsAlong, MeetsBucket};
 
 use crate::bucket::place_at;
 use block_device::BlockDevice;
@@ -22,9 +24,11 @@ use page_cache::PageCache;
 use page_file::Fault;
 use std::alloc::Allocator;
 
-// The page of a chain whose bucket has the identifier, and the place of the object there.
+// The page of a chain whose bucket has the identifier, and the place of the object there. Where none has it,
+// the last page of the chain is `Damaged`, or that of the directory where the chain has none.
 pub(crate) fn place_in<const D: usize, B: BlockDevice, A: Allocator + Copy>(
     cache: &mut PageCache<B, A>,
+    directory: u32,
     first: u32,
     id: u64,
 ) -> Result<(u32, usize), Fault>
@@ -33,19 +37,27 @@ pub(crate) fn place_in<const D: usize, B: BlockDevice, A: Allocator + Copy>(
     ensures found { IsHonest cache.old → (chain : List Bucket) → ChainStands D (pages cache.old) first chain
         → IfOk result (λ r. IsInChain id chain r.0 r.1) }
     ensures within { IfOk result (λ r. r.1 < 100) }
+    ensures met { IsHonest cache.old → IfOk result (λ r. MeetsBucket D (given cache.old) first r.0) }
     ensures there { IsHonest cache.old → (chain : List Bucket) → ChainStands D (pages cache.old) first chain
         → length chain ≤ next_of cache.old → HasObject id chain → IfErr result IsOfDevice }
+    ensures damage { IsHonest cache.old → IfErr result (λ f. (n : ℕ) → f ≡ fault.Damaged n
+        → (n ≡ directory) ⊎ MeetsAlong D (given cache.old) first n) }
     ensures other_faults { IfErr result (λ f. IsOfDevice f ⊎ IsDamage f) }
 {
+    let mut before = directory;
     let mut number = first;
     for walked in 0..cache.next_number() {
+        if number == 0 {
+            return Err(Fault::Damaged(before));
+        }
         let (found, next) = place_at::<D, B, A>(cache, number, id)?;
         if let Some(place) = found {
             return Ok((number, place));
         }
+        before = number;
         number = next;
     }
-    Err(Fault::Damaged(number))
+    Err(Fault::Damaged(before))
 }
 
 // Writes an object into the place of one of a bucket page, where it lies in memory. After a refusal the map
@@ -72,6 +84,8 @@ pub(crate) fn put_at<const D: usize, B: BlockDevice, A: Allocator + Copy>(
     ensures sound { IsPageMap cache.old → IsLive cache.old number → IsPageMap cache.new }
     ensures grows { Grows 0 cache.old cache.new }
     ensures faults { IsHonest cache.old → IsLive cache.old number → IfErr result IsOfDevice }
+    ensures touched { OnOk result (touched_of cache.new ≡ true) }
+    ensures damage { IsHonest cache.old → IfErr result (λ f. IsOfDevice f ⊎ (f ≡ fault.Damaged number)) }
     ensures other_faults { IfErr result (λ f. IsOfDevice f ⊎ IsDamage f) }
 {
     cache.edit(
@@ -110,6 +124,7 @@ pub(crate) fn move_at<const D: usize, B: BlockDevice, A: Allocator + Copy>(
     ensures sound { IsPageMap cache.old → IsLive cache.old number → IsPageMap cache.new }
     ensures grows { Grows 0 cache.old cache.new }
     ensures faults { IsHonest cache.old → IsLive cache.old number → IfErr result IsOfDevice }
+    ensures damage { IsHonest cache.old → IfErr result (λ f. IsOfDevice f ⊎ (f ≡ fault.Damaged number)) }
     ensures other_faults { IfErr result (λ f. IsOfDevice f ⊎ IsDamage f) }
 {
     cache.edit(

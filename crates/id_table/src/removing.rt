@@ -1,18 +1,21 @@
 //! An object removed.
 
-ghost use Rattle.std.specs.Prelude.{◌≡◌, ◌<◌, ◌⊎◌, List, ℕ, Some, true, length, slice_index_or};
-ghost use Rattle.std.specs.Prelude.{◌-◌, IfErr, IfOk, OnOk};
+ghost use Rattle.std.specs.Prelude.{◌≡◌, ◌<◌, ◌⊎◌, List, ℕ, Some, true, false, length};
+ghost use Rattle.std.specs.Prelude.{◌-◌, IfErr, IfOk, OnOk, slice_index_or};
 ghost use Rattle.std.specs.FinMap as map;
 ghost use Rattle.box_math.specs.Bounds.{IsDims};
 ghost use Rattle.bucket_page.specs.Layout.{BucketContent, bucket_at, Entry};
 ghost use Rattle.page_file.specs.Fault.{IsDamage, IsOfDevice};
+ghost use Rattle.page_file.specs.declared.fault.Fault.TheVariants as fault;
 ghost use Rattle.page_file.specs.declared.gate.Gate.TheVariants.{Open};
-ghost use Rattle.page_cache.specs.Cache.{Grows, IsHonest, IsLive, IsPageMap, gate_of, pages};
+ghost use Rattle.page_cache.specs.Cache.{Grows, IsHonest, IsLive, IsPageMap, gate_of, given, pages};
+ghost use Rattle.page_cache.specs.Cache.{touched_of};
 ghost use Rattle.page_cache.specs.Calls.{Asks, Changes};
 ghost use Rattle.id_table.specs.Changes.{Removes};
 ghost use Rattle.id_table.specs.Pages.{PopsLast, Shrinks, Unlinks};
-ghost use Rattle.id_table.specs.Table.{IdTable, IdsStand, bucket_in, objects_of};
+ghost use Rattle.id_table.specs.Table.{IdTable, IdsStand, bucket_in, class_of, objects_of};
 ghost use Rattle.id_table.specs.Tidy.{KeepsTidy};
+ghost use Rattle.id_table.specs.Walks.{MeetsInChain};
 
 use crate::directory::{class_of, read_link, write_link};
 use crate::places::{place_in, put_at};
@@ -29,6 +32,9 @@ use std::alloc::Allocator;
 /// Pages with zeros in all bytes that they do not name stay so.
 ///
 /// With a sound map, where the pages stand for a table at that directory, a refusal is `Memory` or `Device`.
+/// On other pages it may be `Damaged` too. On an honest device, where the map is sound or no page is touched,
+/// that comes with the number of the directory's page or of one that a walk along the chain of the identifier
+/// meets in the table as it stood before.
 #[tactic(auto, using(page_cache::specs::Calls::changing))]
 pub fn remove<const D: usize, B: BlockDevice, A: Allocator + Copy>(
     cache: &mut PageCache<B, A>,
@@ -49,11 +55,14 @@ pub fn remove<const D: usize, B: BlockDevice, A: Allocator + Copy>(
     ensures grows { Grows 0 cache.old cache.new }
     ensures faults { IsPageMap cache.old → (t : IdTable) → t.page ≡ directory → IdsStand D (pages cache.old) t
         → map.contains_key (objects_of t) id ≡ true → IfErr result IsOfDevice }
+    ensures damage { IsHonest cache.old → IsPageMap cache.old ⊎ (touched_of cache.new ≡ false)
+        → IfErr result (λ f. (n : ℕ) → f ≡ fault.Damaged n
+        → MeetsInChain D (given cache.old) directory (class_of id) n) }
     ensures other_faults { IfErr result (λ f. IsOfDevice f ⊎ IsDamage f) }
 {
     let class = class_of(id);
     let first = read_link::<D, B, A>(cache, directory, class)?;
-    let (holder, place) = place_in::<D, B, A>(cache, first, id)?;
+    let (holder, place) = place_in::<D, B, A>(cache, directory, first, id)?;
     let last = last_in::<D, B, A>(cache, first)?;
     put_at(cache, holder, place, &last)?;
     drop_last::<D, B, A>(cache, directory, class, first)
@@ -72,6 +81,7 @@ fn last_in<const D: usize, B: BlockDevice, A: Allocator + Copy>(
         → IfOk result (λ last. last ≡ slice_index_or c.entries (length c.entries - 1) other) }
     ensures there { IsHonest cache.old → (c : BucketContent) → bucket_in D (pages cache.old number) ≡ Some c
         → IfErr result IsOfDevice }
+    ensures damage { IsHonest cache.old → IfErr result (λ f. IsOfDevice f ⊎ (f ≡ fault.Damaged number)) }
     ensures other_faults { IfErr result (λ f. IsOfDevice f ⊎ IsDamage f) }
 {
     let page = cache.page(number)?;
@@ -115,6 +125,8 @@ fn drop_last<const D: usize, B: BlockDevice, A: Allocator + Copy>(
     ensures grows { Grows 0 cache.old cache.new }
     ensures faults { IsPageMap cache.old → IsLive cache.old first → IsLive cache.old directory
         → ¬ (directory ≡ first) → ¬ (first ≡ 2) → IfErr result IsOfDevice }
+    ensures damage { IsPageMap cache.old → IsLive cache.old first → IsLive cache.old directory
+        → IfErr result (λ f. IsOfDevice f ⊎ ((f ≡ fault.Damaged first) ⊎ (f ≡ fault.Damaged directory))) }
     ensures other_faults { IfErr result (λ f. IsOfDevice f ⊎ IsDamage f) }
 {
     let emptied = cache.edit(
@@ -164,6 +176,8 @@ fn unlink<B: BlockDevice, A: Allocator + Copy>(
     ensures grows { Grows 0 cache.old cache.new }
     ensures faults { IsPageMap cache.old → IsLive cache.old first → IsLive cache.old directory
         → ¬ (directory ≡ first) → ¬ (first ≡ 2) → IfErr result IsOfDevice }
+    ensures damage { IsPageMap cache.old → IsLive cache.old first → IsLive cache.old directory
+        → IfErr result (λ f. IsOfDevice f ⊎ ((f ≡ fault.Damaged first) ⊎ (f ≡ fault.Damaged directory))) }
     ensures other_faults { IfErr result (λ f. IsOfDevice f ⊎ IsDamage f) }
 {
     write_link(cache, directory, class, next)?;

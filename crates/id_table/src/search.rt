@@ -1,12 +1,14 @@
 //! The search for an identifier.
 
-ghost use Rattle.std.specs.Prelude.{◌≡◌, ◌⊎◌, IfOk, IfErr};
+ghost use Rattle.std.specs.Prelude.{◌≡◌, ◌⊎◌, ℕ, IfOk, IfErr};
 ghost use Rattle.std.specs.FinMap as map;
 ghost use Rattle.box_math.specs.Bounds.{IsDims};
 ghost use Rattle.page_file.specs.Fault.{IsDamage, IsOfDevice};
-ghost use Rattle.page_cache.specs.Cache.{IsHonest, pages};
+ghost use Rattle.page_file.specs.declared.fault.Fault.TheVariants as fault;
+ghost use Rattle.page_cache.specs.Cache.{IsHonest, given, pages};
 ghost use Rattle.page_cache.specs.Calls.{Asks};
-ghost use Rattle.id_table.specs.Table.{IdTable, IdsStand, objects_of};
+ghost use Rattle.id_table.specs.Table.{IdTable, IdsStand, class_of, objects_of};
+ghost use Rattle.id_table.specs.Walks.{MeetsInChain};
 
 use crate::bucket::look;
 use crate::directory::{class_of, read_link};
@@ -17,10 +19,11 @@ use page_file::Fault;
 use std::alloc::Allocator;
 
 /// The box and the tag of an object, if the table has its identifier. A chain longer than the file has pages
-/// is `Damaged`.
+/// is damaged.
 ///
 /// On an honest device, where the pages stand for a table at that directory, a refusal is `Memory` or
-/// `Device`. Map and gate stay, also after a refusal.
+/// `Device`. On other pages it may be `Damaged` too, with the number of the directory's page or of one that a
+/// walk along the chain of the identifier meets. Map and gate stay, also after a refusal.
 pub fn get<const D: usize, B: BlockDevice, A: Allocator + Copy>(
     cache: &mut PageCache<B, A>,
     directory: u32,
@@ -32,8 +35,11 @@ pub fn get<const D: usize, B: BlockDevice, A: Allocator + Copy>(
         → IfOk result (λ kept. kept ≡ map.get (objects_of t) id) }
     ensures stands { IsHonest cache.old → (t : IdTable) → t.page ≡ directory → IdsStand D (pages cache.old) t
         → IfErr result IsOfDevice }
+    ensures damage { IsHonest cache.old → IfErr result (λ f. (n : ℕ) → f ≡ fault.Damaged n
+        → MeetsInChain D (given cache.old) directory (class_of id) n) }
     ensures other_faults { IfErr result (λ f. IsOfDevice f ⊎ IsDamage f) }
 {
+    let mut before = directory;
     let mut number = read_link::<D, B, A>(cache, directory, class_of(id))?;
     for walked in 0..cache.next_number() {
         if number == 0 {
@@ -43,7 +49,8 @@ pub fn get<const D: usize, B: BlockDevice, A: Allocator + Copy>(
         if kept.is_some() {
             return Ok(kept);
         }
+        before = number;
         number = next;
     }
-    Err(Fault::Damaged(number))
+    Err(Fault::Damaged(before))
 }

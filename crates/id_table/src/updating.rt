@@ -1,16 +1,18 @@
 //! An object that gets another box.
 
-ghost use Rattle.std.specs.Prelude.{◌≡◌, ◌⊎◌, Some, true, IfErr, OnErr, OnOk};
+ghost use Rattle.std.specs.Prelude.{◌≡◌, ◌⊎◌, ℕ, Some, true, IfErr, OnErr, OnOk};
 ghost use Rattle.std.specs.FinMap as map;
 ghost use Rattle.box_math.specs.Bounds.{IsDims};
 ghost use Rattle.box_math.specs.Objects.{Object};
 ghost use Rattle.page_file.specs.Fault.{IsDamage, IsOfDevice};
+ghost use Rattle.page_file.specs.declared.fault.Fault.TheVariants as fault;
 ghost use Rattle.page_file.specs.declared.gate.Gate.TheVariants.{Open};
-ghost use Rattle.page_cache.specs.Cache.{Grows, IsPageMap, KeepsMap, gate_of, pages};
+ghost use Rattle.page_cache.specs.Cache.{Grows, IsHonest, IsPageMap, KeepsMap, gate_of, given, pages};
 ghost use Rattle.page_cache.specs.Calls.{Changes};
 ghost use Rattle.id_table.specs.Changes.{Sets, with_box};
-ghost use Rattle.id_table.specs.Table.{IdTable, IdsStand, objects_of};
+ghost use Rattle.id_table.specs.Table.{IdTable, IdsStand, class_of, objects_of};
 ghost use Rattle.id_table.specs.Tidy.{KeepsTidy};
+ghost use Rattle.id_table.specs.Walks.{MeetsInChain};
 
 use crate::directory::{class_of, read_link};
 use crate::places::{move_at, place_in};
@@ -26,7 +28,8 @@ use std::alloc::Allocator;
 /// Pages with zeros in all bytes that they do not name stay so.
 ///
 /// With a sound map, where the pages stand for a table at that directory, a refusal is `Memory` or `Device`.
-/// After one the map is as before.
+/// On other pages of an honest device it may be `Damaged` too, with the number of the directory's page or of
+/// one that a walk along the chain of the identifier meets. After a refusal the map is as before.
 #[tactic(auto, using(page_cache::specs::Calls::turns))]
 pub fn update<const D: usize, B: BlockDevice, A: Allocator + Copy>(
     cache: &mut PageCache<B, A>,
@@ -49,10 +52,12 @@ pub fn update<const D: usize, B: BlockDevice, A: Allocator + Copy>(
     ensures grows { Grows 0 cache.old cache.new }
     ensures faults { IsPageMap cache.old → (t : IdTable) → t.page ≡ directory → IdsStand D (pages cache.old) t
         → map.contains_key (objects_of t) id ≡ true → IfErr result IsOfDevice }
+    ensures damage { IsHonest cache.old → IfErr result (λ f. (n : ℕ) → f ≡ fault.Damaged n
+        → MeetsInChain D (given cache.old) directory (class_of id) n) }
     ensures other_faults { IfErr result (λ f. IsOfDevice f ⊎ IsDamage f) }
 {
     let class = class_of(id);
     let first = read_link::<D, B, A>(cache, directory, class)?;
-    let (holder, place) = place_in::<D, B, A>(cache, first, id)?;
+    let (holder, place) = place_in::<D, B, A>(cache, directory, first, id)?;
     move_at(cache, holder, place, bounds)
 }

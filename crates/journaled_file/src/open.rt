@@ -80,7 +80,7 @@ fn paired<R: Files<File = File>>(
     let marked = has_mark(&mut base)?;
     // A file that has the mark can't be read without its journal.
     let journal = match open_file(rt, name, !marked) {
-        Err(OpenError::Refused) if marked => return Err(OpenError::NoJournal),
+        Err(error) if marked && error.is_of_system() => return Err(OpenError::NoJournal),
         opened => opened?,
     };
     let mut pair = TwoDevices::of(base, journal);

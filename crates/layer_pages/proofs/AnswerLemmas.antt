@@ -5,9 +5,9 @@ use Rattle.std.specs.Prelude.{IsPermutation, filter, ℤ}
 use Rattle.std.specs.FinMap.{entries, entries_sorted}
 use Rattle.std.proofs.lemmas.List.Sorted.{IsPermutation-sym, IsPermutation-trans}
 use Rattle.box_math.specs.Nearest.{by_distance, nearest_first, with_distance}
-use Rattle.box_math.specs.Objects.{bounds_of, tag_of}
+use Rattle.box_math.specs.Objects.{bounds_of, has_tag}
 use Rattle.bucket_page.specs.Layout.{Entry}
-use Rattle.range_query.specs.Queries.{has_tag, having}
+use Rattle.range_query.specs.Queries.{having}
 use Rattle.tree_node.specs.Positions.{total}
 use Rattle.tree_node.specs.Searches.{passing_objects}
 use Rattle.tree_node.specs.Trees.{objects_in}
@@ -35,9 +35,9 @@ filter_twice one other (x ∷ xs) =
 pub ranges_answer_objects : RangesAnswerObjects
 ranges_answer_objects dims most pages root directory l objects test asked rows is answer =
     let found = having asked (passing_objects test l.tree.row) in
-    let pass : Entry → Bool = λ o. test (bounds_of o.1) && has_tag asked (tag_of o.1) in
+    let pass : Entry → Bool = λ o. test (bounds_of o.1) && has_tag asked o.1 in
     let twice =
-    filter_twice (λ o. test (bounds_of o.1)) (λ o. has_tag asked (tag_of o.1)) (objects_in l.tree.row) in
+    filter_twice (λ o. test (bounds_of o.1)) (λ o. has_tag asked o.1) (objects_in l.tree.row) in
     one_order rows (filter pass (entries objects)) answer.order
     (filter_sorted pass (entries objects) (entries_sorted objects))
     (IsPermutation-trans rows found (filter pass (entries objects)) (IsPermutation-sym found rows answer.all)

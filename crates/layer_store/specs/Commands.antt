@@ -1,19 +1,24 @@
 -- What each command keeps of the store that it works on: one word for commands that change, and one for those
 -- that ask.
-use Rattle.std.specs.Prelude.{◌≡◌, ◌⊎◌, ◌↔◌, Bool, true, false, Result, Err, OnErr, IfErr}
+use Rattle.std.specs.Prelude.{◌≡◌, ◌⊎◌, ◌↔◌, ℕ, Bool, true, false, List, Option, Result, Vec, Err, OnErr, OnOk}
+use Rattle.std.specs.Prelude.{IfErr}
 use Rattle.live_layers.specs.Faults.{HasRefusalCause}
 use Rattle.live_layers.specs.Image.{IsRefusedOrImageOf, MayRemain}
+use Rattle.live_layers.specs.Keeping.{LooksAtTree}
+use Rattle.live_layers.specs.Questions.{is_admitted}
 use Rattle.live_layers.specs.Staying.{KeepsEachTree, KeepsPagesAndRecords}
 use Rattle.live_layers.specs.Unmade.{is_broken, told}
 use Rattle.live_layers.specs.declared.unmade.Unmade.{Unmade}
 use Rattle.page_cache.specs.Cache.{IsHonest, gate_of}
 use Rattle.page_file.specs.declared.gate.Gate.TheVariants.{Shut}
-use Rattle.plain_table.specs.Answers.{done_answer}
+use Rattle.plain_table.specs.Answers.{boxes_answer, done_answer}
 use Rattle.plain_table.specs.Commands.{Command}
-use Rattle.plain_table.specs.Commands.Command.{Reopen}
+use Rattle.plain_table.specs.Commands.Command.{Range, Reopen}
 use Rattle.plain_table.specs.Step.{Answer, changes}
 use Rattle.plain_table.specs.Step.Answer.{Refused}
-use Rattle.plain_table.specs.Table.{Table}
+use Rattle.plain_table.specs.Table.{Table, layer_at}
+use Rattle.plain_table.specs.declared.boxes.AnyBox.{AnyBox}
+use Rattle.plain_table.specs.declared.queries.RawQuery.{RawQuery}
 use Rattle.plain_table.specs.declared.refusal.Refusal.{Refusal}
 use Rattle.plain_table.specs.declared.refusal.Refusal.TheVariants as refusal
 use Rattle.layer_store.specs.Checked.{LawfulReply, Standing}
@@ -25,6 +30,7 @@ use Rattle.layer_store.specs.Representation.{IsInState, IsSettled, KeepsStore, R
 use Rattle.layer_store.specs.Representation.{SpellsUnchanged, StandsAs, StopsLeave, cache_in, device_in}
 use Rattle.layer_store.specs.Representation.{layers_in}
 use Rattle.layer_store.specs.declared.store.Store.{Store}
+use Rattle.tree_node.specs.Searches.{admitted}
 
 -- the command was answered so, by one lawful step from whatever state of a session the store was in
 abbrev pub TakesStep : {D A : Type 0} {m : _} → Store D A m → Store D A m → Command → Answer → Type 0
@@ -120,6 +126,15 @@ pub record OnlyAsks {D A : Type 0} {m : _} {T : Type 0} (old new : Store D A m)
   pub dead : StaysDead old new result
   -- faults of the device are counted
   pub cause : CountsFaults old new result
+
+-- A range query of a layer was asked: its rows are the answer, and it looked at the nodes of the layer's tree
+-- that it admits.
+pub record AnswersRange {D A : Type 0} {m : _} (old new : Store D A m) (layer : List ℕ) (query : RawQuery)
+    (tag : Option ℕ) (result : Result (Vec (ℕ × AnyBox × ℕ) A) Refusal) : Type 0 where
+  pub answers : Answers old new (Range layer query tag) boxes_answer result
+  pub looks : (t : Table) → IsInState old (Alive t) → OnOk result
+      (LooksAtTree (layers_in old) (layers_in new) layer
+      (admitted (is_admitted (layer_at t layer).dims query)))
 
 -- A closing that was refused, and not finished: the device is that of a store that goes on, as after a
 -- reopening that was refused so, with each tree, and its gate is not shut.

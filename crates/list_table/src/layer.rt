@@ -1,6 +1,9 @@
 //! One layer in memory: its name, its axes, its fanout and the list of its objects.
 
-use plain_table::{AnyBox, LayerName, Query, RawBox, RawPoint, RawQuery, Refusal};
+use box_math::Query;
+use plain_table::{
+    AnyBox, Axes, Dimension, LayerName, RawBox, RawPoint, RawQuery, Refusal,
+};
 use std::alloc::Allocator;
 
 /// A layer in memory.
@@ -45,18 +48,18 @@ impl<A: Allocator + Copy> ListedLayer<A> {
     /// The box in this layer. Refused, in this order, by WrongDims and BadBox.
     pub fn bounds(&self, given: RawBox) -> Result<AnyBox, Refusal> {
         if self.dims == 2 {
-            Ok(AnyBox::Two(given.two_axes()?))
+            Ok(AnyBox::Two(<Axes as Dimension<2>>::bounds(given)?))
         } else {
-            Ok(AnyBox::Three(given.three_axes()?))
+            Ok(AnyBox::Three(<Axes as Dimension<3>>::bounds(given)?))
         }
     }
 
     /// The query in this layer. Refused, in this order, by WrongDims and BadBox.
     pub fn sought(&self, query: RawQuery) -> Result<Sought, Refusal> {
         if self.dims == 2 {
-            Ok(Sought::Plane(query.two_axes()?))
+            Ok(Sought::Plane(query.in_axes::<2>()?))
         } else {
-            Ok(Sought::Space(query.three_axes()?))
+            Ok(Sought::Space(query.in_axes::<3>()?))
         }
     }
 

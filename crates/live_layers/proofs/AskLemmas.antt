@@ -1,4 +1,4 @@
--- The layer of a name, rows of either dimension, and faults of a question.
+-- The layer of a name, and faults of a question.
 use Rattle.std.proofs.Common.{◌≡◌, ◌∙◌, ℕ, ◌+◌, List, [], ◌∷◌, map, true, false, refl, sym, ap, subst, arith}
 use Rattle.std.proofs.Common.{inl, inr, ⊎_elim}
 use Rattle.std.specs.Prelude.{◌==◌, ◌^◌, ◌-◌, is_some}
@@ -11,9 +11,7 @@ use Rattle.box_math.specs.Objects.{Object, bounds_of, tag_of}
 use Rattle.page_file.specs.Fault.{IsOfDevice, faults_after}
 use Rattle.page_file.specs.declared.fault.Fault.{Fault}
 use Rattle.page_file.specs.declared.fault.Fault.TheVariants as fault
-use Rattle.plain_table.specs.Answers.{row_of}
 use Rattle.plain_table.specs.Table.{Table, no_layer}
-use Rattle.plain_table.specs.declared.boxes.AnyBox.TheVariants.{Two, Three}
 use Rattle.store_law.specs.Lawful.{IsFault}
 use Rattle.live_layers.specs.Keeping.{Belongs, Finds}
 use Rattle.live_layers.specs.Faults.{as_refusal, faults_after_refusal}
@@ -53,18 +51,6 @@ same_count fault.NotClosed before = refl
 same_count fault.NotAStore before = refl
 same_count fault.WrongVersion before = refl
 same_count fault.NoPages before = refl
-
--- ---- rows of either dimension
-
-pub two_rows : (rows : List (ℕ × Object))
-    → map row_of (map (λ (row : ℕ × Object). (row.0, Two (bounds_of row.1), tag_of row.1)) rows) ≡ rows
-two_rows [] = refl
-two_rows (r ∷ rs) = ap (λ (xs : List (ℕ × Object)). r ∷ xs) (two_rows rs)
-
-pub three_rows : (rows : List (ℕ × Object))
-    → map row_of (map (λ (row : ℕ × Object). (row.0, Three (bounds_of row.1), tag_of row.1)) rows) ≡ rows
-three_rows [] = refl
-three_rows (r ∷ rs) = ap (λ (xs : List (ℕ × Object)). r ∷ xs) (three_rows rs)
 
 -- ---- the layer of a name
 

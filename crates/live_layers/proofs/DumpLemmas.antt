@@ -11,7 +11,7 @@ use Rattle.std.proofs.lemmas.List.{get_or-replicate, map-append, take_more}
 use Rattle.std.proofs.lemmas.List.Elements.{All-append, All-cons, All-head, All-nil, All-tail}
 use Rattle.std.proofs.lemmas.List.Sorted.{All-permutation}
 use Rattle.box_math.specs.Bounds.{Bounds, IsBox, meets_test}
-use Rattle.box_math.specs.Objects.{Object, bounds_of, tag_of}
+use Rattle.box_math.specs.Objects.{Object, bounds_of, has_tag}
 use Rattle.box_math.proofs.TestLaws.{meets_test_true}
 use Rattle.catalog_page.specs.Layout.{Record, record_of}
 use Rattle.catalog_page.specs.declared.layer_record.LayerRecord.{LayerRecord}
@@ -21,7 +21,6 @@ use Rattle.plain_table.specs.Answers.{line_of_row}
 use Rattle.plain_table.specs.Listings.{DumpLine, dump_lines}
 use Rattle.plain_table.specs.Listings.DumpLine.{CreateLine, InsertLine}
 use Rattle.plain_table.specs.declared.rows.DumpRow.{DumpRow}
-use Rattle.range_query.specs.Queries.{has_tag}
 use Rattle.tree_node.specs.Boxes.{RowHasBoxes}
 use Rattle.tree_node.specs.Trees.{Row, child, end, more, object, objects_in}
 use Rattle.tree_node.specs.declared.node.Root.{Root}
@@ -68,13 +67,13 @@ boxes_in dims (more (child bounds page below) rest) boxes =
 
 all_meet : (dims : ℕ) (objects : List (ℕ × Object)) → All (HasBox dims) objects
     → filter
-    (λ (o : ℕ × Object). meets_test dims (bounds_of o.1) (everywhere dims) && has_tag None (tag_of o.1))
+    (λ (o : ℕ × Object). meets_test dims (bounds_of o.1) (everywhere dims) && has_tag None o.1)
     objects ≡ objects
 all_meet dims [] boxes = refl
 all_meet dims (o ∷ os) boxes =
     let rest =
     filter (λ (x : ℕ × Object). meets_test dims (bounds_of x.1) (everywhere dims)
-    && has_tag None (tag_of x.1)) os in
+    && has_tag None x.1) os in
     ap (λ (b : Bool). cond (b && true) (o ∷ rest) rest)
     (meets_everywhere dims (bounds_of o.1) (All-head (HasBox dims) o os boxes))
     ∙ ap (λ (xs : List (ℕ × Object)). o ∷ xs) (all_meet dims os (All-tail (HasBox dims) o os boxes))
@@ -83,7 +82,7 @@ all_meet dims (o ∷ os) boxes =
 pub all_objects_meet : (dims most : ℕ) (pages : PageMap) (root : Root) (directory : ℕ) (l : LayerPages)
     (objects : Objects) → IsLayerAt dims most pages root directory l objects
     → filter
-    (λ (o : ℕ × Object). meets_test dims (bounds_of o.1) (everywhere dims) && has_tag None (tag_of o.1))
+    (λ (o : ℕ × Object). meets_test dims (bounds_of o.1) (everywhere dims) && has_tag None o.1)
     (entries objects) ≡ entries objects
 all_objects_meet dims most pages root directory l objects at =
     all_meet dims (entries objects)

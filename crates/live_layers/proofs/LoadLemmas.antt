@@ -20,7 +20,7 @@ use Rattle.plain_table.specs.declared.refusal.Refusal.{Refusal}
 use Rattle.plain_table.specs.declared.refusal.Refusal.TheVariants as refusal
 use Rattle.store_law.specs.Lawful.{IsFault}
 use Rattle.live_layers.specs.Keeping.{Finds, IsSound}
-use Rattle.live_layers.specs.Loading.{ReachesObjects, boxes_refusals, times_in}
+use Rattle.live_layers.specs.Loading.{NamesLayer, ReachesObjects, boxes_refusals, times_in}
 use Rattle.live_layers.specs.declared.layers.Layers.{Layers}
 use Rattle.live_layers.proofs.AskLemmas.{named_there}
 use Rattle.live_layers.proofs.FillLemmas.{AreApart, entries_made}
@@ -61,6 +61,10 @@ after_boxes layer given count =
       refusal.DuplicateInLoad (unwrap_or (least_repeated (ids_of given)) 0),
     )
     ∷ (nat_lt most_objects (count + length given), refusal.TooManyObjects) ∷ []
+
+pub names_layer : (t : Table) (name : List ℕ) (place dims : ℕ) → is_layer_name name ≡ true → Finds t name place
+    → (layer_at t name).dims ≡ dims → NamesLayer t name place dims
+names_layer t name place dims good finds axes = record { good = good; finds = finds; axes = axes }
 
 -- one that is refused is why the load is
 pub box_refused_there : (t : Table) (name : List ℕ) (place : ℕ) (given : GivenObjects) (dims : ℕ)

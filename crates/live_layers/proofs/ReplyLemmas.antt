@@ -3,26 +3,25 @@ use Rattle.std.proofs.Common.{◌≡◌, ◌∙◌, ◌⊎◌, ℕ, List, [], �
 use Rattle.std.proofs.Common.{refl, sym, ap, subst, inl, inr}
 use Rattle.std.specs.Prelude.{IsErrAnd, Ok, Err, Result, Vec, ◌==◌, filter, is_some, unwrap_or}
 use Rattle.std.specs.FinMap.{entries, get}
-use Rattle.box_math.specs.Objects.{Object, bounds_of}
-use Rattle.layer_pages.specs.Layers.{Objects}
-use Rattle.layer_pages.specs.Questions.{objects_that}
+use Rattle.box_math.specs.Objects.{Object, bounds_of, has_tag}
+use Rattle.box_math.specs.Queries.{admits, seeks}
+use Rattle.box_math.specs.declared.query.Query.{Query}
 use Rattle.plain_table.specs.Answers.{boxes_answer, count_answer, distances_answer, object_answer}
 use Rattle.plain_table.specs.Commands.{Command}
 use Rattle.plain_table.specs.Nearest.{is_count}
-use Rattle.plain_table.specs.Queries.{given_query, has_tag, is_wanted, seeks}
+use Rattle.plain_table.specs.Queries.{given_query, is_wanted}
 use Rattle.plain_table.specs.Step.{Answer, answer_of, first_refusal, missing_refusals, object_row}
 use Rattle.plain_table.specs.Step.{query_refusals, range_rows, refusal_of, refused_or, reply_of}
 use Rattle.plain_table.specs.Step.Answer.{Boxes, Refused}
 use Rattle.plain_table.specs.Table.{Layer, Table, is_layer_name, no_object}
 use Rattle.plain_table.specs.declared.boxes.AnyBox.{AnyBox}
-use Rattle.plain_table.specs.declared.queries.Query.{Query}
 use Rattle.plain_table.specs.declared.queries.RawQuery.{RawQuery}
 use Rattle.plain_table.specs.declared.refusal.Refusal.{Refusal}
 use Rattle.plain_table.specs.declared.refusal.Refusal.TheVariants as refusal
 use Rattle.store_law.specs.Lawful.{IsFault, RefusedBy}
 use Rattle.tree_node.specs.Searches.{admitted}
 use Rattle.live_layers.specs.Keeping.{Belongs, Finds, LooksAtTree}
-use Rattle.live_layers.specs.Questions.{IsNamed, IsReply, IsUnnamed, admits, is_admitted}
+use Rattle.live_layers.specs.Questions.{IsNamed, IsReply, IsUnnamed, is_admitted}
 use Rattle.live_layers.specs.declared.layers.Layers.{Layers}
 use Rattle.live_layers.proofs.AskLemmas.{named_there, not_there}
 
@@ -113,13 +112,6 @@ module _ (D : ℕ) where
       ∙ ap (λ (d : ℕ). filter (λ row. is_wanted d query tag row.1) (entries layer.objects)) (sym dims) in
       inl (ap Boxes same
       ∙ ap (λ (o : Option Refusal). refused_or o (Boxes (range_rows layer query tag))) (sym none))
-
--- an object has the tag that is asked for, by either word
-pub same_tags : (D : ℕ) (query : Query D) (tag : Option ℕ) (objects : Objects)
-    → objects_that (seeks query) tag objects ≡ filter
-    (λ row. seeks query (bounds_of row.1) && has_tag tag row.1) (entries objects)
-same_tags D query None objects = refl
-same_tags D query (Some tag) objects = refl
 
 -- ---- one object
 

@@ -22,6 +22,12 @@ abbrev pub boxes_refusals : ℕ → GivenObjects → List (Bool × Refusal)
 boxes_refusals dims objects =
     (not (have_dims dims objects), refusal.WrongDims) ∷ (not (are_ordered objects), refusal.BadBox) ∷ []
 
+-- the layer of a good name stands at the place, and has so many axes
+pub record NamesLayer (t : Table) (name : List ℕ) (place dims : ℕ) : Type 0 where
+  pub good : is_layer_name name ≡ true
+  pub finds : Finds t name place
+  pub axes : (layer_at t name).dims ≡ dims
+
 -- the layer of a good name stands at the place, and the objects have its axes, no low above its high, and
 -- these boxes and tags
 pub record ReachesObjects (t : Table) (name : List ℕ) (place : ℕ) (given : GivenObjects) (dims : ℕ)

@@ -2,15 +2,14 @@
 -- looked at: Guttman 1984; Beckmann, Kriegel, Schneider and Seeger 1990; of a join: Brinkhoff, Kriegel and
 -- Seeger 1993).
 use Rattle.std.specs.Prelude.{ℕ, ◌≡◌, ◌+◌, ◌≤◌, ◌⊎◌, Bool, List, [], ◌∷◌, Option, Some, Result, Ok, Err, Vec}
-use Rattle.box_math.specs.Bounds.{Bounds, holds_test, meets_test, within_test}
+use Rattle.box_math.specs.Bounds.{Bounds}
 use Rattle.box_math.specs.Objects.{Object}
+use Rattle.box_math.specs.Queries.{admits}
 use Rattle.page_cache.specs.Cache.{looks_of}
 use Rattle.plain_table.specs.Queries.{given_query}
 use Rattle.plain_table.specs.Step.{Answer, first_refusal, layer_refusals, refused_or}
 use Rattle.plain_table.specs.Step.Answer.{Boxes, Refused}
 use Rattle.plain_table.specs.Table.{Table}
-use Rattle.plain_table.specs.declared.queries.Query.{Query}
-use Rattle.plain_table.specs.declared.queries.Query.TheVariants as query
 use Rattle.plain_table.specs.declared.queries.RawQuery.{RawQuery}
 use Rattle.plain_table.specs.declared.refusal.Refusal.{Refusal}
 use Rattle.store_law.specs.Lawful.{IsFault, RefusedBy}
@@ -31,14 +30,7 @@ IsUnnamed t name why = (more : List (Bool × Refusal)) → first_refusal (layer_
 
 -- ---- ranges
 
--- whether a query whose axes are known looks into a node with this box
-abbrev pub admits : {D : ℕ} → Query D → Bounds → Bool
-admits {D} (query.Window window) b = meets_test D b window
-admits {D} (query.Inside window) b = meets_test D b window
-admits {D} (query.Around inner) b = within_test D inner b
-admits {D} (query.Point point) b = holds_test D b point
-
--- the same of a query as it was given, in a layer of so many axes
+-- whether a query looks into a node with this box, in a layer of so many axes
 abbrev pub is_admitted : ℕ → RawQuery → Bounds → Bool
 is_admitted dims query b = admits {D = dims} (given_query query) b
 

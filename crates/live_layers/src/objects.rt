@@ -8,27 +8,26 @@ ghost use Rattle.live_layers.specs.Inserting.{IsAllowedOr};
 ghost use Rattle.live_layers.specs.Loading.{boxes_refusals};
 
 use box_math::BBox;
-use plain_table::{RawBox, Refusal};
+use plain_table::{Axes, Dimension, RawBox, Refusal};
 use std::alloc::Allocator;
 
-/// The objects of a layer of two axes. Refused, in this order, by WrongDims and BadBox.
-pub(crate) fn objects_in_plane<A: Allocator>(
+/// The objects of a layer of `D` axes. Refused, in this order, by WrongDims and BadBox.
+pub(crate) fn objects_in<const D: usize, A: Allocator>(
     alloc: A,
     objects: &[(u64, RawBox, u32)],
-) -> Result<Vec<(u64, (BBox<2>, u32)), A>, Refusal>
-    ensures allowed { IsAllowedOr ⊥ (first_refusal (boxes_refusals 2 objects.now)) result }
+) -> Result<Vec<(u64, (BBox<D>, u32)), A>, Refusal>
+where
+    Axes: Dimension<D>,
+    ensures allowed { IsAllowedOr ⊥ (first_refusal (boxes_refusals D objects.now)) result }
     ensures given { IfOk result (λ boxed. boxed.items ≡ map given_object objects.now) }
     ensures quiet { IfErr result (λ r. is_plain r ≡ true) }
 {
-    if !are_plane(objects) {
+    if !have_axes::<D>(objects) {
         return Err(Refusal::WrongDims);
     }
     let mut boxed = Vec::with_capacity(alloc, objects.len())?;
     for object in objects {
-        let RawBox::Two(low, high) = object.1 else {
-            return Err(Refusal::WrongDims);
-        };
-        let Some(bounds) = BBox::try_new(low, high) else {
+        let Ok(bounds) = <Axes as Dimension<D>>::bounds(object.1) else {
             return Err(Refusal::BadBox);
         };
         boxed.push((object.0, (bounds, object.2)))?;
@@ -36,49 +35,14 @@ pub(crate) fn objects_in_plane<A: Allocator>(
     Ok(boxed)
 }
 
-/// The objects of a layer of three axes. Refused, in this order, by WrongDims and BadBox.
-pub(crate) fn objects_in_space<A: Allocator>(
-    alloc: A,
-    objects: &[(u64, RawBox, u32)],
-) -> Result<Vec<(u64, (BBox<3>, u32)), A>, Refusal>
-    ensures allowed { IsAllowedOr ⊥ (first_refusal (boxes_refusals 3 objects.now)) result }
-    ensures given { IfOk result (λ boxed. boxed.items ≡ map given_object objects.now) }
-    ensures quiet { IfErr result (λ r. is_plain r ≡ true) }
-{
-    if !are_spatial(objects) {
-        return Err(Refusal::WrongDims);
-    }
-    let mut boxed = Vec::with_capacity(alloc, objects.len())?;
-    for object in objects {
-        let RawBox::Three(low, high) = object.1 else {
-            return Err(Refusal::WrongDims);
-        };
-        let Some(bounds) = BBox::try_new(low, high) else {
-            return Err(Refusal::BadBox);
-        };
-        boxed.push((object.0, (bounds, object.2)))?;
-    }
-    Ok(boxed)
-}
-
-// Whether all boxes have two axes.
-fn are_plane(objects: &[(u64, RawBox, u32)]) -> bool
-    ensures { result ≡ have_dims 2 objects.now }
+// Whether all boxes have `D` axes.
+fn have_axes<const D: usize>(objects: &[(u64, RawBox, u32)]) -> bool
+where
+    Axes: Dimension<D>,
+    ensures { result ≡ have_dims D objects.now }
 {
     for object in objects {
-        if let RawBox::Three(..) = object.1 {
-            return false;
-        }
-    }
-    true
-}
-
-// Whether all boxes have three axes.
-fn are_spatial(objects: &[(u64, RawBox, u32)]) -> bool
-    ensures { result ≡ have_dims 3 objects.now }
-{
-    for object in objects {
-        if let RawBox::Two(..) = object.1 {
+        if !<Axes as Dimension<D>>::has(&object.1) {
             return false;
         }
     }

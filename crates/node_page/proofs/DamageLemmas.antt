@@ -1,13 +1,16 @@
 -- The page that is damaged is one that a walk comes to.
-use Rattle.std.proofs.Common.{◌≡◌, ◌∙◌, ◌⊎◌, ℕ, zero, suc, ◌<◌, Some, List, [], ◌∷◌, length, map, get_or, sym}
-use Rattle.std.proofs.Common.{ap, subst, ⊎_elim, arith}
+use Rattle.std.proofs.Common.{◌≡◌, ◌∙◌, ◌⊎◌, ℕ, zero, suc, ◌<◌, ◌≤◌, ◌^◌, Option, Some, List, [], ◌∷◌}
+use Rattle.std.proofs.Common.{length, map, get_or, sym, ap, subst, ⊎_elim, arith}
 use Rattle.std.proofs.lemmas.List.{length-map}
 use Rattle.page_file.specs.Fault.{IsOfDevice}
 use Rattle.page_file.specs.declared.fault.Fault.{Fault}
 use Rattle.page_file.specs.declared.fault.Fault.TheVariants as fault
+use Rattle.tree_node.specs.Boxes.{no_item}
 use Rattle.tree_node.specs.Nodes.{Item, NodeContent, references_of}
 use Rattle.node_page.specs.Checked.{ComesBelow, ComesTo, Leads, Names}
 use Rattle.node_page.specs.Standing.{PageMap, node_in}
+use Rattle.node_page.proofs.NodeLemmas.{bytes_of_node}
+use Rattle.node_page.proofs.Reading.{spellable, spells}
 
 -- the only page that a fault can name
 pub damaged_visit : (f : Fault) (page n : ℕ) → (f ≡ fault.Memory) ⊎ (f ≡ fault.Damaged page)
@@ -70,3 +73,38 @@ pub comes_below_so : (dims : ℕ) (old new : PageMap) (c : NodeContent) (n : ℕ
     → ComesBelow dims new c n → ComesBelow dims old c n
 comes_below_so dims old new c n same below =
     (below.0, below.1, (below.2.0, leads_so dims old new below.0 below.2.0 n same below.2.1))
+
+pub comes_so : (dims : ℕ) (old new : PageMap) (page n : ℕ) → ((k : ℕ) → new k ≡ old k)
+    → ComesTo dims new page n → ComesTo dims old page n
+comes_so dims old new page n same walk = (walk.0, leads_so dims old new page walk.0 n same walk.1)
+
+-- ---- each page that a walk comes to is the first one, or has a number that a node can refer to
+
+named_at : (items : List Item) (k page : ℕ) → k < length items
+    → get_or (map (λ (item : Item). item.reference) items) k page ≡ page
+    → (get_or items k no_item).reference ≡ page
+named_at [] k page lt is = absurd (omega (arith, lt))
+named_at (x ∷ xs) zero page lt is = is
+named_at (x ∷ xs) (suc k) page lt is = named_at xs k page (omega (arith, lt)) is
+
+name_in_range : (dims : ℕ) (page : Option (List ℕ)) (c : NodeContent) (next : ℕ)
+    → node_in dims page ≡ Some c → Names c next → (3 ≤ next) × (next < 2 ^ 31)
+name_in_range dims page c next there names =
+    let bytes = bytes_of_node dims page c there in
+    let within : names.1.0 < length c.entries =
+    omega (arith, names.1.1, length-map c.entries (λ (item : Item). item.reference)) in
+    let node = spellable dims bytes.0 c (spells dims bytes.0 c bytes.2) in
+    let range = node.refers names.1.0 no_item within names.0 in
+    subst (λ (k : ℕ). (3 ≤ k) × (k < 2 ^ 31)) (named_at c.entries names.1.0 next within names.1.2)
+    (range.0, range.1)
+
+leads_in_range : (dims : ℕ) (m : PageMap) (page : ℕ) (walk : List ℕ) (n : ℕ) → (3 ≤ page) × (page < 2 ^ 31)
+    → Leads dims m page walk n → (3 ≤ n) × (n < 2 ^ 31)
+leads_in_range dims m page [] n range leads =
+    subst (λ (k : ℕ). (3 ≤ k) × (k < 2 ^ 31)) (sym leads) range
+leads_in_range dims m page (next ∷ walk) n range leads =
+    leads_in_range dims m next walk n (name_in_range dims (m page) leads.0.0 next leads.0.1 leads.0.2) leads.1
+
+pub comes_in_range : (dims : ℕ) (m : PageMap) (page n : ℕ) → (3 ≤ page) × (page < 2 ^ 31)
+    → ComesTo dims m page n → (3 ≤ n) × (n < 2 ^ 31)
+comes_in_range dims m page n range walk = leads_in_range dims m page walk.0 n range walk.1

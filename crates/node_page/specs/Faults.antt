@@ -1,5 +1,5 @@
 -- What may end a change of trees (our rule, docs/FORMAT.md, "Trees of pages").
-use Rattle.std.specs.Prelude.{◌≡◌, ◌⊎◌}
+use Rattle.std.specs.Prelude.{◌≡◌, ◌⊎◌, ℕ, ◌<◌, ◌≤◌, ◌^◌}
 use Rattle.page_file.specs.Fault.{IsDamage, IsOfDevice}
 use Rattle.page_file.specs.declared.fault.Fault.{Fault}
 use Rattle.page_file.specs.declared.fault.Fault.TheVariants as fault
@@ -13,3 +13,7 @@ IsNoDamage cache f = IsOfDevice f ⊎ ((f ≡ fault.NoPages) × IsFull cache)
 -- and in any pages: memory or the device, no page number left, or a damaged page
 abbrev pub IsChangeFault : Fault → Type 0
 IsChangeFault f = IsOfDevice f ⊎ ((f ≡ fault.NoPages) ⊎ IsDamage f)
+
+-- a page that is named as damaged has a number that a node can refer to
+abbrev pub NamesInRange : Fault → Type 0
+NamesInRange f = (n : ℕ) → f ≡ fault.Damaged n → (3 ≤ n) × (n < 2 ^ 31)

@@ -5,8 +5,9 @@ ghost use Rattle.std.specs.Prelude.{IfOk, IfSome, IsSome, OnOk, length};
 ghost use Rattle.box_math.specs.Bounds.{IsDims};
 ghost use Rattle.page_file.specs.Fault.{IsDamage, IsOfDevice};
 ghost use Rattle.page_file.specs.Pages.{SameBut};
+ghost use Rattle.page_file.specs.declared.fault.Fault.TheVariants as fault;
 ghost use Rattle.page_file.specs.declared.gate.Gate.TheVariants.{Open};
-ghost use Rattle.page_cache.specs.Cache.{Grows, IsHonest, IsLive, IsPageMap, gate_of, pages};
+ghost use Rattle.page_cache.specs.Cache.{Grows, IsHonest, IsLive, IsPageMap, gate_of, given, pages};
 ghost use Rattle.page_cache.specs.Calls.{Asks, AsksUntil, Changes};
 ghost use Rattle.tree_node.specs.Boxes.{least_box};
 ghost use Rattle.tree_node.specs.Nodes.{NodeContent, item_of};
@@ -59,6 +60,9 @@ pub fn add_entry<const D: usize, B: BlockDevice, A: Allocator + Copy>(
     ensures grows { Grows 0 cache.old cache.new }
     ensures faults { IsHonest cache.old → (c : NodeContent) → node_in D (pages cache.old page) ≡ Some c
         → c.level ≡ level → IfErr result IsOfDevice }
+    ensures given_node { IsHonest cache.old → OnOk result ((c : NodeContent)
+        × (node_in D (given cache.old page) ≡ Some c) × (c.level ≡ level)) }
+    ensures named { IsHonest cache.old → IfErr result (λ f. IsOfDevice f ⊎ (f ≡ fault.Damaged page)) }
     ensures other_faults { IfErr result (λ f. IsOfDevice f ⊎ IsDamage f) }
 {
     let Some(bounds) = least_with(cache, page, level, entry, most)? else {
@@ -99,6 +103,9 @@ fn least_with<const D: usize, B: BlockDevice, A: Allocator + Copy>(
         bounds ≡ least_box D (pushed c (item_of entry.now)).entries)) }
     ensures faults { IsHonest cache.old → (c : NodeContent) → node_in D (pages cache.old page) ≡ Some c
         → c.level ≡ level → IfErr result IsOfDevice }
+    ensures given_node { IsHonest cache.old → OnOk result ((c : NodeContent)
+        × (node_in D (given cache.old page) ≡ Some c) × (c.level ≡ level)) }
+    ensures named { IsHonest cache.old → IfErr result (λ f. IsOfDevice f ⊎ (f ≡ fault.Damaged page)) }
     ensures other_faults { IfErr result (λ f. IsOfDevice f ⊎ IsDamage f) }
 {
     let node = view_node::<D, B, A>(cache, page, level)?;

@@ -72,6 +72,8 @@ pub fn read_into<const D: usize, B: BlockDevice, A: Allocator + Copy>(
     ensures asks { Asks cache.old cache.new result }
     ensures node { IsHonest cache.old → IsLive cache.old page
         → OnOk result (node_in D (pages cache.old page) ≡ Some (content_of node.new)) }
+    ensures given_node { IsHonest cache.old
+        → OnOk result (node_in D (given cache.old page) ≡ Some (content_of node.new)) }
     ensures level { OnOk result (node.new.level ≡ level) }
     ensures spellable { OnOk result (IsSpellable (content_of node.new)) }
     ensures boxes { OnOk result (All (λ item. IsBox D item.bounds) (content_of node.new).entries) }

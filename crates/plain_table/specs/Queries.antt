@@ -1,12 +1,13 @@
 -- Which boxes range queries seek: as commands give them, and in a layer of so many axes. `Window`, `Point`
 -- and `Around` are the intersection, point and enclosure queries of Beckmann, Kriegel, Schneider and Seeger
 -- 1990; `Inside` is our rule, docs/COMMANDS.md.
-use Rattle.std.specs.Prelude.{ℕ, Bool, true, ◌&&◌, ◌==◌, Option, Some, None}
-use Rattle.box_math.specs.Objects.{Object, bounds_of, tag_of}
-use Rattle.box_math.specs.Bounds.{Bounds, holds_test, meets_test, within_test}
+use Rattle.std.specs.Prelude.{ℕ, Bool, ◌&&◌, Option}
+use Rattle.box_math.specs.Bounds.{Bounds}
+use Rattle.box_math.specs.Objects.{Object, bounds_of, has_tag}
+use Rattle.box_math.specs.Queries.{seeks}
+use Rattle.box_math.specs.declared.query.Query.{Query}
+use Rattle.box_math.specs.declared.query.Query.TheVariants as query
 use Rattle.plain_table.specs.Boxes.{given_bounds, given_point}
-use Rattle.plain_table.specs.declared.queries.Query.{Query}
-use Rattle.plain_table.specs.declared.queries.Query.TheVariants as query
 use Rattle.plain_table.specs.declared.queries.RawQuery.{RawQuery}
 use Rattle.plain_table.specs.declared.queries.RawQuery.TheVariants.{Window, Inside, Around, Point}
 
@@ -17,21 +18,9 @@ given_query (Inside window) = query.Inside (given_bounds window)
 given_query (Around inner) = query.Around (given_bounds inner)
 given_query (Point point) = query.Point (given_point point)
 
--- whether a query whose axes are known seeks an object with this box
-abbrev pub seeks : {D : ℕ} → Query D → Bounds → Bool
-seeks {D} (query.Window window) b = meets_test D b window
-seeks {D} (query.Inside window) b = within_test D b window
-seeks {D} (query.Around inner) b = within_test D inner b
-seeks {D} (query.Point point) b = holds_test D b point
-
--- the same of a query as it was given, in a layer of so many axes
+-- whether it seeks an object with this box, in a layer of so many axes
 abbrev pub is_sought : ℕ → RawQuery → Bounds → Bool
 is_sought dims query b = seeks {D = dims} (given_query query) b
-
--- whether an object has the tag that is asked for: each has it where none is
-abbrev pub has_tag : Option ℕ → Object → Bool
-has_tag None object = true
-has_tag (Some tag) object = tag_of object == tag
 
 -- whether a query, with the tag that it asks for, seeks the object
 abbrev pub is_wanted : ℕ → RawQuery → Option ℕ → Object → Bool

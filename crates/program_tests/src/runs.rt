@@ -56,7 +56,18 @@ pub(crate) fn says(rt: &HostRuntime, words: &[&str], said: &str) -> Result<Optio
     runs(rt, words, "", "", said)
 }
 
-const UNOPENED: &str = "rstore: cannot open the file\n";
+const MISSING: &str = "rstore: cannot open FILE: no such file\n";
+
+const A_FOLDER: &str = "rstore: cannot open FILE: is a directory\n";
+
+const UNOPENED: &str = "rstore: cannot open FILE\n";
+
+// What is no file that can be opened, and what is said of it.
+const NO_FILES: [(&str, &str); 3] = [
+    (".", A_FOLDER),
+    ("/dev/null", UNOPENED),
+    ("command_line_none/a", MISSING),
+];
 
 // Where the gate says that the file was closed (docs/FORMAT.md).
 const GATE_BYTE: usize = 8;
@@ -80,7 +91,7 @@ fn in_memory(rt: HostRuntime) -> Result<(), Fail> {
 fn in_a_file(rt: HostRuntime) -> Result<(), Fail> {
     let file = "command_line_a";
     let _ = fs::remove_file(&rt, file);
-    assert_eq!(rt; says(&rt, &["rstore", file], UNOPENED)?, Some(1));
+    assert_eq!(rt; says(&rt, &["rstore", file], MISSING)?, Some(1));
     assert!(rt; fs::metadata(&rt, file).is_err());
     assert_eq!(rt;
         runs(&rt, &["rstore", "--create", file], FIRST, SAID, "")?,
@@ -147,10 +158,10 @@ fn files_that_are_refused(rt: HostRuntime) -> Result<(), Fail> {
         Some(1)
     );
     fs::remove_file(&rt, file)?;
-    for path in [".", "/dev/null", "command_line_none/a"] {
-        assert_eq!(rt; says(&rt, &["rstore", path], UNOPENED)?, Some(1));
+    for (path, said) in NO_FILES {
+        assert_eq!(rt; says(&rt, &["rstore", path], said)?, Some(1));
         assert_eq!(rt;
-            says(&rt, &["rstore", "--create", path], UNOPENED)?,
+            says(&rt, &["rstore", "--create", path], said)?,
             Some(1)
         );
     }
@@ -163,7 +174,7 @@ fn a_file_that_is_only_read(rt: HostRuntime) -> Result<(), Fail> {
     let file = "command_line_e";
     let _ = fs::remove_file(&rt, file);
     let words = ["rstore", "--read-only", file];
-    assert_eq!(rt; says(&rt, &words, UNOPENED)?, Some(1));
+    assert_eq!(rt; says(&rt, &words, MISSING)?, Some(1));
     assert_eq!(rt;
         runs(&rt, &["rstore", "--create", file], FIRST, SAID, "")?,
         Some(0)
@@ -200,9 +211,9 @@ fn a_file_that_is_only_read(rt: HostRuntime) -> Result<(), Fail> {
         assert!(rt; fs::read(&rt, file)?.as_slice() == bytes);
     }
     fs::remove_file(&rt, file)?;
-    for path in [".", "/dev/null", "command_line_none/a"] {
+    for (path, said) in NO_FILES {
         assert_eq!(rt;
-            says(&rt, &["rstore", "--read-only", path], UNOPENED)?,
+            says(&rt, &["rstore", "--read-only", path], said)?,
             Some(1)
         );
     }
@@ -264,6 +275,12 @@ type OnlyRead = FileReader<HostReader>;
 #[test]
 fn each_refusal_of_a_file_is_told(rt: HostRuntime) -> Result<(), Fail> {
     for (error, said) in [
+        (OpenError::NotFound, MISSING),
+        (OpenError::IsADirectory, A_FOLDER),
+        (
+            OpenError::PermissionDenied,
+            "rstore: cannot open FILE: permission denied\n",
+        ),
         (OpenError::Refused, UNOPENED),
         (OpenError::InUse, IN_USE),
         (OpenError::NoLocks, "rstore: FILE cannot be locked\n"),

@@ -18,7 +18,8 @@ use Rattle.tree_node.specs.Trees.{Row, end, more, object, child, row_items}
 use Rattle.node_page.specs.Standing.{PageMap, RowStands, StandsAt}
 use Rattle.node_page.proofs.StandingLemmas.{node_stays, row_stays}
 use Rattle.range_query.specs.Entries.{object_of, passing_entries, reference_of, wanted_entries}
-use Rattle.range_query.specs.Queries.{has_tag, having}
+use Rattle.box_math.specs.Objects.{has_tag}
+use Rattle.range_query.specs.Queries.{having}
 
 stands_on : (dims : ℕ) (old new : PageMap) (page level : ℕ) (row : Row) → ((n : ℕ) → new n ≡ old n)
     → StandsAt dims old page level row → StandsAt dims new page level row
@@ -46,9 +47,9 @@ leaf_found dims m level guard test asked (more (object kept id) rest) leaf stand
 
     here : (t : Bool) (x : Item) (xs : List Item) (ys : List (ℕ × Object))
         → map object_of xs ≡ having asked ys
-        → map object_of (cond (t && has_tag asked x.tag) (x ∷ xs) xs) ≡ having asked
+        → map object_of (cond (t && has_tag asked (x.bounds, x.tag)) (x ∷ xs) xs) ≡ having asked
         (cond t (object_of x ∷ []) [] ++ ys)
-    here true x xs ys e = tagged (has_tag asked x.tag) x xs (having asked ys) e
+    here true x xs ys e = tagged (has_tag asked (x.bounds, x.tag)) x xs (having asked ys) e
     here false x xs ys e = e
 leaf_found dims m level guard test asked (more (child bounds page below) rest) leaf stands =
     absurd (omega (arith, stands.0, leaf))
@@ -115,7 +116,7 @@ children_found dims m level guard test asked (more (child bounds page below) res
         (cond t (objects_reached guard test c.1) [] ++ ys)
     here true c cs ys e =
         ap (λ (l : List (ℕ × Object)). having asked (objects_reached guard test c.1) ++ l) e
-        ∙ sym (filter-append (λ (found : ℕ × Object). has_tag asked (tag_of found.1))
+        ∙ sym (filter-append (λ (found : ℕ × Object). has_tag asked found.1)
         (objects_reached guard test c.1) ys)
     here false c cs ys e = e
 

@@ -14,9 +14,10 @@ use Rattle.box_math.proofs.BoxLaws.{Within-refl}
 use Rattle.tree_node.specs.Boxes.{no_item}
 use Rattle.tree_node.specs.Nodes.{Item}
 use Rattle.range_query.specs.Entries.{wanted}
-use Rattle.range_query.specs.declared.query.Query.{Query}
-use Rattle.range_query.specs.Queries.{has_tag, is_admitted, is_sought}
-use Rattle.range_query.proofs.QueryLemmas.{sought_is_admitted}
+use Rattle.box_math.specs.declared.query.Query.{Query}
+use Rattle.box_math.specs.Queries.{admits, seeks}
+use Rattle.box_math.specs.Objects.{has_tag}
+use Rattle.range_query.proofs.QueryLemmas.{sought_admits}
 
 -- something of each entry before place i that passes a test is taken
 pub record Taken {X : Type 0} (f : Item → X) (test : Item → Bool) (items : List Item) (i : ℕ)
@@ -88,32 +89,32 @@ unset_fails dims test window items mask i within meets boxes met unset =
 
 module _ {X : Type 0} {f : Item → X} {items : List Item} {i : ℕ} {old now : List X} where
   pub sought_unset : {D : ℕ} (q : Query D) (tag : Option ℕ) (window : Bounds) (mask : ℕ) → i < length items
-      → ((b : Bounds) → is_admitted q b ≡ true → meets_test D b window ≡ true)
+      → ((b : Bounds) → admits q b ≡ true → meets_test D b window ≡ true)
       → All (λ item. IsBox D item.bounds) items
       → ((place : ℕ) (item : Item) → slice_get items place ≡ Some item
       → has_bit mask place ≡ meets_test D item.bounds window) → has_bit mask i ≡ false
-      → Taken f (wanted (is_sought q) tag) items i old now
-      → Taken f (wanted (is_sought q) tag) items (i + 1) old now
+      → Taken f (wanted (seeks q) tag) items i old now
+      → Taken f (wanted (seeks q) tag) items (i + 1) old now
   sought_unset {D} q tag window mask within meets boxes met unset so_far =
       let fails =
-      unset_fails D (is_sought q) window items mask i within
+      unset_fails D (seeks q) window items mask i within
       (λ b box passes. meets b
-      (sought_is_admitted q b b (λ axis lt. (box.spans axis lt).ordered) (Within-refl D b) passes)) boxes
+      (sought_admits q b b (λ axis lt. (box.spans axis lt).ordered) (Within-refl D b) passes)) boxes
       met unset in
       let x = get_or items i no_item in
       one_passed so_far x within (get_or_default items i no_item x within)
-      (ap (λ (b : Bool). b && has_tag tag x.tag) fails)
+      (ap (λ (b : Bool). b && has_tag tag (x.bounds, x.tag)) fails)
 
   pub admitted_unset : {D : ℕ} (q : Query D) (window : Bounds) (mask : ℕ) → i < length items
-      → ((b : Bounds) → is_admitted q b ≡ true → meets_test D b window ≡ true)
+      → ((b : Bounds) → admits q b ≡ true → meets_test D b window ≡ true)
       → All (λ item. IsBox D item.bounds) items
       → ((place : ℕ) (item : Item) → slice_get items place ≡ Some item
       → has_bit mask place ≡ meets_test D item.bounds window) → has_bit mask i ≡ false
-      → Taken f (λ item. is_admitted q item.bounds) items i old now
-      → Taken f (λ item. is_admitted q item.bounds) items (i + 1) old now
+      → Taken f (λ item. admits q item.bounds) items i old now
+      → Taken f (λ item. admits q item.bounds) items (i + 1) old now
   admitted_unset {D} q window mask within meets boxes met unset so_far =
       let fails =
-      unset_fails D (is_admitted q) window items mask i within (λ b box passes. meets b passes) boxes met
+      unset_fails D (admits q) window items mask i within (λ b box passes. meets b passes) boxes met
       unset in
       one_passed so_far (get_or items i no_item) within
       (get_or_default items i no_item (get_or items i no_item) within) fails
@@ -159,27 +160,27 @@ skip_to f test items old now mask i j step so_far up unset =
 
 module _ {X : Type 0} {f : Item → X} {items : List Item} {old now : List X} where
   pub sought_to : {D : ℕ} (q : Query D) (tag : Option ℕ) (window : Bounds) (mask i j : ℕ)
-      → ((b : Bounds) → is_admitted q b ≡ true → meets_test D b window ≡ true)
+      → ((b : Bounds) → admits q b ≡ true → meets_test D b window ≡ true)
       → All (λ item. IsBox D item.bounds) items
       → ((place : ℕ) (item : Item) → slice_get items place ≡ Some item
       → has_bit mask place ≡ meets_test D item.bounds window)
       → i ≤ j → ((k : ℕ) → i ≤ k → k < j → has_bit mask k ≡ false)
-      → Taken f (wanted (is_sought q) tag) items i old now
-      → Taken f (wanted (is_sought q) tag) items j old now
+      → Taken f (wanted (seeks q) tag) items i old now
+      → Taken f (wanted (seeks q) tag) items j old now
   sought_to q tag window mask i j meets boxes met up unset so_far =
-      skip_to f (wanted (is_sought q) tag) items old now mask i j
+      skip_to f (wanted (seeks q) tag) items old now mask i j
       (λ k within no_bit taken. sought_unset q tag window mask within meets boxes met no_bit taken)
       so_far up unset
 
   pub admitted_to : {D : ℕ} (q : Query D) (window : Bounds) (mask i j : ℕ)
-      → ((b : Bounds) → is_admitted q b ≡ true → meets_test D b window ≡ true)
+      → ((b : Bounds) → admits q b ≡ true → meets_test D b window ≡ true)
       → All (λ item. IsBox D item.bounds) items
       → ((place : ℕ) (item : Item) → slice_get items place ≡ Some item
       → has_bit mask place ≡ meets_test D item.bounds window)
       → i ≤ j → ((k : ℕ) → i ≤ k → k < j → has_bit mask k ≡ false)
-      → Taken f (λ item. is_admitted q item.bounds) items i old now
-      → Taken f (λ item. is_admitted q item.bounds) items j old now
+      → Taken f (λ item. admits q item.bounds) items i old now
+      → Taken f (λ item. admits q item.bounds) items j old now
   admitted_to q window mask i j meets boxes met up unset so_far =
-      skip_to f (λ item. is_admitted q item.bounds) items old now mask i j
+      skip_to f (λ item. admits q item.bounds) items old now mask i j
       (λ k within no_bit taken. admitted_unset q window mask within meets boxes met no_bit taken) so_far
       up unset

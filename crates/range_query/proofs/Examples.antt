@@ -9,15 +9,16 @@ use Rattle.tree_node.specs.Nodes.{Item}
 use Rattle.tree_node.specs.Searches.{admitted, passing_objects}
 use Rattle.tree_node.specs.Trees.{end, more, object, child, Tree}
 use Rattle.range_query.specs.Entries.{object_of, passing_entries, reference_of, wanted_entries}
-use Rattle.range_query.specs.Queries.{IsRangeAnswer, having, is_admitted, is_sought}
-use Rattle.range_query.specs.declared.query.Query.TheVariants.{Point}
+use Rattle.box_math.specs.Queries.{admits, seeks}
+use Rattle.range_query.specs.Queries.{IsRangeAnswer, having}
+use Rattle.box_math.specs.declared.query.Query.TheVariants.{Point}
 
 box : ℤ → ℤ → ℤ → ℤ → Bounds
 box x y u v = record { low = x ∷ y ∷ []; high = u ∷ v ∷ [] }
 
 -- a point on an edge is held, and one beside it is not
-seeks_a_point : (is_sought {D = 2} (Point (pos 1 ∷ pos 1 ∷ [])) (box (pos 0) (pos 0) (pos 1) (pos 1)) ≡ true)
-    × (is_admitted {D = 2} (Point (pos 2 ∷ pos 1 ∷ [])) (box (pos 0) (pos 0) (pos 1) (pos 1)) ≡ false)
+seeks_a_point : (seeks {D = 2} (Point (pos 1 ∷ pos 1 ∷ [])) (box (pos 0) (pos 0) (pos 1) (pos 1)) ≡ true)
+    × (admits {D = 2} (Point (pos 2 ∷ pos 1 ∷ [])) (box (pos 0) (pos 0) (pos 1) (pos 1)) ≡ false)
 unfolding box holds_test
 seeks_a_point = (refl, refl)
 

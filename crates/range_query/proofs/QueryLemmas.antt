@@ -6,9 +6,9 @@ use Rattle.box_math.specs.Bounds.{within_test}
 use Rattle.box_math.proofs.BoxLaws.{Meets-grows, Within-trans}
 use Rattle.box_math.proofs.TestLaws.{holds_test_true, meets_test_true, within_test_true}
 use Rattle.tree_node.specs.Searches.{Guards}
-use Rattle.range_query.specs.declared.query.Query.{Query}
-use Rattle.range_query.specs.declared.query.Query.TheVariants.{Window, Inside, Around, Point}
-use Rattle.range_query.specs.Queries.{is_admitted, is_sought}
+use Rattle.box_math.specs.Queries.{admits, seeks}
+use Rattle.box_math.specs.declared.query.Query.{Query}
+use Rattle.box_math.specs.declared.query.Query.TheVariants.{Window, Inside, Around, Point}
 
 -- a box that passes the second test is within none that fails the first
 abbrev pub Finds : ℕ → (Bounds → Bool) → (Bounds → Bool) → Type 0
@@ -25,19 +25,19 @@ grown_holds dims a b p w holds = λ axis lt. let u = w axis lt in let h = holds 
     (omega (arith, ints), omega (arith, ints))
 
 -- a box that encloses a sought one is admitted
-pub sought_is_admitted : {D : ℕ} (q : Query D) → Finds D (is_admitted q) (is_sought q)
-sought_is_admitted {D} (Window window) a b ordered w sought =
+pub sought_admits : {D : ℕ} (q : Query D) → Finds D (admits q) (seeks q)
+sought_admits {D} (Window window) a b ordered w sought =
     (meets_test_true D b window).1 (Meets-grows D a window b w ((meets_test_true D a window).0 sought))
-sought_is_admitted {D} (Inside window) a b ordered w sought =
+sought_admits {D} (Inside window) a b ordered w sought =
     (meets_test_true D b window).1
     (Meets-grows D a window b w (within_meets D a window ordered ((within_test_true D a window).0 sought)))
-sought_is_admitted {D} (Around inner) a b ordered w sought =
+sought_admits {D} (Around inner) a b ordered w sought =
     (within_test_true D inner b).1 (Within-trans D inner a b ((within_test_true D inner a).0 sought) w)
-sought_is_admitted {D} (Point point) a b ordered w sought =
+sought_admits {D} (Point point) a b ordered w sought =
     (holds_test_true D b point).1 (grown_holds D a b point w ((holds_test_true D a point).0 sought))
 
 -- and one that encloses an admitted one
-pub admitted_guards : {D : ℕ} (q : Query D) → Guards D (is_admitted q) (is_admitted q)
+pub admitted_guards : {D : ℕ} (q : Query D) → Guards D (admits q) (admits q)
 admitted_guards {D} (Window window) a b box w passes =
     (meets_test_true D b window).1 (Meets-grows D a window b w ((meets_test_true D a window).0 passes))
 admitted_guards {D} (Inside window) a b box w passes =
@@ -46,21 +46,3 @@ admitted_guards {D} (Around inner) a b box w passes =
     (within_test_true D inner b).1 (Within-trans D inner a b ((within_test_true D inner a).0 passes) w)
 admitted_guards {D} (Point point) a b box w passes =
     (holds_test_true D b point).1 (grown_holds D a b point w ((holds_test_true D a point).0 passes))
-
--- ---- the box that all of them meet
-
-pub around_meets : (dims : ℕ) (inner b : Bounds) → IsOrdered dims inner.low inner.high
-    → within_test dims inner b ≡ true → meets_test dims b inner ≡ true
-around_meets dims inner b ordered passes =
-    let w = (within_test_true dims inner b).0 passes in
-    (meets_test_true dims b inner).1
-    (λ k lt. let u = w k lt in let o = ordered k lt in (omega (arith, ints), omega (arith, ints)))
-
-pub point_meets : (dims : ℕ) (p : List ℤ) (b : Bounds) → holds_test dims b p ≡ true
-    → meets_test dims b (record { low = p; high = p }) ≡ true
-point_meets dims p b passes =
-    let h = (holds_test_true dims b p).0 passes in
-    (meets_test_true dims b (record { low = p; high = p })).1 (λ k lt. h k lt)
-
-pub point_ordered : (dims : ℕ) (p : List ℤ) → IsOrdered dims p p
-point_ordered dims p = λ axis lt. omega (arith, ints)

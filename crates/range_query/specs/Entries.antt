@@ -2,9 +2,8 @@
 use Rattle.std.specs.Prelude.{ℕ, ◌&&◌, Bool, List, Option}
 use Rattle.std.specs.List.{filter}
 use Rattle.box_math.specs.Bounds.{Bounds}
-use Rattle.box_math.specs.Objects.{Object}
+use Rattle.box_math.specs.Objects.{Object, has_tag}
 use Rattle.tree_node.specs.Nodes.{Item}
-use Rattle.range_query.specs.Queries.{has_tag}
 
 -- those whose boxes pass a test, by position
 abbrev pub passing_entries : (Bounds → Bool) → List Item → List Item
@@ -12,7 +11,7 @@ passing_entries test items = filter (λ item. test item.bounds) items
 
 -- those of a leaf whose boxes pass it and whose objects have the tag that is asked for, if one is
 abbrev pub wanted : (Bounds → Bool) → Option ℕ → Item → Bool
-wanted test tag item = test item.bounds && has_tag tag item.tag
+wanted test tag item = test item.bounds && has_tag tag (item.bounds, item.tag)
 
 abbrev pub wanted_entries : (Bounds → Bool) → Option ℕ → List Item → List Item
 wanted_entries test tag items = filter (wanted test tag) items

@@ -1,39 +1,27 @@
--- Range queries over trees: what is sought, which nodes are looked into, and what is answered (the search of
--- Guttman 1984; the intersection, point and enclosure queries of Beckmann, Kriegel, Schneider and Seeger 1990
--- are `Window`, `Point` and `Around`; `Inside`, and the order of answers, are our rule, docs/FORMAT.md,
--- "Trees of pages").
-use Rattle.std.specs.Prelude.{ℕ, ◌==◌, Bool, true, List, Option, None, Some, IsPermutation}
+-- What range queries over trees are answered (the search of Guttman 1984; that answers ascend by identifier
+-- is our rule, docs/FORMAT.md, "Trees of pages").
+use Rattle.std.specs.Prelude.{◌≡◌, ◌⊎◌, ℕ, Bool, List, Option, Result, Vec, IfErr, IfOk, OnOk, IsPermutation}
 use Rattle.std.specs.List.{filter}
 use Rattle.std.specs.List.Sorted.{IsNonDecreasingBy}
-use Rattle.box_math.specs.Bounds.{Bounds, holds_test, meets_test, within_test}
-use Rattle.box_math.specs.Objects.{Object, tag_of}
-use Rattle.tree_node.specs.Searches.{passing_objects}
+use Rattle.box_math.specs.Bounds.{Bounds}
+use Rattle.box_math.specs.Objects.{Object, has_tag}
+use Rattle.box_math.specs.Queries.{admits, seeks}
+use Rattle.box_math.specs.declared.query.Query.{Query}
+use Rattle.page_file.specs.Fault.{IsDamage, IsOfDevice}
+use Rattle.page_file.specs.declared.fault.Fault.{Fault}
+use Rattle.page_file.specs.declared.fault.Fault.TheVariants as fault
+use Rattle.page_cache.specs.Cache.{IsHonest, given, looks_of, pages}
+use Rattle.page_cache.specs.Calls.{Asks}
+use Rattle.page_cache.specs.declared.cache.PageCache.{PageCache}
+use Rattle.tree_node.specs.Searches.{admitted, counted, passing_objects}
 use Rattle.tree_node.specs.Trees.{Tree}
-use Rattle.range_query.specs.declared.query.Query.{Query}
-use Rattle.range_query.specs.declared.query.Query.TheVariants.{Window, Inside, Around, Point}
+use Rattle.tree_node.specs.declared.node.Root.{Root}
+use Rattle.node_page.specs.Checked.{ComesTo}
+use Rattle.node_page.specs.Rooted.{IsTreeAt}
 
--- whether a query seeks an object with this box
-abbrev pub is_sought : {D : ℕ} → Query D → Bounds → Bool
-is_sought {D} (Window window) b = meets_test D b window
-is_sought {D} (Inside window) b = within_test D b window
-is_sought {D} (Around inner) b = within_test D inner b
-is_sought {D} (Point point) b = holds_test D b point
-
--- whether it looks into a node with this box
-abbrev pub is_admitted : {D : ℕ} → Query D → Bounds → Bool
-is_admitted {D} (Window window) b = meets_test D b window
-is_admitted {D} (Inside window) b = meets_test D b window
-is_admitted {D} (Around inner) b = within_test D inner b
-is_admitted {D} (Point point) b = holds_test D b point
-
--- whether an object of this tag has the one that is asked for, if one is
-abbrev pub has_tag : Option ℕ → ℕ → Bool
-has_tag None tag = true
-has_tag (Some asked) tag = tag == asked
-
--- the objects that have it
+-- the objects that have the tag that is asked for, if one is
 abbrev pub having : Option ℕ → List (ℕ × Object) → List (ℕ × Object)
-having asked objects = filter (λ object. has_tag asked (tag_of object.1)) objects
+having asked objects = filter (λ object. has_tag asked object.1) objects
 
 -- the objects of the tree whose boxes pass the test and that have the tag that is asked for, if one is, each
 -- as often as the tree has it, by identifier
@@ -41,3 +29,20 @@ pub record IsRangeAnswer (test : Bounds → Bool) (asked : Option ℕ) (t : Tree
     (rows : List (ℕ × Object)) : Type 0 where
   pub all : IsPermutation (having asked (passing_objects test t.row)) rows
   pub order : IsNonDecreasingBy (λ row. row.0) rows
+
+-- What a range query does to a cache, and what it is answered. On an honest device, where a tree with the
+-- shape of an R-tree stands in the pages: the objects that it seeks, and a look at the root and at each other
+-- node that it admits; it is refused by `Memory` or `Device`. On other pages it may be refused by `Damaged`
+-- too, with the number of a page that a walk down the nodes comes to.
+pub record AnswersRange {D : ℕ} {B A H : Type 0} {m : _} (query : Query D) (tag : Option ℕ) (root : Root)
+    (old new : PageCache B A m) (result : Result (Vec (ℕ × Object) H) Fault) : Type 0 where
+  pub asks : Asks old new result
+  pub rows : IsHonest old → (t : Tree) (most : ℕ) → IsTreeAt D most (pages old) root t
+      → IfOk result (λ rows. IsRangeAnswer (seeks query) tag t rows.items)
+  pub looks : IsHonest old → (t : Tree) (most : ℕ) → IsTreeAt D most (pages old) root t
+      → OnOk result (looks_of new ≡ counted (looks_of old) (admitted (admits query) t))
+  pub stands : IsHonest old → (t : Tree) (most : ℕ) → IsTreeAt D most (pages old) root t
+      → IfErr result IsOfDevice
+  pub damage : IsHonest old
+      → IfErr result (λ f. (n : ℕ) → f ≡ fault.Damaged n → ComesTo D (given old) root.page n)
+  pub other_faults : IfErr result (λ f. IsOfDevice f ⊎ IsDamage f)

@@ -13,12 +13,13 @@ ghost use Rattle.tree_node.specs.Trees.{Row};
 ghost use Rattle.node_page.specs.Checked.{ComesTo, Names};
 ghost use Rattle.node_page.specs.Standing.{StandsAt, node_in};
 ghost use Rattle.range_query.specs.Entries.{object_of, passing_entries, reference_of, wanted, wanted_entries};
-ghost use Rattle.range_query.specs.Queries.{has_tag, having, is_admitted, is_sought};
+ghost use Rattle.box_math.specs.Queries.{admits, seeks};
+ghost use Rattle.box_math.specs.Objects.{has_tag};
+ghost use Rattle.range_query.specs.Queries.{having};
 
-use crate::query::Query;
 use arrayvec::ArrayVec;
 use block_device::BlockDevice;
-use box_math::BBox;
+use box_math::{BBox, Query};
 use node_page::{Entry, Root, next_set, view_node};
 use page_cache::PageCache;
 use page_file::Fault;
@@ -38,10 +39,10 @@ pub(crate) fn descend<const D: usize, B: BlockDevice, A: Allocator + Copy, H: Al
     ensures asks { Asks cache.old cache.new result }
     ensures rows { IsHonest cache.old → (row : Row) → StandsAt D (pages cache.old) root.page root.level row
         → OnOk result (rows.new.items
-        ≡ rows.old.items ++ having tag (objects_reached (is_admitted query.now) (is_sought query.now) row)) }
+        ≡ rows.old.items ++ having tag (objects_reached (admits query.now) (seeks query.now) row)) }
     ensures looks { IsHonest cache.old → (row : Row) → StandsAt D (pages cache.old) root.page root.level row
         → OnOk result (looks_of cache.new
-        ≡ counted (looks_of cache.old) (1 + reached (is_admitted query.now) row)) }
+        ≡ counted (looks_of cache.old) (1 + reached (admits query.now) row)) }
     ensures stands { IsHonest cache.old → (row : Row) → StandsAt D (pages cache.old) root.page root.level row
         → IfErr result IsOfDevice }
     ensures damage { IsHonest cache.old
@@ -75,7 +76,7 @@ fn add_sought<const D: usize, B: BlockDevice, A: Allocator + Copy, H: Allocator>
     ensures rows { IsHonest cache.old → (c : NodeContent) → node_in D (pages cache.old page) ≡ Some c →
         c.level ≡ 0
         → OnOk result (rows.new.items
-        ≡ rows.old.items ++ map object_of (wanted_entries (is_sought query.now) tag c.entries)) }
+        ≡ rows.old.items ++ map object_of (wanted_entries (seeks query.now) tag c.entries)) }
     ensures looks { OnOk result (looks_of cache.new ≡ one_more (looks_of cache.old)) }
     ensures there { IsHonest cache.old → (c : NodeContent) → node_in D (pages cache.old page) ≡ Some c →
         c.level ≡ 0
@@ -101,18 +102,18 @@ fn add_sought<const D: usize, B: BlockDevice, A: Allocator + Copy, H: Allocator>
 // Whether an object is sought and has the tag, if one is asked for.
 #[inline]
 fn is_wanted<const D: usize>(query: &Query<D>, tag: Option<u32>, entry: &Entry<D>) -> bool
-    ensures { result ≡ wanted (is_sought query.now) tag (item_of entry.now) }
+    ensures { result ≡ wanted (seeks query.now) tag (item_of entry.now) }
 {
-    query.seeks(&entry.bounds) && is_tagged(tag, entry.tag)
+    query.seeks(&entry.bounds) && is_tagged(tag, entry)
 }
 
-// Whether a tag is the one that is asked for, if one is.
+// Whether an object has the tag that is asked for, if one is.
 #[inline]
-fn is_tagged(asked: Option<u32>, tag: u32) -> bool
-    ensures { result ≡ has_tag asked tag }
+fn is_tagged<const D: usize>(asked: Option<u32>, entry: &Entry<D>) -> bool
+    ensures { result ≡ has_tag asked (entry.now.bounds, entry.now.tag) }
 {
     match asked {
-        Some(asked) => tag == asked,
+        Some(asked) => entry.tag == asked,
         None => true,
     }
 }
@@ -129,7 +130,7 @@ fn admitted_children<const D: usize, B: BlockDevice, A: Allocator + Copy>(
     ensures children { IsHonest cache.old → (c : NodeContent) → node_in D (pages cache.old root.page) ≡ Some c
         → c.level ≡ root.level
         → IfOk result (λ children. children.items ≡ map reference_of (passing_entries
-        (is_admitted query.now) c.entries)) }
+        (admits query.now) c.entries)) }
     ensures named { IsHonest cache.old → IfOk result (λ children. (c : NodeContent)
         × (node_in D (given cache.old root.page) ≡ Some c) × All (Names c) children.items) }
     ensures looks { OnOk result (looks_of cache.new ≡ one_more (looks_of cache.old)) }

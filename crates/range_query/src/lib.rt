@@ -4,7 +4,6 @@
 
 mod arranging;
 mod descent;
-mod query;
-mod range;
+mod queries;
 
-pub use range::{around, inside, point, window};
+pub use queries::{around, inside, point, range, window};

@@ -1,5 +1,13 @@
 -- What ends a call.
-use Rattle.std.proofs.Common.{◌≡◌, ◌⊎◌, ⊎_elim, inl, inr, Option, None, Some, IfNone, refl}
+use Rattle.std.proofs.Common.{◌≡◌, ◌∙◌, ◌⊎◌, ⊎_elim, inl, inr, ℕ, Bool, true, false, Option, None, Some}
+use Rattle.std.proofs.Common.{IfNone, IfOk, OnOk, Result, Ok, Err, refl, sym}
+use Rattle.page_file.specs.Fault.{IsOfDevice}
+use Rattle.page_file.specs.declared.fault.Fault.{Fault}
+use Rattle.page_file.specs.declared.fault.Fault.TheVariants as fault
+use Rattle.page_cache.specs.Cache.{IsFull}
+use Rattle.page_cache.specs.declared.cache.PageCache.{PageCache}
+use Rattle.node_page.specs.Faults.{IsNoDamage}
+use Rattle.node_page.proofs.DamageLemmas.{damaged_read}
 
 -- the second of two cases, with what it says of the pages
 pub with_full : (X Y Z : Type 0) → X ⊎ Y → (Y → Z) → X ⊎ (Y × Z)
@@ -13,3 +21,30 @@ one_more X Y Z h = ⊎_elim (λ (x : X). inl x) (λ (z : Z). inr (inr z)) h
 pub at_none : {A : Type 0} (o : Option A) (X : Type 0) → IfNone o X → ((x : A) → o ≡ Some x → ⊥) → X
 at_none None X h never = h
 at_none (Some x) X h never = absurd (never x refl)
+
+-- what a call answers anyway, and the first part of what it answers
+pub ok_too : {T E : Type 0} (r : Result T E) (X : Type 0) (P : T → Type 0) → OnOk r X → ((x : T) → X → P x)
+    → IfOk r P
+ok_too (Ok x) X P h f = f x h
+ok_too (Err e) X P h f = tt
+
+pub ok_first : {T E : Type 0} (r : Result T E) (X : Type 0) (P : T → Type 0) → IfOk r (λ x. X × P x)
+    → OnOk r X
+ok_first (Ok x) X P h = h.0
+ok_first (Err e) X P h = tt
+
+-- the only page that a fault can name
+pub named_page : {D A : Type 0} {m : _} (cache : PageCache D A m) (f : Fault) (page n : ℕ)
+    → IsNoDamage cache f ⊎ (f ≡ fault.Damaged page) → f ≡ fault.Damaged n → n ≡ page
+named_page cache f page n either damaged = ⊎_elim
+    (λ (none : IsNoDamage cache f). ⊎_elim
+    (λ (device : IsOfDevice f). damaged_read f page n (inl device) damaged)
+    (λ (full : (f ≡ fault.NoPages) × IsFull cache). let is = full.0 in absurd (cc))
+    none)
+    (λ (is : f ≡ fault.Damaged page). cc)
+    either
+
+-- no page was touched before, where none is now
+pub none_before : (before now : Bool) → (before ≡ true → now ≡ true) → now ≡ false → before ≡ false
+none_before false now stays none = refl
+none_before true now stays none = absurd (let both = sym (stays refl) ∙ none in cc)

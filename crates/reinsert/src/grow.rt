@@ -1,9 +1,11 @@
 //! A root over a root that was split.
 
-ghost use Rattle.std.specs.Prelude.{◌≡◌, ◌^◌, ◌+◌, ◌<◌, ◌≤◌, ◌∷◌, [], Some, None, ℕ, IfOk, IfErr};
+ghost use Rattle.std.specs.Prelude.{◌≡◌, ◌⊎◌, ◌^◌, ◌+◌, ◌<◌, ◌≤◌, ◌∷◌, [], Some, None, ℕ, IfOk, IfErr, OnOk};
+ghost use Rattle.std.specs.Prelude.{true};
 ghost use Rattle.box_math.specs.Bounds.{IsDims};
+ghost use Rattle.page_file.specs.declared.fault.Fault.TheVariants as fault;
 ghost use Rattle.page_file.specs.declared.gate.Gate.TheVariants.{Open};
-ghost use Rattle.page_cache.specs.Cache.{Grows, IsPageMap, gate_of, pages};
+ghost use Rattle.page_cache.specs.Cache.{Grows, IsPageMap, gate_of, pages, touched_of};
 ghost use Rattle.page_cache.specs.Calls.{Changes};
 ghost use Rattle.tree_node.specs.Nodes.{item_of};
 ghost use Rattle.node_page.specs.Layout.{IsOfLevel};
@@ -43,6 +45,9 @@ pub(crate) fn grow<const D: usize, B: BlockDevice, A: Allocator + Copy>(
               item_of beside.entry ∷ [];
         })) }
     ensures faults { IsPageMap cache.old → root.level < 40 → IfErr result (IsNoDamage cache.new) }
+    ensures touched { OnOk result (touched_of cache.new ≡ true) }
+    ensures damaged { IsPageMap cache.old
+        → IfErr result (λ f. IsNoDamage cache.new f ⊎ (f ≡ fault.Damaged root.page)) }
     ensures other_faults { IfErr result IsChangeFault }
 {
     if root.level >= 40 {

@@ -1,17 +1,20 @@
 //! A lawful insertion: placings, one after the other, until nothing waits.
 
-ghost use Rattle.std.specs.Prelude.{◌≡◌, ◌^◌, ◌+◌, ◌<◌, ◌≤◌, ◌++◌, ◌∷◌, [], ℕ, Err, IfOk, IfErr};
+ghost use Rattle.std.specs.Prelude.{◌≡◌, ◌⊎◌, ◌^◌, ◌+◌, ◌<◌, ◌≤◌, ◌++◌, ◌∷◌, [], ℕ, Err, IfOk, IfErr, OnOk};
+ghost use Rattle.std.specs.Prelude.{true, false};
 ghost use Rattle.box_math.specs.Bounds.{IsDims};
 ghost use Rattle.page_file.specs.declared.fault.Fault.TheVariants as fault;
 ghost use Rattle.page_file.specs.declared.gate.Gate.TheVariants.{Open};
-ghost use Rattle.page_cache.specs.Cache.{Grows, IsPageMap, IsUnchanged, gate_of, pages};
+ghost use Rattle.page_cache.specs.Cache.{Grows, IsPageMap, IsUnchanged, gate_of, given, pages};
+ghost use Rattle.page_cache.specs.Cache.{touched_of};
 ghost use Rattle.page_cache.specs.Calls.{Changes};
 ghost use Rattle.tree_node.specs.Boxes.{RowHasBoxes};
 ghost use Rattle.tree_node.specs.Nodes.{item_of};
 ghost use Rattle.tree_node.specs.Shape.{HasLooseShape};
 ghost use Rattle.tree_node.specs.Trees.{Branch, Tree};
+ghost use Rattle.node_page.specs.Checked.{ComesTo};
 ghost use Rattle.node_page.specs.Layout.{IsOfLevel};
-ghost use Rattle.node_page.specs.Faults.{IsChangeFault, IsNoDamage};
+ghost use Rattle.node_page.specs.Faults.{IsChangeFault, IsNoDamage, NamesInRange};
 ghost use Rattle.reinsert.specs.Inserted.{CanInsert, InsertsTo, IsAt, IsRootFrom, StepsTo};
 ghost use Rattle.reinsert.specs.Inserted.{most_new_pages, most_placing_pages};
 ghost use Rattle.reinsert.specs.Kept.{EntryHasShape, StateHasShape};
@@ -41,6 +44,10 @@ use tree_node::{Entry, Root};
 /// entry, a refusal is of memory or of the device, or each page number is live (`NoPages`). A tree of level
 /// 40 takes no entry, since it could grow: its root is `Damaged`, and the cache stays. Also after a refusal,
 /// at most `most_new_pages` more pages are live.
+///
+/// Whatever nodes the pages are, a sound map stays sound after `Ok`, and there `Damaged` names a page from 3
+/// to 2^31 - 1. Where the cache is not touched after it, that is one that a walk down the nodes comes to;
+/// else it may be that of a node that came meanwhile.
 pub fn insert_at<const D: usize, B: BlockDevice, A: Allocator + Copy, H: Allocator>(
     alloc: H,
     cache: &mut PageCache<B, A>,
@@ -66,6 +73,10 @@ pub fn insert_at<const D: usize, B: BlockDevice, A: Allocator + Copy, H: Allocat
         → CanInsert D (pages cache.old) root (item_of entry.now) level t branch elsewhere
         → HasLooseShape D m_max t → RowHasBoxes D t.row → EntryHasShape D m_max level branch →
         IfErr result (IsNoDamage cache.new) }
+    ensures damage { IsPageMap cache.old → touched_of cache.new ≡ false
+        → IfErr result (λ f. (n : ℕ) → f ≡ fault.Damaged n → ComesTo D (given cache.old) root.page n) }
+    ensures sound { IsPageMap cache.old → OnOk result (IsPageMap cache.new) }
+    ensures number { IsPageMap cache.old → IfErr result NamesInRange }
     ensures other_faults { IfErr result IsChangeFault }
 {
     let mut waiting = Waiting::make(alloc)?;
@@ -101,6 +112,10 @@ pub fn insert_with<const D: usize, B: BlockDevice, A: Allocator + Copy>(
         IfErr result (IsNoDamage cache.new) }
     ensures tall { root.level ≡ 40 → (result ≡ Err (fault.Damaged root.page))
         × IsUnchanged cache.old cache.new }
+    ensures damage { IsPageMap cache.old → touched_of cache.new ≡ false
+        → IfErr result (λ f. (n : ℕ) → f ≡ fault.Damaged n → ComesTo D (given cache.old) root.page n) }
+    ensures sound { IsPageMap cache.old → OnOk result (IsPageMap cache.new) }
+    ensures number { IsPageMap cache.old → IfErr result NamesInRange }
     ensures other_faults { IfErr result IsChangeFault }
 {
     if root.level >= 40 {
@@ -147,6 +162,10 @@ fn place_one<const D: usize, B: BlockDevice, A: Allocator + Copy>(
         elsewhere s
         → StateHasShape D m_max s →
         IfErr result (IsNoDamage cache.new) }
+    ensures sound { IsPageMap cache.old → OnOk result (IsPageMap cache.new) }
+    ensures stays { IfOk result (λ after. (after ≡ root) ⊎ (touched_of cache.new ≡ true)) }
+    ensures damage { IsPageMap cache.old
+        → IfErr result (λ f. (n : ℕ) → f ≡ fault.Damaged n → ComesTo D (given cache.old) root.page n) }
     ensures other_faults { IfErr result IsChangeFault }
 {
     if first.level > root.level {

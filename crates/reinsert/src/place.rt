@@ -7,12 +7,14 @@ ghost use Rattle.std.specs.Prelude.{◌⊎◌, IfOk, IfErr, IfSome, IsTrue, OnOk
 ghost use Rattle.arrayvec.specs.ArrayVec.{array_vec_len};
 ghost use Rattle.box_math.specs.Bounds.{IsDims};
 ghost use Rattle.page_file.specs.Fault.{IsDamage, IsOfDevice};
+ghost use Rattle.page_file.specs.declared.fault.Fault.TheVariants as fault;
 ghost use Rattle.page_file.specs.declared.gate.Gate.TheVariants.{Open};
-ghost use Rattle.page_cache.specs.Cache.{Grows, IsHonest, IsLive, IsPageMap, gate_of, pages};
+ghost use Rattle.page_cache.specs.Cache.{Grows, IsHonest, IsLive, IsPageMap, gate_of, given, pages};
 ghost use Rattle.page_cache.specs.Calls.{Asks, Changes};
 ghost use Rattle.tree_node.specs.Nodes.{Item, NodeContent, content_of, item_of};
 ghost use Rattle.tree_node.specs.Rows.{item_in};
 ghost use Rattle.tree_node.specs.Trees.{Row, Branch};
+ghost use Rattle.node_page.specs.Checked.{ComesTo};
 ghost use Rattle.node_page.specs.Layout.{IsOfLevel};
 ghost use Rattle.node_page.specs.Standing.{node_in};
 ghost use Rattle.node_page.specs.Faults.{IsChangeFault, IsNoDamage};
@@ -31,7 +33,8 @@ use page_file::Fault;
 use std::alloc::Allocator;
 use tree_node::{Entry, Node, Root};
 
-// Puts the entry into the node on its level that the choice leads to from this node down.
+// Puts the entry into the node on its level that the choice leads to from this node down. In a sound map
+// `Damaged` names a page that a walk down the nodes, as they were, comes to.
 pub(crate) fn place<const D: usize, B: BlockDevice, A: Allocator + Copy>(
     cache: &mut PageCache<B, A>,
     at: Root,
@@ -59,6 +62,9 @@ pub(crate) fn place<const D: usize, B: BlockDevice, A: Allocator + Copy>(
     ensures faults { IsPageMap cache.old → (row : Row) (branch : Branch) → item_in branch ≡ item_of entry.now
         → CanPlace D (pages cache.old) at.page at.level target row branch → HasFewEntries D m_max row →
         IfErr result (IsNoDamage cache.new) }
+    ensures sound { IsPageMap cache.old → OnOk result (IsPageMap cache.new) }
+    ensures damage { IsPageMap cache.old
+        → IfErr result (λ f. (n : ℕ) → f ≡ fault.Damaged n → ComesTo D (given cache.old) at.page n) }
     ensures other_faults { IfErr result IsChangeFault }
 {
     if at.level == target {
@@ -107,6 +113,9 @@ fn put_here<const D: usize, B: BlockDevice, A: Allocator + Copy>(
     ensures faults { IsPageMap cache.old → (items : List Item)
         → node_in D (pages cache.old at.page) ≡ Some (record { level = at.level; entries = items })
         → length items ≤ m_max → IfErr result (IsNoDamage cache.new) }
+    ensures sound { IsPageMap cache.old → OnOk result (IsPageMap cache.new) }
+    ensures damaged { IsPageMap cache.old
+        → IfErr result (λ f. IsNoDamage cache.new f ⊎ (f ≡ fault.Damaged at.page)) }
     ensures other_faults { IfErr result IsChangeFault }
 {
     if let Some(bounds) = add_entry(cache, at.page, at.level, entry, m_max)? {
@@ -142,6 +151,9 @@ fn read_fitting<const D: usize, B: BlockDevice, A: Allocator + Copy>(
     ensures few { OnOk result (array_vec_len node.new.entries ≤ m_max) }
     ensures some { OnOk result (0 < at.level → 0 < array_vec_len node.new.entries) }
     ensures refers { OnOk result (All (λ e. IsOfLevel at.level e.reference e.tag) node.new.entries.items) }
+    ensures given_node { IsHonest cache.old
+        → OnOk result (node_in D (given cache.old at.page) ≡ Some (content_of node.new)) }
+    ensures damaged { IsHonest cache.old → IfErr result (λ f. IsOfDevice f ⊎ (f ≡ fault.Damaged at.page)) }
     ensures other_faults { IfErr result (λ f. IsOfDevice f ⊎ IsDamage f) }
 {
     read_into(cache, at.page, at.level, node)?;
@@ -188,6 +200,9 @@ fn put_above<const D: usize, B: BlockDevice, A: Allocator + Copy>(
     ensures faults { IsPageMap cache.old → (items : List Item)
         → node_in D (pages cache.old at.page) ≡ Some (record { level = at.level; entries = items })
         → place < length items → length items ≤ m_max → IfErr result (IsNoDamage cache.new) }
+    ensures sound { IsPageMap cache.old → OnOk result (IsPageMap cache.new) }
+    ensures damaged { IsPageMap cache.old
+        → IfErr result (λ f. IsNoDamage cache.new f ⊎ (f ≡ fault.Damaged at.page)) }
     ensures other_faults { IfErr result IsChangeFault }
 {
     let mut node = Node {
@@ -231,6 +246,7 @@ fn settle_above<const D: usize, B: BlockDevice, A: Allocator + Copy>(
         IfOk result (λ s. IsPageMap cache.new
         × SettlesTo D m_max top node.old.level waiting.old.called branches (pages cache.old) (pages cache.new)
         page s waiting.old.waits.items waiting.new.waits.items waiting.new.called) }
+    ensures sound { IsPageMap cache.old → IsLive cache.old page → OnOk result (IsPageMap cache.new) }
     ensures faults { IsPageMap cache.old → IsLive cache.old page → IfErr result (IsNoDamage cache.new) }
     ensures other_faults { IfErr result IsChangeFault }
 {

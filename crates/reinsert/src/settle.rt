@@ -1,7 +1,7 @@
 //! A node that may have one entry too many is written, its far set waits again, or it is split.
 
 ghost use Rattle.std.specs.Prelude.{◌≡◌, ◌^◌, ◌+◌, ◌<◌, ◌≤◌, true, false, ℕ, Bool, List, None, Some, All};
-ghost use Rattle.std.specs.Prelude.{map, IfOk};
+ghost use Rattle.std.specs.Prelude.{map, IfOk, OnOk};
 ghost use Rattle.std.specs.Prelude.{IfErr, IfSome};
 ghost use Rattle.arrayvec.specs.ArrayVec.{array_vec_len};
 ghost use Rattle.box_math.specs.Bounds.{IsDims};
@@ -66,6 +66,7 @@ pub(crate) fn settle<const D: usize, B: BlockDevice, A: Allocator + Copy>(
         IfOk result (λ s. IsPageMap cache.new
         × SettlesTo D m_max top node.now.level waiting.old.called branches (pages cache.old) (pages cache.new)
         page s waiting.old.waits.items waiting.new.waits.items waiting.new.called) }
+    ensures sound { IsPageMap cache.old → IsLive cache.old page → OnOk result (IsPageMap cache.new) }
     ensures faults { IsPageMap cache.old → IsLive cache.old page → IfErr result (IsNoDamage cache.new) }
     ensures other_faults { IfErr result IsChangeFault }
 {
@@ -100,6 +101,7 @@ fn write_fitting<const D: usize, B: BlockDevice, A: Allocator + Copy>(
         IfOk result (λ s. IsPageMap cache.new
         × SettlesTo D most top node.now.level called branches (pages cache.old) (pages cache.new) page s waits
         waits called) }
+    ensures sound { IsPageMap cache.old → IsLive cache.old page → OnOk result (IsPageMap cache.new) }
     ensures faults { IsPageMap cache.old → IsLive cache.old page → IfErr result (IsNoDamage cache.new) }
     ensures other_faults { IfErr result IsChangeFault }
 {
@@ -136,6 +138,7 @@ fn take_out_far<const D: usize, B: BlockDevice, A: Allocator + Copy>(
         IfOk result (λ s. IsPageMap cache.new
         × SettlesTo D m_max top node.now.level waiting.old.called branches (pages cache.old) (pages cache.new)
         page s waiting.old.waits.items waiting.new.waits.items waiting.new.called) }
+    ensures sound { IsPageMap cache.old → IsLive cache.old page → OnOk result (IsPageMap cache.new) }
     ensures faults { IsPageMap cache.old → IsLive cache.old page → IfErr result (IsNoDamage cache.new) }
     ensures other_faults { IfErr result IsChangeFault }
 {
@@ -180,6 +183,7 @@ fn split_off<const D: usize, B: BlockDevice, A: Allocator + Copy>(
         IfOk result (λ s. IsPageMap cache.new
         × SettlesTo D m_max top node.now.level waiting.old.called branches (pages cache.old) (pages cache.new)
         page s waiting.old.waits.items waiting.new.waits.items waiting.new.called) }
+    ensures sound { IsPageMap cache.old → IsLive cache.old page → OnOk result (IsPageMap cache.new) }
     ensures faults { IsPageMap cache.old → IsLive cache.old page → IfErr result (IsNoDamage cache.new) }
     ensures other_faults { IfErr result IsChangeFault }
 {

@@ -4,10 +4,12 @@ ghost use Rattle.std.specs.Prelude.{◌≡◌, ◌⊎◌, ◌+◌, ◌<◌, ◌�
 ghost use Rattle.std.specs.Prelude.{length};
 ghost use Rattle.box_math.specs.Bounds.{IsBox, IsDims};
 ghost use Rattle.page_file.specs.Fault.{IsDamage, IsOfDevice};
-ghost use Rattle.page_cache.specs.Cache.{IsHonest, pages};
+ghost use Rattle.page_file.specs.declared.fault.Fault.TheVariants as fault;
+ghost use Rattle.page_cache.specs.Cache.{IsHonest, given, pages};
 ghost use Rattle.page_cache.specs.Calls.{Asks};
 ghost use Rattle.tree_node.specs.Keys.{AtMost};
 ghost use Rattle.tree_node.specs.Nodes.{NodeContent};
+ghost use Rattle.node_page.specs.Checked.{Names};
 ghost use Rattle.node_page.specs.Standing.{node_in};
 ghost use Rattle.node_page.specs.Views.{content_in};
 ghost use Rattle.choose_subtree.specs.Choice.{IsChosenChild};
@@ -118,6 +120,9 @@ pub(crate) fn way_down<const D: usize, B: BlockDevice, A: Allocator + Copy>(
         → c.level ≡ at.level → IfOk result (IsWay D m_max at.level c.entries bounds.now) }
     ensures faults { IsHonest cache.old → (c : NodeContent) → node_in D (pages cache.old at.page) ≡ Some c
         → c.level ≡ at.level → length c.entries ≤ m_max → IfErr result IsOfDevice }
+    ensures named { IsHonest cache.old → IfOk result (λ way. (c : NodeContent)
+        × (node_in D (given cache.old at.page) ≡ Some c) × Names c way.page) }
+    ensures damaged { IsHonest cache.old → IfErr result (λ f. IsOfDevice f ⊎ (f ≡ fault.Damaged at.page)) }
     ensures other_faults { IfErr result (λ f. IsOfDevice f ⊎ IsDamage f) }
 {
     let node = view_node::<D, B, A>(cache, at.page, at.level)?;

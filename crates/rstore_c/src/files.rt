@@ -153,7 +153,7 @@ fn paired(
         JournalWish::Make
     };
     let journal = match journal_side(journal, ask, wish) {
-        Err(OpenError::Refused) if marked => return Err(OpenError::NoJournal),
+        Err(error) if marked && error.is_of_system() => return Err(OpenError::NoJournal),
         opened => opened?,
     };
     let mut pair = TwoDevices::of(base, journal);

@@ -2,19 +2,19 @@
 
 ghost use Rattle.std.specs.Prelude.{◌≡◌, ◌⊎◌, ◌*◌, IfErr, OnOk};
 ghost use Rattle.live_layers.specs.Keeping.{LooksAtTree};
-ghost use Rattle.live_layers.specs.Questions.{LooksAtTrees, is_admitted};
+ghost use Rattle.live_layers.specs.Questions.{LooksAtTrees};
 ghost use Rattle.nearest.specs.Nearest.{is_searched};
-ghost use Rattle.plain_table.specs.Answers.{boxes_answer, count_answer, object_answer};
+ghost use Rattle.plain_table.specs.Answers.{count_answer, object_answer};
 ghost use Rattle.plain_table.specs.Answers.{distances_answer, pairs_answer};
 ghost use Rattle.plain_table.specs.Boxes.{given_point, point_dims};
-ghost use Rattle.plain_table.specs.Commands.Command.{Count, Get, Join, Nearest, Range};
+ghost use Rattle.plain_table.specs.Commands.Command.{Count, Get, Join, Nearest};
 ghost use Rattle.plain_table.specs.Step.{nearest_rows};
 ghost use Rattle.plain_table.specs.Table.{Table, layer_at};
 ghost use Rattle.plain_table.specs.declared.refusal.Refusal.TheVariants as refusal;
 ghost use Rattle.tree_node.specs.Joins.{admitted_pairs};
 ghost use Rattle.tree_node.specs.Searches.{admitted};
 ghost use Rattle.store_law.specs.States.StoreState.{Alive};
-ghost use Rattle.layer_store.specs.Commands.{Answers};
+ghost use Rattle.layer_store.specs.Commands.{Answers, AnswersRange};
 ghost use Rattle.layer_store.specs.Representation.{IsInState, layers_in, looks_in};
 
 use crate::store::{FAILED, Store};
@@ -61,10 +61,7 @@ impl<D: BlockDevice, A: Allocator + Copy> Store<D, A> {
         query: RawQuery,
         tag: Option<u32>,
     ) -> Result<Vec<(u64, AnyBox, u32), A>, Refusal>
-        ensures answers { Answers self.old self.new (Range layer.now query tag) boxes_answer result }
-        ensures looks { (t : Table) → IsInState self.old (Alive t) →
-            OnOk result (LooksAtTree (layers_in self.old) (layers_in self.new) layer.now
-            (admitted (is_admitted (layer_at t layer.now).dims query))) }
+        ensures { AnswersRange self.old self.new layer.now query tag result }
     {
         if self.failed {
             return Err(FAILED);
@@ -106,11 +103,7 @@ impl<D: BlockDevice, A: Allocator + Copy> Store<D, A> {
         bounds: RawBox,
         tag: Option<u32>,
     ) -> Result<Vec<(u64, AnyBox, u32), A>, Refusal>
-        ensures answers { Answers self.old self.new (Range layer.now (RawQuery.Window bounds) tag)
-            boxes_answer result }
-        ensures looks { (t : Table) → IsInState self.old (Alive t) →
-            OnOk result (LooksAtTree (layers_in self.old) (layers_in self.new) layer.now
-            (admitted (is_admitted (layer_at t layer.now).dims (RawQuery.Window bounds)))) }
+        ensures { AnswersRange self.old self.new layer.now (RawQuery.Window bounds) tag result }
     {
         self.range(layer, RawQuery::Window(bounds), tag)
     }
@@ -125,11 +118,7 @@ impl<D: BlockDevice, A: Allocator + Copy> Store<D, A> {
         bounds: RawBox,
         tag: Option<u32>,
     ) -> Result<Vec<(u64, AnyBox, u32), A>, Refusal>
-        ensures answers { Answers self.old self.new (Range layer.now (RawQuery.Inside bounds) tag)
-            boxes_answer result }
-        ensures looks { (t : Table) → IsInState self.old (Alive t) →
-            OnOk result (LooksAtTree (layers_in self.old) (layers_in self.new) layer.now
-            (admitted (is_admitted (layer_at t layer.now).dims (RawQuery.Inside bounds)))) }
+        ensures { AnswersRange self.old self.new layer.now (RawQuery.Inside bounds) tag result }
     {
         self.range(layer, RawQuery::Inside(bounds), tag)
     }
@@ -144,11 +133,7 @@ impl<D: BlockDevice, A: Allocator + Copy> Store<D, A> {
         bounds: RawBox,
         tag: Option<u32>,
     ) -> Result<Vec<(u64, AnyBox, u32), A>, Refusal>
-        ensures answers { Answers self.old self.new (Range layer.now (RawQuery.Around bounds) tag)
-            boxes_answer result }
-        ensures looks { (t : Table) → IsInState self.old (Alive t) →
-            OnOk result (LooksAtTree (layers_in self.old) (layers_in self.new) layer.now
-            (admitted (is_admitted (layer_at t layer.now).dims (RawQuery.Around bounds)))) }
+        ensures { AnswersRange self.old self.new layer.now (RawQuery.Around bounds) tag result }
     {
         self.range(layer, RawQuery::Around(bounds), tag)
     }
@@ -163,11 +148,7 @@ impl<D: BlockDevice, A: Allocator + Copy> Store<D, A> {
         point: RawPoint,
         tag: Option<u32>,
     ) -> Result<Vec<(u64, AnyBox, u32), A>, Refusal>
-        ensures answers { Answers self.old self.new (Range layer.now (RawQuery.Point point) tag) boxes_answer
-            result }
-        ensures looks { (t : Table) → IsInState self.old (Alive t) →
-            OnOk result (LooksAtTree (layers_in self.old) (layers_in self.new) layer.now
-            (admitted (is_admitted (layer_at t layer.now).dims (RawQuery.Point point)))) }
+        ensures { AnswersRange self.old self.new layer.now (RawQuery.Point point) tag result }
     {
         self.range(layer, RawQuery::Point(point), tag)
     }

@@ -28,7 +28,7 @@ use catalog_page::LayerRecord;
 use node_page::Root;
 use page_cache::PageCache;
 use page_file::Fault;
-use plain_table::{AnyBox, DumpRow, LayerName, Refusal};
+use plain_table::{Axes, Dimension, DumpRow, LayerName, Refusal};
 use range_query::window;
 use std::alloc::{AllocError, Allocator};
 
@@ -92,10 +92,10 @@ fn dump_layer<B: BlockDevice, A: Allocator + Copy>(
     rows.push(create)?;
     if layer.dims == 2 {
         let objects = objects_at::<2, B, A>(alloc, cache, root)?;
-        Ok(add_in_plane(&layer.name, &objects, rows)?)
+        Ok(add_objects(&layer.name, &objects, rows)?)
     } else {
         let objects = objects_at::<3, B, A>(alloc, cache, root)?;
-        Ok(add_in_space(&layer.name, &objects, rows)?)
+        Ok(add_objects(&layer.name, &objects, rows)?)
     }
 }
 
@@ -118,32 +118,20 @@ fn objects_at<const D: usize, B: BlockDevice, A: Allocator + Copy>(
     window(alloc, cache, root, &all, None)
 }
 
-// Appends the rows of objects with two axes.
-fn add_in_plane<A: Allocator + Copy>(
+// Appends the rows of objects.
+fn add_objects<const D: usize, A: Allocator + Copy>(
     name: &LayerName,
-    objects: &[(u64, (BBox<2>, u32))],
+    objects: &[(u64, (BBox<D>, u32))],
     rows: &mut Vec<DumpRow, A>,
 ) -> Result<(), AllocError>
+where
+    Axes: Dimension<D>,
     ensures { OnOk result (lines_of rows.new.items ≡ lines_of rows.old.items ++
         each (λ object. InsertLine name.now.items object.0 object.1) objects.now) }
 {
     for (id, (bounds, tag)) in objects {
-        rows.push(DumpRow::Insert(name_of(name), *id, AnyBox::Two(*bounds), *tag))?;
-    }
-    Ok(())
-}
-
-// Appends the rows of objects with three axes.
-fn add_in_space<A: Allocator + Copy>(
-    name: &LayerName,
-    objects: &[(u64, (BBox<3>, u32))],
-    rows: &mut Vec<DumpRow, A>,
-) -> Result<(), AllocError>
-    ensures { OnOk result (lines_of rows.new.items ≡ lines_of rows.old.items ++
-        each (λ object. InsertLine name.now.items object.0 object.1) objects.now) }
-{
-    for (id, (bounds, tag)) in objects {
-        rows.push(DumpRow::Insert(name_of(name), *id, AnyBox::Three(*bounds), *tag))?;
+        let bounds = <Axes as Dimension<D>>::shown(*bounds);
+        rows.push(DumpRow::Insert(name_of(name), *id, bounds, *tag))?;
     }
     Ok(())
 }

@@ -1,12 +1,13 @@
 //! All objects of a layer at once.
 
-ghost use Rattle.std.specs.Prelude.{◌≡◌, true, false, map, OnOk};
+ghost use Rattle.std.specs.Prelude.{◌≡◌, ◌<◌, ℕ, List, true, false, length, map, OnOk};
 ghost use Rattle.plain_table.specs.Commands.Command.{Load};
 ghost use Rattle.plain_table.specs.Loads.{given_object};
 ghost use Rattle.plain_table.specs.Step.{changes};
 ghost use Rattle.plain_table.specs.Table.{Table, layer_at};
-ghost use Rattle.live_layers.specs.Changes.{IsChangeBy};
-ghost use Rattle.live_layers.specs.Keeping.{ChangesTree, IsSound};
+ghost use Rattle.live_layers.specs.Changes.{IsChange, IsChangeBy, KeepsInChange};
+ghost use Rattle.live_layers.specs.Keeping.{ChangesTree, IsSound, records_in};
+ghost use Rattle.live_layers.specs.Loading.{NamesLayer};
 ghost use Rattle.live_layers.specs.Rules.{HasFilled};
 ghost use Rattle.live_layers.specs.Staying.{KeepsPagesAndRecords};
 
@@ -14,10 +15,10 @@ mod checking;
 mod load_boxes;
 
 use crate::layers::Layers;
-use crate::objects::{objects_in_plane, objects_in_space};
+use crate::objects::objects_in;
 use crate::unmade::Unmade;
 use block_device::BlockDevice;
-use plain_table::RawBox;
+use plain_table::{Axes, Dimension, RawBox};
 use std::alloc::Allocator;
 
 impl<B: BlockDevice, A: Allocator + Copy> Layers<B, A> {
@@ -39,15 +40,34 @@ impl<B: BlockDevice, A: Allocator + Copy> Layers<B, A> {
             Err(refusal) => return Err(Unmade::Refused(refusal)),
         };
         if self.locate(place).dims == 2 {
-            match objects_in_plane(self.alloc, objects) {
-                Ok(mut boxed) => self.load_boxes::<2>(place, boxed.as_mut_slice()),
-                Err(refusal) => Err(Unmade::Refused(refusal)),
-            }
+            self.load_given::<2>(place, objects)
         } else {
-            match objects_in_space(self.alloc, objects) {
-                Ok(mut boxed) => self.load_boxes::<3>(place, boxed.as_mut_slice()),
-                Err(refusal) => Err(Unmade::Refused(refusal)),
-            }
+            self.load_given::<3>(place, objects)
+        }
+    }
+
+    // Puts objects into the layer at a place, which has `D` axes.
+    fn load_given<const D: usize>(
+        &mut self,
+        place: usize,
+        objects: &[(u64, RawBox, u32)],
+    ) -> Result<(), Unmade>
+    where
+        Axes: Dimension<D>,
+        requires within { place < length (records_in self.old) }
+        ensures change { (t : Table) (name : List ℕ) → IsSound self.old t →
+            NamesLayer t name place D → IsChange self.old self.new t (Load name objects.now) result }
+        ensures tree { (t : Table) (name : List ℕ) → IsSound self.old t → NamesLayer t name place D →
+            changes t (Load name objects.now) ≡ true →
+            OnOk result (ChangesTree self.old self.new name
+            (HasFilled (layer_at t name) (map given_object objects.now))) }
+        ensures same { (t : Table) (name : List ℕ) → IsSound self.old t → NamesLayer t name place D →
+            changes t (Load name objects.now) ≡ false → KeepsPagesAndRecords self.old self.new }
+        ensures keeps { KeepsInChange self.old self.new result }
+    {
+        match objects_in::<D, A>(self.alloc, objects) {
+            Ok(mut boxed) => self.load_boxes::<D>(place, boxed.as_mut_slice()),
+            Err(refusal) => Err(Unmade::Refused(refusal)),
         }
     }
 }

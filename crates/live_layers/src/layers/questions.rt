@@ -47,9 +47,9 @@ impl<B: BlockDevice, A: Allocator + Copy> Layers<B, A> {
         let place = self.named(name)?;
         let located = self.locate(place);
         if located.dims == 2 {
-            self.range_in_plane(&located, query, tag)
+            self.range_in::<2>(&located, query, tag)
         } else {
-            self.range_in_space(&located, query, tag)
+            self.range_in::<3>(&located, query, tag)
         }
     }
 

@@ -18,7 +18,11 @@ use std::rt::{Stdin, Stdout};
 // The number of a file that can't be opened.
 fn number_of(error: OpenError) -> u32 {
     match error {
-        OpenError::Refused | OpenError::ClosedStream => 101,
+        OpenError::NotFound
+        | OpenError::PermissionDenied
+        | OpenError::IsADirectory
+        | OpenError::Refused
+        | OpenError::ClosedStream => 101,
         OpenError::InUse => 102,
         OpenError::NoLocks => 106,
         OpenError::NoJournal => 107,

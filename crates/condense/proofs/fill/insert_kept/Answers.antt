@@ -1,11 +1,15 @@
 -- The goals of `insert_kept` that are proved by hand.
-use Rattle.std.proofs.Common.{rules, ◌∙◌, ◌+◌, List, None, map, refl, ap, subst, arith}
-use Rattle.page_cache.specs.Cache.{pages}
-use Rattle.page_cache.specs.Calls.{changes_and_refuses, changes_in_turn, no_call_changes}
+use Rattle.std.proofs.Common.{rules, ◌∙◌, ◌+◌, List, None, Ok, length, map, refl, ap, subst, arith}
+use Rattle.std.proofs.Common.{inr, []}
+use Rattle.page_file.specs.declared.fault.Fault.TheVariants as fault
+use Rattle.page_cache.specs.Cache.{given, pages}
+use Rattle.page_cache.specs.Calls.{changes_and_refuses, changes_in_turn, no_call_asks, no_call_changes}
+use Rattle.tree_node.specs.declared.node.Root.{Root}
 use Rattle.tree_node.specs.Nodes.{item_of}
 use Rattle.tree_node.specs.Rows.{occurs_waiting}
-use Rattle.node_page.specs.Faults.{IsNoDamage}
+use Rattle.node_page.specs.Faults.{IsNoDamage, NamesInRange}
 use Rattle.node_page.specs.Standing.{PageMap}
+use Rattle.node_page.proofs.DamageLemmas.{comes_in_range, damaged_read}
 use Rattle.node_page.proofs.NodeLemmas.{at_error}
 use Rattle.reinsert.specs.Placed.{Held}
 use Rattle.condense.specs.Taken.{held_now, orphan_held}
@@ -24,6 +28,8 @@ inserting-init g c = (
     filled_first g.row.D c.args.m_max (pages c.args.cache.now) t ws elsewhere c.args.root
         (held_now c.args.kept.now) can,
   ),
+  λ none. (none, refl, no_call_asks c.args.cache.now),
+  λ h. h,
 )
 
 pub returns-then-orphan-now-clause-faults : goal.returns-then-orphan-now-clause-faults
@@ -116,6 +122,8 @@ inserting-preserved g c = (
             (pages c.insert_with.new.cache) c.in_ok-now.now c.in_ok-now.ensures.root.rises
             (omega (arith, c.requires.most)) done.1,
       ),
+  λ none. absurd (omega (arith, c.in-Some.ensures.fewer, ap length (c.inserting.invariant.5 none).0)),
+  λ h. c.in_ok-now.ensures.sound (c.inserting.invariant.6 h),
 )
 
 pub returns-clause-filled : goal.returns-clause-filled
@@ -132,3 +140,29 @@ returns-in_err-now-clause-changes g c =
     changes_and_refuses c.args.cache.now c.inserting.cache c.insert_with.new.cache
     c.in_err-now.field-0.0 c.from_residual.result c.from_residual.ensures.1
     c.inserting.invariant.0 c.in_err-now.ensures.changes
+
+pub returns-then-orphan-now-clause-none : goal.returns-then-orphan-now-clause-none
+returns-then-orphan-now-clause-none g c = λ none.
+    absurd (omega (arith, c.in-Some.ensures.fewer, ap length (c.inserting.invariant.5 none).0))
+
+pub returns-in_err-now-clause-none : goal.returns-in_err-now-clause-none
+returns-in_err-now-clause-none g c = λ none.
+    absurd (omega (arith, c.in-Some.ensures.fewer, ap length (c.inserting.invariant.5 none).0))
+
+pub returns-clause-none : goal.returns-clause-none
+returns-clause-none g c = λ none.
+    let so_far = c.inserting.invariant.5 none in (ap (λ (root : Root). Ok root) so_far.1, so_far.2)
+
+pub returns-then-orphan-now-clause-number : goal.returns-then-orphan-now-clause-number
+returns-then-orphan-now-clause-number g c = λ h n damaged.
+    let page = c.inserting.now.page in
+    comes_in_range g.row.D (given c.inserting.cache) page n c.inserting.invariant.1.page
+    ([], damaged_read (fault.Damaged page) page n (inr refl) damaged)
+
+pub returns-in_err-now-clause-number : goal.returns-in_err-now-clause-number
+returns-in_err-now-clause-number g c = λ h.
+    at_error c.from_residual.result c.in_err-now.field-0.0 NamesInRange
+    c.from_residual.ensures.1 (c.in_err-now.ensures.number (c.inserting.invariant.6 h))
+
+pub returns-clause-sound : goal.returns-clause-sound
+returns-clause-sound g c = c.inserting.invariant.6

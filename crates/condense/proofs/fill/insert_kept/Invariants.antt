@@ -1,8 +1,8 @@
 -- What holds at each turn of the loop of `insert_kept`, and what falls.
-use Rattle.std.proofs.Common.{ℕ, ◌*◌, ◌-◌, ◌≤◌, List, None}
+use Rattle.std.proofs.Common.{◌≡◌, ℕ, ◌*◌, ◌-◌, ◌≤◌, List, [], None}
 use Rattle.arrayvec.specs.ArrayVec.{array_vec_len}
 use Rattle.page_cache.specs.Cache.{Grows, IsPageMap, pages}
-use Rattle.page_cache.specs.Calls.{ChangesUntil}
+use Rattle.page_cache.specs.Calls.{AsksUntil, ChangesUntil}
 use Rattle.tree_node.specs.Rows.{Waiter}
 use Rattle.tree_node.specs.Trees.{Tree}
 use Rattle.reinsert.specs.Inserted.{most_new_pages}
@@ -24,6 +24,9 @@ invariant-inserting g l =
     → CanFill g.row.D (pages l.fn.cache) l.fn.root t ws elsewhere (held_now l.fn.kept)
     → IsPageMap l.cache
     × Filled g.row.D l.m_max (pages l.fn.cache) (pages l.cache) t ws elsewhere l.now (held_now l.kept))
+    × (l.fn.kept.orphans.items ≡ [] → (l.kept.orphans.items ≡ []) × (l.now ≡ l.fn.root)
+    × AsksUntil l.fn.cache l.cache None)
+    × (IsPageMap l.fn.cache → IsPageMap l.cache)
 
 abbrev pub decreases-inserting : goal.decreases-inserting
 decreases-inserting g l = array_vec_len l.kept.orphans

@@ -57,3 +57,7 @@ returns-clause-taken g c = λ h content there yes.
       rest = items-removed c.remove.new.self.items now.entries.items c.in-Some.place c.remove.ensures.items
           ∙ ap (λ (x : NodeContent). items_without x.entries c.in-Some.place) c.decode_into.ensures;
     })
+
+pub returns-clause-given_leaf : goal.returns-clause-given_leaf
+returns-clause-given_leaf g c = λ h yes.
+    (content_in c.in_ok-leaf.leaf, c.in_ok-leaf.ensures.given_node h, c.in_ok-leaf.ensures.level)

@@ -26,6 +26,10 @@ pub returns-clause-node : goal.returns-clause-node
 returns-clause-node g c = λ h live. c.in_ok-view.ensures.node h live
     ∙ ap (λ (x : NodeContent). Some x) (sym c.decode_into.ensures)
 
+pub returns-clause-given_node : goal.returns-clause-given_node
+returns-clause-given_node g c = λ h. c.in_ok-view.ensures.given_node h
+    ∙ ap (λ (x : NodeContent). Some x) (sym c.decode_into.ensures)
+
 pub returns-clause-before : goal.returns-clause-before
 returns-clause-before g c = λ h content there.
     let D = g.row.D in

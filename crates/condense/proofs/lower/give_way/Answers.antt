@@ -1,14 +1,23 @@
 -- The goals of `give_way` that are proved by hand.
+use Rattle.std.proofs.Common.{◌∙◌, ◌⊎◌, ⊎_elim, inl, inr, IsSome, [], sym, true}
 use Rattle.std.proofs.Common.{◌≡◌, ◌-◌, ◌<◌, ◌≤◌, ◌^◌, IfSome, None, Some, length, get_or, refl, subst, arith}
+use Rattle.std.proofs.lemmas.Bool.{true≢false}
 use Rattle.page_file.specs.Fault.{IsOfDevice}
-use Rattle.page_cache.specs.Cache.{pages}
+use Rattle.page_file.specs.declared.fault.Fault.TheVariants as fault
+use Rattle.page_cache.specs.Cache.{given, next_of, pages, touched_of}
 use Rattle.page_cache.specs.Calls.{asks_changes, changes_and_refuses, changes_in_turn, no_call_changes}
+use Rattle.tree_node.specs.declared.node.Root.{Root}
 use Rattle.tree_node.specs.Nodes.{Item, NodeContent}
 use Rattle.tree_node.specs.Trees.{row_items}
+use Rattle.node_page.specs.Faults.{NamesInRange}
 use Rattle.node_page.specs.Standing.{PageMap}
 use Rattle.reinsert.proofs.FaultLemmas.{at_none}
 use Rattle.condense.proofs.CutLemmas.{length-items}
+use Rattle.node_page.proofs.DamageLemmas.{comes_in_range, damaged_read}
+use Rattle.node_page.proofs.GivenLemmas.{given_node_is_live, node_was_given_out}
 use Rattle.node_page.proofs.NodeLemmas.{at_error}
+use Rattle.node_page.proofs.StandingLemmas.{page_of_node}
+use Rattle.condense.proofs.DamageLemmas.{device_names_none}
 use Rattle.condense.proofs.LowerLemmas.{lowered_end, lowered_first, lowered_more, lowered_same}
 use Rattle.condense.proofs.LowerLemmas.{root_is_live, root_node}
 use Rattle.condense.proofs.lower.give_way.Goals as goal
@@ -19,6 +28,8 @@ lowering-init g c = (
   c.requires.root,
   omega arith,
   λ h t at stands. (h, lowered_first g.row.D (pages c.args.cache.now) t c.args.root at stands),
+  λ h. inl refl,
+  λ h. h,
 )
 
 pub returns-in_err-below-clause-faults : goal.returns-in_err-below-clause-faults
@@ -100,6 +111,18 @@ lowering-preserved g c =
                 (c.in_ok-free.ensures.others sound.honest live)
                 (c.in_ok-free.ensures.freed sound.honest live),
           ),
+      λ h. let node = c.in_ok-below.ensures.given_node (c.lowering.invariant.0.gate.honest.0 h) in
+          let out = node_was_given_out g.row.D c.lowering.cache c.lowering.now.page node.0 node.1 in
+          inr (c.in_ok-free.ensures.touched c.lowering.invariant.1.page.0
+          (omega (arith, out.1, c.in_ok-below.ensures.asks.map.next))),
+      λ h. let map = c.lowering.invariant.5 h in
+          let page = c.lowering.now.page in
+          let asks = c.in_ok-below.ensures.asks in
+          let node = c.in_ok-below.ensures.given_node map.honest in
+          let there = given_node_is_live g.row.D c.lowering.cache page node.0 map node.1 in
+          c.in_ok-free.ensures.sound (asks.map.sound.0 map)
+          (subst IsSome (sym (asks.map.pages_stay map.honest page))
+          (page_of_node g.row.D (pages c.lowering.cache page) node.0 there)),
     )
 
 pub returns-after-lowering-clause-lowered : goal.returns-after-lowering-clause-lowered
@@ -129,3 +152,50 @@ pub returns-in_default-clause-changes : goal.returns-in_default-clause-changes
 returns-in_default-clause-changes g c =
     changes_in_turn c.args.cache.now c.lowering.cache c.only_child.new.cache None c.lowering.invariant.0
     (asks_changes c.lowering.cache c.only_child.new.cache None c.in_ok-below.ensures.asks)
+
+pub returns-in_err-below-clause-untouched : goal.returns-in_err-below-clause-untouched
+returns-in_err-below-clause-untouched g c = λ h none.
+    let f = c.in_err-below.field-0.0 in
+    ⊎_elim
+    (λ (same : c.lowering.now ≡ c.args.root).
+    at_error c.from_residual.result f (λ f. IsOfDevice f ⊎ (f ≡ fault.Damaged c.args.root.page))
+    c.from_residual.ensures.1
+    (subst (λ (root : Root). IsOfDevice f ⊎ (f ≡ fault.Damaged root.page)) same
+    (c.in_err-below.ensures.faults (c.lowering.invariant.0.gate.honest.0 h))))
+    (λ (touched : touched_of c.lowering.cache ≡ true).
+    absurd (true≢false (sym touched ∙ sym c.in_err-below.ensures.asks.touched ∙ none)))
+    (c.lowering.invariant.4 h)
+
+pub returns-in_err-free-clause-untouched : goal.returns-in_err-free-clause-untouched
+returns-in_err-free-clause-untouched g c = λ h none.
+    let node = c.in_ok-below.ensures.given_node (c.lowering.invariant.0.gate.honest.0 h) in
+    let out = node_was_given_out g.row.D c.lowering.cache c.lowering.now.page node.0 node.1 in
+    let below : c.lowering.now.page < next_of c.only_child.new.cache =
+    omega (arith, out.1, c.in_ok-below.ensures.asks.map.next) in
+    absurd (true≢false (sym (c.in_err-free.ensures.touched c.lowering.invariant.1.page.0 below) ∙ none))
+
+pub returns-in_err-below-clause-number : goal.returns-in_err-below-clause-number
+returns-in_err-below-clause-number g c = λ h.
+    let page = c.lowering.now.page in
+    let f = c.in_err-below.field-0.0 in
+    at_error c.from_residual.result f NamesInRange
+    c.from_residual.ensures.1
+    (λ n damaged. comes_in_range g.row.D (given c.lowering.cache) page n c.lowering.invariant.1.page
+    ([], damaged_read f page n (c.in_err-below.ensures.faults (c.lowering.invariant.5 h).honest) damaged))
+
+pub returns-in_err-free-clause-number : goal.returns-in_err-free-clause-number
+returns-in_err-free-clause-number g c = λ h.
+    let map = c.lowering.invariant.5 h in
+    let page = c.lowering.now.page in
+    let asks = c.in_ok-below.ensures.asks in
+    let node = c.in_ok-below.ensures.given_node map.honest in
+    let there = given_node_is_live g.row.D c.lowering.cache page node.0 map node.1 in
+    let live =
+    subst IsSome (sym (asks.map.pages_stay map.honest page))
+    (page_of_node g.row.D (pages c.lowering.cache page) node.0 there) in
+    let device =
+    c.in_err-free.ensures.faults (asks.map.sound.0 map) live
+    (λ two. omega (arith, two, c.lowering.invariant.1.page)) in
+    at_error c.from_residual-in_err-free.result c.in_err-free.field-0.0 NamesInRange
+    c.from_residual-in_err-free.ensures.1
+    (λ n damaged. absurd (device_names_none c.in_err-free.field-0.0 n device damaged))

@@ -1,4 +1,4 @@
--- The goal of `only_child` that is proved by hand.
+-- The goals of `only_child` that are proved by hand.
 use Rattle.std.proofs.Common.{◌≡◌, ◌∙◌, length, get_or, ap, subst, arith}
 use Rattle.std.proofs.lemmas.List.{get_or_default}
 use Rattle.page_cache.specs.Cache.{pages}
@@ -21,3 +21,10 @@ returns-clause-child g c = λ h content there.
       λ d. ap (λ (x : Item). x.reference)
           (c.entry.ensures ∙ get_or_default view.entries 0 (item_of c.entry.result) d (omega (arith, one))),
     )
+
+pub returns-then-len-ne1-clause-given_node : goal.returns-then-len-ne1-clause-given_node
+returns-then-len-ne1-clause-given_node g c = λ h.
+    (content_in c.in_ok-node.node, c.in_ok-node.ensures.given_node h)
+
+pub returns-clause-given_node : goal.returns-clause-given_node
+returns-clause-given_node g c = λ h. (content_in c.in_ok-node.node, c.in_ok-node.ensures.given_node h)

@@ -1,6 +1,7 @@
 -- The goals of `leave_out` that are proved by hand.
 use Rattle.std.proofs.Common.{rules, ◌-◌, All, arith, subst, sym}
 use Rattle.page_file.specs.Fault.{IsOfDevice}
+use Rattle.page_cache.specs.Laws.{a_live_page_was_given_out}
 use Rattle.tree_node.specs.declared.node.Entry.{Entry}
 use Rattle.node_page.specs.Layout.{IsOfLevel}
 use Rattle.reinsert.proofs.AboveLemmas.{All-mapped}
@@ -39,3 +40,8 @@ returns-in_err-free-clause-faults g c = λ h live.
 
 pub returns-clause-others : goal.returns-clause-others
 returns-clause-others g c = λ h live. c.free.ensures.others h.honest live
+
+pub returns-clause-touched : goal.returns-clause-touched
+returns-clause-touched g c = λ live.
+    c.free.ensures.touched c.requires.page
+    (a_live_page_was_given_out c.args.cache.now c.args.page live).1

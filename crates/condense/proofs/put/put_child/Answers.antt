@@ -1,11 +1,14 @@
 -- The goals of `put_child` that are proved by hand.
-use Rattle.std.proofs.Common.{◌≡◌, Some, arith, map, refl, subst, sym, true}
+use Rattle.std.proofs.Common.{◌≡◌, Some, arith, inl, inr, map, refl, subst, sym, true}
 use Rattle.std.proofs.lemmas.List.{length-map}
-use Rattle.page_cache.specs.Cache.{IsPageMap, pages}
+use Rattle.page_cache.specs.Cache.{IsLive, IsPageMap, pages}
 use Rattle.tree_node.specs.Boxes.{no_item}
 use Rattle.tree_node.specs.Nodes.{content_of, item_of}
 use Rattle.node_page.specs.Standing.{node_in}
+use Rattle.node_page.proofs.NodeLemmas.{on_ok}
+use Rattle.node_page.proofs.StandingLemmas.{page_of_node}
 use Rattle.condense.specs.Taken.{held_now}
+use Rattle.condense.proofs.DamageLemmas.{others_keep, with_ok}
 use Rattle.condense.proofs.TakeLemmas.{left_ok, lives, lower, stayed_ok}
 use Rattle.condense.proofs.put.put_child.Goals as goal
 
@@ -83,3 +86,48 @@ returns-clause-faults g c = λ h m page id removed row held took is.
     c.write_back.ensures.faults h
     (lives c.args.m_max m m1 page c.args.node.now.level id removed row c.args.place held
     (held_now c.args.kept.now) entries es reference l)
+
+pub returns-then-len-least_entries-clause-sound : goal.returns-then-len-least_entries-clause-sound
+returns-then-len-least_entries-clause-sound g c = λ h x there lower.
+    let D = g.row.D in
+    let m1 = pages c.args.cache.now in
+    let page = c.child_of-page.result.page in
+    let here =
+    subst (λ k. node_in D (m1 k) ≡ Some x) (sym (c.child_of-page.ensures.page no_item)) there in
+    let live = page_of_node D (m1 page) x here in (
+      c.leave_out.ensures.sound h live,
+      others_keep D m1 (pages c.leave_out.new.cache) page (c.leave_out.ensures.others h live)
+          c.args.node.now.level x here lower,
+    )
+
+pub returns-then-len-least_entries-clause-live_faults : goal.returns-then-len-least_entries-clause-live_faults
+returns-then-len-least_entries-clause-live_faults g c = λ h live.
+    c.leave_out.ensures.faults h
+    (subst (λ k. IsLive c.args.cache.now k) (sym (c.child_of-page.ensures.page no_item)) live)
+
+pub returns-clause-sound : goal.returns-clause-sound
+returns-clause-sound g c = λ h x there lower.
+    let D = g.row.D in
+    let m1 = pages c.args.cache.now in
+    let page = c.child_of-page.result.page in
+    let here =
+    subst (λ k. node_in D (m1 k) ≡ Some x) (sym (c.child_of-page.ensures.page no_item)) there in
+    let live = page_of_node D (m1 page) x here in (
+      c.write_back.ensures.sound h live,
+      others_keep D m1 (pages c.write_back.new.cache) page (c.write_back.ensures.others h live)
+          c.args.node.now.level x here lower,
+    )
+
+pub returns-clause-live_faults : goal.returns-clause-live_faults
+returns-clause-live_faults g c = λ h live.
+    c.write_back.ensures.faults h
+    (subst (λ k. IsLive c.args.cache.now k) (sym (c.child_of-page.ensures.page no_item)) live)
+
+pub returns-then-len-least_entries-clause-touched : goal.returns-then-len-least_entries-clause-touched
+returns-then-len-least_entries-clause-touched g c = λ live.
+    on_ok c.leave_out.result (λ touched. inr touched)
+    (c.leave_out.ensures.touched
+    (subst (λ k. IsLive c.args.cache.now k) (sym (c.child_of-page.ensures.page no_item)) live))
+
+pub returns-clause-touched : goal.returns-clause-touched
+returns-clause-touched g c = λ live. with_ok c.write_back.result _ (inl refl)

@@ -1,21 +1,26 @@
 -- The goals of `put_root` that are proved by hand.
 use Rattle.std.proofs.Common.{rules, All, None, Some, length, map, inl, sym, ap, subst, arith}
+use Rattle.std.proofs.Common.{◌≡◌, ◌∙◌, [], ⊎_elim, IfErr, inr, refl, true}
+use Rattle.std.proofs.lemmas.Bool.{true≢false}
 use Rattle.std.specs.Prelude.{◌⊎◌}
 use Rattle.std.proofs.lemmas.List.{length-map}
 use Rattle.page_file.specs.Fault.{IsDamage, IsOfDevice}
 use Rattle.page_file.specs.declared.fault.Fault.TheVariants.{Damaged}
-use Rattle.page_cache.specs.Cache.{IsPageMap, pages}
+use Rattle.page_cache.specs.Cache.{IsPageMap, given, pages, touched_of}
 use Rattle.page_cache.specs.Calls.{asks_changes, changes_and_refuses, changes_in_turn, fault_in, no_call_asks}
+use Rattle.tree_node.specs.declared.node.Root.{Root}
 use Rattle.tree_node.specs.Nodes.{Item, content_of, item_of}
 use Rattle.node_page.specs.Layout.{IsOfLevel, IsSpellable}
 use Rattle.node_page.specs.Standing.{PageMap}
-use Rattle.node_page.specs.Faults.{IsChangeFault, IsNoDamage}
+use Rattle.node_page.specs.Faults.{IsChangeFault, IsNoDamage, NamesInRange}
 use Rattle.reinsert.proofs.FaultLemmas.{one_more}
 use Rattle.condense.specs.Filled.{GivesWayTo}
 use Rattle.condense.specs.Removed.{RemovesTo}
 use Rattle.condense.specs.Taken.{held_now}
 use Rattle.condense.proofs.CutLemmas.{length-items}
+use Rattle.node_page.proofs.DamageLemmas.{comes_in_range, damaged_read}
 use Rattle.node_page.proofs.NodeLemmas.{at_error}
+use Rattle.condense.proofs.DamageLemmas.{device_names_none}
 use Rattle.condense.proofs.RemoveLemmas.{damaged_asks, map_err, map_ok, no_damage}
 use Rattle.condense.proofs.RootLemmas.{can_fill, cut_root, removes_to, root_stays_live}
 use Rattle.condense.proofs.ShapeLemmas.{cut_shaped}
@@ -146,3 +151,66 @@ pub returns-clause-other_faults : goal.returns-clause-other_faults
 returns-clause-other_faults g c =
     map_err c.give_way.result (λ f. IsOfDevice f ⊎ IsDamage f) IsChangeFault c.give_way.ensures.other_faults
     (λ f is. one_more _ _ _ is)
+
+-- ---- in any pages, of which none was touched
+
+pub returns-then-lacks_entries-clause-damage : goal.returns-then-lacks_entries-clause-damage
+returns-then-lacks_entries-clause-damage g c = λ h live either none. inr refl
+
+pub returns-in_err-settle-clause-damage : goal.returns-in_err-settle-clause-damage
+returns-in_err-settle-clause-damage g c = λ h live either none.
+    at_error c.from_residual.result c.in_err-settle.field-0.0
+    (λ f. IsOfDevice f ⊎ (f ≡ Damaged c.args.root.page)) c.from_residual.ensures.1
+    (inl (c.in_err-settle.ensures.faults h.honest live))
+
+pub returns-in_err-filled-clause-damage : goal.returns-in_err-filled-clause-damage
+returns-in_err-filled-clause-damage g c = λ h live either none.
+    ⊎_elim
+    (λ (empty : c.args.kept.now.orphans.items ≡ []).
+    let is = (c.in_err-filled.ensures.none empty).0 in absurd (cc))
+    (λ (touched : touched_of c.args.cache.now ≡ true).
+    let still = c.in_err-filled.ensures.changes.touched (c.in_ok-settle.ensures.changes.touched touched) in
+    absurd (true≢false (sym still ∙ none)))
+    either
+
+pub returns-clause-damage : goal.returns-clause-damage
+returns-clause-damage g c = λ h live either none.
+    let honest =
+    c.in_ok-filled.ensures.changes.gate.honest.0 (c.in_ok-settle.ensures.changes.gate.honest.0 h.honest) in
+    ⊎_elim
+    (λ (empty : c.args.kept.now.orphans.items ≡ []).
+    let is = (c.in_ok-filled.ensures.none empty).0 in
+    let same : c.in_ok-filled.filled ≡ c.args.root = cc in
+    subst (λ (root : Root). IfErr c.give_way.result (λ f. IsOfDevice f ⊎ (f ≡ Damaged root.page))) same
+    (c.give_way.ensures.untouched honest none))
+    (λ (touched : touched_of c.args.cache.now ≡ true).
+    let still =
+    c.give_way.ensures.changes.touched
+    (c.in_ok-filled.ensures.changes.touched (c.in_ok-settle.ensures.changes.touched touched)) in
+    absurd (true≢false (sym still ∙ none)))
+    either
+
+-- ---- in any pages
+
+pub returns-then-lacks_entries-clause-number : goal.returns-then-lacks_entries-clause-number
+returns-then-lacks_entries-clause-number g c = λ h live n damaged.
+    let page = c.args.root.page in
+    comes_in_range g.row.D (given c.args.cache.now) page n c.requires.root.page
+    ([], damaged_read (Damaged page) page n (inr refl) damaged)
+
+pub returns-in_err-settle-clause-number : goal.returns-in_err-settle-clause-number
+returns-in_err-settle-clause-number g c = λ h live.
+    at_error c.from_residual.result c.in_err-settle.field-0.0 NamesInRange
+    c.from_residual.ensures.1
+    (λ n damaged. absurd (device_names_none c.in_err-settle.field-0.0 n
+    (c.in_err-settle.ensures.faults h.honest live) damaged))
+
+pub returns-in_err-filled-clause-number : goal.returns-in_err-filled-clause-number
+returns-in_err-filled-clause-number g c = λ h live.
+    at_error c.from_residual-in_err-filled.result c.in_err-filled.field-0.0 NamesInRange
+    c.from_residual-in_err-filled.ensures.1
+    (c.in_err-filled.ensures.number (c.in_ok-settle.ensures.sound h live))
+
+pub returns-clause-number : goal.returns-clause-number
+returns-clause-number g c = λ h live.
+    c.give_way.ensures.number (c.in_ok-filled.ensures.sound (c.in_ok-settle.ensures.sound h live))

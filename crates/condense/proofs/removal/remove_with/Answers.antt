@@ -1,17 +1,20 @@
 -- The goals of `remove_with` that are proved by hand.
 use Rattle.std.proofs.Common.{rules, ◌≡◌, ◌∙◌, ◌≤◌, ◌*◌, ◌+◌, length, Some, map, inl}
-use Rattle.std.proofs.Common.{inr, refl, sym, ap, arith}
+use Rattle.std.proofs.Common.{inr, refl, sym, ap, arith, ℕ, [], ⊎_elim, true}
 use Rattle.std.specs.Prelude.{◌⊎◌}
 use Rattle.std.proofs.lemmas.Bool.{true≢false}
 use Rattle.arrayvec.specs.ArrayVec.{array_vec_len}
 use Rattle.page_file.specs.Fault.{IsOfDevice}
 use Rattle.page_file.specs.declared.fault.Fault.TheVariants.{Damaged}
-use Rattle.page_cache.specs.Cache.{IsPageMap, pages}
+use Rattle.page_cache.specs.Cache.{IsPageMap, given, pages, touched_of}
 use Rattle.page_cache.specs.Calls.{asks_changes, changes_and_refuses, changes_in_turn, fault_in}
 use Rattle.page_cache.specs.Calls.{no_call_changes}
 use Rattle.tree_node.specs.Nodes.{content_of, item_of}
-use Rattle.node_page.specs.Faults.{IsChangeFault, IsNoDamage}
-use Rattle.node_page.proofs.NodeLemmas.{at_error}
+use Rattle.node_page.specs.Faults.{IsChangeFault, IsNoDamage, NamesInRange}
+use Rattle.node_page.specs.Checked.{ComesTo}
+use Rattle.node_page.proofs.DamageLemmas.{comes_in_range, damaged_read}
+use Rattle.node_page.proofs.NodeLemmas.{at_error, if_error}
+use Rattle.node_page.proofs.StandingLemmas.{page_of_node}
 use Rattle.reinsert.proofs.FaultLemmas.{one_more}
 use Rattle.condense.specs.Taken.{IsCut, held_now, orphan_held}
 use Rattle.condense.proofs.FreeLemmas.{stands_there}
@@ -139,3 +142,55 @@ returns-clause-faults g c = λ h t elsewhere can shape boxes has.
     c.put_root.ensures.faults done.0 (pages c.args.cache.now) t elsewhere c.args.id
     (c.args.bounds.now, c.args.tag) took
     (λ so. c.in_ok-taken.ensures.settled h t.row stands so c.if-not-taken.false) shape boxes
+
+-- ---- in any pages, of which none was touched
+
+pub returns-in_err-taken-clause-damage : goal.returns-in_err-taken-clause-damage
+returns-in_err-taken-clause-damage g c = λ h none.
+    at_error c.from_residual.result c.in_err-taken.field-0.0
+    (λ f. (n : ℕ) → f ≡ Damaged n → ComesTo g.row.D (given c.args.cache.now) c.args.root.page n)
+    c.from_residual.ensures.1 (c.in_err-taken.ensures.damage h)
+
+pub returns-then-not-taken-clause-damage : goal.returns-then-not-taken-clause-damage
+returns-then-not-taken-clause-damage g c = λ h none n damaged.
+    ([], damaged_read (Damaged c.args.root.page) c.args.root.page n (inr refl) damaged)
+
+pub returns-clause-damage : goal.returns-clause-damage
+returns-clause-damage g c = λ h none.
+    let page = c.args.root.page in
+    let low = c.take_out.new.cache in
+    let taken = c.in_ok-taken.ensures.sound h c.if-not-taken.false in
+    let there = taken.1.stay page taken.1.node taken.1.there (omega (arith, taken.1.level_is)) in
+    let live = page_of_node g.row.D (pages low page) taken.1.node there in
+    let kept = ⊎_elim
+    (λ (same : c.take_out.new.kept.orphans.items ≡ c.begin.new.self.orphans.items).
+    inl (same ∙ c.begin.ensures))
+    (λ (touched : touched_of low ≡ true). inr touched)
+    (c.in_ok-taken.ensures.touched h c.if-not-taken.false) in
+    if_error c.put_root.result (λ f. IsOfDevice f ⊎ (f ≡ Damaged page))
+    (λ f. (n : ℕ) → f ≡ Damaged n → ComesTo g.row.D (given c.args.cache.now) page n)
+    (λ f is n damaged. ([], damaged_read f page n is damaged))
+    (c.put_root.ensures.damage taken.0 live kept none)
+
+-- ---- in any pages
+
+pub returns-in_err-taken-clause-number : goal.returns-in_err-taken-clause-number
+returns-in_err-taken-clause-number g c = λ h.
+    at_error c.from_residual.result c.in_err-taken.field-0.0 NamesInRange
+    c.from_residual.ensures.1
+    (λ n damaged. comes_in_range g.row.D (given c.args.cache.now) c.args.root.page n c.requires.root.page
+    (c.in_err-taken.ensures.damage h n damaged))
+
+pub returns-then-not-taken-clause-number : goal.returns-then-not-taken-clause-number
+returns-then-not-taken-clause-number g c = λ h n damaged.
+    let page = c.args.root.page in
+    comes_in_range g.row.D (given c.args.cache.now) page n c.requires.root.page
+    ([], damaged_read (Damaged page) page n (inr refl) damaged)
+
+pub returns-clause-number : goal.returns-clause-number
+returns-clause-number g c = λ h.
+    let page = c.args.root.page in
+    let low = c.take_out.new.cache in
+    let taken = c.in_ok-taken.ensures.sound h c.if-not-taken.false in
+    let there = taken.1.stay page taken.1.node taken.1.there (omega (arith, taken.1.level_is)) in
+    c.put_root.ensures.number taken.0 (page_of_node g.row.D (pages low page) taken.1.node there)

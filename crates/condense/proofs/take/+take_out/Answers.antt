@@ -1,28 +1,36 @@
 -- The goals of `take_out` that are proved by hand.
 use Rattle.std.proofs.Common.{IfSome, ℕ, rules, ◌≡◌, ◌∙◌, ◌+◌, ◌*◌, ◌-◌, ◌<◌, ◌≤◌, false, true, None}
-use Rattle.std.proofs.Common.{Some, get_or, length, map, refl, sym, ap, subst, arith}
+use Rattle.std.proofs.Common.{Some, [], get_or, length, map, refl, sym, ap, subst, arith}
 use Rattle.std.proofs.lemmas.Bool.{true≢false}
+use Rattle.std.proofs.lemmas.List.{length-map}
 use Rattle.std.proofs.lemmas.Result.{IfOk-weaker}
 use Rattle.arrayvec.specs.ArrayVec.{array_vec_len}
 use Rattle.page_file.specs.Fault.{IsDamage, IsOfDevice}
-use Rattle.page_cache.specs.Cache.{IsPageMap, pages}
+use Rattle.page_file.specs.declared.fault.Fault.TheVariants as fault
+use Rattle.page_cache.specs.Cache.{IsLive, IsPageMap, given, pages, touched_of}
 use Rattle.page_cache.specs.Calls.{asks_changes, asks_in_turn, changes_and_refuses, changes_in_turn}
+use Rattle.std.proofs.Common.{⊎_elim, inl, inr}
 use Rattle.std.specs.Prelude.{◌⊎◌}
 use Rattle.box_math.specs.Bounds.{Within}
-use Rattle.tree_node.specs.Boxes.{box_at}
+use Rattle.tree_node.specs.Boxes.{box_at, no_item}
 use Rattle.tree_node.specs.declared.node.Entry.{Entry}
 use Rattle.tree_node.specs.declared.node.Node.{Node}
-use Rattle.tree_node.specs.Nodes.{Item, content_of, item_of}
+use Rattle.tree_node.specs.Nodes.{Item, NodeContent, content_of, item_of}
 use Rattle.tree_node.specs.Trees.{row_items}
+use Rattle.node_page.specs.Checked.{ComesTo}
 use Rattle.node_page.specs.Layout.{IsSpellable}
 use Rattle.node_page.specs.Standing.{PageMap, Stands, node_in}
 use Rattle.node_page.proofs.StandingLemmas.{page_of_node}
-use Rattle.node_page.proofs.NodeLemmas.{at_error}
+use Rattle.node_page.proofs.DamageLemmas.{damaged_read}
+use Rattle.node_page.proofs.GivenLemmas.{given_node_is_live}
+use Rattle.node_page.proofs.NodeLemmas.{at_error, if_error}
 use Rattle.reinsert.proofs.FaultLemmas.{at_none}
 use Rattle.condense.specs.Taken.{HasTaken, IsCut, IsTakenFrom, held_now, orphan_held}
 use Rattle.condense.proofs.BelowLemmas.{settled_child, below_contained, found_leaf, is_below, later_than}
 use Rattle.condense.proofs.BelowLemmas.{none_leads, nothing_later, passed_by, passed_to, taken_here}
 use Rattle.condense.proofs.BelowLemmas.{took_below}
+use Rattle.condense.proofs.DamageLemmas.{all_ok, child_named, comes_before, device_names_none}
+use Rattle.condense.proofs.DamageLemmas.{same_adds_none, same_keeps}
 use Rattle.condense.proofs.LeadLemmas.{takes_contained}
 use Rattle.condense.proofs.RemoveLemmas.{on_err}
 use Rattle.condense.proofs.TakeLemmas.{settled_still}
@@ -101,6 +109,9 @@ children-init g t c =
       λ h live. subst (λ o. IfSome o (λ _. node_in D (m c.args.at.page) ≡ Some (content_of now)))
           c.in-Some.is (c.in_ok-first.ensures.node h live),
       refl,
+      λ h. subst
+          (λ o. IfSome o (λ _. node_in D (given c.args.cache.now c.args.at.page) ≡ Some (content_of now)))
+          c.in-Some.is (c.in_ok-first.ensures.given_node h),
     )
 
 pub bounds-deref-place : goal.bounds-deref-place
@@ -149,6 +160,7 @@ children-preserved-then-not-encloses g t c = (
   c.children.invariant.4,
   c.children.invariant.5,
   c.children.invariant.6,
+  c.children.invariant.7,
 )
 
 pub child_of-below-requires : goal.child_of-below-requires
@@ -283,6 +295,7 @@ children-preserved g t c =
       c.children.invariant.4,
       c.children.invariant.5,
       c.children.invariant.6,
+      c.children.invariant.7,
     )
 
 pub put_child-requires : goal.put_child-requires
@@ -543,3 +556,145 @@ returns-clause-taken g t c = λ h row stands is. absurd (true≢false (sym is))
 
 pub returns-clause-settled : goal.returns-clause-settled
 returns-clause-settled g t c = λ h row stands so is. absurd (true≢false (sym is))
+
+-- ---- in any pages
+
+pub returns-then-at-eq0-clause-sound : goal.returns-then-at-eq0-clause-sound
+returns-then-at-eq0-clause-sound g t c = λ h.
+    let D = g.row.D in
+    let old = c.args.cache.now in
+    let asks = c.take_here.ensures.asks in
+    IfOk-weaker c.take_here.result
+    (λ found. found ≡ true → (x : NodeContent) × (node_in D (given old c.args.at.page) ≡ Some x)
+    × (x.level ≡ 0)) _
+    (λ found leaf yes. let is = leaf yes in (
+      asks.map.sound.0 h,
+      record {
+        node = is.0;
+        there = given_node_is_live D old c.args.at.page is.0 h is.1;
+        level_is = is.2 ∙ sym c.if-at-eq0.true;
+        stay = same_keeps D c.args.at.level (pages old) (pages c.take_here.new.cache)
+            (asks.map.pages_stay h.honest);
+      },
+    ))
+    (c.take_here.ensures.given_leaf h.honest)
+
+pub returns-then-at-eq0-clause-damage : goal.returns-then-at-eq0-clause-damage
+returns-then-at-eq0-clause-damage g t c = λ h.
+    if_error c.take_here.result (λ f. IsOfDevice f ⊎ (f ≡ fault.Damaged c.args.at.page))
+    (λ f. (n : ℕ) → f ≡ fault.Damaged n → ComesTo g.row.D (given c.args.cache.now) c.args.at.page n)
+    (λ f is n damaged. ([], damaged_read f c.args.at.page n is damaged))
+    (c.take_here.ensures.faults h.honest)
+
+pub returns-in_err-first-clause-damage : goal.returns-in_err-first-clause-damage
+returns-in_err-first-clause-damage g t c = λ h.
+    at_error c.from_residual.result c.in_err-first.field-0.0
+    (λ f. (n : ℕ) → f ≡ fault.Damaged n → ComesTo g.row.D (given c.args.cache.now) c.args.at.page n)
+    c.from_residual.ensures.1
+    (λ n damaged. (
+      [],
+      damaged_read c.in_err-first.field-0.0 c.args.at.page n (c.in_err-first.ensures.faults h.honest)
+          damaged,
+    ))
+
+pub returns-in_err-taken-clause-damage : goal.returns-in_err-taken-clause-damage
+returns-in_err-taken-clause-damage g t c = λ h.
+    let D = g.row.D in
+    let old = c.args.cache.now in
+    let mid = c.children.cache in
+    let asks = c.children.invariant.0 in
+    let content = content_of c.children.node in
+    let page = c.child_of-below.result.page in
+    let above : 0 < content.level = omega (arith, c.children.invariant.3, c.if-at-eq0.false) in
+    let within : c.children.place < length content.entries =
+    omega (
+      arith,
+      c.children-test.true,
+      c.len-place-end.ensures.value,
+      ap (λ (x : Node g.row.D). length x.entries.items) c.children.invariant.6,
+      length-map c.children.node.entries.items (item_of {D = D}),
+    ) in
+    let named =
+    child_named content c.children.place page above within (c.child_of-below.ensures.page no_item) in
+    at_error c.from_residual-in_err-taken.result c.in_err-taken.field-0.0
+    (λ f. (n : ℕ) → f ≡ fault.Damaged n → ComesTo D (given old) c.args.at.page n)
+    c.from_residual-in_err-taken.ensures.1
+    (λ n damaged. comes_before D (given old) (given mid) c.args.at.page content page n
+    (c.children.invariant.7 h.honest) named
+    (same_adds_none D (given old) (given mid) (asks.map.given_stay h.honest))
+    (c.in_err-taken.ensures.damage (asks.map.sound.0 h) n damaged))
+
+pub returns-in_err-put_child-clause-damage : goal.returns-in_err-put_child-clause-damage
+returns-in_err-put_child-clause-damage g t c = λ h.
+    let D = g.row.D in
+    let low = c.take_out.new.cache in
+    let page = c.child_of-below.result.page in
+    let below = c.in_ok-taken.ensures.sound (c.children.invariant.0.map.sound.0 h) c.if-not-taken.false in
+    let child = below.1 in
+    let there = child.stay page child.node child.there (omega (arith, child.level_is)) in
+    let live = page_of_node D (pages low page) child.node there in
+    let device =
+    c.in_err-put_child.ensures.live_faults below.0
+    (subst (λ k. IsLive low k) (c.child_of-below.ensures.page no_item) live) in
+    at_error c.from_residual-in_err-put_child.result c.in_err-put_child.field-0.0
+    (λ f. (n : ℕ) → f ≡ fault.Damaged n → ComesTo D (given c.args.cache.now) c.args.at.page n)
+    c.from_residual-in_err-put_child.ensures.1
+    (λ n damaged. absurd (device_names_none c.in_err-put_child.field-0.0 n device damaged))
+
+pub returns-in-children-clause-sound : goal.returns-in-children-clause-sound
+returns-in-children-clause-sound g t c = λ h yes.
+    let D = g.row.D in
+    let old = c.args.cache.now in
+    let low = c.take_out.new.cache in
+    let asks = c.children.invariant.0 in
+    let page = c.child_of-below.result.page in
+    let content = content_of c.children.node in
+    let above : 0 < c.children.node.level = omega (arith, c.children.invariant.3, c.if-at-eq0.false) in
+    let below = c.in_ok-taken.ensures.sound (asks.map.sound.0 h) c.if-not-taken.false in
+    let child = below.1 in
+    let there = child.stay page child.node child.there (omega (arith, child.level_is)) in
+    let put =
+    c.in_ok-put_child.ensures.sound below.0 child.node
+    (subst (λ k. node_in D (pages low k) ≡ Some child.node) (c.child_of-below.ensures.page no_item) there)
+    (omega (arith, child.level_is, c.child_of-below.ensures.level, above)) in (
+      put.0,
+      record {
+        node = content;
+        there = given_node_is_live D old c.args.at.page content h (c.children.invariant.7 h.honest);
+        level_is = c.children.invariant.3;
+        stay = λ n x is high. put.1 n x
+            (child.stay n x (ap (node_in D) (asks.map.pages_stay h.honest n) ∙ is)
+            (omega (arith, high, c.child_of-below.ensures.level, c.children.invariant.3)))
+            (omega (arith, high, c.children.invariant.3));
+      },
+    )
+
+pub returns-clause-sound : goal.returns-clause-sound
+returns-clause-sound g t c = λ h is. absurd (true≢false (sym is))
+
+pub returns-then-at-eq0-clause-touched : goal.returns-then-at-eq0-clause-touched
+returns-then-at-eq0-clause-touched g t c = λ h. all_ok c.take_here.result _ (λ found yes. inl refl)
+
+pub returns-in-children-clause-touched : goal.returns-in-children-clause-touched
+returns-in-children-clause-touched g t c = λ h yes.
+    let D = g.row.D in
+    let low = c.take_out.new.cache in
+    let page = c.child_of-below.result.page in
+    let sound = c.children.invariant.0.map.sound.0 h in
+    let child = (c.in_ok-taken.ensures.sound sound c.if-not-taken.false).1 in
+    let there = child.stay page child.node child.there (omega (arith, child.level_is)) in
+    let live = page_of_node D (pages low page) child.node there in
+    let put =
+    c.in_ok-put_child.ensures.touched
+    (subst (λ k. IsLive low k) (c.child_of-below.ensures.page no_item) live) in
+    ⊎_elim
+    (λ (same : c.put_child.new.kept.orphans.items ≡ c.take_out.new.kept.orphans.items). ⊎_elim
+    (λ (before : c.take_out.new.kept.orphans.items ≡ c.children.kept.orphans.items).
+    inl (same ∙ before ∙ c.children.invariant.1))
+    (λ (touched : touched_of low ≡ true). inr (c.in_ok-put_child.ensures.changes.touched touched))
+    (c.in_ok-taken.ensures.touched sound c.if-not-taken.false))
+    (λ (touched : touched_of c.put_child.new.cache ≡ true). inr touched)
+    put
+
+pub returns-clause-touched : goal.returns-clause-touched
+returns-clause-touched g t c = λ h is. absurd (true≢false (sym is))

@@ -1,6 +1,6 @@
 -- What holds at each turn of the loop of `take_out`, and how deep it goes.
 use Rattle.std.proofs.Common.{◌≡◌, None, Some}
-use Rattle.page_cache.specs.Cache.{IsHonest, IsLive, IsPageMap, pages}
+use Rattle.page_cache.specs.Cache.{IsHonest, IsLive, IsPageMap, given, pages}
 use Rattle.page_cache.specs.Calls.{AsksUntil}
 use Rattle.tree_node.specs.Nodes.{content_of}
 use Rattle.tree_node.specs.Trees.{Row}
@@ -27,3 +27,4 @@ invariant-children g l =
     × (IsHonest l.fn.cache → IsLive l.fn.cache l.fn.at.page
     → node_in g.row.D (pages l.fn.cache l.fn.at.page) ≡ Some (content_of l.node))
     × (l.node ≡ l.initial.node)
+    × (IsHonest l.fn.cache → node_in g.row.D (given l.fn.cache l.fn.at.page) ≡ Some (content_of l.node))

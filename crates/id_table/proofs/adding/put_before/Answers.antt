@@ -1,15 +1,19 @@
 -- The goals of `put_before` that are proved by hand.
-use Rattle.std.proofs.Common.{◌∙◌, ◌⊎◌, ℕ, List, Option, None, IsSome, inl, inr, ⊎_elim, sym, ap}
-use Rattle.std.proofs.Common.{subst, arith}
+use Rattle.std.proofs.Common.{◌≡◌, ◌∙◌, ◌⊎◌, ℕ, List, Option, None, IsSome, inl, inr, ⊎_elim, sym, ap}
+use Rattle.std.proofs.Common.{◌≤◌, subst, arith}
 use Rattle.std.specs.Prelude.{IsSomeAnd}
 use Rattle.page_file.specs.Fault.{IsDamage, IsOfDevice}
+use Rattle.page_file.specs.declared.fault.Fault.TheVariants as fault
 use Rattle.page_cache.specs.Cache.{pages}
 use Rattle.page_cache.specs.Calls.{changes_and_refuses, changes_in_turn, fault_in}
 use Rattle.node_page.specs.Faults.{IsNoDamage}
+use Rattle.node_page.proofs.DamageLemmas.{damaged_read}
 use Rattle.node_page.proofs.NodeLemmas.{at_error, on_ok}
 use Rattle.id_table.specs.Table.{bucket_in}
 use Rattle.id_table.specs.Tidy.{IsTidyPage}
+use Rattle.id_table.specs.Walks.{MayBreakAt}
 use Rattle.id_table.proofs.BucketLemmas.{apart_pages, if_err, is_there}
+use Rattle.id_table.proofs.MeetLemmas.{may_break, no_damage}
 use Rattle.id_table.proofs.adding.put_before.Goals as goal
 
 pub returns-clause-sound : goal.returns-clause-sound
@@ -110,3 +114,34 @@ returns-clause-changes g c =
     (fault_in c.write_link.result)
     (changes_in_turn c.args.cache.now c.allocate.new.self c.write_bucket.new.cache None
     c.in_ok-number.ensures.changes c.in_ok-write_bucket.ensures.changes) c.write_link.ensures.changes
+
+pub returns-in_err-number-clause-damage : goal.returns-in_err-number-clause-damage
+returns-in_err-number-clause-damage g c = λ h.
+    let old = c.args.cache.now in
+    let f = c.in_err-number.field-0.0 in
+    at_error c.from_residual.result f
+    (λ e. (n : ℕ) → e ≡ fault.Damaged n → (n ≡ c.args.directory) ⊎ MayBreakAt old n)
+    c.from_residual.ensures.1
+    (λ n damaged. inr (may_break old c.allocate.new.self f n c.in_err-number.ensures.faults
+    (c.in_err-number.ensures.damaged h) damaged))
+
+pub returns-in_err-write_bucket-clause-damage : goal.returns-in_err-write_bucket-clause-damage
+returns-in_err-write_bucket-clause-damage g c = λ h.
+    let f = c.in_err-write_bucket.field-0.0 in
+    let number = c.in_ok-number.ensures.number in
+    let low : 2 ≤ c.in_ok-number.number = omega (arith, number.0) in
+    at_error c.from_residual-in_err-write_bucket.result f
+    (λ e. (n : ℕ) → e ≡ fault.Damaged n → (n ≡ c.args.directory) ⊎ MayBreakAt c.args.cache.now n)
+    c.from_residual-in_err-write_bucket.ensures.1
+    (λ n damaged. absurd (no_damage f n
+    (c.in_err-write_bucket.ensures.given_faults (c.in_ok-number.ensures.changes.gate.honest.0 h) low number.1)
+    damaged))
+
+pub returns-clause-damage : goal.returns-clause-damage
+returns-clause-damage g c = λ h.
+    let d = c.args.directory in
+    if_err c.write_link.result (λ f. IsOfDevice f ⊎ (f ≡ fault.Damaged d))
+    (λ f. (n : ℕ) → f ≡ fault.Damaged n → (n ≡ d) ⊎ MayBreakAt c.args.cache.now n)
+    (λ f either n damaged. inl (damaged_read f d n either damaged))
+    (c.write_link.ensures.damage
+    (c.in_ok-write_bucket.ensures.changes.gate.honest.0 (c.in_ok-number.ensures.changes.gate.honest.0 h)))

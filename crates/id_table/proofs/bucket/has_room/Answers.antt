@@ -1,5 +1,5 @@
 -- The goals of `has_room` that are proved by hand: a chain that stands begins with a bucket.
-use Rattle.std.proofs.Common.{◌≡◌, ◌∙◌, ◌⊎◌, ap, arith, length, subst, sym}
+use Rattle.std.proofs.Common.{◌≡◌, ◌∙◌, ◌⊎◌, ap, arith, length, refl, subst, sym}
 use Rattle.bucket_page.proofs.Reading.{no_head}
 use Rattle.page_file.specs.declared.fault.Fault.TheVariants as fault
 use Rattle.page_file.specs.Fault.{IsOfDevice}
@@ -64,3 +64,36 @@ returns-in_err-page-clause-damage g c = λ h.
     c.from_residual.ensures.1
     (page_refused n (next_of c.args.cache.now) c.in_err-page.field-0.0 (c.in_err-page.ensures.faults h)
     (λ outside. let is = c.in_err-page.ensures.outside outside in cc))
+
+pub returns-in_err-page-clause-met : goal.returns-in_err-page-clause-met
+returns-in_err-page-clause-met g c =
+    at_error c.from_residual.result c.in_err-page.field-0.0 (λ f. ¬ (c.args.first ≡ 0))
+    c.from_residual.ensures.1 c.if-first-eq0.false
+
+pub returns-clause-head : goal.returns-clause-head
+returns-clause-head g c = λ h room. (
+  _,
+  (
+    _,
+    c.in_ok-page.ensures.given_bytes h,
+    c.has_bucket_head.ensures.0 c.if-not-has_bucket_head.false,
+    refl,
+  ),
+)
+
+pub returns-in_err-page-clause-spelled : goal.returns-in_err-page-clause-spelled
+returns-in_err-page-clause-spelled g c = λ h content there.
+    let page = pages c.args.cache.now c.args.first in
+    let given =
+    a_live_page_was_given_out c.args.cache.now c.args.first (page_of_bucket g.row.D page content there) in
+    at_error c.from_residual.result c.in_err-page.field-0.0 IsOfDevice c.from_residual.ensures.1
+    (c.in_err-page.ensures.faults h given.0 given.1)
+
+pub returns-then-not-has_bucket_head-clause-spelled : goal.returns-then-not-has_bucket_head-clause-spelled
+returns-then-not-has_bucket_head-clause-spelled g c = λ h content there.
+    let page = pages c.args.cache.now c.args.first in
+    let is =
+    bucket_bytes g.row.D page _ content
+    (c.in_ok-page.ensures.bytes h (page_of_bucket g.row.D page content there)) there in
+    let none = no_head g.row.D _ (λ head. let yes = c.has_bucket_head.ensures.1 head in absurd (cc)) in
+    absurd (cc (is, none))

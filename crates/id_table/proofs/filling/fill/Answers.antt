@@ -1,17 +1,21 @@
 -- The goals of `fill` that are proved by hand.
-use Rattle.std.proofs.Common.{◌≡◌, ◌∙◌, ◌⊎◌, ◌-◌, List, drop, ◌<◌, ◌≤◌, arith, length}
+use Rattle.std.proofs.Common.{◌≡◌, ◌∙◌, ◌⊎◌, ◌-◌, ℕ, List, drop, ◌<◌, ◌≤◌, ap, arith, false, length, ⊎_elim}
+use Rattle.std.proofs.Common.{inl, inr, refl}
 use Rattle.std.proofs.Common.{length-drop, subst, sym, take}
 use Rattle.bucket_page.specs.Layout.{Entry}
 use Rattle.std.proofs.lemmas.List.{take_rest}
-use Rattle.page_cache.specs.Cache.{Grows, pages}
+use Rattle.page_file.specs.declared.fault.Fault.TheVariants as fault
+use Rattle.page_cache.specs.Cache.{Grows, IsPageMap, given, pages, touched_of}
 use Rattle.page_cache.specs.Calls.{changes_and_refuses, no_call_changes}
 use Rattle.node_page.specs.Faults.{IsNoDamage}
 use Rattle.node_page.proofs.NodeLemmas.{at_error}
 use Rattle.id_table.specs.Changes.{AreNew, Fills}
-use Rattle.id_table.specs.Pages.{IsWholeRun}
+use Rattle.id_table.specs.Pages.{IsWholeRun, first_class}
 use Rattle.id_table.specs.Table.{objects_of}
+use Rattle.id_table.specs.Walks.{BeginsInTable, MayBreakAt}
 use Rattle.id_table.proofs.FillLemmas.{all_filled, filling_begins, fills_on, next_is_low, next_of_some}
 use Rattle.id_table.proofs.FillLemmas.{run_takes}
+use Rattle.id_table.proofs.FirstLemmas.{begins_before, begins_untouched, kept_in_turn, nothing_added}
 use Rattle.id_table.proofs.filling.fill.Goals as goal
 
 pub loop-filled-init : goal.loop-filled-init
@@ -22,6 +26,8 @@ loop-filled-init g c = record {
   within = omega arith;
   grows = omega arith;
   takes = λ _. omega arith;
+  untouched = inl refl;
+  kept = λ map. nothing_added g.row.D c.args.directory c.args.cache.now map;
 }
 
 pub loop-filled-preserved : goal.loop-filled-preserved
@@ -50,7 +56,46 @@ loop-filled-preserved g c =
           c.in_ok-filled.ensures.grows
           (subst (λ (es : List Entry). Grows 0 c.loop-filled.cache c.add_run.new.cache ⊎ IsWholeRun es count)
           rest c.in_ok-filled.ensures.whole);
+      untouched = inr c.in_ok-filled.ensures.touched;
+      kept = λ map.
+          let kept = so_far.kept map in
+          kept_in_turn g.row.D c.args.directory c.args.cache.now c.loop-filled.cache c.add_run.new.cache kept
+          (c.in_ok-filled.ensures.kept kept.sound);
     }
+
+pub returns-in_err-filled-clause-damage : goal.returns-in_err-filled-clause-damage
+returns-in_err-filled-clause-damage g c = λ h either.
+    let D = g.row.D in
+    let old = c.args.cache.now in
+    let now = c.loop-filled.cache in
+    let new = c.add_run.new.cache in
+    let so_far = c.loop-filled.invariant in
+    let objects = c.args.objects.now in
+    let filled = c.loop-filled.filled in
+    let d = c.args.directory in
+    let rest : take (length objects - filled) (drop filled objects) ≡ drop filled objects =
+    take_rest objects filled in
+    let some : 0 < length (drop filled objects) =
+    omega (arith, c.loop-filled-test.true, length-drop filled objects) in
+    let low = next_of_some (drop filled objects) some in
+    let same = ap (λ (es : List Entry). first_class es) rest in
+    let class = first_class (take (length objects - filled) (drop filled objects)) in
+    let small : class < 1000 = omega (arith, low.0, low.1, same) in
+    at_error c.from_residual.result c.in_err-filled.field-0.0
+    (λ f. (n : ℕ) → f ≡ fault.Damaged n → BeginsInTable D (given old) d n ⊎ MayBreakAt old n)
+    c.from_residual.ensures.1
+    (λ n damaged.
+    let names = c.in_err-filled.ensures.damage (so_far.filling.changes.gate.honest.0 h) n damaged in
+    ⊎_elim
+    (λ (map : IsPageMap old). inl (
+      class,
+      small,
+      begins_before D d class n old now (so_far.kept map) names
+          (c.in_err-filled.ensures.spelled (so_far.kept map).sound n damaged),
+    ))
+    (λ (none : touched_of new ≡ false). begins_untouched D d class n old now new small so_far.untouched
+    c.in_err-filled.ensures.changes.touched none names)
+    either)
 
 pub returns-in_err-filled-clause-changes : goal.returns-in_err-filled-clause-changes
 returns-in_err-filled-clause-changes g c =

@@ -1,7 +1,8 @@
 -- What holds at each turn of the loop of `fill`.
-use Rattle.std.proofs.Common.{◌+◌, ◌-◌, ◌/◌, ◌≤◌, drop, length}
-use Rattle.page_cache.specs.Cache.{Grows}
+use Rattle.std.proofs.Common.{◌≡◌, ◌⊎◌, ◌+◌, ◌-◌, ◌/◌, ◌≤◌, drop, length, true}
+use Rattle.page_cache.specs.Cache.{Grows, IsPageMap, touched_of}
 use Rattle.id_table.specs.Pages.{next_class}
+use Rattle.id_table.specs.Walks.{KeepsFirst}
 use Rattle.id_table.proofs.FillLemmas.{AreInOrder, Filling}
 use Rattle.id_table.proofs.filling.fill.Given as goal
 
@@ -13,6 +14,8 @@ invariant-loop-filled g l = record {
   grows : Grows l.filled l.fn.cache l.cache;
   takes : AreInOrder l.objects
       → Grows (l.filled / 100 + next_class (drop l.filled l.objects)) l.fn.cache l.cache;
+  untouched : (l.cache ≡ l.fn.cache) ⊎ (touched_of l.cache ≡ true);
+  kept : IsPageMap l.fn.cache → KeepsFirst g.row.D l.fn.directory l.fn.cache l.cache;
 }
 
 abbrev pub decreases-loop-filled : goal.decreases-loop-filled

@@ -1,11 +1,15 @@
 -- The goals of `free_pages` that are proved by hand.
-use Rattle.std.proofs.Common.{◌≡◌, ◌<◌, arith, subst, sym}
+use Rattle.std.proofs.Common.{◌≡◌, ◌<◌, ◌⊎◌, ℕ, false, arith, inl, inr, subst, sym, ⊎_elim}
 use Rattle.page_file.specs.Fault.{IsOfDevice}
-use Rattle.page_cache.specs.Cache.{pages}
+use Rattle.page_file.specs.declared.fault.Fault.TheVariants as fault
+use Rattle.page_cache.specs.Cache.{IsLive, IsPageMap, given, next_of, pages, touched_of}
+use Rattle.node_page.proofs.DamageLemmas.{damaged_read}
 use Rattle.node_page.proofs.NodeLemmas.{at_error}
-use Rattle.id_table.specs.Table.{ChainStands, chain_at}
+use Rattle.id_table.specs.Table.{ChainStands, chain_at, link_at}
+use Rattle.id_table.specs.Walks.{MeetsAlong, NamesNoMore}
 use Rattle.id_table.proofs.FreeLemmas.{all_are_freed, all_begins, chain_left, chain_once, chain_short_now}
 use Rattle.id_table.proofs.FreeLemmas.{frees_all_on}
+use Rattle.id_table.proofs.MeetLemmas.{freed_refused, freed_touches, meets_so, not_both, untouched_refused}
 use Rattle.page_cache.specs.Calls.{changes_and_refuses}
 use Rattle.id_table.proofs.freeing.free_pages.Goals as goal
 
@@ -15,6 +19,9 @@ loop-class-init g c =
     c.in_ok-free.ensures.changes c.in_ok-free.ensures.next c.in_ok-free.ensures.grows
     (λ map live. c.in_ok-free.ensures.freed map.honest live)
     (λ map live. c.in_ok-free.ensures.others map.honest live) c.in_ok-free.ensures.sound
+    c.in_ok-free.ensures.given_others
+    (freed_touches c.args.directory (next_of c.args.cache.now) (touched_of c.free.new.self)
+    c.in_ok-free.ensures.touched (λ out. let is = (c.in_ok-free.ensures.outside out).0 in absurd (cc)))
 
 pub returns-in_err-free_chain-clause-sound : goal.returns-in_err-free_chain-clause-sound
 returns-in_err-free_chain-clause-sound g c = λ map t at stands there.
@@ -45,7 +52,7 @@ loop-class-preserved g c =
     let small : c.loop-class.class < 1000 = omega (arith, c.loop-class-test.true) in
     frees_all_on c.loop-class.invariant small c.link_of.result c.free_chain.new.cache c.link_of.ensures
     c.in_ok-free_chain.ensures.changes c.in_ok-free_chain.ensures.next c.in_ok-free_chain.ensures.grows
-    c.in_ok-free_chain.ensures.sound c.in_ok-free_chain.ensures.freed
+    c.in_ok-free_chain.ensures.sound c.in_ok-free_chain.ensures.freed c.in_ok-free_chain.ensures.kept
 
 pub returns-clause-sound : goal.returns-clause-sound
 returns-clause-sound g c = λ map t at stands there. (c.loop-class.invariant.left map t at stands there).map
@@ -62,3 +69,46 @@ returns-in_err-free_chain-clause-changes g c =
     c.in_err-free_chain.field-0.0 c.from_residual-in_err-free_chain.result
     c.from_residual-in_err-free_chain.ensures.1
     c.loop-class.invariant.changes c.in_err-free_chain.ensures.changes
+
+pub returns-in_err-free-clause-damage : goal.returns-in_err-free-clause-damage
+returns-in_err-free-clause-damage g c = λ h either.
+    let old = c.args.cache.now in
+    let new = c.free.new.self in
+    let f = c.in_err-free.field-0.0 in
+    let d = c.args.directory in
+    let refused : IsOfDevice f ⊎ (f ≡ fault.Damaged d) = ⊎_elim
+    (λ (map : IsPageMap old × IsLive old d).
+    freed_refused d (next_of old) f (c.in_err-free.ensures.faults map.0 map.1)
+    (λ out. let is = (c.in_err-free.ensures.outside out).0 in cc))
+    (λ (none : touched_of new ≡ false).
+    untouched_refused d (next_of old) f (touched_of new) c.in_err-free.ensures.touched
+    (λ out. let is = (c.in_err-free.ensures.outside out).0 in cc) none)
+    either in
+    at_error c.from_residual.result f
+    (λ f. (n : ℕ) → f ≡ fault.Damaged n → (n ≡ c.args.directory)
+    ⊎ ((class : ℕ) × (class < 1000) × MeetsAlong g.row.D (given old) (link_at class c.args.bytes.now) n))
+    c.from_residual.ensures.1
+    (λ n damaged. inl (damaged_read f d n refused damaged))
+
+pub returns-in_err-free_chain-clause-damage : goal.returns-in_err-free_chain-clause-damage
+returns-in_err-free_chain-clause-damage g c = λ h either.
+    let old = c.args.cache.now in
+    let now = c.loop-class.cache in
+    let new = c.free_chain.new.cache in
+    let so_far = c.loop-class.invariant in
+    let kept : IsPageMap now × NamesNoMore g.row.D (given old) (given now) = ⊎_elim
+    (λ (map : IsPageMap old × IsLive old c.args.directory). so_far.kept map.0 map.1)
+    (λ (none : touched_of new ≡ false). absurd (not_both (touched_of new)
+    (c.in_err-free_chain.ensures.changes.touched so_far.touched) none))
+    either in
+    at_error c.from_residual-in_err-free_chain.result c.in_err-free_chain.field-0.0
+    (λ f. (n : ℕ) → f ≡ fault.Damaged n → (n ≡ c.args.directory)
+    ⊎ ((class : ℕ) × (class < 1000) × MeetsAlong g.row.D (given old) (link_at class c.args.bytes.now) n))
+    c.from_residual-in_err-free_chain.ensures.1
+    (λ n damaged. inr (
+      c.loop-class.class,
+      omega (arith, c.loop-class-test.true),
+      subst (λ (first : ℕ). MeetsAlong g.row.D (given old) first n) c.link_of.ensures
+          (meets_so g.row.D (given old) (given now) c.link_of.result n kept.1
+          (c.in_err-free_chain.ensures.damage kept.0 n damaged)),
+    ))

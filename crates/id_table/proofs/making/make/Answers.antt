@@ -1,9 +1,12 @@
 -- The goals of `make` that are proved by hand: a page given out and written is a table of no objects.
-use Rattle.std.proofs.Common.{◌∙◌, None, arith}
+use Rattle.std.proofs.Common.{◌≡◌, ◌∙◌, ◌≤◌, ℕ, None, arith}
+use Rattle.page_file.specs.declared.fault.Fault.TheVariants as fault
 use Rattle.page_cache.specs.Calls.{changes_and_refuses, changes_in_turn}
-use Rattle.page_cache.specs.Cache.{pages}
+use Rattle.page_cache.specs.Cache.{BreaksAt, pages}
+use Rattle.node_page.proofs.NodeLemmas.{at_error}
 use Rattle.id_table.proofs.BucketLemmas.{is_there}
 use Rattle.id_table.proofs.MakingLemmas.{made}
+use Rattle.id_table.proofs.MeetLemmas.{no_damage, refused_breaks}
 use Rattle.id_table.proofs.TidyLemmas.{directory_written, made_keeps}
 use Rattle.id_table.proofs.making.make.Goals as goal
 
@@ -38,3 +41,22 @@ returns-clause-tidy g c = λ sound.
     (c.in_ok-put.ensures.written now.honest live)
     (λ k off. c.put.ensures.others now.honest live k off ∙ given.2 k off)
     (directory_written g.row.D c.write_directory.new.page c.write_directory.ensures)
+
+pub returns-in_err-directory-clause-damage : goal.returns-in_err-directory-clause-damage
+returns-in_err-directory-clause-damage g c = λ h.
+    let old = c.args.cache.now in
+    let f = c.in_err-directory.field-0.0 in
+    at_error c.from_residual.result f (λ e. (n : ℕ) → e ≡ fault.Damaged n → BreaksAt old n)
+    c.from_residual.ensures.1
+    (λ n damaged. refused_breaks old c.allocate.new.self f n (c.in_err-directory.ensures.damaged h) damaged)
+
+pub returns-in_err-put-clause-damage : goal.returns-in_err-put-clause-damage
+returns-in_err-put-clause-damage g c = λ h.
+    let f = c.in_err-put.field-0.0 in
+    let number = c.in_ok-directory.ensures.number in
+    let low : 2 ≤ c.in_ok-directory.directory = omega (arith, number.0) in
+    at_error c.from_residual-in_err-put.result f
+    (λ e. (n : ℕ) → e ≡ fault.Damaged n → BreaksAt c.args.cache.now n)
+    c.from_residual-in_err-put.ensures.1
+    (λ n damaged. absurd (no_damage f n
+    (c.in_err-put.ensures.faults (c.in_ok-directory.ensures.changes.gate.honest.0 h) low number.1) damaged))

@@ -1,11 +1,12 @@
 -- The goals of `move_at` that are proved by hand.
 use Rattle.std.proofs.Common.{◌∙◌, ap, subst, sym}
 use Rattle.bucket_page.specs.Layout.{bucket_at}
-use Rattle.page_cache.specs.Cache.{pages}
+use Rattle.page_cache.specs.Cache.{next_of, pages}
 use Rattle.page_cache.specs.Laws.{a_live_page_is_given}
 use Rattle.id_table.specs.Table.{bucket_in}
 use Rattle.id_table.specs.Tidy.{IsTidyPage}
 use Rattle.id_table.proofs.BucketLemmas.{bytes_of_bucket, page_of_bucket}
+use Rattle.id_table.proofs.MeetLemmas.{write_refused}
 use Rattle.id_table.proofs.Results.{ok_of}
 use Rattle.id_table.proofs.TidyLemmas.{page_keeps}
 use Rattle.id_table.proofs.places.move_at.Goals as goal
@@ -36,3 +37,8 @@ returns-clause-tidy g c = λ h content there within.
     (λ tidy. subst (IsTidyPage D) did.3.leaves
     (did.3.met.1 content (ap (bucket_at D) did.3.shows ∙ was.2) within
     (subst (IsTidyPage D) (sym did.3.shows) tidy))))
+
+pub returns-clause-damage : goal.returns-clause-damage
+returns-clause-damage g c = λ h.
+    write_refused c.edit.result c.args.number (next_of c.args.cache.now) (c.edit.ensures.faults h)
+    (λ out. (c.edit.ensures.outside out).0)

@@ -1,12 +1,15 @@
 -- The goals of `drop_last` that are proved by hand: the first page has an object less, or was unlinked.
-use Rattle.std.proofs.Common.{◌∙◌, ap, inl, inr, subst, sym}
+use Rattle.std.proofs.Common.{◌≡◌, ◌∙◌, ◌⊎◌, ap, inl, inr, subst, sym}
 use Rattle.bucket_page.specs.Layout.{bucket_at}
-use Rattle.page_cache.specs.Cache.{pages}
+use Rattle.page_file.specs.Fault.{IsOfDevice}
+use Rattle.page_file.specs.declared.fault.Fault.TheVariants as fault
+use Rattle.page_cache.specs.Cache.{next_of, pages}
 use Rattle.page_cache.specs.Laws.{a_live_page_is_given}
-use Rattle.node_page.proofs.NodeLemmas.{on_ok}
+use Rattle.node_page.proofs.NodeLemmas.{at_error, on_ok, page_refused}
 use Rattle.id_table.specs.Table.{bucket_in}
 use Rattle.id_table.specs.Tidy.{IsTidyPage}
 use Rattle.id_table.proofs.BucketLemmas.{bytes_of_bucket, page_of_bucket}
+use Rattle.id_table.proofs.MeetLemmas.{or_second, stays_live}
 use Rattle.id_table.proofs.TidyLemmas.{page_keeps}
 use Rattle.id_table.proofs.removing.drop_last.Goals as goal
 
@@ -52,3 +55,21 @@ returns-in-None-clause-less g c = λ map differ links there content is.
           (did.3.met.tidy content (ap (bucket_at D) did.3.shows ∙ was.2)
           (subst (IsTidyPage D) (sym did.3.shows) tidy)));
     })
+
+pub returns-in_err-emptied-clause-damage : goal.returns-in_err-emptied-clause-damage
+returns-in_err-emptied-clause-damage g c = λ map live live_d.
+    let f = c.in_err-emptied.field-0.0 in
+    let first = c.args.first in
+    at_error c.from_residual.result f
+    (λ e. IsOfDevice e ⊎ ((e ≡ fault.Damaged first) ⊎ (e ≡ fault.Damaged c.args.directory)))
+    c.from_residual.ensures.1
+    (or_second f first c.args.directory
+    (page_refused first (next_of c.args.cache.now) f (c.in_err-emptied.ensures.faults map.honest)
+    (λ outside. let is = (c.in_err-emptied.ensures.outside outside).0 in cc)))
+
+pub returns-in-Some-clause-damage : goal.returns-in-Some-clause-damage
+returns-in-Some-clause-damage g c = λ map live live_d.
+    let live1 = c.in_ok-emptied.ensures.live map.honest live in
+    c.unlink.ensures.damage (c.in_ok-emptied.ensures.sound map live) live1
+    (stays_live (pages c.args.cache.now) (pages c.edit.new.self) c.args.first c.args.directory live1
+    (c.in_ok-emptied.ensures.others map.honest live) live_d)

@@ -1,16 +1,22 @@
 -- The goals of `remove` that are proved by hand: where the object is, and what is left of its chain.
-use Rattle.std.proofs.Common.{◌∙◌, ◌<◌, None, ap, arith, subst, sym}
+use Rattle.std.proofs.Common.{◌≡◌, ◌∙◌, ◌<◌, ◌⊎◌, ℕ, IsSome, None, false, ap, arith, inl, inr, subst, sym}
+use Rattle.std.proofs.Common.{⊎_elim}
 use Rattle.page_file.specs.Fault.{IsOfDevice}
-use Rattle.page_cache.specs.Cache.{pages}
+use Rattle.page_file.specs.declared.fault.Fault.TheVariants as fault
+use Rattle.page_cache.specs.Cache.{IsPageMap, given, pages, touched_of}
 use Rattle.page_cache.specs.Calls.{asks_and_gives_up, asks_changes, asks_in_turn, changes_and_refuses}
 use Rattle.page_cache.specs.Calls.{changes_in_turn, fault_in, no_call_asks}
+use Rattle.node_page.proofs.DamageLemmas.{damaged_read}
 use Rattle.node_page.proofs.NodeLemmas.{at_error, on_ok}
 use Rattle.id_table.specs.Pages.{Shrinks}
 use Rattle.id_table.specs.Table.{bucket_in, chain_at, class_of, link_at}
+use Rattle.id_table.specs.Walks.{MeetsInChain}
 use Rattle.id_table.proofs.AddLemmas.{in_chain}
-use Rattle.id_table.proofs.BucketLemmas.{is_there, page_of_bucket, some_object}
+use Rattle.id_table.proofs.BucketLemmas.{if_err, is_there, page_of_bucket, some_object}
 use Rattle.id_table.proofs.GetLemmas.{chain_is_short}
 use Rattle.id_table.proofs.HolderLemmas.{PutsAt}
+use Rattle.id_table.proofs.MeetLemmas.{bucket_met, directory_live, first_met, first_names, met_in_chain}
+use Rattle.id_table.proofs.MeetLemmas.{named_live, not_both, one_of_two, stays_live}
 use Rattle.id_table.proofs.ReachLemmas.{reached}
 use Rattle.id_table.proofs.ShrinkLemmas.{first_now, removes_from}
 use Rattle.id_table.proofs.StartLemmas.{starts}
@@ -215,3 +221,109 @@ returns-clause-tidy g c = λ map t at stands.
     stands.spelled shrinks))
     (c.drop_last.ensures.less (c.in_ok-put_at.ensures.sound r.map_is r.holder_live) r.apart
     stands.directory links f.0 f.1)
+
+pub returns-in_err-first-clause-damage : goal.returns-in_err-first-clause-damage
+returns-in_err-first-clause-damage g c = λ h either.
+    at_error c.from_residual.result c.in_err-first.field-0.0
+    (λ f. (n : ℕ) → f ≡ fault.Damaged n
+    → MeetsInChain g.row.D (given c.args.cache.now) c.args.directory (class_of c.args.id) n)
+    c.from_residual.ensures.1
+    (λ n damaged. inl
+    (damaged_read c.in_err-first.field-0.0 c.args.directory n (c.in_err-first.ensures.damage h)
+    damaged))
+
+pub returns-in_err-holder-clause-damage : goal.returns-in_err-holder-clause-damage
+returns-in_err-holder-clause-damage g c = λ h either.
+    let old = c.args.cache.now in
+    let asks = c.in_ok-first.ensures.asks in
+    let class = c.class_of-class in
+    at_error c.from_residual-in_err-holder.result c.in_err-holder.field-0.0
+    (λ f. (n : ℕ) → f ≡ fault.Damaged n
+    → MeetsInChain g.row.D (given old) c.args.directory (class_of c.args.id) n)
+    c.from_residual-in_err-holder.ensures.1
+    (λ n damaged. met_in_chain g.row.D c.args.directory class.result (class_of c.args.id)
+    c.in_ok-first.first n old c.read_link.new.cache asks h class.ensures.value
+    (c.in_ok-first.ensures.names h)
+    (c.in_err-holder.ensures.damage (asks.gate.honest.0 h) n damaged))
+
+pub returns-in_err-last-clause-damage : goal.returns-in_err-last-clause-damage
+returns-in_err-last-clause-damage g c = λ h either.
+    let old = c.args.cache.now in
+    let read = c.read_link.new.cache in
+    let first = c.in_ok-first.first in
+    let holder = c.in_ok-holder.holder in
+    let asks = c.in_ok-first.ensures.asks in
+    let class = c.class_of-class in
+    let honest = asks.gate.honest.0 h in
+    at_error c.from_residual-in_err-last.result c.in_err-last.field-0.0
+    (λ f. (n : ℕ) → f ≡ fault.Damaged n
+    → MeetsInChain g.row.D (given old) c.args.directory (class_of c.args.id) n)
+    c.from_residual-in_err-last.ensures.1
+    (λ n damaged. met_in_chain g.row.D c.args.directory class.result (class_of c.args.id) first n old read
+    asks h class.ensures.value (c.in_ok-first.ensures.names h)
+    (inr (first_met g.row.D read first n holder (c.in_ok-holder.ensures.met honest)
+    (damaged_read c.in_err-last.field-0.0 first n
+    (c.in_err-last.ensures.damage (c.in_ok-holder.ensures.asks.gate.honest.0 honest)) damaged))))
+
+pub returns-in_err-put_at-clause-damage : goal.returns-in_err-put_at-clause-damage
+returns-in_err-put_at-clause-damage g c = λ h either.
+    let old = c.args.cache.now in
+    let read = c.read_link.new.cache in
+    let first = c.in_ok-first.first in
+    let holder = c.in_ok-holder.holder in
+    let asks = c.in_ok-first.ensures.asks in
+    let class = c.class_of-class in
+    let honest = asks.gate.honest.0 h in
+    let honest_last = c.in_ok-last.ensures.asks.gate.honest.0 (c.in_ok-holder.ensures.asks.gate.honest.0 honest)
+    in
+    at_error c.from_residual-in_err-put_at.result c.in_err-put_at.field-0.0
+    (λ f. (n : ℕ) → f ≡ fault.Damaged n
+    → MeetsInChain g.row.D (given old) c.args.directory (class_of c.args.id) n)
+    c.from_residual-in_err-put_at.ensures.1
+    (λ n damaged. met_in_chain g.row.D c.args.directory class.result (class_of c.args.id) first n old read
+    asks h class.ensures.value (c.in_ok-first.ensures.names h)
+    (inr (bucket_met g.row.D read first n holder (c.in_ok-holder.ensures.met honest)
+    (damaged_read c.in_err-put_at.field-0.0 holder n (c.in_err-put_at.ensures.damage honest_last) damaged))))
+
+pub returns-clause-damage : goal.returns-clause-damage
+returns-clause-damage g c = λ h either.
+    let D = g.row.D in
+    let old = c.args.cache.now in
+    let read = c.read_link.new.cache in
+    let last = c.last_in.new.cache in
+    let done = c.drop_last.new.cache in
+    let d = c.args.directory in
+    let first = c.in_ok-first.first in
+    let holder = c.in_ok-holder.holder in
+    let asks = c.in_ok-first.ensures.asks in
+    let class = c.class_of-class in
+    let names = c.in_ok-first.ensures.names h in
+    let honest = asks.gate.honest.0 h in
+    let met = c.in_ok-holder.ensures.met honest in
+    let later =
+    asks_in_turn read c.place_in.new.cache last None c.in_ok-holder.ensures.asks c.in_ok-last.ensures.asks in
+    let stay = later.map.pages_stay honest in
+    let head = first_names D (given read) first holder met in
+    if_err c.drop_last.result
+    (λ f. IsOfDevice f ⊎ ((f ≡ fault.Damaged first) ⊎ (f ≡ fault.Damaged d)))
+    (λ f. (n : ℕ) → f ≡ fault.Damaged n → MeetsInChain D (given old) d (class_of c.args.id) n)
+    (λ f said n damaged. met_in_chain D d class.result (class_of c.args.id) first n old read asks h
+    class.ensures.value names
+    (one_of_two D read first holder d n f met said damaged))
+    (⊎_elim
+    (λ (map : IsPageMap old).
+    let map_read = asks.map.sound.0 map in
+    let map_last = later.map.sound.0 map_read in
+    let live_holder = subst IsSome (sym (stay holder)) (named_live D read holder met.0.0 map_read met.0.1) in
+    let live_first = subst IsSome (sym (stay first)) (named_live D read first head.0 map_read head.1) in
+    let live_d = subst IsSome (sym (stay d ∙ asks.map.pages_stay h d))
+    (directory_live D old d class.result first map names) in
+    let live_put = c.in_ok-put_at.ensures.live map_last.honest live_holder in
+    let others = c.in_ok-put_at.ensures.others map_last.honest live_holder in
+    let new = pages c.put_at.new.cache in
+    c.drop_last.ensures.damage (c.in_ok-put_at.ensures.sound map_last live_holder)
+    (stays_live (pages last) new holder first live_put others live_first)
+    (stays_live (pages last) new holder d live_put others live_d))
+    (λ (none : touched_of done ≡ false). absurd (not_both (touched_of done)
+    (c.drop_last.ensures.changes.touched c.in_ok-put_at.ensures.touched) none))
+    either)

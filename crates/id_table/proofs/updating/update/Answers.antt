@@ -1,21 +1,25 @@
 -- The goals of `update` that are proved by hand: where the object is, and what its chain has then.
-use Rattle.std.proofs.Common.{◌≡◌, ◌∙◌, ◌<◌, List, None, Some, ap, arith, get_or}
+use Rattle.std.proofs.Common.{◌≡◌, ◌∙◌, ◌<◌, ◌⊎◌, ℕ, List, None, Some, ap, arith, get_or, inl, inr}
 use Rattle.bucket_page.specs.Layout.{BucketContent, Entry, replaced}
 use Rattle.page_file.specs.Fault.{IsOfDevice}
-use Rattle.page_cache.specs.Cache.{pages}
+use Rattle.page_file.specs.declared.fault.Fault.TheVariants as fault
+use Rattle.page_cache.specs.Cache.{given, pages}
 use Rattle.page_cache.specs.Calls.{asks_changes, asks_in_turn, changes_in_turn, fault_in, no_call_asks}
 use Rattle.page_cache.specs.Laws.{the_map_is_kept_in_turn}
+use Rattle.node_page.proofs.DamageLemmas.{damaged_read}
 use Rattle.node_page.proofs.NodeLemmas.{at_error, on_ok}
 use Rattle.id_table.specs.Changes.{with_box}
 use Rattle.id_table.specs.Pages.{moved}
 use Rattle.id_table.specs.Table.{bucket_in, chain_at, class_of, link_at}
+use Rattle.id_table.specs.Walks.{MeetsInChain}
 use Rattle.id_table.proofs.AddLemmas.{in_chain}
 use Rattle.id_table.proofs.GetLemmas.{chain_is_short}
+use Rattle.id_table.proofs.MeetLemmas.{bucket_met, met_in_chain}
 use Rattle.id_table.proofs.ReachLemmas.{reached}
 use Rattle.id_table.proofs.Results.{on_err}
 use Rattle.id_table.proofs.StartLemmas.{starts}
 use Rattle.id_table.proofs.TidyLemmas.{keep_in_turn, same_keep}
-use Rattle.id_table.proofs.BucketLemmas.{some_object}
+use Rattle.id_table.proofs.BucketLemmas.{if_err, some_object}
 use Rattle.id_table.proofs.PlaceLemmas.{holder_entries}
 use Rattle.id_table.proofs.UpdateLemmas.{kept_there, sets_box}
 use Rattle.id_table.proofs.updating.update.Goals as goal
@@ -128,3 +132,44 @@ returns-clause-tidy g c = λ map t at stands.
     (keep_in_turn D old mid (pages c.move_at.new.cache) (same_keep D old mid r.stay))
     (c.move_at.ensures.tidy r.map_is.honest r.held.content
     (ap (bucket_in D) (r.stay holder) ∙ r.held.there) r.held.within)
+
+pub returns-in_err-first-clause-damage : goal.returns-in_err-first-clause-damage
+returns-in_err-first-clause-damage g c = λ h.
+    at_error c.from_residual.result c.in_err-first.field-0.0
+    (λ f. (n : ℕ) → f ≡ fault.Damaged n
+    → MeetsInChain g.row.D (given c.args.cache.now) c.args.directory (class_of c.args.id) n)
+    c.from_residual.ensures.1
+    (λ n damaged. inl
+    (damaged_read c.in_err-first.field-0.0 c.args.directory n (c.in_err-first.ensures.damage h) damaged))
+
+pub returns-in_err-holder-clause-damage : goal.returns-in_err-holder-clause-damage
+returns-in_err-holder-clause-damage g c = λ h.
+    let old = c.args.cache.now in
+    let asks = c.in_ok-first.ensures.asks in
+    let class = c.class_of-class in
+    at_error c.from_residual-in_err-holder.result c.in_err-holder.field-0.0
+    (λ f. (n : ℕ) → f ≡ fault.Damaged n
+    → MeetsInChain g.row.D (given old) c.args.directory (class_of c.args.id) n)
+    c.from_residual-in_err-holder.ensures.1
+    (λ n damaged. met_in_chain g.row.D c.args.directory class.result (class_of c.args.id)
+    c.in_ok-first.first n old c.read_link.new.cache asks h class.ensures.value
+    (c.in_ok-first.ensures.names h)
+    (c.in_err-holder.ensures.damage (asks.gate.honest.0 h) n damaged))
+
+pub returns-clause-damage : goal.returns-clause-damage
+returns-clause-damage g c = λ h.
+    let old = c.args.cache.now in
+    let read = c.read_link.new.cache in
+    let holder = c.in_ok-holder.holder in
+    let first = c.in_ok-first.first in
+    let asks = c.in_ok-first.ensures.asks in
+    let class = c.class_of-class in
+    let honest = asks.gate.honest.0 h in
+    if_err c.move_at.result (λ f. IsOfDevice f ⊎ (f ≡ fault.Damaged holder))
+    (λ f. (n : ℕ) → f ≡ fault.Damaged n
+    → MeetsInChain g.row.D (given old) c.args.directory (class_of c.args.id) n)
+    (λ f either n damaged. met_in_chain g.row.D c.args.directory class.result (class_of c.args.id) first n old
+    read asks h class.ensures.value (c.in_ok-first.ensures.names h)
+    (inr (bucket_met g.row.D read first n holder (c.in_ok-holder.ensures.met honest)
+    (damaged_read f holder n either damaged))))
+    (c.move_at.ensures.damage (c.in_ok-holder.ensures.asks.gate.honest.0 honest))

@@ -1,14 +1,17 @@
 -- The node is that of the page, with the entry after the others.
+use Rattle.std.proofs.Common.{inl, ◌⊎◌}
 use Rattle.std.proofs.Common.{◌≡◌, ◌∙◌, ℕ, ◌<◌, ap, arith, IfSome, is_some, length, true, List, Option, None}
 use Rattle.std.proofs.Common.{Some, subst, sym}
 use Rattle.std.specs.Prelude.{IsSomeAnd}
 use Rattle.page_file.specs.Fault.{IsOfDevice}
+use Rattle.page_file.specs.declared.fault.Fault.TheVariants as fault
 use Rattle.page_cache.specs.Cache.{IsHonest, pages}
 use Rattle.page_cache.specs.Calls.{asks_changes, changes_and_refuses, changes_in_turn}
 use Rattle.page_cache.specs.Laws.{a_live_page_is_given, a_live_page_was_given_out}
 use Rattle.tree_node.specs.Boxes.{least_box}
 use Rattle.tree_node.specs.Nodes.{NodeContent, item_of}
 use Rattle.node_page.specs.Layout.{IsOfLevel, IsPageOfNode, IsTidy, node_at, pushed}
+use Rattle.node_page.proofs.GivenLemmas.{node_was_given_out}
 use Rattle.node_page.proofs.NodeLemmas.{at_error, bytes_of_node, node_of_page}
 use Rattle.node_page.proofs.TidyLemmas.{at_page}
 use Rattle.node_page.proofs.adding.add_entry.Goals as goal
@@ -104,3 +107,18 @@ returns-clause-others g c = λ h live k other.
     let asks = c.in_ok-bounds.ensures.asks in
     c.in_ok-edit.ensures.others (asks.gate.honest.0 h) (ap is_some (asks.map.pages_stay h c.args.page) ∙ live) k
     other ∙ asks.map.pages_stay h k
+
+pub returns-in_default-clause-given_node : goal.returns-in_default-clause-given_node
+returns-in_default-clause-given_node g c = λ h. c.in_ok-bounds.ensures.given_node h
+
+pub returns-clause-given_node : goal.returns-clause-given_node
+returns-clause-given_node g c = λ h. c.in_ok-bounds.ensures.given_node h
+
+pub returns-in_err-edit-clause-named : goal.returns-in_err-edit-clause-named
+returns-in_err-edit-clause-named g c = λ h.
+    let asks = c.in_ok-bounds.ensures.asks in
+    let node = c.in_ok-bounds.ensures.given_node h in
+    let out = node_was_given_out g.row.D c.args.cache.now c.args.page node.0 node.1 in
+    at_error c.from_residual-in_err-edit.result c.in_err-edit.field-0.0
+    (λ f. IsOfDevice f ⊎ (f ≡ fault.Damaged c.args.page)) c.from_residual-in_err-edit.ensures.1
+    (inl (c.in_err-edit.ensures.faults (asks.gate.honest.0 h) out.0 (omega (arith, out.1, asks.map.next))))

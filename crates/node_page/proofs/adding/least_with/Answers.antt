@@ -78,3 +78,11 @@ returns-clause-least g c = λ h content there.
     ∙ sym (least_box-more D view.entries item some) in
     subst (λ (x : NodeContent). c.join.result ≡ least_box D (pushed x item).entries)
     (same_content D m c.args.page view content (c.in_ok-node.ensures.node h live) there) bounds
+
+pub returns-then-len-eq0-clause-given_node : goal.returns-then-len-eq0-clause-given_node
+returns-then-len-eq0-clause-given_node g c = λ h.
+    (content_in c.in_ok-node.node, c.in_ok-node.ensures.given_node h, c.in_ok-node.ensures.level)
+
+pub returns-clause-given_node : goal.returns-clause-given_node
+returns-clause-given_node g c = λ h.
+    (content_in c.in_ok-node.node, c.in_ok-node.ensures.given_node h, c.in_ok-node.ensures.level)

@@ -1,7 +1,7 @@
 use Rattle.std.proofs.Common.{rules, ◌≡◌, ◌⊎◌, refl, sym, ◌∙◌}
 use Rattle.page_file.specs.Fault.{IsOfDevice}
 use Rattle.page_file.specs.declared.fault.Fault.TheVariants as fault
-use Rattle.page_cache.specs.Cache.{next_of, pages}
+use Rattle.page_cache.specs.Cache.{given, next_of, pages}
 use Rattle.page_cache.specs.Laws.{a_live_page_was_given_out}
 use Rattle.node_page.proofs.StandingLemmas.{page_of_node}
 use Rattle.node_page.proofs.NodeLemmas.{at_error, is_refusal, node_of_page, page_refused}
@@ -37,6 +37,11 @@ pub returns-then-decode_into-clause-node : goal.returns-then-decode_into-clause-
 returns-then-decode_into-clause-node g c =
     λ h live. node_of_page g.row.D (pages c.args.cache.now c.args.page) _ _
     (c.in_ok-page.ensures.bytes h live) (c.decode_into.ensures.spelled (search rules))
+
+pub returns-then-decode_into-clause-given_node : goal.returns-then-decode_into-clause-given_node
+returns-then-decode_into-clause-given_node g c =
+    λ h. node_of_page g.row.D (given c.args.cache.now c.args.page) _ _
+    (c.in_ok-page.ensures.given_bytes h) (c.decode_into.ensures.spelled (search rules))
 
 pub returns-else-decode_into-clause-there : goal.returns-else-decode_into-clause-there
 returns-else-decode_into-clause-there g c = λ h content there level.

@@ -10,7 +10,7 @@ use Rattle.node_page.specs.Checked.{ComesTo, Names}
 use Rattle.node_page.specs.Standing.{PageMap}
 use Rattle.node_page.proofs.DamageLemmas.{damaged_read}
 use Rattle.node_page.proofs.NodeLemmas.{at_error, if_error, on_ok}
-use Rattle.range_query.specs.Queries.{is_admitted, is_sought}
+use Rattle.box_math.specs.Queries.{admits, seeks}
 use Rattle.range_query.proofs.DamageLemmas.{comes_by_child}
 use Rattle.range_query.proofs.DescentLemmas.{all_found, all_looked, children_found, children_looked}
 use Rattle.range_query.proofs.DescentLemmas.{children_named, children_of, children_stand, leaf_found}
@@ -20,8 +20,8 @@ use Rattle.range_query.proofs.descent.+descend.Goals as goal
 pub returns-then-root-eq0-clause-rows : goal.returns-then-root-eq0-clause-rows
 returns-then-root-eq0-clause-rows g t c = λ h row at.
     let leaf =
-    leaf_found g.row.D (pages c.args.cache.now) c.args.root.level (is_admitted c.args.query.now)
-    (is_sought c.args.query.now) c.args.tag row c.if-root-eq0.true at.below in
+    leaf_found g.row.D (pages c.args.cache.now) c.args.root.level (admits c.args.query.now)
+    (seeks c.args.query.now) c.args.tag row c.if-root-eq0.true at.below in
     on_ok c.add_sought.result
     (λ added. added ∙ ap (λ (xs : List (ℕ × Object)). c.args.rows.now.items ++ xs) leaf)
     (c.add_sought.ensures.rows h _ at.node c.if-root-eq0.true)
@@ -29,7 +29,7 @@ returns-then-root-eq0-clause-rows g t c = λ h row at.
 pub returns-then-root-eq0-clause-looks : goal.returns-then-root-eq0-clause-looks
 returns-then-root-eq0-clause-looks g t c = λ h row at.
     let none =
-    leaf_looked g.row.D (pages c.args.cache.now) c.args.root.level (is_admitted c.args.query.now) row
+    leaf_looked g.row.D (pages c.args.cache.now) c.args.root.level (admits c.args.query.now) row
     c.if-root-eq0.true at.below in
     on_ok c.add_sought.result (λ looked. looked ∙ (omega (arith, none))) c.add_sought.ensures.looks
 
@@ -42,7 +42,7 @@ returns-in_err-descend-clause-asks g t c =
 pub returns-in_err-descend-clause-stands : goal.returns-in_err-descend-clause-stands
 returns-in_err-descend-clause-stands g t c = λ h row at.
     let m : PageMap = pages c.args.cache.now in
-    let guard = is_admitted c.args.query.now in
+    let guard = admits c.args.query.now in
     let above : 0 < c.args.root.level = omega (arith, c.if-root-eq0.false) in
     let named = children_named g.row.D m c.args.root.level guard row above at.below
     ∙ sym (c.in_ok-children.ensures.children h _ at.node refl)
@@ -64,8 +64,8 @@ loop-page-preserved g t c =
 pub returns-clause-rows : goal.returns-clause-rows
 returns-clause-rows g t c = λ h row at.
     let m : PageMap = pages c.args.cache.now in
-    let guard = is_admitted c.args.query.now in
-    let test = is_sought c.args.query.now in
+    let guard = admits c.args.query.now in
+    let test = seeks c.args.query.now in
     let above : 0 < c.args.root.level = omega (arith, c.if-root-eq0.false) in
     let named = children_named g.row.D m c.args.root.level guard row above at.below
     ∙ sym (c.in_ok-children.ensures.children h _ at.node refl)
@@ -78,7 +78,7 @@ returns-clause-rows g t c = λ h row at.
 pub returns-clause-looks : goal.returns-clause-looks
 returns-clause-looks g t c = λ h row at.
     let m : PageMap = pages c.args.cache.now in
-    let guard = is_admitted c.args.query.now in
+    let guard = admits c.args.query.now in
     let above : 0 < c.args.root.level = omega (arith, c.if-root-eq0.false) in
     let named = children_named g.row.D m c.args.root.level guard row above at.below
     ∙ sym (c.in_ok-children.ensures.children h _ at.node refl)

@@ -1,5 +1,5 @@
 -- What holds at each turn of the loop of `descend`, and how deep it goes.
-use Rattle.range_query.specs.Queries.{is_admitted, is_sought}
+use Rattle.box_math.specs.Queries.{admits, seeks}
 use Rattle.range_query.proofs.DescentLemmas.{Progress}
 use Rattle.range_query.proofs.descent.+descend.Given as goal
 
@@ -10,5 +10,5 @@ decreases-descend g l = l.root.level
 -- what is sought below the children so far is found
 abbrev pub invariant-loop-page : goal.invariant-loop-page
 invariant-loop-page g l =
-    Progress g.row.D (is_admitted l.fn.query) (is_sought l.fn.query) l.fn.tag l.fn.cache l.cache
+    Progress g.row.D (admits l.fn.query) (seeks l.fn.query) l.fn.tag l.fn.cache l.cache
     l.fn.root.level l.page-items l.page-index l.fn.rows.items l.rows.items

@@ -7,7 +7,7 @@ use Rattle.node_page.specs.Standing.{PageMap}
 use Rattle.node_page.specs.Views.{content_in}
 use Rattle.node_page.proofs.StandingLemmas.{page_of_node, same_content}
 use Rattle.range_query.specs.Entries.{object_of, wanted, wanted_entries}
-use Rattle.range_query.specs.Queries.{is_sought}
+use Rattle.box_math.specs.Queries.{seeks}
 use Rattle.range_query.proofs.EntryLemmas.{all_taken, one_passed, none_taken, one_taken, sought_to}
 use Rattle.range_query.proofs.EndLemmas.{asks_and_refuses_memory}
 use Rattle.range_query.proofs.descent.add_sought.Goals as goal
@@ -17,7 +17,7 @@ entries-init g c =
     sought_to c.args.query.now c.args.tag c.reach.result c.mask-mask.result 0 c.next_set-place.result
     c.reach.ensures c.in_ok-leaf.ensures.boxes c.mask-mask.ensures.met c.next_set-place.ensures.within
     c.next_set-place.ensures.unset
-    (none_taken object_of (wanted (is_sought c.args.query.now) c.args.tag)
+    (none_taken object_of (wanted (seeks c.args.query.now) c.args.tag)
     (content_in c.in_ok-leaf.leaf).entries c.args.rows.now.items)
 
 pub entries-preserved-then-not-is_wanted : goal.entries-preserved-then-not-is_wanted
@@ -52,5 +52,5 @@ returns-clause-rows g c = λ h content there level.
     (same_content g.row.D m c.args.page (content_in c.in_ok-leaf.leaf) content
     (c.in_ok-leaf.ensures.node h live) there) in
     subst (λ items. c.entries.rows.items ≡ c.args.rows.now.items
-    ++ map object_of (wanted_entries (is_sought c.args.query.now) c.args.tag items)) same
+    ++ map object_of (wanted_entries (seeks c.args.query.now) c.args.tag items)) same
     (all_taken c.entries.invariant (omega (arith, c.entries-test.false, c.len-count.ensures.count)))

@@ -6,7 +6,7 @@ use Rattle.node_page.specs.Standing.{PageMap}
 use Rattle.node_page.specs.Views.{content_in}
 use Rattle.node_page.proofs.StandingLemmas.{page_of_node, same_content}
 use Rattle.range_query.specs.Entries.{passing_entries, reference_of}
-use Rattle.range_query.specs.Queries.{is_admitted}
+use Rattle.box_math.specs.Queries.{admits}
 use Rattle.range_query.proofs.EntryLemmas.{Taken, admitted_to, all_taken, none_taken, one_passed, one_taken}
 use Rattle.range_query.proofs.DamageLemmas.{taken_are_named}
 use Rattle.range_query.proofs.descent.admitted_children.Goals as goal
@@ -16,9 +16,9 @@ entries-init g c = (
   admitted_to c.args.query.now c.reach.result c.mask-mask.result 0 c.next_set-place.result c.reach.ensures
       c.in_ok-node.ensures.boxes c.mask-mask.ensures.met c.next_set-place.ensures.within
       c.next_set-place.ensures.unset
-      (subst (λ xs. Taken reference_of (λ (item : Item). is_admitted c.args.query.now item.bounds)
+      (subst (λ xs. Taken reference_of (λ (item : Item). admits c.args.query.now item.bounds)
       (content_in c.in_ok-node.node).entries 0 [] xs) (sym c.new-children.ensures)
-      (none_taken reference_of (λ (item : Item). is_admitted c.args.query.now item.bounds)
+      (none_taken reference_of (λ (item : Item). admits c.args.query.now item.bounds)
       (content_in c.in_ok-node.node).entries [])),
   omega (arith, ap length c.new-children.ensures),
 )
@@ -54,7 +54,7 @@ returns-clause-children g c = λ h content there level.
     (same_content g.row.D m c.args.root.page (content_in c.in_ok-node.node) content
     (c.in_ok-node.ensures.node h live) there) in
     subst (λ items. c.entries.children.items ≡ map reference_of
-    (passing_entries (is_admitted c.args.query.now) items)) same
+    (passing_entries (admits c.args.query.now) items)) same
     (all_taken c.entries.invariant.0 (omega (arith, c.entries-test.false, c.len-count.ensures.count)))
 
 pub returns-clause-named : goal.returns-clause-named
@@ -62,7 +62,7 @@ returns-clause-named g c = λ h.
     let content = content_in c.in_ok-node.node in (
       content,
       c.in_ok-node.ensures.given_node h,
-      taken_are_named (is_admitted c.args.query.now) content c.entries.children.items
+      taken_are_named (admits c.args.query.now) content c.entries.children.items
           (omega (arith, c.requires.above, c.in_ok-node.ensures.level))
           (all_taken c.entries.invariant.0 (omega (arith, c.entries-test.false, c.len-count.ensures.count))),
     )

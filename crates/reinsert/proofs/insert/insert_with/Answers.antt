@@ -1,15 +1,22 @@
 -- The goals of `insert_with` that are proved by hand.
 use Rattle.std.proofs.Common.{◌++◌, [], ◌∷◌, List, Bool, None, sym, subst, refl, arith}
-use Rattle.page_cache.specs.Cache.{pages}
+use Rattle.std.proofs.Common.{◌≡◌, ◌∙◌, ⊎_elim, inl, inr, ℕ, true}
+use Rattle.std.proofs.lemmas.Bool.{true≢false}
+use Rattle.page_file.specs.declared.fault.Fault.TheVariants as fault
+use Rattle.page_cache.specs.Cache.{given, pages, touched_of}
 use Rattle.page_cache.specs.Calls.{changes_and_refuses, changes_in_turn}
 use Rattle.node_page.specs.Standing.{PageMap}
+use Rattle.tree_node.specs.declared.node.Root.{Root}
+use Rattle.node_page.specs.Checked.{ComesTo}
+use Rattle.node_page.proofs.DamageLemmas.{comes_in_range, comes_so, damaged_read}
 use Rattle.node_page.proofs.NodeLemmas.{at_error}
 use Rattle.reinsert.specs.declared.waiting.Wait.{Wait}
 use Rattle.reinsert.specs.Called.{none_called}
-use Rattle.node_page.specs.Faults.{IsNoDamage, IsChangeFault}
+use Rattle.node_page.specs.Faults.{IsNoDamage, IsChangeFault, NamesInRange}
 use Rattle.reinsert.specs.Inserted.{IsAt}
 use Rattle.reinsert.specs.Insertion.{at_first}
 use Rattle.reinsert.specs.Placing.{State}
+use Rattle.reinsert.proofs.FaultLemmas.{none_before}
 use Rattle.reinsert.proofs.InsertLemmas.{begun, inserted_end, reached_first, reached_more}
 use Rattle.reinsert.proofs.StateLemmas.{first_has_shape, low_root, placings_keep_shape}
 use Rattle.reinsert.proofs.insert.insert_with.Goals as goal
@@ -66,6 +73,7 @@ placing-init g c = (
         reached_first D c.args.m_max elsewhere m (pages c.place_one.new.cache) s c.in_ok-now.now
             c.place_one.new.waiting.waits.items c.place_one.new.waiting.called step.1,
       ),
+  λ h. (c.in_ok-now.ensures.sound h, c.in_ok-now.ensures.stays),
 )
 
 pub returns-in_err-now-2-clause-changes : goal.returns-in_err-now-2-clause-changes
@@ -131,6 +139,17 @@ placing-preserved g c = (
             c.in_ok-now-2.now c.placing.waiting.waits.items c.place_one-in-Some.new.waiting.waits.items
             c.placing.waiting.called c.place_one-in-Some.new.waiting.called r.1 step.1,
       ),
+  λ h. let so_far = c.placing.invariant.5 h in (
+    c.in_ok-now-2.ensures.sound so_far.0,
+    ⊎_elim
+        (λ (again : c.in_ok-now-2.now ≡ c.placing.now). ⊎_elim
+        (λ (was : c.placing.now ≡ c.args.root). inl (again ∙ was))
+        (λ (touched : touched_of c.placing.cache ≡ true).
+        inr (c.in_ok-now-2.ensures.changes.touched touched))
+        so_far.1)
+        (λ (touched : touched_of c.place_one-in-Some.new.cache ≡ true). inr touched)
+        c.in_ok-now-2.ensures.stays,
+  ),
 )
 
 pub returns-clause-inserted : goal.returns-clause-inserted
@@ -146,3 +165,60 @@ pub returns-in_err-now-clause-other_faults : goal.returns-in_err-now-clause-othe
 returns-in_err-now-clause-other_faults g c =
     at_error c.from_residual.result c.in_err-now.field-0.0 IsChangeFault
     c.from_residual.ensures.1 c.in_err-now.ensures.other_faults
+
+-- ---- in any pages of a sound map, of which none was touched
+
+pub returns-then-root-ge40-clause-damage : goal.returns-then-root-ge40-clause-damage
+returns-then-root-ge40-clause-damage g c = λ h none n damaged.
+    ([], damaged_read (fault.Damaged c.args.root.page) c.args.root.page n (inr refl) damaged)
+
+pub returns-in_err-now-clause-damage : goal.returns-in_err-now-clause-damage
+returns-in_err-now-clause-damage g c = λ h none.
+    at_error c.from_residual.result c.in_err-now.field-0.0
+    (λ f. (n : ℕ) → f ≡ fault.Damaged n → ComesTo g.row.D (given c.args.cache.now) c.args.root.page n)
+    c.from_residual.ensures.1 (c.in_err-now.ensures.damage h)
+
+pub returns-in_err-now-2-clause-damage : goal.returns-in_err-now-2-clause-damage
+returns-in_err-now-2-clause-damage g c = λ h none.
+    let D = g.row.D in
+    let m = given c.args.cache.now in
+    let mid = c.placing.cache in
+    let so_far = c.placing.invariant.5 h in
+    let before =
+    none_before (touched_of mid) (touched_of c.place_one-in-Some.new.cache)
+    c.in_err-now-2.ensures.changes.touched none in
+    let same = (c.placing.invariant.0.untouched before).given_stay h.honest in
+    at_error c.from_residual-in_err-now-2.result c.in_err-now-2.field-0.0
+    (λ f. (n : ℕ) → f ≡ fault.Damaged n → ComesTo D m c.args.root.page n)
+    c.from_residual-in_err-now-2.ensures.1
+    (λ n damaged. ⊎_elim
+    (λ (stays : c.placing.now ≡ c.args.root). comes_so D m (given mid) c.args.root.page n same
+    (subst (λ (root : Root). ComesTo D (given mid) root.page n) stays
+    (c.in_err-now-2.ensures.damage so_far.0 n damaged)))
+    (λ (touched : touched_of mid ≡ true). absurd (true≢false (sym touched ∙ before)))
+    so_far.1)
+
+-- ---- in any pages of a sound map
+
+pub returns-then-root-ge40-clause-number : goal.returns-then-root-ge40-clause-number
+returns-then-root-ge40-clause-number g c = λ h n damaged.
+    let page = c.args.root.page in
+    comes_in_range g.row.D (given c.args.cache.now) page n c.requires.root
+    ([], damaged_read (fault.Damaged page) page n (inr refl) damaged)
+
+pub returns-in_err-now-clause-number : goal.returns-in_err-now-clause-number
+returns-in_err-now-clause-number g c = λ h.
+    at_error c.from_residual.result c.in_err-now.field-0.0 NamesInRange
+    c.from_residual.ensures.1
+    (λ n damaged. comes_in_range g.row.D (given c.args.cache.now) c.args.root.page n c.requires.root
+    (c.in_err-now.ensures.damage h n damaged))
+
+pub returns-in_err-now-2-clause-number : goal.returns-in_err-now-2-clause-number
+returns-in_err-now-2-clause-number g c = λ h.
+    at_error c.from_residual-in_err-now-2.result c.in_err-now-2.field-0.0 NamesInRange
+    c.from_residual-in_err-now-2.ensures.1
+    (λ n damaged. comes_in_range g.row.D (given c.placing.cache) c.placing.now.page n
+    c.placing.invariant.1.page (c.in_err-now-2.ensures.damage (c.placing.invariant.5 h).0 n damaged))
+
+pub returns-clause-sound : goal.returns-clause-sound
+returns-clause-sound g c = λ h. (c.placing.invariant.5 h).0

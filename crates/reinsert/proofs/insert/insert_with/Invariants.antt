@@ -1,6 +1,6 @@
 -- What holds at each turn of the loop of `insert_with`, and what falls.
-use Rattle.std.proofs.Common.{ℕ, ◌*◌, ◌-◌, ◌≤◌, None}
-use Rattle.page_cache.specs.Cache.{Grows, IsPageMap, pages}
+use Rattle.std.proofs.Common.{◌≡◌, ◌⊎◌, ℕ, ◌*◌, ◌-◌, ◌≤◌, None, true}
+use Rattle.page_cache.specs.Cache.{Grows, IsPageMap, pages, touched_of}
 use Rattle.page_cache.specs.Calls.{ChangesUntil}
 use Rattle.tree_node.specs.Nodes.{item_of}
 use Rattle.tree_node.specs.Trees.{Branch, Tree}
@@ -22,6 +22,7 @@ invariant-placing g l =
     → IsPageMap l.cache
     × Reached g.row.D l.fn.m_max elsewhere (pages l.fn.cache) (pages l.cache) (at_first t branch l.fn.level)
     l.now l.waiting.waits.items l.waiting.called)
+    × (IsPageMap l.fn.cache → IsPageMap l.cache × ((l.now ≡ l.fn.root) ⊎ (touched_of l.cache ≡ true)))
 
 abbrev pub decreases-placing : goal.decreases-placing
 decreases-placing g l = measure_of l.waiting

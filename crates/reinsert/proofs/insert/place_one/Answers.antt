@@ -1,10 +1,14 @@
 -- The goals of `place_one` that are proved by hand.
-use Rattle.std.proofs.Common.{arith}
-use Rattle.page_cache.specs.Cache.{IsPageMap, pages}
+use Rattle.std.proofs.Common.{◌≡◌, ◌⊎◌, inr, ℕ, [], refl, true, arith}
+use Rattle.page_file.specs.declared.fault.Fault.TheVariants as fault
+use Rattle.page_cache.specs.Cache.{IsPageMap, given, pages, touched_of}
 use Rattle.page_cache.specs.Calls.{changes_in_turn, fault_in}
 use Rattle.node_page.specs.Standing.{PageMap}
-use Rattle.node_page.proofs.NodeLemmas.{at_error}
+use Rattle.node_page.specs.Checked.{ComesTo}
+use Rattle.node_page.proofs.DamageLemmas.{damaged_read}
+use Rattle.node_page.proofs.NodeLemmas.{at_error, if_error}
 use Rattle.node_page.specs.Faults.{IsNoDamage, IsChangeFault}
+use Rattle.reinsert.proofs.FaultLemmas.{named_page, ok_first, ok_too}
 use Rattle.reinsert.proofs.InsertLemmas.{first_alone, first_grown}
 use Rattle.reinsert.proofs.StateLemmas.{first_can, low_root}
 use Rattle.reinsert.proofs.insert.place_one.Goals as goal
@@ -66,3 +70,36 @@ pub returns-in_err-bounds-clause-other_faults : goal.returns-in_err-bounds-claus
 returns-in_err-bounds-clause-other_faults g c =
     at_error c.from_residual.result c.in_err-bounds.field-0.0 IsChangeFault
     c.from_residual.ensures.1 c.in_err-bounds.ensures.other_faults
+
+-- ---- in any pages of a sound map
+
+pub returns-then-first-root-clause-damage : goal.returns-then-first-root-clause-damage
+returns-then-first-root-clause-damage g c = λ h n damaged.
+    ([], damaged_read (fault.Damaged c.args.root.page) c.args.root.page n (inr refl) damaged)
+
+pub returns-in_err-bounds-clause-damage : goal.returns-in_err-bounds-clause-damage
+returns-in_err-bounds-clause-damage g c = λ h.
+    at_error c.from_residual.result c.in_err-bounds.field-0.0
+    (λ f. (n : ℕ) → f ≡ fault.Damaged n → ComesTo g.row.D (given c.args.cache.now) c.args.root.page n)
+    c.from_residual.ensures.1 (c.in_err-bounds.ensures.damage h)
+
+pub returns-in_default-clause-sound : goal.returns-in_default-clause-sound
+returns-in_default-clause-sound g c = λ h. c.in_ok-bounds.ensures.sound h
+
+pub returns-clause-sound : goal.returns-clause-sound
+returns-clause-sound g c = λ h.
+    ok_first c.grow.result (IsPageMap c.grow.new.cache) _
+    (c.grow.ensures.grown (c.in_ok-bounds.ensures.sound h))
+
+pub returns-clause-stays : goal.returns-clause-stays
+returns-clause-stays g c =
+    ok_too c.grow.result (touched_of c.grow.new.cache ≡ true) _ c.grow.ensures.touched
+    (λ after touched. inr touched)
+
+pub returns-clause-damage : goal.returns-clause-damage
+returns-clause-damage g c = λ h.
+    if_error c.grow.result
+    (λ f. IsNoDamage c.grow.new.cache f ⊎ (f ≡ fault.Damaged c.args.root.page))
+    (λ f. (n : ℕ) → f ≡ fault.Damaged n → ComesTo g.row.D (given c.args.cache.now) c.args.root.page n)
+    (λ f is n damaged. ([], named_page c.grow.new.cache f c.args.root.page n is damaged))
+    (c.grow.ensures.damaged (c.in_ok-bounds.ensures.sound h))

@@ -1,22 +1,25 @@
 -- The goals of `place` that are proved by hand.
 use Rattle.std.proofs.Common.{rules, ◌≡◌, ◌∙◌, ◌+◌, ◌-◌, ◌<◌, [], ◌∷◌, ◌++◌, IfSome, None, Ok, Result}
-use Rattle.std.proofs.Common.{inl, refl, sym, ap, subst, arith}
+use Rattle.std.proofs.Common.{inl, refl, sym, ap, subst, arith, ℕ, ◌⊎◌}
 use Rattle.page_file.specs.declared.fault.Fault.{Fault}
-use Rattle.page_cache.specs.Cache.{IsPageMap, pages}
+use Rattle.page_file.specs.declared.fault.Fault.TheVariants as fault
+use Rattle.page_cache.specs.Cache.{IsPageMap, given, pages}
 use Rattle.page_cache.specs.Calls.{asks_changes, changes_and_refuses, changes_in_turn, fault_in}
 use Rattle.tree_node.specs.declared.node.Entry.{Entry}
 use Rattle.tree_node.specs.Nodes.{Item}
 use Rattle.tree_node.specs.Trees.{row_items}
 use Rattle.choose_subtree.specs.Choice.{IsChosenChild}
+use Rattle.node_page.specs.Checked.{ComesTo}
 use Rattle.node_page.specs.Layout.{IsOfLevel}
 use Rattle.node_page.specs.Standing.{PageMap}
-use Rattle.node_page.proofs.NodeLemmas.{at_error}
+use Rattle.node_page.proofs.DamageLemmas.{comes_below_so, comes_on, damaged_read}
+use Rattle.node_page.proofs.NodeLemmas.{at_error, if_error}
 use Rattle.node_page.specs.Faults.{IsNoDamage, IsChangeFault}
 use Rattle.reinsert.proofs.PlaceLemmas.{few_can, few_items, here_ok, over_ok, there_after}
 use Rattle.reinsert.proofs.AboveLemmas.{items_kept}
 use Rattle.reinsert.proofs.SettledLemmas.{items_settled}
 use Rattle.reinsert.specs.declared.settled.Settled.{Settled}
-use Rattle.reinsert.proofs.FaultLemmas.{one_more}
+use Rattle.reinsert.proofs.FaultLemmas.{named_page, one_more}
 use Rattle.reinsert.proofs.place.+place.Goals as goal
 
 pub put_here-requires : goal.put_here-requires
@@ -252,3 +255,53 @@ returns-clause-changes g t c =
     changes_in_turn old low c.put_above.new.cache (fault_in c.put_above.result)
     (changes_in_turn old mid low None (asks_changes old mid None c.in_ok-way.ensures.asks)
     c.in_ok-lower.ensures.changes) c.put_above.ensures.changes
+
+-- ---- in any pages of a sound map
+
+pub returns-then-at-target-clause-damage : goal.returns-then-at-target-clause-damage
+returns-then-at-target-clause-damage g t c = λ h.
+    if_error c.put_here.result
+    (λ f. IsNoDamage c.put_here.new.cache f ⊎ (f ≡ fault.Damaged c.args.at.page))
+    (λ f. (n : ℕ) → f ≡ fault.Damaged n → ComesTo g.row.D (given c.args.cache.now) c.args.at.page n)
+    (λ f is n damaged. ([], named_page c.put_here.new.cache f c.args.at.page n is damaged))
+    (c.put_here.ensures.damaged h)
+
+pub returns-in_err-way-clause-damage : goal.returns-in_err-way-clause-damage
+returns-in_err-way-clause-damage g t c = λ h.
+    at_error c.from_residual.result c.in_err-way.field-0.0
+    (λ f. (n : ℕ) → f ≡ fault.Damaged n → ComesTo g.row.D (given c.args.cache.now) c.args.at.page n)
+    c.from_residual.ensures.1
+    (λ n damaged. (
+      [],
+      damaged_read c.in_err-way.field-0.0 c.args.at.page n (c.in_err-way.ensures.damaged h.honest) damaged,
+    ))
+
+pub returns-in_err-lower-clause-damage : goal.returns-in_err-lower-clause-damage
+returns-in_err-lower-clause-damage g t c = λ h.
+    let D = g.row.D in
+    let m = given c.args.cache.now in
+    let now = given c.way_down.new.cache in
+    let asks = c.in_ok-way.ensures.asks in
+    let node = c.in_ok-way.ensures.named h.honest in
+    at_error c.from_residual-in_err-lower.result c.in_err-lower.field-0.0
+    (λ f. (n : ℕ) → f ≡ fault.Damaged n → ComesTo D m c.args.at.page n)
+    c.from_residual-in_err-lower.ensures.1
+    (λ n damaged. comes_on D m c.args.at.page node.0 n node.1
+    (comes_below_so D m now node.0 n (asks.map.given_stay h.honest)
+    (c.in_ok-way.way.page, node.2, c.in_err-lower.ensures.damage (asks.map.sound.0 h) n damaged)))
+
+pub returns-then-keeps_entries-clause-sound : goal.returns-then-keeps_entries-clause-sound
+returns-then-keeps_entries-clause-sound g t c = λ h.
+    c.in_ok-lower.ensures.sound (c.in_ok-way.ensures.asks.map.sound.0 h)
+
+pub returns-clause-sound : goal.returns-clause-sound
+returns-clause-sound g t c = λ h.
+    c.put_above.ensures.sound (c.in_ok-lower.ensures.sound (c.in_ok-way.ensures.asks.map.sound.0 h))
+
+pub returns-clause-damage : goal.returns-clause-damage
+returns-clause-damage g t c = λ h.
+    if_error c.put_above.result
+    (λ f. IsNoDamage c.put_above.new.cache f ⊎ (f ≡ fault.Damaged c.args.at.page))
+    (λ f. (n : ℕ) → f ≡ fault.Damaged n → ComesTo g.row.D (given c.args.cache.now) c.args.at.page n)
+    (λ f is n damaged. ([], named_page c.put_above.new.cache f c.args.at.page n is damaged))
+    (c.put_above.ensures.damaged (c.in_ok-lower.ensures.sound (c.in_ok-way.ensures.asks.map.sound.0 h)))

@@ -1,15 +1,18 @@
 -- The node that is read is the one at the page.
 use Rattle.std.proofs.Common.{rules, ◌≡◌, ◌∙◌, ◌+◌, All, IfOk, IfSome, IsSome, None, List, length, map, inl}
-use Rattle.std.proofs.Common.{refl, sym, ap, subst, arith}
+use Rattle.std.proofs.Common.{refl, sym, ap, subst, arith, inr, ◌⊎◌, ⊎_elim}
 use Rattle.std.proofs.lemmas.List.{length-map}
+use Rattle.page_file.specs.Fault.{IsOfDevice}
+use Rattle.page_file.specs.declared.fault.Fault.TheVariants as fault
 use Rattle.page_cache.specs.Cache.{IsPageMap, pages}
 use Rattle.page_cache.specs.Calls.{asks_changes, changes_in_turn}
 use Rattle.tree_node.specs.declared.node.Entry.{Entry}
-use Rattle.tree_node.specs.Nodes.{Item, NodeContent, item_of}
+use Rattle.tree_node.specs.Nodes.{Item, NodeContent, content_of, item_of}
 use Rattle.node_page.specs.Faults.{IsNoDamage}
 use Rattle.node_page.specs.Layout.{IsOfLevel}
 use Rattle.node_page.specs.Standing.{PageMap}
-use Rattle.node_page.proofs.NodeLemmas.{at_error}
+use Rattle.node_page.proofs.GivenLemmas.{given_node_is_live}
+use Rattle.node_page.proofs.NodeLemmas.{at_error, if_error}
 use Rattle.node_page.proofs.StandingLemmas.{page_of_node, same_content}
 use Rattle.reinsert.specs.Placed.{CanSettle, SettlesTo, items_after}
 use Rattle.reinsert.proofs.PlaceLemmas.{can_settle_from, settles_from}
@@ -114,3 +117,43 @@ returns-clause-faults g c = λ h items there within few.
     let same = c.in_ok-read_fitting.ensures.asks.map.pages_stay h.honest c.args.at.page in
     c.settle_above.ensures.faults (c.in_ok-read_fitting.ensures.asks.map.sound.0 h)
     (subst IsSome (sym same) (page_of_node g.row.D (m c.args.at.page) _ there))
+
+-- ---- in any pages of a sound map
+
+pub returns-in_err-read_fitting-clause-damaged : goal.returns-in_err-read_fitting-clause-damaged
+returns-in_err-read_fitting-clause-damaged g c = λ h.
+    let f = c.in_err-read_fitting.field-0.0 in
+    at_error c.from_residual.result f
+    (λ f. IsNoDamage c.read_fitting.new.cache f ⊎ (f ≡ fault.Damaged c.args.at.page))
+    c.from_residual.ensures.1
+    (⊎_elim (λ (device : IsOfDevice f). inl (inl device)) (λ (is : f ≡ fault.Damaged c.args.at.page). inr is)
+    (c.in_err-read_fitting.ensures.damaged h.honest))
+
+pub returns-then-place-len-clause-damaged : goal.returns-then-place-len-clause-damaged
+returns-then-place-len-clause-damaged g c = λ h. inr refl
+
+pub returns-clause-sound : goal.returns-clause-sound
+returns-clause-sound g c = λ h.
+    let old = c.args.cache.now in
+    let page = c.args.at.page in
+    let content = content_of c.read_fitting.new.node in
+    let map = c.in_ok-read_fitting.ensures.asks.map in
+    let there =
+    given_node_is_live g.row.D old page content h (c.in_ok-read_fitting.ensures.given_node h.honest) in
+    let live =
+    subst IsSome (sym (map.pages_stay h.honest page)) (page_of_node g.row.D (pages old page) content there) in
+    c.settle_above.ensures.sound (map.sound.0 h) live
+
+pub returns-clause-damaged : goal.returns-clause-damaged
+returns-clause-damaged g c = λ h.
+    let old = c.args.cache.now in
+    let page = c.args.at.page in
+    let content = content_of c.read_fitting.new.node in
+    let map = c.in_ok-read_fitting.ensures.asks.map in
+    let there =
+    given_node_is_live g.row.D old page content h (c.in_ok-read_fitting.ensures.given_node h.honest) in
+    let live =
+    subst IsSome (sym (map.pages_stay h.honest page)) (page_of_node g.row.D (pages old page) content there) in
+    if_error c.settle_above.result (IsNoDamage c.settle_above.new.cache)
+    (λ f. IsNoDamage c.settle_above.new.cache f ⊎ (f ≡ fault.Damaged page)) (λ f is. inl is)
+    (c.settle_above.ensures.faults (map.sound.0 h) live)

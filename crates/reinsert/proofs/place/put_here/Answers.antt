@@ -1,18 +1,21 @@
 -- The goals of `put_here` that are proved by hand.
 use Rattle.std.proofs.Common.{rules, ◌≡◌, ◌∙◌, ◌+◌, ◌++◌, [], ◌∷◌, List, map, sym, ap, subst, refl, arith}
-use Rattle.std.proofs.Common.{All, IfOk, IfSome, IsSome, None, Some, inl}
+use Rattle.std.proofs.Common.{All, IfOk, IfSome, IsSome, None, Some, inl, inr, ◌⊎◌, ⊎_elim}
 use Rattle.std.proofs.lemmas.List.{length-append, map-append}
 use Rattle.std.proofs.lemmas.List.Elements.{All-append}
 use Rattle.box_math.specs.Bounds.{Bounds}
+use Rattle.page_file.specs.Fault.{IsOfDevice}
+use Rattle.page_file.specs.declared.fault.Fault.TheVariants as fault
 use Rattle.page_cache.specs.Cache.{IsPageMap, pages}
 use Rattle.page_cache.specs.Calls.{AsksUntil, asks_and_changes, asks_and_gives_up, asks_in_turn}
 use Rattle.tree_node.specs.Boxes.{least_box}
 use Rattle.tree_node.specs.declared.node.Entry.{Entry}
-use Rattle.tree_node.specs.Nodes.{Item, NodeContent, item_of}
+use Rattle.tree_node.specs.Nodes.{Item, NodeContent, content_of, item_of}
 use Rattle.node_page.specs.Layout.{IsOfLevel, pushed}
 use Rattle.node_page.specs.Standing.{PageMap, node_in}
 use Rattle.node_page.proofs.StandingLemmas.{page_of_node, same_content}
-use Rattle.node_page.proofs.NodeLemmas.{at_error}
+use Rattle.node_page.proofs.GivenLemmas.{given_node_is_live}
+use Rattle.node_page.proofs.NodeLemmas.{at_error, if_error}
 use Rattle.node_page.specs.Faults.{IsNoDamage}
 use Rattle.reinsert.specs.Placed.{CanSettle, SettlesTo}
 use Rattle.reinsert.specs.declared.settled.Settled.{Settled}
@@ -172,3 +175,68 @@ returns-clause-faults g c = λ h items there few.
     subst IsSome (sym (asks.map.pages_stay h.honest c.args.at.page))
     (page_of_node g.row.D (pages c.args.cache.now c.args.at.page) _ there) in
     c.settle.ensures.faults (asks.map.sound.0 h) live
+
+-- ---- in any pages of a sound map
+
+pub returns-in_err-bounds-clause-damaged : goal.returns-in_err-bounds-clause-damaged
+returns-in_err-bounds-clause-damaged g c = λ h.
+    let f = c.in_err-bounds.field-0.0 in
+    at_error c.from_residual.result f
+    (λ f. IsNoDamage c.add_entry.new.cache f ⊎ (f ≡ fault.Damaged c.args.at.page)) c.from_residual.ensures.1
+    (⊎_elim (λ (device : IsOfDevice f). inl (inl device)) (λ (is : f ≡ fault.Damaged c.args.at.page). inr is)
+    (c.in_err-bounds.ensures.named h.honest))
+
+pub returns-in-Some-clause-sound : goal.returns-in-Some-clause-sound
+returns-in-Some-clause-sound g c = λ h.
+    let old = c.args.cache.now in
+    let page = c.args.at.page in
+    let node = c.in_ok-bounds.ensures.given_node h.honest in
+    c.in_ok-bounds.ensures.sound h
+    (page_of_node g.row.D (pages old page) node.0 (given_node_is_live g.row.D old page node.0 h node.1))
+
+pub returns-in_err-read_fitting-clause-damaged : goal.returns-in_err-read_fitting-clause-damaged
+returns-in_err-read_fitting-clause-damaged g c = λ h.
+    let asked : AsksUntil c.args.cache.now c.add_entry.new.cache None =
+    at_none c.in_ok-bounds.field-0 _ c.in_ok-bounds.ensures.full c.in_default.not-Some in
+    let f = c.in_err-read_fitting.field-0.0 in
+    at_error c.from_residual-in_err-read_fitting.result f
+    (λ f. IsNoDamage c.read_fitting.new.cache f ⊎ (f ≡ fault.Damaged c.args.at.page))
+    c.from_residual-in_err-read_fitting.ensures.1
+    (⊎_elim (λ (device : IsOfDevice f). inl (inl device)) (λ (is : f ≡ fault.Damaged c.args.at.page). inr is)
+    (c.in_err-read_fitting.ensures.damaged (asked.gate.honest.0 h.honest)))
+
+pub returns-clause-sound : goal.returns-clause-sound
+returns-clause-sound g c = λ h.
+    let asked : AsksUntil c.args.cache.now c.add_entry.new.cache None =
+    at_none c.in_ok-bounds.field-0 _ c.in_ok-bounds.ensures.full c.in_default.not-Some in
+    let page = c.args.at.page in
+    let mid = c.add_entry.new.cache in
+    let content = content_of c.read_fitting.new.node in
+    let read = c.in_ok-read_fitting.ensures.asks in
+    let there =
+    given_node_is_live g.row.D mid page content (asked.map.sound.0 h)
+    (c.in_ok-read_fitting.ensures.given_node (asked.gate.honest.0 h.honest)) in
+    let live =
+    subst IsSome (sym (read.map.pages_stay (asked.gate.honest.0 h.honest) page))
+    (page_of_node g.row.D (pages mid page) content there) in
+    let sound = read.map.sound.0 (asked.map.sound.0 h) in
+    c.settle.ensures.sound sound live
+
+pub returns-clause-damaged : goal.returns-clause-damaged
+returns-clause-damaged g c = λ h.
+    let asked : AsksUntil c.args.cache.now c.add_entry.new.cache None =
+    at_none c.in_ok-bounds.field-0 _ c.in_ok-bounds.ensures.full c.in_default.not-Some in
+    let page = c.args.at.page in
+    let mid = c.add_entry.new.cache in
+    let content = content_of c.read_fitting.new.node in
+    let read = c.in_ok-read_fitting.ensures.asks in
+    let there =
+    given_node_is_live g.row.D mid page content (asked.map.sound.0 h)
+    (c.in_ok-read_fitting.ensures.given_node (asked.gate.honest.0 h.honest)) in
+    let live =
+    subst IsSome (sym (read.map.pages_stay (asked.gate.honest.0 h.honest) page))
+    (page_of_node g.row.D (pages mid page) content there) in
+    let sound = read.map.sound.0 (asked.map.sound.0 h) in
+    if_error c.settle.result (IsNoDamage c.settle.new.cache)
+    (λ f. IsNoDamage c.settle.new.cache f ⊎ (f ≡ fault.Damaged page)) (λ f is. inl is)
+    (c.settle.ensures.faults sound live)

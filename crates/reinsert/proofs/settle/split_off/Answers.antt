@@ -66,3 +66,6 @@ pub returns-in_err-number-clause-other_faults : goal.returns-in_err-number-claus
 returns-in_err-number-clause-other_faults g c =
     at_error c.from_residual.result c.in_err-number.field-0.0 IsChangeFault c.from_residual.ensures.1
     c.in_err-number.ensures.other_faults
+
+pub returns-clause-sound : goal.returns-clause-sound
+returns-clause-sound g c = λ h live. (c.in_ok-number.ensures.written h live).0

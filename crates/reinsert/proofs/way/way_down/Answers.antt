@@ -1,11 +1,12 @@
 -- The page that is viewed is that of the node.
-use Rattle.std.proofs.Common.{◌≡◌, ◌∙◌, get_or, length, ap, subst, arith}
+use Rattle.std.proofs.Common.{◌≡◌, ◌∙◌, ◌<◌, get_or, length, ap, refl, subst, arith}
 use Rattle.std.proofs.lemmas.List.{get_or_default}
 use Rattle.page_cache.specs.Cache.{pages}
 use Rattle.tree_node.specs.Boxes.{no_item}
 use Rattle.tree_node.specs.Nodes.{Item, NodeContent, item_of}
 use Rattle.node_page.specs.Standing.{PageMap}
 use Rattle.node_page.specs.Views.{content_in}
+use Rattle.node_page.proofs.DamageLemmas.{entry_names}
 use Rattle.node_page.proofs.StandingLemmas.{page_of_node, same_content}
 use Rattle.choose_subtree.specs.Choice.{IsChosenChild}
 use Rattle.reinsert.specs.Placed.{IsWay}
@@ -50,3 +51,13 @@ returns-clause-way g c = λ h content there level.
       bounds = ap (λ (x : Item). x.bounds) item;
       least = c.least.ensures;
     })
+
+pub returns-clause-named : goal.returns-clause-named
+returns-clause-named g c = λ h.
+    let view = content_in c.in_ok-node.node in
+    let above : 0 < view.level = omega (arith, c.requires.above, c.in_ok-node.ensures.level) in (
+      view,
+      c.in_ok-node.ensures.given_node h,
+      entry_names view view.entries c.chosen_child-place.result (item_of c.entry-child.result) refl above
+          c.chosen_child-place.ensures.within c.entry-child.ensures,
+    )

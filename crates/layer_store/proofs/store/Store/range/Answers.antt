@@ -5,18 +5,20 @@ use Rattle.layer_store.proofs.QuestionLemmas.{asked_answers, failed_answers}
 use Rattle.layer_store.proofs.StoreLemmas.{is_alive}
 use Rattle.layer_store.proofs.store.Store.range.Goals as goal
 
-pub returns-then-self-clause-answers : goal.returns-then-self-clause-answers
-returns-then-self-clause-answers g c =
-    failed_answers c.if-self.true
-    (λ honest b left. g.met.D.BlockDevice.only_now (device_in c.args.self.now) b honest left) refl
+pub returns-then-self : goal.returns-then-self
+returns-then-self g c = record {
+  answers = failed_answers c.if-self.true
+      (λ honest b left. g.met.D.BlockDevice.only_now (device_in c.args.self.now) b honest left) refl;
+  looks = λ t alive. tt;
+}
 
-pub returns-clause-answers : goal.returns-clause-answers
-returns-clause-answers g c =
+pub returns : goal.returns
+returns g c =
     let d = g.met.D.BlockDevice in
     let asked = c.range.ensures in
-    asked_answers c.if-self.false (λ honest b left. d.only_now (device_in c.args.self.now) b honest left)
-    (λ t. refl) (λ t stops. refl) tt (d.faults_fit (device_in c.args.self.now))
-    asked.answered asked.keeps
-
-pub returns-clause-looks : goal.returns-clause-looks
-returns-clause-looks g c = λ t alive. c.range.ensures.looks t (is_alive c.args.self.now t alive).1
+    record {
+      answers = asked_answers c.if-self.false
+          (λ honest b left. d.only_now (device_in c.args.self.now) b honest left) (λ t. refl) (λ t stops. refl)
+          tt (d.faults_fit (device_in c.args.self.now)) asked.answered asked.keeps;
+      looks = λ t alive. asked.looks t (is_alive c.args.self.now t alive).1;
+    }

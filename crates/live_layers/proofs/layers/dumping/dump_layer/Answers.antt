@@ -27,8 +27,8 @@ returns-in_err-objects-2-clause-stands g c = λ honest h row stands.
     (c.in_err-objects-2.ensures.stands honest r.fanout r.directory h.pages h.layer.objects
     (layer_of_row 3 (pages c.args.cache.now) r h row axes stands))
 
-pub returns-in_ok-add_in_plane-clause-rows : goal.returns-in_ok-add_in_plane-clause-rows
-returns-in_ok-add_in_plane-clause-rows g c = λ honest h row stands.
+pub returns-in_ok-add_objects-clause-rows : goal.returns-in_ok-add_objects-clause-rows
+returns-in_ok-add_objects-clause-rows g c = λ honest h row stands.
     let r = record_of c.args.layer.now in
     let old = pages c.args.cache.now in
     let found : c.in_ok-objects.objects.items ≡ entries h.layer.objects =
@@ -37,12 +37,12 @@ returns-in_ok-add_in_plane-clause-rows g c = λ honest h row stands.
     let same : c.deref-then-layer-eq2.result.now ≡ c.in_ok-objects.objects.items =
     c.deref-then-layer-eq2.ensures.value in
     layer_dumped old c.args.layer.now h row stands c.args.rows.now.items c.push.new.self.items
-    c.add_in_plane.new.rows.items _ c.deref-then-layer-eq2.result.now c.in_ok-push.ensures.items
+    c.add_objects.new.rows.items _ c.deref-then-layer-eq2.result.now c.in_ok-push.ensures.items
     (ap (λ (name : List ℕ). CreateLine name r.dims r.fanout) (c.name_of.ensures ∙ c.deref.ensures.0))
-    (same ∙ found) c.in_ok-add_in_plane.ensures
+    (same ∙ found) c.in_ok-add_objects.ensures
 
-pub returns-in_ok-add_in_space-clause-rows : goal.returns-in_ok-add_in_space-clause-rows
-returns-in_ok-add_in_space-clause-rows g c = λ honest h row stands.
+pub returns-in_ok-add_objects-2-clause-rows : goal.returns-in_ok-add_objects-2-clause-rows
+returns-in_ok-add_objects-2-clause-rows g c = λ honest h row stands.
     let r = record_of c.args.layer.now in
     let old = pages c.args.cache.now in
     let axes : r.dims ≡ 3 = omega (arith, c.requires, c.if-layer-eq2.false) in
@@ -52,6 +52,6 @@ returns-in_ok-add_in_space-clause-rows g c = λ honest h row stands.
     let same : c.deref-else-layer-eq2.result.now ≡ c.in_ok-objects-2.objects.items =
     c.deref-else-layer-eq2.ensures.value in
     layer_dumped old c.args.layer.now h row stands c.args.rows.now.items c.push.new.self.items
-    c.add_in_space.new.rows.items _ c.deref-else-layer-eq2.result.now c.in_ok-push.ensures.items
+    c.add_objects-else-layer-eq2.new.rows.items _ c.deref-else-layer-eq2.result.now c.in_ok-push.ensures.items
     (ap (λ (name : List ℕ). CreateLine name r.dims r.fanout) (c.name_of.ensures ∙ c.deref.ensures.0))
-    (same ∙ found) c.in_ok-add_in_space.ensures
+    (same ∙ found) c.in_ok-add_objects-2.ensures

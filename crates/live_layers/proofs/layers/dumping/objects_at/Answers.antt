@@ -3,10 +3,9 @@ use Rattle.std.proofs.Common.{◌∙◌, ℕ, ap}
 use Rattle.std.specs.FinMap.{entries}
 use Rattle.std.specs.Prelude.{◌&&◌, None, filter}
 use Rattle.box_math.specs.Bounds.{Bounds, meets_test}
-use Rattle.box_math.specs.Objects.{Object, bounds_of, tag_of}
+use Rattle.box_math.specs.Objects.{Object, bounds_of, has_tag}
 use Rattle.layer_pages.proofs.AnswerLemmas.{ranges_answer_objects}
 use Rattle.page_cache.specs.Cache.{pages}
-use Rattle.range_query.specs.Queries.{has_tag}
 use Rattle.live_layers.proofs.DumpLemmas.{all_objects_meet}
 use Rattle.live_layers.proofs.Results.{if_ok}
 use Rattle.live_layers.proofs.layers.dumping.objects_at.Goals as goal
@@ -21,7 +20,7 @@ returns-clause-rows g c = λ honest most directory l objects at.
     ranges_answer_objects dims most old c.args.root directory l objects (λ b. meets_test dims b all) None
     rows.items at answer
     ∙ ap (λ (w : Bounds). filter
-    (λ (o : ℕ × Object). meets_test dims (bounds_of o.1) w && has_tag None (tag_of o.1))
+    (λ (o : ℕ × Object). meets_test dims (bounds_of o.1) w && has_tag None o.1)
     (entries objects)) c.new-all.ensures
     ∙ all_objects_meet dims most old c.args.root directory l objects at)
     (c.window.ensures.rows honest l.tree most at.tree)
