@@ -86,7 +86,8 @@ impl<B: BlockDevice, A: Allocator + Copy> Layers<B, A> {
             IsLocated self.old t name located.now → IfErr result (IsFault (Rose self.old self.new)) }
         ensures keeps { KeepsInQuestion self.old self.new result }
     {
-        match check_table::<D, B, A, A>(self.alloc, &mut self.cache, located.directory) {
+        let alloc = self.alloc;
+        match check_table::<D, B, A, &A>(&alloc, &mut self.cache, located.directory) {
             Ok(facts) => Ok(facts.pages.len() as u64),
             Err(fault) => Err(as_refusal(fault)),
         }

@@ -16,7 +16,7 @@ returns-in_err-place-clause-listed g c = λ t sound.
 pub returns-in_err-rows-clause-listed : goal.returns-in_err-rows-clause-listed
 returns-in_err-rows-clause-listed g c = λ t sound.
     let old = c.args.self.now in
-    let new = c.nodes_at-rows.new.self in
+    let new = c.nodes_at.new.self in
     let name = c.args.name.now in
     let located = c.locate-located.ensures.located t name sound (c.in_ok-place.ensures.found t sound) in
     tells_fault (Rose old new) t name (ListsTree old new t name) c.from_residual-in_err-rows.result
@@ -26,23 +26,23 @@ returns-in_err-rows-clause-listed g c = λ t sound.
 pub returns-in_err-rows-2-clause-listed : goal.returns-in_err-rows-2-clause-listed
 returns-in_err-rows-2-clause-listed g c = λ t sound.
     let old = c.args.self.now in
-    let new = c.nodes_at-rows-2.new.self in
+    let new = c.nodes_at-else-located-eq2.new.self in
     let name = c.args.name.now in
     let located = c.locate-located.ensures.located t name sound (c.in_ok-place.ensures.found t sound) in
     tells_fault (Rose old new) t name (ListsTree old new t name) c.from_residual-in_err-rows-2.result
     c.in_err-rows-2.field-0.0 c.from_residual-in_err-rows-2.ensures.1
     (c.in_err-rows-2.ensures.fault t name sound located)
 
-pub returns-then-located-eq2-clause-listed : goal.returns-then-located-eq2-clause-listed
-returns-then-located-eq2-clause-listed g c = λ t sound.
+pub returns-in_ok-rows-clause-listed : goal.returns-in_ok-rows-clause-listed
+returns-in_ok-rows-clause-listed g c = λ t sound.
     let name = c.args.name.now in
     let located = c.locate-located.ensures.located t name sound (c.in_ok-place.ensures.found t sound) in (
       c.in_ok-place.ensures.named t sound [],
       (located.dims ∙ c.if-located-eq2.true, c.in_ok-rows.ensures.listed t name sound located),
     )
 
-pub returns-else-located-eq2-clause-listed : goal.returns-else-located-eq2-clause-listed
-returns-else-located-eq2-clause-listed g c = λ t sound.
+pub returns-in_ok-rows-2-clause-listed : goal.returns-in_ok-rows-2-clause-listed
+returns-in_ok-rows-2-clause-listed g c = λ t sound.
     let name = c.args.name.now in
     let located = c.locate-located.ensures.located t name sound (c.in_ok-place.ensures.found t sound) in (
       c.in_ok-place.ensures.named t sound [],
