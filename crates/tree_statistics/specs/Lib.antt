@@ -1,2 +1,3 @@
 -- The files of definitions.
 pub mod Levels
+pub mod Siblings

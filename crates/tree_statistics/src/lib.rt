@@ -2,6 +2,7 @@
 //! its tree and written as a table or as JSON (docs/COMMANDS.md, "The program").
 #![tactic(auto)]
 
+pub mod laws;
 mod layers;
 mod levels;
 mod tables;

@@ -25,6 +25,6 @@ returns-else-located-eq2-clause-counted g c = λ t sound.
     let old = c.args.self.now in
     let name = c.args.name.now in
     let located = c.locate-located.ensures.located t name sound (c.in_ok-place.ensures.found t sound) in
-    tells_named (Rose old c.id_pages_at.new.self) t name (IsIdPages old t name) c.id_pages_at.result
-    (c.in_ok-place.ensures.named t sound) (c.id_pages_at.ensures.counted t name sound located)
-    (c.id_pages_at.ensures.fault t name sound located)
+    tells_named (Rose old c.id_pages_at-else-located-eq2.new.self) t name (IsIdPages old t name) c.id_pages_at-else-located-eq2.result
+    (c.in_ok-place.ensures.named t sound) (c.id_pages_at-else-located-eq2.ensures.counted t name sound located)
+    (c.id_pages_at-else-located-eq2.ensures.fault t name sound located)
