@@ -2,6 +2,7 @@
 use Rattle.std.proofs.Common.{◌≡◌, ◌≢◌, ◌∙◌, ◌<◌, ◌≤◌, ◌^◌, ap, ℕ, Bool, true, false, List, Option, Some}
 use Rattle.std.proofs.Common.{None, Result, Ok, Err, refl, sym, subst, arith, codes}
 use Rattle.std.proofs.lemmas.Bool.Decides.{nat_tests}
+use Rattle.std.specs.Prelude.{is_some, option_map}
 use Rattle.std.specs.Str.Parse.{ParsesUnsigned}
 use Rattle.clap.specs.Values.{bool_text}
 use Rattle.clap.specs.Words.{ReadsOne, Text}
@@ -44,3 +45,8 @@ pub fault_is_small : (k : ErrorKind) → status_of_fault k ≤ 2
 fault_is_small DisplayHelp = omega arith
 fault_is_small DisplayVersion = omega arith
 fault_is_small _ = omega arith
+
+-- a text that is there, seen in another way, is there
+pub is_some-mapped : {X Y : Type 0} (f : X → Y) (o : Option X) → is_some (option_map f o) ≡ is_some o
+is_some-mapped f None = refl
+is_some-mapped f (Some x) = refl

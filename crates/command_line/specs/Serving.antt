@@ -1,5 +1,5 @@
 -- What a run of the program over a device leaves.
-use Rattle.std.specs.Prelude.{ℕ, ◌≡◌, ◌<◌, ◌⊎◌, ◌==◌, Bool, true, false, List, length, Option, Result, Ok}
+use Rattle.std.specs.Prelude.{ℕ, ◌≡◌, ◌<◌, ◌≤◌, ◌⊎◌, ◌==◌, Bool, true, false, List, length, Option, Result, Ok}
 use Rattle.std.specs.Prelude.{Err, ⊤}
 use Rattle.std.specs.FinMap.{empty}
 use Rattle.block_device.specs.Device.{Blocks, LeavesOnly, Only, Recovery}
@@ -137,6 +137,15 @@ abbrev pub OpensAndReads : {B R W : Type 0} → reader.Ghosts B → (Result B Op
 OpensAndReads {B} m opens r r' w w' unread unread' written written' status =
     ((e : OpenError) × opens (Err e) × HasNotBegun r r' w w' status)
     ⊎ ((blocks : B) × opens (Ok blocks) × HasRead m blocks r r' w w' unread unread' written written' status)
+
+-- Something was to be shown of a file, and no line to be read. The words do not go together; or the file's
+-- opening was refused; or a reader was opened, of which `opens` tells, and the status is that of a run that
+-- went well or failed.
+abbrev pub OpensAndShows : {B W : Type 0} → (Result B OpenError → Type 0) → W → W → ℕ → Type 0
+OpensAndShows {B} opens w w' status =
+    ((status ≡ 2) × (w' ≡ w))
+    ⊎ ((e : OpenError) × opens (Err e) × (status ≡ 1) × (w' ≡ w))
+    ⊎ ((blocks : B) × opens (Ok blocks) × (status ≤ 1))
 
 -- What was done on a device that was opened, and what is left of it. Where a store was to be made and there
 -- are blocks, nothing has begun, and the device is left as it was opened. Where it is honest, a store was

@@ -1,7 +1,8 @@
 -- What the words of the command line ask for (our rule, docs/COMMANDS.md, "The program"). How words are read
 -- as options and values is told by `clap`: `fault_of` is why it refuses them, and empty where it takes them;
 -- `matches_of` is what it finds in those.
-use Rattle.std.specs.Prelude.{◌≡◌, ◌≤◌, ℕ, Bool, List, [], ◌∷◌, Option, Some, codes, pos, true}
+use Rattle.std.specs.Prelude.{◌≡◌, ◌≤◌, ◌||◌, ℕ, Bool, List, [], ◌∷◌, Option, Some, codes, is_some, pos}
+use Rattle.std.specs.Prelude.{true}
 use Rattle.std.specs.Str.Parse.{IsNumeral, digits_value, without_leading_plus}
 use Rattle.clap.specs.Simple.{on_top}
 use Rattle.clap.specs.Values.{bool_text}
@@ -34,6 +35,17 @@ create_rule = flag_rule (codes "create")
 abbrev pub read_only_rule : Rule
 read_only_rule = flag_rule (codes "read-only")
 
+-- `--draw LAYER`
+abbrev pub draw_rule : Rule
+draw_rule = record (new_rule (codes "draw")) { long = Some (codes "draw"); value_names = 1 }
+
+-- `--stats`, and `--json`
+abbrev pub stats_rule : Rule
+stats_rule = flag_rule (codes "stats")
+
+abbrev pub json_rule : Rule
+json_rule = flag_rule (codes "json")
+
 -- `FILE`
 abbrev pub file_rule : Rule
 file_rule = record (new_rule (codes "file")) { value_names = 1 }
@@ -41,8 +53,9 @@ file_rule = record (new_rule (codes "file")) { value_names = 1 }
 -- the program, which tells its version too
 abbrev pub program : App
 program =
-    with_rule (with_rule (with_rule (with_rule (on_top (λ s. record s { has_version = true }) (new_app (codes "rstore")))
-    cache_rule) create_rule) read_only_rule) file_rule
+    with_rule (with_rule (with_rule (with_rule (with_rule (with_rule (with_rule
+    (on_top (λ s. record s { has_version = true }) (new_app (codes "rstore")))
+    cache_rule) create_rule) read_only_rule) draw_rule) stats_rule) json_rule) file_rule
 
 -- the file that words name, if they name one
 abbrev pub file_in : List Text → Option Text
@@ -57,6 +70,19 @@ AsksToMake words create =
 abbrev pub AsksToRead : List Text → Bool → Type 0
 AsksToRead words read =
     (flag : Bool) → one_of (codes "read-only") (matches_of program words) ≡ Some (bool_text flag) → read ≡ flag
+
+-- whether a flag of this name is said
+abbrev pub IsFlag : Text → List Text → Bool → Type 0
+IsFlag name words said =
+    (flag : Bool) → one_of name (matches_of program words) ≡ Some (bool_text flag) → said ≡ flag
+
+-- whether something of the file is to be shown: a layer is to be drawn, or statistics are to be told
+pub record AsksToShow (words : List Text) (show : Bool) : Type 0 where
+  pub stats : Bool
+  pub json : Bool
+  pub stats_is : IsFlag (codes "stats") words stats
+  pub json_is : IsFlag (codes "json") words json
+  pub show_is : show ≡ (is_some (first_of (codes "draw") (matches_of program words)) || (stats || json))
 
 -- a text is this decimal number
 pub record IsNumber (text : Text) (n : ℕ) : Type 0 where

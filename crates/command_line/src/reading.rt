@@ -78,7 +78,7 @@ pub fn serve_reader<B: BlockReader, A: Allocator + Copy, I: Read, W: FlushedWrit
 }
 
 // Says why a store can't be read.
-fn tell_unread<E: Write>(refusal: Refusal, errors: &mut E) {
+pub(crate) fn tell_unread<E: Write>(refusal: Refusal, errors: &mut E) {
     if let Refusal::NotClosed = refusal {
         let _ = errors.write_all(b"rstore: fail 20 NotClosed: open FILE once for writing\n");
         return;

@@ -19,15 +19,20 @@ use Rattle.plain_table.specs.Table.{Table}
 use Rattle.plain_table.specs.declared.refusal.Refusal.{Refusal}
 use Rattle.plain_table.specs.declared.refusal.Refusal.TheVariants as refusal
 use Rattle.store_law.specs.Sessions.{SessionState}
+use Rattle.store_law.specs.States.{StoreState}
+use Rattle.store_law.specs.States.StoreState.{Alive, Dead}
 use Rattle.store_law.specs.Stops.{Stops, after_command}
-use Rattle.layer_store.specs.Commands.{Answers, TakesReply, TakesStep}
-use Rattle.layer_store.specs.Representation.{KeepsStore, Represents, StopsLeave, cache_in, device_in}
+use Rattle.layer_store.specs.Checked.{Standing}
+use Rattle.layer_store.specs.Commands.{Answers, OnlyAsks, TakesReply, TakesStep}
+use Rattle.layer_store.specs.Representation.{IsInState, KeepsStore, Represents, StandsAs, StopsLeave}
+use Rattle.layer_store.specs.Representation.{cache_in, device_in}
 use Rattle.layer_store.specs.declared.store.Store.{Store}
 use Rattle.layer_store.proofs.ChangeLemmas.{kept_spelled}
 use Rattle.layer_store.proofs.StopLemmas.{OnlyNow, kept_leaves}
-use Rattle.layer_store.proofs.StoreLemmas.{blames_none, dead_tells, err_so, goes_on_tells, is_dead}
-use Rattle.layer_store.proofs.StoreLemmas.{is_settled, no_fewer_faults, not_both, replies_nothing}
-use Rattle.layer_store.proofs.StoreLemmas.{replies_question, replies_reply, settled_so, takes_nothing}
+use Rattle.layer_store.proofs.StoreLemmas.{alive_so, blames_none, dead_tells, err_so, goes_on_tells}
+use Rattle.layer_store.proofs.StoreLemmas.{is_alive, is_dead, is_settled, no_fewer_faults, not_both}
+use Rattle.layer_store.proofs.StoreLemmas.{replies_nothing, replies_question, replies_reply}
+use Rattle.layer_store.proofs.StoreLemmas.{represents_so, settled_so, takes_nothing}
 use Rattle.layer_store.proofs.StoreLemmas.{takes_question, takes_reply, what_is_kept}
 
 module _ {D A : Type 0} {m : _} where
@@ -61,6 +66,58 @@ module _ {D A : Type 0} {m : _} where
       let kept = what_is_kept old s represents in
       kept_leaves (cache_in old) (cache_in new) s.stops.now kept.honest (now kept.honest) kept.leaves.now
       keeps.gate
+
+  -- ---- questions that are no command
+
+  module _ {T : Type 0} where
+    -- one of a store that failed
+    pub failed_asks : {store : Store D A m} → store.failed ≡ true
+        → (IsHonest (cache_in store) → OnlyNow (cache_in store))
+        → OnlyAsks {T = T} store store (Err (refusal.StoreFailed 19))
+    failed_asks {store = store} failed now = record {
+      kept = nothing_asked store;
+      goes_on = λ s represents.
+          let kept = what_is_kept store s represents in
+          represents_so store (record s { faults = m.faults (device_in store) })
+          (record { state = kept.is.state; faults = refl }) kept.honest kept.leaves;
+      stands_on = λ s stands. record { state = stands.state; honest = stands.honest; faults = refl };
+      stops = stops_asked store store now (nothing_asked store);
+      ended = dead_tells store 19 failed;
+      dead = λ dead. (refl, refl);
+      cause = blames_none (m.faults (device_in store)) (Err (refusal.StoreFailed 19)) refl;
+    }
+
+    -- one of the layers of a live store
+    pub layers_ask : {old : Store D A m} {mid : Layers D A m} {result : Result T Refusal}
+        → old.failed ≡ false → (IsHonest (cache_in old) → OnlyNow (cache_in old))
+        → KeepsInQuestion old.layers mid result → OnlyAsks old (record old { layers = mid }) result
+    layers_ask {old = old} {mid = mid} {result = result} going now keeps =
+        let kept = keeps_asked old mid keeps in
+        let new : Store D A m = record old { layers = mid } in
+        record {
+          kept = kept;
+          goes_on = λ s represents.
+              let was = what_is_kept old s represents in
+              represents_so new (record s { faults = m.faults (device_in new) })
+              (record { state = stays s.state was.is.state; faults = refl }) (keeps.gate.honest.0 was.honest)
+              (leaves_kept old.layers.cache mid.cache s.stops was.honest keeps.gate was.leaves);
+          stands_on = λ s stands. record {
+            state = stays s.state stands.state;
+            honest = keeps.gate.honest.0 stands.honest;
+            faults = refl;
+          };
+          stops = stops_asked old new now kept;
+          ended = err_so result (λ r. goes_on_tells new r going) keeps.goes_on;
+          dead = λ dead. absurd (not_both old.failed (is_dead old dead) going);
+          cause = keeps.cause;
+        }
+      where
+        stays : (state : StoreState) → IsInState old state → IsInState (record old { layers = mid }) state
+        stays (Alive t) alive =
+            alive_so (record old { layers = mid }) t going (keeps.sound t (is_alive old t alive).1)
+        stays Dead dead = absurd (not_both old.failed (is_dead old dead) going)
+
+  -- ---- questions that are commands
 
   module _ {T : Type 0} {c : Command} {answer : Result T Refusal → Answer} where
     -- one of a store that failed

@@ -21,7 +21,7 @@ use Rattle.plain_table.specs.declared.boxes.AnyBox.{AnyBox}
 use Rattle.plain_table.specs.declared.queries.RawQuery.{RawQuery}
 use Rattle.plain_table.specs.declared.refusal.Refusal.{Refusal}
 use Rattle.plain_table.specs.declared.refusal.Refusal.TheVariants as refusal
-use Rattle.layer_store.specs.Checked.{LawfulReply}
+use Rattle.layer_store.specs.Checked.{LawfulReply, Standing}
 use Rattle.store_law.specs.Sessions.{LawfulStep, SessionState, Takes}
 use Rattle.store_law.specs.States.Request.{Asks}
 use Rattle.store_law.specs.States.StoreState.{Alive, Dead}
@@ -98,6 +98,26 @@ pub record Answers {D A : Type 0} {m : _} {T : Type 0} (old new : Store D A m) (
   pub reply : TakesReply old new c (answer result)
   -- the gate stays with its moment, pages and records, so each tree, and what was settled is so still
   pub kept : KeepsStore old new
+  -- a stop leaves nothing else than before
+  pub stops : (s : SessionState) → Represents old s → StopsLeave old new (MayRemain s.stops.now)
+  -- refused, it is so by StoreFailed exactly where the store is dead
+  pub ended : IfErr result (TellsOfEnd new)
+  -- a store that had failed stays so
+  pub dead : StaysDead old new result
+  -- faults of the device are counted
+  pub cause : CountsFaults old new result
+
+-- Pages were asked for by no command, so no step is taken.
+pub record OnlyAsks {D A : Type 0} {m : _} {T : Type 0} (old new : Store D A m)
+    (result : Result T Refusal) : Type 0 where
+  -- the gate stays with its moment, pages and records, so each tree, and what was settled is so still
+  pub kept : KeepsStore old new
+  -- a session goes on as it was, but for the count of faults
+  pub goes_on : (s : SessionState) → Represents old s
+      → Represents new (record s { faults = m.faults (device_in new) })
+  -- and so it does whatever stops leave
+  pub stands_on : (s : Standing) → StandsAs old s
+      → StandsAs new (record s { faults = m.faults (device_in new) })
   -- a stop leaves nothing else than before
   pub stops : (s : SessionState) → Represents old s → StopsLeave old new (MayRemain s.stops.now)
   -- refused, it is so by StoreFailed exactly where the store is dead

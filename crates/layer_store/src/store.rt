@@ -3,6 +3,7 @@
 mod changes;
 mod closing;
 mod memory;
+mod outlining;
 mod questions;
 mod start;
 mod whole;

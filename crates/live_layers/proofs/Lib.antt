@@ -7,6 +7,7 @@ pub mod TableLemmas
 pub mod HoldLemmas
 pub mod KeepLemmas
 pub mod QuestionLemmas
+pub mod TellingLemmas
 pub mod RecoveryLemmas
 pub mod StopLemmas
 pub mod Results

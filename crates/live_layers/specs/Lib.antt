@@ -20,3 +20,4 @@ pub mod Dropping
 pub mod Reaching
 pub mod Checked
 pub mod Listing
+pub mod Outlines

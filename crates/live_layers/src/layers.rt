@@ -21,6 +21,7 @@ mod moving;
 mod named;
 mod noting;
 mod open;
+mod outlining;
 mod questions;
 mod reopening;
 

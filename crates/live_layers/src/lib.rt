@@ -10,6 +10,7 @@ mod layers;
 mod located;
 mod names;
 mod objects;
+mod outlines;
 mod repeats;
 mod rooms;
 mod search;
@@ -17,5 +18,6 @@ mod unmade;
 
 pub use faults::as_refusal;
 pub use layers::Layers;
+pub use outlines::LayerOutline;
 pub use rooms::Rooms;
 pub use unmade::Unmade;

@@ -6,3 +6,5 @@
 mod cut_short;
 #[cfg(test)]
 mod runs;
+#[cfg(test)]
+mod shows;

@@ -14,7 +14,7 @@ window a 5 5 25 25\nwindow a 11 11 19 19\n";
 const SAID: &str = "ok\nok\nok\nok 2\n1 0 0 10 10\n2 20 20 30 30\nok 0\n";
 
 // The status of a run over files of the system.
-fn run<I: Read, W: Write, E: Write>(
+pub(crate) fn run<I: Read, W: Write, E: Write>(
     rt: &HostRuntime,
     words: &[&str],
     input: &mut I,
@@ -28,7 +28,7 @@ fn run<I: Read, W: Write, E: Write>(
 }
 
 // The status of a run with these words and this text, and whether it wrote these replies and said this.
-fn runs(
+pub(crate) fn runs(
     rt: &HostRuntime,
     words: &[&str],
     text: &str,
@@ -52,7 +52,7 @@ fn runs(
 }
 
 // The same of a run that writes no reply.
-fn says(rt: &HostRuntime, words: &[&str], said: &str) -> Result<Option<u8>, Fail> {
+pub(crate) fn says(rt: &HostRuntime, words: &[&str], said: &str) -> Result<Option<u8>, Fail> {
     runs(rt, words, "", "", said)
 }
 

@@ -1,5 +1,5 @@
-//! The program `rstore`: `rstore [--cache N] [--create | --read-only] [FILE]` (docs/COMMANDS.md, "The
-//! program").
+//! The program `rstore`: `rstore [--cache N] [--create | --read-only] [FILE]`, and with `--draw LAYER` or
+//! `--stats` in place of the input (docs/COMMANDS.md, "The program").
 #![tactic(auto)]
 
 use command_line::{greet, serve};

@@ -13,6 +13,8 @@ mod node_bytes;
 #[cfg(test)]
 mod node_views;
 #[cfg(test)]
+mod outlines;
+#[cfg(test)]
 mod small_trees;
 #[cfg(test)]
 mod trees_in_pages;

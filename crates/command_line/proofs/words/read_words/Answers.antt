@@ -1,12 +1,13 @@
 -- What `clap` finds in words that it takes is what they ask for.
-use Rattle.std.proofs.Common.{◌≡◌, ◌∙◌, ap, sym, codes, Some, arith}
+use Rattle.std.proofs.Common.{◌≡◌, ◌∙◌, Bool, ap, sym, codes, Some, arith}
+use Rattle.std.specs.Prelude.{◌||◌, is_some}
 use Rattle.std.specs.Str.Parse.{ExplainsUnsignedError, HasUnsignedDigitsIfOk, ParsesUnsigned}
 use Rattle.clap.specs.Walk.{texts}
 use Rattle.clap.specs.Words.{App, app_of, fault_of, first_of, found_of, is_simple, is_simple_and_free}
 use Rattle.clap.specs.Words.{matches_of, one_of, one_text, rows_of}
 use Rattle.clap.proofs.WalkLemmas.{first_value-rows, one_text-rows}
 use Rattle.command_line.specs.Words.{program}
-use Rattle.command_line.proofs.WordsLemmas.{flag_read, in_range, number_read}
+use Rattle.command_line.proofs.WordsLemmas.{flag_read, in_range, is_some-mapped, number_read}
 use Rattle.command_line.proofs.words.read_words.Goals as goal
 
 pub returns-clause-refused : goal.returns-clause-refused
@@ -37,5 +38,24 @@ returns-clause-asked c =
           (rw got at c.cached_pages.ensures.as_asked) (in_range n low high);
       create_is = λ flag one. flag_read c.get_flag.result (one_text found (codes "create")) c.get_flag.ensures.value c.get_flag.ensures.other flag (created ∙ one);
       read_is = λ flag one. flag_read c.get_flag-2.result (one_text found (codes "read-only")) c.get_flag-2.ensures.value c.get_flag-2.ensures.other flag (reading ∙ one);
-      file_is = c.get_str.ensures ∙ first_value-rows found (codes "file") ∙ ap (first_of (codes "file")) rows;
+      file_is = c.get_str-2.ensures ∙ first_value-rows found (codes "file") ∙ ap (first_of (codes "file")) rows;
+    }
+
+pub returns-clause-shown : goal.returns-clause-shown
+returns-clause-shown c =
+    let is : app_of c.in_ok-command.field-0 ≡ program = c.in_ok-command.ensures in
+    let found = found_of c.in_ok-matches.matches in
+    let rows : rows_of found ≡ matches_of program (texts c.args.words.now) =
+    (c.in_ok-matches.ensures.matches (ap is_simple is)).0
+    ∙ ap (λ (a : App). matches_of a (texts c.args.words.now)) is in
+    let told : one_text found (codes "stats") ≡ one_of (codes "stats") (matches_of program (texts c.args.words.now)) = one_text-rows found (codes "stats") ∙ ap (one_of (codes "stats")) rows in
+    let as_json : one_text found (codes "json") ≡ one_of (codes "json") (matches_of program (texts c.args.words.now)) = one_text-rows found (codes "json") ∙ ap (one_of (codes "json")) rows in
+    let drawn = c.get_str.ensures ∙ first_value-rows found (codes "draw") ∙ ap (first_of (codes "draw")) rows in
+    record {
+      stats = c.get_flag-3.result;
+      json = c.get_flag-4.result;
+      stats_is = λ flag one. flag_read c.get_flag-3.result (one_text found (codes "stats")) c.get_flag-3.ensures.value c.get_flag-3.ensures.other flag (told ∙ one);
+      json_is = λ flag one. flag_read c.get_flag-4.result (one_text found (codes "json")) c.get_flag-4.ensures.value c.get_flag-4.ensures.other flag (as_json ∙ one);
+      show_is = ap (λ (b : Bool). b || (c.get_flag-3.result || c.get_flag-4.result))
+          (sym (is_some-mapped (λ f. f.now) c.get_str.result) ∙ ap is_some drawn);
     }

@@ -1,0 +1,3 @@
+-- The files of lemmas.
+pub mod OutlineLemmas
+pub mod WalkLemmas

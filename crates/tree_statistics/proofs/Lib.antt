@@ -1,0 +1,3 @@
+-- The files of lemmas.
+pub mod SumLemmas
+pub mod SiblingLemmas

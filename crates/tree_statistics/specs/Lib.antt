@@ -1,0 +1,3 @@
+-- The files of definitions.
+pub mod Levels
+pub mod Siblings
