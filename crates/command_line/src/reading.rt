@@ -5,18 +5,18 @@ ghost use Rattle.layer_store.specs.Starting.{is_cache};
 ghost use Rattle.command_line.specs.Serving.{HasRead, OpensAndReads};
 
 use crate::program::{FAILED, status_of, tell_unopened};
-use command_shell::{FlushedWrite, run_and_close, tell_refusal};
+use command_shell::{CountedRead, FlushedWrite, run_and_close, tell_refusal};
 use file_device::OpenError;
 use layer_store::{Refusal, open_store};
 use read_only_device::{BlockReader, ReadOnlyDevice};
 use std::alloc::{Allocator, Global};
-use std::io::{Read, Write};
+use std::io::Write;
 
 // Opens the file at a path to be only read, and serves over it, or says that it can't be opened.
 pub(crate) fn read_path<
     B: BlockReader + Drop,
     P: FnOnce(&str) -> Result<B, OpenError>,
-    I: Read,
+    I: CountedRead,
     W: FlushedWrite,
     E: Write,
 >(
@@ -52,7 +52,7 @@ pub(crate) fn read_path<
 /// Where it is honest and holds an image of a table, the commands are answered by a lawful session that
 /// begins with that table; each change is refused, or answers what changes nothing. Blocks that a check of
 /// opening refuses are never run on. The status is 0 where all went well and no change was asked, and else 1.
-pub fn serve_reader<B: BlockReader, A: Allocator + Copy, I: Read, W: FlushedWrite, E: Write>(
+pub fn serve_reader<B: BlockReader, A: Allocator + Copy, I: CountedRead, W: FlushedWrite, E: Write>(
     alloc: A,
     blocks: &B,
     cache: u32,

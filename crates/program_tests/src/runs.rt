@@ -1,6 +1,7 @@
 //! Runs of the program: its words, its file, its texts and its status.
 
 use command_line::{greet, serve};
+use command_shell::CountedReader;
 use file_device::{
     FileDevice, FileReader, HostFile, HostReader, OpenError, open_file, open_reader,
 };
@@ -24,7 +25,17 @@ pub(crate) fn run<I: Read, W: Write, E: Write>(
     let open = |path: &str, create: bool| open_file(rt, path, create);
     let read = |path: &str| open_reader(rt, path);
     let end = |_: &str, _: Written| {};
-    serve(rt.alloc(), words, open, read, end, input, output, errors)
+    let mut counted = CountedReader::over(input);
+    serve(
+        rt.alloc(),
+        words,
+        open,
+        read,
+        end,
+        &mut counted,
+        output,
+        errors,
+    )
 }
 
 // The status of a run with these words and this text, and whether it wrote these replies and said this.
@@ -160,10 +171,7 @@ fn files_that_are_refused(rt: HostRuntime) -> Result<(), Fail> {
     fs::remove_file(&rt, file)?;
     for (path, said) in NO_FILES {
         assert_eq!(rt; says(&rt, &["rstore", path], said)?, Some(1));
-        assert_eq!(rt;
-            says(&rt, &["rstore", "--create", path], said)?,
-            Some(1)
-        );
+        assert_eq!(rt; says(&rt, &["rstore", "--create", path], said)?, Some(1));
     }
     Ok(())
 }
@@ -212,10 +220,7 @@ fn a_file_that_is_only_read(rt: HostRuntime) -> Result<(), Fail> {
     }
     fs::remove_file(&rt, file)?;
     for (path, said) in NO_FILES {
-        assert_eq!(rt;
-            says(&rt, &["rstore", "--read-only", path], said)?,
-            Some(1)
-        );
+        assert_eq!(rt; says(&rt, &["rstore", "--read-only", path], said)?, Some(1));
     }
     Ok(())
 }
@@ -300,13 +305,14 @@ fn each_refusal_of_a_file_is_told(rt: HostRuntime) -> Result<(), Fail> {
             let mut input = FIRST.as_bytes();
             let mut output = Vec::new(rt.alloc());
             let mut errors = Vec::new(rt.alloc());
+            let mut counted = CountedReader::over(&mut input);
             let status = serve(
                 rt.alloc(),
                 words,
                 open,
                 read,
                 end,
-                &mut input,
+                &mut counted,
                 &mut output,
                 &mut errors,
             );

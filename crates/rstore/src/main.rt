@@ -3,7 +3,7 @@
 #![tactic(auto)]
 
 use command_line::{greet, serve};
-use command_shell::tell_refusal;
+use command_shell::{CountedReader, tell_refusal};
 use file_device::open_reader;
 use journaled_file::{end_journaled, open_journaled};
 use layer_store::Refusal;
@@ -43,7 +43,7 @@ fn run(rt: &HostRuntime) -> io::Result<u8> {
         greet(alloc, words.as_slice(), &mut errors);
     }
     let mut output = BufWriter::new(alloc, io::writer(rt))?;
-    let mut input = rt.reader();
+    let mut input = CountedReader::over(rt.reader());
     let open = |path: &str, create: bool| {
         let (device, unended) = open_journaled(rt, alloc, path, create)?;
         if unended {

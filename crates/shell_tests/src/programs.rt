@@ -3,7 +3,7 @@
 use crate::fakes::{FailsOnce, Parts, Short, Unflushed};
 use crate::stores::close_new;
 use block_device::{BlockDevice, FuseDevice, FuseMode, MemoryDevice};
-use command_shell::{RunEnd, answers_to, run, run_and_close, tell_refusal};
+use command_shell::{CountedReader, RunEnd, answers_to, run, run_and_close, tell_refusal};
 use layer_store::{Refusal, create_store, open_store};
 use std::alloc::Global;
 use std::cell::Cell;
@@ -53,7 +53,7 @@ fn a_run_whose_input_fails_is_closed(rt: HostRuntime) -> Result<(), Fail> {
 
 #[test]
 fn a_run_whose_output_fails_is_closed(rt: HostRuntime) -> Result<(), Fail> {
-    let mut input = TEXT;
+    let mut input = CountedReader::over(TEXT);
     let mut output = Short {
         written: Vec::new(rt.alloc()),
         room: 3,
@@ -93,7 +93,7 @@ fn a_refused_closing_is_told(rt: HostRuntime) -> Result<(), Fail> {
     let Ok(store) = create_store(rt.alloc(), fuse, 64) else {
         return Err(Fail::from("make"));
     };
-    let mut input = TEXT;
+    let mut input = CountedReader::over(TEXT);
     let mut output = Vec::new(rt.alloc());
     let mut errors = Vec::new(rt.alloc());
     let ended = run_and_close(store, &mut input, &mut output, &mut errors);
@@ -111,7 +111,7 @@ fn a_refused_closing_is_told_before_a_failed_output(rt: HostRuntime) -> Result<(
     let Ok(store) = create_store(rt.alloc(), fuse, 64) else {
         return Err(Fail::from("make"));
     };
-    let mut input = TEXT;
+    let mut input = CountedReader::over(TEXT);
     let mut output = Short {
         written: Vec::new(rt.alloc()),
         room: 3,
@@ -132,7 +132,7 @@ fn a_reopening_reads_what_is_closed(rt: HostRuntime) -> Result<(), Fail> {
     let Ok(mut store) = create_store(rt.alloc(), fuse, 64) else {
         return Err(Fail::from("make"));
     };
-    let mut input = b"reopen\nwindow a 0 0 1 1\n".as_slice();
+    let mut input = CountedReader::over(b"reopen\nwindow a 0 0 1 1\n".as_slice());
     let mut output = Vec::new(rt.alloc());
     let end = run(&mut store, &mut input, &mut output);
     assert_eq!(rt; end, RunEnd::Finished);

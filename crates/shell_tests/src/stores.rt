@@ -1,7 +1,7 @@
 //! Stores without layers, and runs on them.
 
 use block_device::MemoryDevice;
-use command_shell::{RunEnd, run, run_and_close};
+use command_shell::{CountedReader, RunEnd, run, run_and_close};
 use layer_store::{Refusal, Store, create_store};
 use std::alloc::{Allocator, Global};
 use std::io::{Read, Write};
@@ -18,7 +18,7 @@ pub fn run_new<R: Read, W: Write>(
     output: &mut W,
 ) -> Result<RunEnd, Refusal> {
     let mut store = new_store(alloc)?;
-    Ok(run(&mut store, input, output))
+    Ok(run(&mut store, &mut CountedReader::over(input), output))
 }
 
 /// What a run left whose store was closed at its end.
@@ -40,7 +40,7 @@ pub fn close_new<R: Read, W: Write>(
 ) -> Result<Closed, Refusal> {
     let store = new_store(alloc)?;
     let mut errors = Vec::new(alloc);
-    let ended = run_and_close(store, input, output, &mut errors);
+    let ended = run_and_close(store, &mut CountedReader::over(input), output, &mut errors);
     Ok(Closed {
         went_well: ended.went_well,
         errors,
