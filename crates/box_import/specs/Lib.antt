@@ -1,4 +1,0 @@
-pub mod Decimals
-pub mod Extents
-pub mod NumberErrors
-pub mod Rows
