@@ -13,10 +13,25 @@ best_cut-cut-requires g c =
     let sorts = c.requires.sorts in
     let long = length-map c.args.entries.now item_of in
     let whole = sort_whole items sorts.0 Lower places sorts.1.by_lower in
-    let below = sort_below items sorts.0 Lower places (length c.args.entries.now) sorts.1.by_lower long in
-    (search rules, (search rules, (search rules, (c.requires.dims,
-    (omega (arith, whole, long, c.requires.few), (c.requires.some,
-    (omega (arith, whole, long, c.requires.enough), below)))))))
+    let below = sort_below items sorts.0 Lower places (length c.args.entries.now) sorts.1.by_lower long in (
+      search rules,
+      (
+        search rules,
+        (
+          search rules,
+          (
+            c.requires.dims,
+            (
+              omega (arith, whole, long, c.requires.few),
+              (
+                c.requires.some,
+                (omega (arith, whole, long, c.requires.enough), below),
+              ),
+            ),
+          ),
+        ),
+      ),
+    )
 
 pub best_cut-other-requires : goal.best_cut-other-requires
 best_cut-other-requires g c =
@@ -25,10 +40,25 @@ best_cut-other-requires g c =
     let sorts = c.requires.sorts in
     let long = length-map c.args.entries.now item_of in
     let whole = sort_whole items sorts.0 Upper upper sorts.1.by_upper in
-    let below = sort_below items sorts.0 Upper upper (length c.args.entries.now) sorts.1.by_upper long in
-    (search rules, (search rules, (search rules, (c.requires.dims,
-    (omega (arith, whole, long, c.requires.few), (c.requires.some,
-    (omega (arith, whole, long, c.requires.enough), below)))))))
+    let below = sort_below items sorts.0 Upper upper (length c.args.entries.now) sorts.1.by_upper long in (
+      search rules,
+      (
+        search rules,
+        (
+          search rules,
+          (
+            c.requires.dims,
+            (
+              omega (arith, whole, long, c.requires.few),
+              (
+                c.requires.some,
+                (omega (arith, whole, long, c.requires.enough), below),
+              ),
+            ),
+          ),
+        ),
+      ),
+    )
 
 pub copy_from_slice-requires : goal.copy_from_slice-requires
 copy_from_slice-requires g c =
