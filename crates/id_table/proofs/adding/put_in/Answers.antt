@@ -36,4 +36,4 @@ returns-in_err-pushed-clause-damage g c = λ h.
 
 pub returns-in-Some-clause-touched : goal.returns-in-Some-clause-touched
 returns-in-Some-clause-touched g c =
-    touched_so (touched_of c.args.cache.now) (touched_of c.edit.new.self) c.in_ok-pushed.ensures.touched
+    touched_so (touched_of c.args.cache.now) (touched_of c.edit.new.self) c.in_ok-pushed.ensures.in_memory.touched

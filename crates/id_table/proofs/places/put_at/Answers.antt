@@ -45,4 +45,5 @@ returns-clause-damage g c = λ h.
 
 pub returns-clause-touched : goal.returns-clause-touched
 returns-clause-touched g c =
-    touched_by c.edit.result (touched_of c.args.cache.now) (touched_of c.edit.new.self) c.edit.ensures.touched
+    touched_by c.edit.result (touched_of c.args.cache.now) (touched_of c.edit.new.self)
+    c.edit.ensures.in_memory.touched
