@@ -11,8 +11,8 @@ use Rattle.page_file.specs.declared.fault.Fault.TheVariants as fault
 use Rattle.page_file.specs.declared.file.PageFile.{PageFile}
 use Rattle.page_file.specs.declared.gate.Gate.TheVariants.{Open, Shut, Unsure}
 use Rattle.page_cache.specs.Cache.{IsHeld, IsHonest, IsPageMap, IsUnchanged, KeepsMap, LiesIn, blocks_of}
-use Rattle.page_cache.specs.Cache.{capacity_of, device_of, gate_of, given, looks_of, next_of, pages}
-use Rattle.page_cache.specs.Cache.{touched_of}
+use Rattle.page_cache.specs.Cache.{capacity_of, device_of, gate_of, given, held_pages, looks_of, next_of}
+use Rattle.page_cache.specs.Cache.{pages, touched_of}
 use Rattle.page_cache.specs.declared.cache.PageCache.{PageCache}
 
 -- A cache of at most so many pages was put over a file, and shows what that shows.
@@ -45,6 +45,7 @@ pub record BeginsChange {D A : Type 0} {m : _} {T : Type 0} (old new : PageCache
       (λ c. SameButGate c (blocks_of old))
   pub looks : looks_of new ≡ looks_of old
   pub capacity : capacity_of new ≡ capacity_of old
+  pub holds : held_pages new ≡ held_pages old
   pub honest : IsHonest old ↔ IsHonest new
   pub faults : IfErr result IsOfDevice
   pub cause : HasCause (m.faults (device_of old)) (m.faults (device_of new)) result
