@@ -13,9 +13,8 @@ use file_device::OpenError;
 use layer_store::{AnyBox, LayerInfo, LayerOutline, RawBox, RawQuery, Refusal, Store, open_store};
 use read_only_device::{BlockReader, ReadOnlyDevice};
 use std::alloc::{AllocError, Global};
-use std::io;
 use std::io::{Read, Write};
-use std::str;
+use std::{io, str};
 use tree_outline::NodeOutline;
 use tree_picture::{Drawn, MOST_ENTRIES, draw};
 use tree_statistics::{
@@ -60,13 +59,7 @@ pub(crate) fn show_asked<
     P: FnOnce(&str) -> Result<B, OpenError>,
     W: FlushedWrite,
     E: Write,
->(
-    alloc: Global,
-    options: &Options<'_>,
-    read_at: P,
-    output: &mut W,
-    errors: &mut E,
-) -> u8
+>(alloc: Global, options: &Options<'_>, read_at: P, output: &mut W, errors: &mut E) -> u8
     requires reads { P.IsAlwaysCallable read_at }
     ensures status { result ≤ 2 }
     ensures quiet { result ≡ 0 → Keeps (E.contents errors.old) (E.contents errors.new) }

@@ -160,10 +160,7 @@ fn files_that_are_refused(rt: HostRuntime) -> Result<(), Fail> {
     fs::remove_file(&rt, file)?;
     for (path, said) in NO_FILES {
         assert_eq!(rt; says(&rt, &["rstore", path], said)?, Some(1));
-        assert_eq!(rt;
-            says(&rt, &["rstore", "--create", path], said)?,
-            Some(1)
-        );
+        assert_eq!(rt; says(&rt, &["rstore", "--create", path], said)?, Some(1));
     }
     Ok(())
 }
@@ -212,10 +209,7 @@ fn a_file_that_is_only_read(rt: HostRuntime) -> Result<(), Fail> {
     }
     fs::remove_file(&rt, file)?;
     for (path, said) in NO_FILES {
-        assert_eq!(rt;
-            says(&rt, &["rstore", "--read-only", path], said)?,
-            Some(1)
-        );
+        assert_eq!(rt; says(&rt, &["rstore", "--read-only", path], said)?, Some(1));
     }
     Ok(())
 }

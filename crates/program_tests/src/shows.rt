@@ -41,7 +41,8 @@ layer b: 3 axes, fanout 100, objects 0, height 1
    pages: 1 of the tree, 1 of identifiers
 ";
 
-const JSON: &str = "{\"layers\":[{\"name\":\"a\",\"axes\":2,\"fanout\":4,\"objects\":2,\"height\":1,\
+const JSON: &str =
+    "{\"layers\":[{\"name\":\"a\",\"axes\":2,\"fanout\":4,\"objects\":2,\"height\":1,\
 \"tree_pages\":1,\"identifier_pages\":3,\"bytes_per_object\":8192,\"levels\":[{\"level\":0,\"nodes\":1,\
 \"entries\":2,\"fill_per_mille\":500,\"overlap\":0}]},
 {\"name\":\"b\",\"axes\":3,\"fanout\":100,\"objects\":0,\"height\":1,\"tree_pages\":1,\"identifier_pages\":1,\
@@ -56,7 +57,10 @@ const MISUSED: &str =
 fn a_file_is_shown_and_stays(rt: HostRuntime) -> Result<(), Fail> {
     let file = "command_line_shown";
     let _ = fs::remove_file(&rt, file);
-    assert_eq!(rt; runs(&rt, &["rstore", "--create", file], TEXT, DONE, "")?, Some(0));
+    assert_eq!(rt;
+        runs(&rt, &["rstore", "--create", file], TEXT, DONE, "")?,
+        Some(0)
+    );
     let before = fs::read(&rt, file)?;
     for (words, shown) in [
         (["rstore", "--draw", "a", file].as_slice(), PICTURE),
@@ -70,7 +74,10 @@ fn a_file_is_shown_and_stays(rt: HostRuntime) -> Result<(), Fail> {
         ("c", "rstore: fail 3 NoLayer\n"),
         ("C", "rstore: fail 1 BadName\n"),
     ] {
-        assert_eq!(rt; says(&rt, &["rstore", "--draw", layer, file], said)?, Some(1));
+        assert_eq!(rt;
+            says(&rt, &["rstore", "--draw", layer, file], said)?,
+            Some(1)
+        );
     }
     assert!(rt; fs::read(&rt, file)? == before);
     fs::remove_file(&rt, file)?;
