@@ -30,7 +30,11 @@ returns c =
     let own : c.default_value-cache.result.global ≡ false = rw (c.default_value-cache.ensures, parsed) here in
     let create_is : rule_of c.flag-create.result ≡ create_rule = c.flag-create.ensures.rule in
     let read_is : rule_of c.flag-read_only.result ≡ read_only_rule = c.flag-read_only.ensures.rule in
-    let draw_is : rule_of c.help-draw.result ≡ draw_rule = search rules in
+    let draw_is : rule_of c.help-draw.result ≡ draw_rule =
+    rw (c.help-draw.ensures, c.value_name-2.ensures, c.long-2.ensures)
+    (ap (λ (r : Rule). record r { long = Some (codes "draw"); value_names = 1 }) c.new-3.ensures.rule) in
+    let draws : c.help-draw.result.global ≡ false =
+    rw (c.help-draw.ensures, c.value_name-2.ensures, c.long-2.ensures) c.new-3.ensures.optional.1 in
     let stats_is : rule_of c.flag-stats.result ≡ stats_rule = c.flag-stats.ensures.rule in
     let json_is : rule_of c.flag-json.result ≡ json_rule = c.flag-json.ensures.rule in
     let file_is : rule_of c.help-file.result ≡ file_rule = search rules in
@@ -45,7 +49,7 @@ returns c =
     ∙ ap₂ with_rule
     (c.in_ok-arg-5.ensures.shape c.flag-stats.ensures.own
     ∙ ap₂ with_rule
-    (c.in_ok-arg-4.ensures.shape (search rules)
+    (c.in_ok-arg-4.ensures.shape draws
     ∙ ap₂ with_rule
     (c.in_ok-arg-3.ensures.shape c.flag-read_only.ensures.own
     ∙ ap₂ with_rule
