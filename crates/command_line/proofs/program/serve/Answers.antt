@@ -75,25 +75,17 @@ returns-then-show-clause-in_file g c = λ path taken named.
     let it = some_so (λ f. f.now) c.in-Ok.options.file _ path c.show_asked.ensures.shown (asked.file_is ∙ named) in
     inr (inr (inr (inr (it.0, it.1, shown, refl, it.2))))
 
-pub returns-in_default-then-options-clause-in_memory : goal.returns-in_default-then-options-clause-in_memory
-returns-in_default-then-options-clause-in_memory g c = λ taken none.
-    let asked = c.in-Ok.ensures.asked in
-    let shown =
-    shown_so (texts c.args.words.now) _ c.show.result _ c.in-Ok.ensures.shown c.show.ensures c.if-show.false in
-    let read = subst (AsksToRead (texts c.args.words.now)) c.if-options.true asked.read_is in
-    inr (inr (inl (shown, read, misused_so _ _ _ c.misused.ensures)))
-
-pub returns-then-options-then-options-clause-in_file : goal.returns-then-options-then-options-clause-in_file
-returns-then-options-then-options-clause-in_file g c = λ path taken named.
+pub returns-then-options-3-clause-in_file : goal.returns-then-options-3-clause-in_file
+returns-then-options-3-clause-in_file g c = λ path taken named.
     let asked = c.in-Ok.ensures.asked in
     let shown =
     shown_so (texts c.args.words.now) _ c.show.result _ c.in-Ok.ensures.shown c.show.ensures c.if-show.false in
     let read = subst (AsksToRead (texts c.args.words.now)) c.if-options-2.true asked.read_is in
     let make = subst (AsksToMake (texts c.args.words.now)) c.if-options-3.true asked.create_is in
-    inr (inl (shown, make, read, misused_so _ _ _ c.misused.ensures))
+    inr (inl (shown, make, read, misused_so _ _ _ c.misused-then-options-3.ensures))
 
-pub returns-then-options-clause-in_file : goal.returns-then-options-clause-in_file
-returns-then-options-clause-in_file g c = λ path taken named.
+pub returns-then-options-2-clause-in_file : goal.returns-then-options-2-clause-in_file
+returns-then-options-2-clause-in_file g c = λ path taken named.
     let asked = c.in-Ok.ensures.asked in
     let is = ap (option_map (λ f. f.now)) (sym c.in-Some.is) ∙ asked.file_is ∙ named in
     let shown =
@@ -102,8 +94,8 @@ returns-then-options-clause-in_file g c = λ path taken named.
     let make = subst (AsksToMake (texts c.args.words.now)) c.if-options-3.false asked.create_is in
     inr (inr (inr (inl (c.in-Some.path, same_path _ _ is, shown, make, read, c.read_path.ensures.served))))
 
-pub returns-in-Err-serve_path-clause-in_file : goal.returns-in-Err-serve_path-clause-in_file
-returns-in-Err-serve_path-clause-in_file g c = λ path taken named.
+pub returns-clause-in_file : goal.returns-clause-in_file
+returns-clause-in_file g c = λ path taken named.
     let asked = c.in-Ok.ensures.asked in
     let is = ap (option_map (λ f. f.now)) (sym c.in-Some.is) ∙ asked.file_is ∙ named in
     let shown =
