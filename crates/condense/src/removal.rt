@@ -1,27 +1,23 @@
 //! A lawful removal: the object leaves, what is kept comes back, and the root gives way.
 
-ghost use Rattle.std.specs.Prelude.{◌≡◌, ◌⊎◌, ◌*◌, ◌<◌, ◌≤◌, [], ◌∷◌, ℕ, IfOk, IfErr, true, false, map};
-ghost use Rattle.std.specs.Prelude.{◌^◌};
-ghost use Rattle.std.specs.List.{Contains};
-ghost use Rattle.std.specs.List.Sorted.{IsPermutation};
+ghost use Rattle.std.specs.Prelude.{◌≡◌, ◌⊎◌, ◌*◌, ◌<◌, ◌≤◌, [], ℕ, IfOk, IfErr, true, false, map};
 ghost use Rattle.arrayvec.specs.ArrayVec.{array_vec_len};
 ghost use Rattle.box_math.specs.Bounds.{IsDims};
 ghost use Rattle.box_math.specs.Objects.{Object};
 ghost use Rattle.page_file.specs.Fault.{IsOfDevice};
 ghost use Rattle.page_file.specs.declared.fault.Fault.TheVariants as fault;
 ghost use Rattle.page_file.specs.declared.gate.Gate.TheVariants.{Open};
-ghost use Rattle.page_cache.specs.Cache.{Grows, IsLive, IsPageMap, gate_of, given, pages, touched_of};
+ghost use Rattle.page_cache.specs.Cache.{Grows, IsLive, IsPageMap, gate_of, pages, touched_of};
 ghost use Rattle.page_cache.specs.Calls.{Changes};
 ghost use Rattle.tree_node.specs.Boxes.{RowHasBoxes};
 ghost use Rattle.tree_node.specs.Nodes.{content_of, item_of};
 ghost use Rattle.tree_node.specs.Shape.{HasShape};
-ghost use Rattle.tree_node.specs.Trees.{Tree, objects_in};
-ghost use Rattle.node_page.specs.Checked.{ComesTo};
-ghost use Rattle.node_page.specs.Standing.{PageMap, Stands, node_in};
+ghost use Rattle.tree_node.specs.Trees.{Tree};
+ghost use Rattle.node_page.specs.Standing.{PageMap, node_in};
 ghost use Rattle.node_page.specs.Faults.{IsChangeFault, IsNoDamage, NamesInRange};
-ghost use Rattle.reinsert.specs.Inserted.{IsRootOf, most_new_pages};
-ghost use Rattle.condense.specs.Removed.{CanRemove, IsRefused, IsRoot, RemovesTo, TookOut};
-ghost use Rattle.condense.specs.Removed.{most_removal_pages};
+ghost use Rattle.reinsert.specs.Inserted.{most_new_pages};
+ghost use Rattle.condense.specs.Removed.{IsRoot, RemovesTo, TookOut};
+ghost use Rattle.condense.specs.Steps.{Removes};
 ghost use Rattle.condense.specs.Taken.{IsCut, held_now};
 
 use crate::fill::insert_kept;
@@ -67,29 +63,7 @@ pub fn remove<const D: usize, B: BlockDevice, A: Allocator + Copy, H: Allocator 
     requires open { gate_of cache.old ≡ Open }
     requires most { (4 ≤ m_max) × (m_max ≤ 100) }
     requires root { IsRoot root }
-    ensures changes { Changes cache.old cache.new result }
-    ensures grows { Grows most_removal_pages cache.old cache.new }
-    ensures root { IfOk result IsRoot }
-    ensures removed { IsPageMap cache.old → (t : Tree) (elsewhere : ℕ → ℕ)
-        → CanRemove D (pages cache.old) root t elsewhere → IfOk result (λ after. IsPageMap cache.new
-        × RemovesTo D m_max (pages cache.old) (pages cache.new) elsewhere id (bounds.now, tag) t after) }
-    ensures shape { IsPageMap cache.old → (t : Tree) (elsewhere : ℕ → ℕ)
-        → CanRemove D (pages cache.old) root t elsewhere → HasShape D m_max t → RowHasBoxes D t.row
-        → IfOk result (λ after. (new : Tree) → IsRootOf after new → Stands D (pages cache.new) new
-        → HasShape D m_max new
-        × IsPermutation ((id, (bounds.now, tag)) ∷ objects_in new.row) (objects_in t.row)) }
-    ensures absent { IsPageMap cache.old → (t : Tree) (elsewhere : ℕ → ℕ)
-        → CanRemove D (pages cache.old) root t elsewhere →
-        ¬ Contains (objects_in t.row) (id, (bounds.now, tag))
-        → IsRefused root.page cache.old cache.new result }
-    ensures faults { IsPageMap cache.old → (t : Tree) (elsewhere : ℕ → ℕ)
-        → CanRemove D (pages cache.old) root t elsewhere → HasShape D m_max t → RowHasBoxes D t.row
-        → Contains (objects_in t.row) (id, (bounds.now, tag)) →
-        IfErr result (IsNoDamage cache.new) }
-    ensures damage { IsPageMap cache.old → touched_of cache.new ≡ false
-        → IfErr result (λ f. (n : ℕ) → f ≡ fault.Damaged n → ComesTo D (given cache.old) root.page n) }
-    ensures number { IsPageMap cache.old → IfErr result NamesInRange }
-    ensures other_faults { IfErr result IsChangeFault }
+    ensures { Removes D m_max root id (bounds.now, tag) cache.old cache.new result }
 {
     let mut waiting = Waiting::make(alloc)?;
     let mut kept = Kept::make(alloc)?;
@@ -112,29 +86,7 @@ pub fn remove_with<const D: usize, B: BlockDevice, A: Allocator + Copy>(
     requires open { gate_of cache.old ≡ Open }
     requires most { (4 ≤ m_max) × (m_max ≤ 100) }
     requires root { IsRoot root }
-    ensures changes { Changes cache.old cache.new result }
-    ensures grows { Grows most_removal_pages cache.old cache.new }
-    ensures root { IfOk result IsRoot }
-    ensures removed { IsPageMap cache.old → (t : Tree) (elsewhere : ℕ → ℕ)
-        → CanRemove D (pages cache.old) root t elsewhere → IfOk result (λ after. IsPageMap cache.new
-        × RemovesTo D m_max (pages cache.old) (pages cache.new) elsewhere id (bounds.now, tag) t after) }
-    ensures shape { IsPageMap cache.old → (t : Tree) (elsewhere : ℕ → ℕ)
-        → CanRemove D (pages cache.old) root t elsewhere → HasShape D m_max t → RowHasBoxes D t.row
-        → IfOk result (λ after. (new : Tree) → IsRootOf after new → Stands D (pages cache.new) new
-        → HasShape D m_max new
-        × IsPermutation ((id, (bounds.now, tag)) ∷ objects_in new.row) (objects_in t.row)) }
-    ensures absent { IsPageMap cache.old → (t : Tree) (elsewhere : ℕ → ℕ)
-        → CanRemove D (pages cache.old) root t elsewhere →
-        ¬ Contains (objects_in t.row) (id, (bounds.now, tag))
-        → IsRefused root.page cache.old cache.new result }
-    ensures faults { IsPageMap cache.old → (t : Tree) (elsewhere : ℕ → ℕ)
-        → CanRemove D (pages cache.old) root t elsewhere → HasShape D m_max t → RowHasBoxes D t.row
-        → Contains (objects_in t.row) (id, (bounds.now, tag)) →
-        IfErr result (IsNoDamage cache.new) }
-    ensures damage { IsPageMap cache.old → touched_of cache.new ≡ false
-        → IfErr result (λ f. (n : ℕ) → f ≡ fault.Damaged n → ComesTo D (given cache.old) root.page n) }
-    ensures number { IsPageMap cache.old → IfErr result NamesInRange }
-    ensures other_faults { IfErr result IsChangeFault }
+    ensures { Removes D m_max root id (bounds.now, tag) cache.old cache.new result }
 {
     kept.begin();
     let mut settled = false;

@@ -1,21 +1,11 @@
 //! An object taken out below a node, and the nodes between condensed.
 
-ghost use Rattle.std.specs.Prelude.{◌≡◌, ◌⊎◌, ◌+◌, ◌*◌, ◌<◌, ◌≤◌, ℕ, IfOk, IfErr, None, OnErr, false, true};
-ghost use Rattle.std.specs.Prelude.{map};
-ghost use Rattle.std.specs.List.{Contains};
+ghost use Rattle.std.specs.Prelude.{◌≡◌, ◌+◌, ◌*◌, ◌≤◌};
 ghost use Rattle.arrayvec.specs.ArrayVec.{array_vec_len};
 ghost use Rattle.box_math.specs.Bounds.{IsDims};
-ghost use Rattle.page_file.specs.Fault.{IsDamage, IsOfDevice};
-ghost use Rattle.page_file.specs.declared.fault.Fault.TheVariants as fault;
 ghost use Rattle.page_file.specs.declared.gate.Gate.TheVariants.{Open};
-ghost use Rattle.page_cache.specs.Cache.{Grows, IsPageMap, gate_of, given, pages, touched_of};
-ghost use Rattle.page_cache.specs.Calls.{AsksUntil, Changes};
-ghost use Rattle.tree_node.specs.Nodes.{content_of, item_of};
-ghost use Rattle.tree_node.specs.Trees.{Row, objects_in};
-ghost use Rattle.node_page.specs.Checked.{ComesTo};
-ghost use Rattle.node_page.specs.Standing.{Stands, node_in};
-ghost use Rattle.condense.specs.Spelled.{StaysAbove};
-ghost use Rattle.condense.specs.Taken.{HasTaken, IsCut, LeadsTo, held_now, tree_at};
+ghost use Rattle.page_cache.specs.Cache.{gate_of};
+ghost use Rattle.condense.specs.Steps.{TakesOutBelow};
 
 use crate::children::child_of;
 use crate::kept::Kept;
@@ -50,33 +40,8 @@ pub(crate) fn take_out<const D: usize, B: BlockDevice, A: Allocator + Copy>(
     requires open { gate_of cache.old ≡ Open }
     requires most { (4 ≤ m_max) × (m_max ≤ 100) }
     requires room { array_vec_len kept.old.orphans + 39 * at.level ≤ 1560 }
-    ensures changes { Changes cache.old cache.new result }
-    ensures grows { Grows 0 cache.old cache.new }
-    ensures cut { IfOk result (λ found. found ≡ true → IsCut at.level (content_of node.new)) }
-    ensures room { array_vec_len kept.new.orphans ≤ array_vec_len kept.old.orphans + 39 * at.level }
-    ensures none { IfOk result (λ found. found ≡ false → AsksUntil cache.old cache.new None
-        × (kept.new.orphans.items ≡ kept.old.orphans.items)) }
-    ensures taken { IsPageMap cache.old → (row : Row) → Stands D (pages cache.old) (tree_at at row)
-        → IfOk result (λ found. found ≡ true → IsPageMap cache.new × HasTaken D m_max (pages cache.old)
-        (pages cache.new) at.level id (bounds.now, tag) row (held_now kept.old) (held_now kept.new)
-        (map item_of node.new.entries.items)) }
-    ensures settled { IsPageMap cache.old → (row : Row) → Stands D (pages cache.old) (tree_at at row)
-        → settled.new ≡ true → IfOk result (λ found. found ≡ true
-        → node_in D (pages cache.new at.page) ≡ Some (content_of node.new)) }
-    ensures found { IsPageMap cache.old → (row : Row) → Stands D (pages cache.old) (tree_at at row)
-        → LeadsTo D id (bounds.now, tag) row → IfOk result (λ found. found ≡ true) }
-    ensures absent { IsPageMap cache.old → (row : Row) → Stands D (pages cache.old) (tree_at at row)
-        → ¬ Contains (objects_in row) (id, (bounds.now, tag))
-        → OnErr result (touched_of cache.new ≡ touched_of cache.old) }
-    ensures faults { IsPageMap cache.old → (row : Row) → Stands D (pages cache.old) (tree_at at row)
-        → IfErr result IsOfDevice }
-    ensures sound { IsPageMap cache.old → IfOk result (λ found. found ≡ true → IsPageMap cache.new
-        × StaysAbove D at.page at.level (pages cache.old) (pages cache.new)) }
-    ensures touched { IsPageMap cache.old → IfOk result (λ found. found ≡ true
-        → (kept.new.orphans.items ≡ kept.old.orphans.items) ⊎ (touched_of cache.new ≡ true)) }
-    ensures damage { IsPageMap cache.old
-        → IfErr result (λ f. (n : ℕ) → f ≡ fault.Damaged n → ComesTo D (given cache.old) at.page n) }
-    ensures other_faults { IfErr result (λ f. IsOfDevice f ⊎ IsDamage f) }
+    ensures { TakesOutBelow m_max at id (bounds.now, tag) cache.old cache.new kept.old kept.new node.new
+        settled.new result }
 {
     if at.level == 0 {
         *settled = false;

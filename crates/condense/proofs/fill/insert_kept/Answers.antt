@@ -84,7 +84,7 @@ returns-in_err-now-clause-faults g c = λ h t ws elsewhere can shaped.
     let s = comes_shaped D c.args.m_max m m1 t ws elsewhere c.inserting.now item level held f k shaped in
     at_error c.from_residual.result c.in_err-now.field-0.0 (IsNoDamage c.insert_with.new.cache)
     c.from_residual.ensures.1
-    (c.in_err-now.ensures.faults so_far.0 f.mid k.w.branch
+    (c.in_err-now.ensures.inserts.faults so_far.0 f.mid k.w.branch
     (λ n. occurs_waiting n k.ws' + elsewhere n)
     (can_insert D c.args.m_max m m1 t ws elsewhere c.inserting.now item level held f k
     (omega (arith, c.if-orphan-now.false))) s.1 s.2 s.3)
@@ -92,15 +92,15 @@ returns-in_err-now-clause-faults g c = λ h t ws elsewhere can shaped.
 pub inserting-preserved : goal.inserting-preserved
 inserting-preserved g c = (
   changes_in_turn c.args.cache.now c.inserting.cache c.insert_with.new.cache None c.inserting.invariant.0
-      c.in_ok-now.ensures.changes,
-  record { low = c.in_ok-now.ensures.root.low; page = c.in_ok-now.ensures.root.page },
+      c.in_ok-now.ensures.inserts.changes,
+  record { low = c.in_ok-now.ensures.inserts.root.low; page = c.in_ok-now.ensures.inserts.root.page },
   omega (arith, c.inserting.invariant.2, c.in-Some.ensures.fewer),
   omega (
     arith,
     c.inserting.invariant.2,
     c.inserting.invariant.3,
     c.in-Some.ensures.fewer,
-    c.in_ok-now.ensures.grows,
+    c.in_ok-now.ensures.inserts.grows,
   ),
   λ h t ws elsewhere can.
       let D = g.row.D in
@@ -114,16 +114,16 @@ inserting-preserved g c = (
       let held = held_now c.next.new.self in
       let k = comes D c.args.m_max m m1 t ws elsewhere c.inserting.now item level held f in
       let done =
-      c.in_ok-now.ensures.inserted so_far.0 f.mid k.w.branch (λ n. occurs_waiting n k.ws' + elsewhere n)
+      c.in_ok-now.ensures.inserts.inserted so_far.0 f.mid k.w.branch (λ n. occurs_waiting n k.ws' + elsewhere n)
       (can_insert D c.args.m_max m m1 t ws elsewhere c.inserting.now item level held f k
       (omega (arith, c.if-orphan-now.false))) in (
         done.0,
         filled_more D c.args.m_max m m1 t ws elsewhere c.inserting.now item level held f k
-            (pages c.insert_with.new.cache) c.in_ok-now.now c.in_ok-now.ensures.root.rises
+            (pages c.insert_with.new.cache) c.in_ok-now.now c.in_ok-now.ensures.inserts.root.rises
             (omega (arith, c.requires.most)) done.1,
       ),
   λ none. absurd (omega (arith, c.in-Some.ensures.fewer, ap length (c.inserting.invariant.5 none).0)),
-  λ h. c.in_ok-now.ensures.sound (c.inserting.invariant.6 h),
+  λ h. c.in_ok-now.ensures.inserts.sound (c.inserting.invariant.6 h),
 )
 
 pub returns-clause-filled : goal.returns-clause-filled
@@ -139,7 +139,7 @@ pub returns-in_err-now-clause-changes : goal.returns-in_err-now-clause-changes
 returns-in_err-now-clause-changes g c =
     changes_and_refuses c.args.cache.now c.inserting.cache c.insert_with.new.cache
     c.in_err-now.field-0.0 c.from_residual.result c.from_residual.ensures.1
-    c.inserting.invariant.0 c.in_err-now.ensures.changes
+    c.inserting.invariant.0 c.in_err-now.ensures.inserts.changes
 
 pub returns-then-orphan-now-clause-none : goal.returns-then-orphan-now-clause-none
 returns-then-orphan-now-clause-none g c = λ none.
@@ -162,7 +162,7 @@ returns-then-orphan-now-clause-number g c = λ h n damaged.
 pub returns-in_err-now-clause-number : goal.returns-in_err-now-clause-number
 returns-in_err-now-clause-number g c = λ h.
     at_error c.from_residual.result c.in_err-now.field-0.0 NamesInRange
-    c.from_residual.ensures.1 (c.in_err-now.ensures.number (c.inserting.invariant.6 h))
+    c.from_residual.ensures.1 (c.in_err-now.ensures.inserts.number (c.inserting.invariant.6 h))
 
 pub returns-clause-sound : goal.returns-clause-sound
 returns-clause-sound g c = c.inserting.invariant.6

@@ -13,7 +13,7 @@ use Rattle.tree_node.specs.Nodes.{Item, content_of, item_of}
 use Rattle.node_page.specs.Layout.{IsOfLevel, IsSpellable}
 use Rattle.node_page.specs.Standing.{PageMap}
 use Rattle.node_page.specs.Faults.{IsChangeFault, IsNoDamage, NamesInRange}
-use Rattle.reinsert.proofs.FaultLemmas.{one_more}
+use Rattle.reinsert.proofs.FaultLemmas.{damaged_asks, one_more}
 use Rattle.condense.specs.Filled.{GivesWayTo}
 use Rattle.condense.specs.Removed.{RemovesTo}
 use Rattle.condense.specs.Taken.{held_now}
@@ -21,7 +21,7 @@ use Rattle.condense.proofs.CutLemmas.{length-items}
 use Rattle.node_page.proofs.DamageLemmas.{comes_in_range, damaged_read}
 use Rattle.node_page.proofs.NodeLemmas.{at_error}
 use Rattle.condense.proofs.DamageLemmas.{device_names_none}
-use Rattle.condense.proofs.RemoveLemmas.{damaged_asks, map_err, map_ok, no_damage}
+use Rattle.condense.proofs.RemoveLemmas.{map_err, map_ok, no_damage}
 use Rattle.condense.proofs.RootLemmas.{can_fill, cut_root, removes_to, root_stays_live}
 use Rattle.condense.proofs.ShapeLemmas.{cut_shaped}
 use Rattle.condense.proofs.removal.put_root.Goals as goal

@@ -25,7 +25,7 @@ returns-in_err-after-clause-faults g c = λ sound l objects at.
     at in
     at_error c.from_residual.result c.in_err-after.field-0.0
     (IsNoDamage c.insert_with.new.cache) c.from_residual.ensures.1
-    (c.in_err-after.ensures.faults sound l.tree
+    (c.in_err-after.ensures.inserts.faults sound l.tree
     (branch D c.from.result m c.args.root c.args.directory l objects is id kept) (part_of l.ids)
     (can_insert D c.from.result m c.args.root c.args.directory l objects is id kept)
     (loose D c.from.result l.tree is.tree.shape) is.boxes
@@ -35,7 +35,7 @@ returns-in_err-after-clause-faults g c = λ sound l objects at.
 pub returns-clause-changes : goal.returns-clause-changes
 returns-clause-changes g c =
     changes_in_turn c.args.cache.now c.insert_with.new.cache c.add.new.cache None
-    c.in_ok-after.ensures.changes c.in_ok-add.ensures.changes
+    c.in_ok-after.ensures.inserts.changes c.in_ok-add.ensures.changes
 
 pub returns-clause-sound : goal.returns-clause-sound
 returns-clause-sound g c = λ sound l objects at.
@@ -47,7 +47,7 @@ returns-clause-sound g c = λ sound l objects at.
     subst (λ (most : ℕ). IsLayerAt D most m c.args.root c.args.directory l objects) (sym c.from.ensures)
     at in
     let to =
-    c.in_ok-after.ensures.inserted sound l.tree
+    c.in_ok-after.ensures.inserts.inserted sound l.tree
     (branch D c.from.result m c.args.root c.args.directory l objects is id kept) (part_of l.ids)
     (can_insert D c.from.result m c.args.root c.args.directory l objects is id kept) in
     c.in_ok-add.ensures.sound to.0 l.ids is.directory_is
@@ -65,7 +65,7 @@ returns-clause-inserted g c = λ sound l objects at absent.
     subst (λ (most : ℕ). IsLayerAt D most m c.args.root c.args.directory l objects) (sym c.from.ensures)
     at in
     let to =
-    c.in_ok-after.ensures.inserted sound l.tree
+    c.in_ok-after.ensures.inserts.inserted sound l.tree
     (branch D c.from.result m c.args.root c.args.directory l objects is id kept) (part_of l.ids)
     (can_insert D c.from.result m c.args.root c.args.directory l objects is id kept) in
     let stand =
@@ -85,7 +85,7 @@ pub returns-in_err-add-clause-changes : goal.returns-in_err-add-clause-changes
 returns-in_err-add-clause-changes g c =
     changes_and_refuses c.args.cache.now c.insert_with.new.cache c.add.new.cache
     c.in_err-add.field-0.0 c.from_residual-in_err-add.result c.from_residual-in_err-add.ensures.1
-    c.in_ok-after.ensures.changes c.in_err-add.ensures.changes
+    c.in_ok-after.ensures.inserts.changes c.in_err-add.ensures.changes
 
 pub returns-in_err-add-clause-faults : goal.returns-in_err-add-clause-faults
 returns-in_err-add-clause-faults g c = λ sound l objects at.
@@ -97,7 +97,7 @@ returns-in_err-add-clause-faults g c = λ sound l objects at.
     subst (λ (most : ℕ). IsLayerAt D most m c.args.root c.args.directory l objects) (sym c.from.ensures)
     at in
     let to =
-    c.in_ok-after.ensures.inserted sound l.tree
+    c.in_ok-after.ensures.inserts.inserted sound l.tree
     (branch D c.from.result m c.args.root c.args.directory l objects is id kept) (part_of l.ids)
     (can_insert D c.from.result m c.args.root c.args.directory l objects is id kept) in
     let stand =

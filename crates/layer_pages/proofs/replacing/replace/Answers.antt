@@ -60,7 +60,7 @@ pub returns-in_err-after-clause-changes : goal.returns-in_err-after-clause-chang
 returns-in_err-after-clause-changes g c =
     changes_and_refuses c.args.cache.now c.remove_with.new.cache c.insert_with.new.cache
     c.in_err-after.field-0.0 c.from_residual-in_err-after.result c.from_residual-in_err-after.ensures.1
-    c.in_ok-between.ensures.changes c.in_err-after.ensures.changes
+    c.in_ok-between.ensures.changes c.in_err-after.ensures.inserts.changes
 
 pub returns-in_err-after-clause-absent : goal.returns-in_err-after-clause-absent
 returns-in_err-after-clause-absent g c = λ sound l objects at absent.
@@ -91,7 +91,7 @@ returns-in_err-after-clause-faults g c = λ sound l objects at there.
     c.in_ok-between.between to.1 in
     at_error c.from_residual-in_err-after.result c.in_err-after.field-0.0 (IsNoDamage c.insert_with.new.cache)
     c.from_residual-in_err-after.ensures.1
-    (c.in_err-after.ensures.faults to.0 to.1.new (object (c.args.new.now, c.args.tag) c.args.id)
+    (c.in_err-after.ensures.inserts.faults to.0 to.1.new (object (c.args.new.now, c.args.tag) c.args.id)
     (part_of l.ids)
     (can_insert_between D c.from-most.result m c.args.root c.args.directory l objects is four c.args.id
     (c.args.old.now, c.args.tag) (c.args.new.now, c.args.tag) (pages c.remove_with.new.cache)
@@ -102,13 +102,13 @@ returns-in_err-after-clause-faults g c = λ sound l objects at there.
 pub returns-in_err-after-clause-other_faults : goal.returns-in_err-after-clause-other_faults
 returns-in_err-after-clause-other_faults g c =
     at_error c.from_residual-in_err-after.result c.in_err-after.field-0.0 IsChangeFault
-    c.from_residual-in_err-after.ensures.1 c.in_err-after.ensures.other_faults
+    c.from_residual-in_err-after.ensures.1 c.in_err-after.ensures.inserts.other_faults
 
 pub returns-clause-changes : goal.returns-clause-changes
 returns-clause-changes g c =
     changes_in_turn c.args.cache.now c.insert_with.new.cache c.update.new.cache None
     (changes_in_turn c.args.cache.now c.remove_with.new.cache c.insert_with.new.cache None
-    c.in_ok-between.ensures.changes c.in_ok-after.ensures.changes) c.in_ok-update.ensures.changes
+    c.in_ok-between.ensures.changes c.in_ok-after.ensures.inserts.changes) c.in_ok-update.ensures.changes
 
 pub returns-clause-sound : goal.returns-clause-sound
 returns-clause-sound g c = λ sound l objects at there.
@@ -122,7 +122,7 @@ returns-clause-sound g c = λ sound l objects at there.
     c.in_ok-between.ensures.removed sound l.tree (part_of l.ids)
     (can_remove D c.from-most.result m c.args.root c.args.directory l objects is) in
     let into =
-    c.in_ok-after.ensures.inserted to.0 to.1.new (object (c.args.new.now, c.args.tag) c.args.id)
+    c.in_ok-after.ensures.inserts.inserted to.0 to.1.new (object (c.args.new.now, c.args.tag) c.args.id)
     (part_of l.ids)
     (can_insert_between D c.from-most.result m c.args.root c.args.directory l objects is four c.args.id
     (c.args.old.now, c.args.tag) (c.args.new.now, c.args.tag) (pages c.remove_with.new.cache)
@@ -145,7 +145,7 @@ returns-clause-replaced g c = λ sound l objects at there.
     c.in_ok-between.ensures.removed sound l.tree (part_of l.ids)
     (can_remove D c.from-most.result m c.args.root c.args.directory l objects is) in
     let into =
-    c.in_ok-after.ensures.inserted to.0 to.1.new (object (c.args.new.now, c.args.tag) c.args.id)
+    c.in_ok-after.ensures.inserts.inserted to.0 to.1.new (object (c.args.new.now, c.args.tag) c.args.id)
     (part_of l.ids)
     (can_insert_between D c.from-most.result m c.args.root c.args.directory l objects is four c.args.id
     (c.args.old.now, c.args.tag) (c.args.new.now, c.args.tag) (pages c.remove_with.new.cache)
@@ -185,7 +185,7 @@ returns-in_err-update-clause-changes g c =
     changes_and_refuses c.args.cache.now c.insert_with.new.cache c.update.new.cache
     c.in_err-update.field-0.0 c.from_residual-in_err-update.result c.from_residual-in_err-update.ensures.1
     (changes_in_turn c.args.cache.now c.remove_with.new.cache c.insert_with.new.cache None
-    c.in_ok-between.ensures.changes c.in_ok-after.ensures.changes) c.in_err-update.ensures.changes
+    c.in_ok-between.ensures.changes c.in_ok-after.ensures.inserts.changes) c.in_err-update.ensures.changes
 
 pub returns-in_err-update-clause-absent : goal.returns-in_err-update-clause-absent
 returns-in_err-update-clause-absent g c = λ sound l objects at absent.
@@ -211,7 +211,7 @@ returns-in_err-update-clause-faults g c = λ sound l objects at there.
     c.in_ok-between.ensures.removed sound l.tree (part_of l.ids)
     (can_remove D c.from-most.result m c.args.root c.args.directory l objects is) in
     let into =
-    c.in_ok-after.ensures.inserted to.0 to.1.new (object (c.args.new.now, c.args.tag) c.args.id)
+    c.in_ok-after.ensures.inserts.inserted to.0 to.1.new (object (c.args.new.now, c.args.tag) c.args.id)
     (part_of l.ids)
     (can_insert_between D c.from-most.result m c.args.root c.args.directory l objects is four c.args.id
     (c.args.old.now, c.args.tag) (c.args.new.now, c.args.tag) (pages c.remove_with.new.cache)

@@ -32,7 +32,7 @@ write_both-requires g c = (
 )
 
 pub returns-clause-settled : goal.returns-clause-settled
-returns-clause-settled g c = λ h top branches held are can.
+returns-clause-settled g c = λ h top held branches are can.
     let first = c.split-first.result.0.items in
     let second = c.split-first.result.1.items in
     let other : c.least-other.result ≡ least_box g.row.D (map item_of second) =
