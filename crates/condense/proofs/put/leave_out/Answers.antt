@@ -26,7 +26,7 @@ returns-clause-back g c = record {
   changes = search rules;
   grows = search rules;
   cut = cut_removed c.args.node.now.level c.args.node.now.entries.items c.remove.new.self.items c.args.place
-    c.requires.spellable c.requires.within c.remove.ensures.items;
+      c.requires.spellable c.requires.within c.remove.ensures.items;
   entries = items-removed c.remove.new.self.items c.args.node.now.entries.items c.args.place c.remove.ensures.items;
   sound = λ h live. c.free.ensures.sound h live;
   others = λ h live. c.free.ensures.others h.honest live;
@@ -46,8 +46,8 @@ returns-in_err-free-clause-back g c = record {
   sound = λ h live. c.free.ensures.sound h live;
   others = λ h live. c.free.ensures.others h.honest live;
   faults = λ h live.
-    at_error c.from_residual.result c.in_err-free.field-0.0 IsOfDevice c.from_residual.ensures.1
-    (c.in_err-free.ensures.faults h live (λ two. omega (arith, two, c.requires.page)));
+      at_error c.from_residual.result c.in_err-free.field-0.0 IsOfDevice c.from_residual.ensures.1
+      (c.in_err-free.ensures.faults h live (λ two. omega (arith, two, c.requires.page)));
   other_faults = at_error c.from_residual.result c.in_err-free.field-0.0 (λ f. IsOfDevice f ⊎ IsDamage f) c.from_residual.ensures.1 c.in_err-free.ensures.other_faults;
 }
 

@@ -34,26 +34,26 @@ returns-clause-back g c = record {
   changes = search rules;
   grows = search rules;
   cut = let new =
-    above_none c.args.node.now.level c.args.node.now.entries.items c.deref_mut.result.now c.args.place
-    (record { bounds = c.least-bounds.result; beside = None }) c.index-deref_mut-place.result
-    c.requires.within c.deref_mut.ensures.value
-    (All-mapped c.args.node.now.level c.args.node.now.entries.items c.requires.spellable.refers) tt _
-    (λ x is. absurd (cc)) refl in
-    cut_boxed c.args.node.now.level c.args.node.now.entries.items _ c.args.place c.least-bounds.result
-    c.requires.spellable
-    (new.items
-    ∙ append-nil (set_box (map item_of c.args.node.now.entries.items) c.args.place c.least-bounds.result));
+      above_none c.args.node.now.level c.args.node.now.entries.items c.deref_mut.result.now c.args.place
+      (record { bounds = c.least-bounds.result; beside = None }) c.index-deref_mut-place.result
+      c.requires.within c.deref_mut.ensures.value
+      (All-mapped c.args.node.now.level c.args.node.now.entries.items c.requires.spellable.refers) tt _
+      (λ x is. absurd (cc)) refl in
+      cut_boxed c.args.node.now.level c.args.node.now.entries.items _ c.args.place c.least-bounds.result
+      c.requires.spellable
+      (new.items
+      ∙ append-nil (set_box (map item_of c.args.node.now.entries.items) c.args.place c.least-bounds.result));
   entries = let new =
-    above_none c.args.node.now.level c.args.node.now.entries.items c.deref_mut.result.now c.args.place
-    (record { bounds = c.least-bounds.result; beside = None }) c.index-deref_mut-place.result
-    c.requires.within c.deref_mut.ensures.value
-    (All-mapped c.args.node.now.level c.args.node.now.entries.items c.requires.spellable.refers) tt _
-    (λ x is. absurd (cc)) refl in
-    let box = c.least-bounds.ensures
-    ∙ ap (λ (es : List (Entry g.row.D)). least_box g.row.D (map item_of es)) c.as_slice.ensures.value in
-    new.items
-    ∙ append-nil (set_box (map item_of c.args.node.now.entries.items) c.args.place c.least-bounds.result)
-    ∙ ap (set_box (map item_of c.args.node.now.entries.items) c.args.place) box;
+      above_none c.args.node.now.level c.args.node.now.entries.items c.deref_mut.result.now c.args.place
+      (record { bounds = c.least-bounds.result; beside = None }) c.index-deref_mut-place.result
+      c.requires.within c.deref_mut.ensures.value
+      (All-mapped c.args.node.now.level c.args.node.now.entries.items c.requires.spellable.refers) tt _
+      (λ x is. absurd (cc)) refl in
+      let box = c.least-bounds.ensures
+      ∙ ap (λ (es : List (Entry g.row.D)). least_box g.row.D (map item_of es)) c.as_slice.ensures.value in
+      new.items
+      ∙ append-nil (set_box (map item_of c.args.node.now.entries.items) c.args.place c.least-bounds.result)
+      ∙ ap (set_box (map item_of c.args.node.now.entries.items) c.args.place) box;
   sound = λ h live. c.settle.ensures.sound h live;
   others = λ h live. c.settle.ensures.others h.honest live;
   faults = λ h live. tt;

@@ -22,19 +22,19 @@ returns-in_err-waiting g c = record {
   removed = λ h t elsewhere can. no_answer c.from_residual.result c.in_err-waiting.field-0.0 _ c.from_residual.ensures.1;
   shape = λ h t elsewhere can shape boxes. no_answer c.from_residual.result c.in_err-waiting.field-0.0 _ c.from_residual.ensures.1;
   absent = λ h t elsewhere can lacks.
-    (refl, refused_so c.from_residual.result c.in_err-waiting.field-0.0 (λ f. IsOfDevice f ⊎ (f ≡ Damaged c.args.root.page)) c.from_residual.ensures.1 (inl (inl c.in_err-waiting.ensures)));
+      (refl, refused_so c.from_residual.result c.in_err-waiting.field-0.0 (λ f. IsOfDevice f ⊎ (f ≡ Damaged c.args.root.page)) c.from_residual.ensures.1 (inl (inl c.in_err-waiting.ensures)));
   faults = λ h t elsewhere can shape boxes has. at_error c.from_residual.result c.in_err-waiting.field-0.0 (IsNoDamage c.args.cache.now) c.from_residual.ensures.1 (inl (inl c.in_err-waiting.ensures));
   damage = λ h none.
-    at_error c.from_residual.result c.in_err-waiting.field-0.0
-    (λ f. (n : ℕ) → f ≡ Damaged n → ComesTo g.row.D (given c.args.cache.now) c.args.root.page n)
-    c.from_residual.ensures.1
-    (λ n damaged.
-    absurd (device_names_none c.in_err-waiting.field-0.0 n (inl c.in_err-waiting.ensures) damaged));
+      at_error c.from_residual.result c.in_err-waiting.field-0.0
+      (λ f. (n : ℕ) → f ≡ Damaged n → ComesTo g.row.D (given c.args.cache.now) c.args.root.page n)
+      c.from_residual.ensures.1
+      (λ n damaged.
+      absurd (device_names_none c.in_err-waiting.field-0.0 n (inl c.in_err-waiting.ensures) damaged));
   number = λ h.
-    at_error c.from_residual.result c.in_err-waiting.field-0.0 NamesInRange
-    c.from_residual.ensures.1
-    (λ n damaged.
-    absurd (device_names_none c.in_err-waiting.field-0.0 n (inl c.in_err-waiting.ensures) damaged));
+      at_error c.from_residual.result c.in_err-waiting.field-0.0 NamesInRange
+      c.from_residual.ensures.1
+      (λ n damaged.
+      absurd (device_names_none c.in_err-waiting.field-0.0 n (inl c.in_err-waiting.ensures) damaged));
   other_faults = at_error c.from_residual.result c.in_err-waiting.field-0.0 IsChangeFault c.from_residual.ensures.1 (inl (inl c.in_err-waiting.ensures));
 }
 
@@ -46,18 +46,18 @@ returns-in_err-kept g c = record {
   removed = λ h t elsewhere can. no_answer c.from_residual-in_err-kept.result c.in_err-kept.field-0.0 _ c.from_residual-in_err-kept.ensures.1;
   shape = λ h t elsewhere can shape boxes. no_answer c.from_residual-in_err-kept.result c.in_err-kept.field-0.0 _ c.from_residual-in_err-kept.ensures.1;
   absent = λ h t elsewhere can lacks.
-    (refl, refused_so c.from_residual-in_err-kept.result c.in_err-kept.field-0.0 (λ f. IsOfDevice f ⊎ (f ≡ Damaged c.args.root.page)) c.from_residual-in_err-kept.ensures.1 (inl (inl c.in_err-kept.ensures)));
+      (refl, refused_so c.from_residual-in_err-kept.result c.in_err-kept.field-0.0 (λ f. IsOfDevice f ⊎ (f ≡ Damaged c.args.root.page)) c.from_residual-in_err-kept.ensures.1 (inl (inl c.in_err-kept.ensures)));
   faults = λ h t elsewhere can shape boxes has. at_error c.from_residual-in_err-kept.result c.in_err-kept.field-0.0 (IsNoDamage c.args.cache.now) c.from_residual-in_err-kept.ensures.1 (inl (inl c.in_err-kept.ensures));
   damage = λ h none.
-    at_error c.from_residual-in_err-kept.result c.in_err-kept.field-0.0
-    (λ f. (n : ℕ) → f ≡ Damaged n → ComesTo g.row.D (given c.args.cache.now) c.args.root.page n)
-    c.from_residual-in_err-kept.ensures.1
-    (λ n damaged.
-    absurd (device_names_none c.in_err-kept.field-0.0 n (inl c.in_err-kept.ensures) damaged));
+      at_error c.from_residual-in_err-kept.result c.in_err-kept.field-0.0
+      (λ f. (n : ℕ) → f ≡ Damaged n → ComesTo g.row.D (given c.args.cache.now) c.args.root.page n)
+      c.from_residual-in_err-kept.ensures.1
+      (λ n damaged.
+      absurd (device_names_none c.in_err-kept.field-0.0 n (inl c.in_err-kept.ensures) damaged));
   number = λ h.
-    at_error c.from_residual-in_err-kept.result c.in_err-kept.field-0.0 NamesInRange
-    c.from_residual-in_err-kept.ensures.1
-    (λ n damaged.
-    absurd (device_names_none c.in_err-kept.field-0.0 n (inl c.in_err-kept.ensures) damaged));
+      at_error c.from_residual-in_err-kept.result c.in_err-kept.field-0.0 NamesInRange
+      c.from_residual-in_err-kept.ensures.1
+      (λ n damaged.
+      absurd (device_names_none c.in_err-kept.field-0.0 n (inl c.in_err-kept.ensures) damaged));
   other_faults = at_error c.from_residual-in_err-kept.result c.in_err-kept.field-0.0 IsChangeFault c.from_residual-in_err-kept.ensures.1 (inl (inl c.in_err-kept.ensures));
 }

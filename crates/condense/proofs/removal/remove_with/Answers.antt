@@ -34,61 +34,61 @@ take_out-requires g c =
 pub returns-in_err-taken : goal.returns-in_err-taken
 returns-in_err-taken g c = record {
   changes = changes_and_refuses c.args.cache.now c.args.cache.now c.take_out.new.cache c.in_err-taken.field-0.0
-    c.from_residual.result c.from_residual.ensures.1 (no_call_changes c.args.cache.now)
-    c.in_err-taken.ensures.changes;
+      c.from_residual.result c.from_residual.ensures.1 (no_call_changes c.args.cache.now)
+      c.in_err-taken.ensures.changes;
   grows = search rules;
   root = no_answer c.from_residual.result c.in_err-taken.field-0.0 _ c.from_residual.ensures.1;
   removed = λ h t elsewhere can. no_answer c.from_residual.result c.in_err-taken.field-0.0 _ c.from_residual.ensures.1;
   shape = λ h t elsewhere can shape boxes. no_answer c.from_residual.result c.in_err-taken.field-0.0 _ c.from_residual.ensures.1;
   absent = λ h t elsewhere can lacks.
-    let stands = stands_there g.row.D (pages c.args.cache.now) c.args.root t can.at can.stands in (
-      c.in_err-taken.ensures.absent h t.row stands lacks,
-      refused_so c.from_residual.result c.in_err-taken.field-0.0
-          (λ f. IsOfDevice f ⊎ (f ≡ Damaged c.args.root.page)) c.from_residual.ensures.1
-          (inl (c.in_err-taken.ensures.faults h t.row stands)),
-    );
+      let stands = stands_there g.row.D (pages c.args.cache.now) c.args.root t can.at can.stands in (
+        c.in_err-taken.ensures.absent h t.row stands lacks,
+        refused_so c.from_residual.result c.in_err-taken.field-0.0
+            (λ f. IsOfDevice f ⊎ (f ≡ Damaged c.args.root.page)) c.from_residual.ensures.1
+            (inl (c.in_err-taken.ensures.faults h t.row stands)),
+      );
   faults = λ h t elsewhere can shape boxes has.
-    let stands = stands_there g.row.D (pages c.args.cache.now) c.args.root t can.at can.stands in
-    at_error c.from_residual.result c.in_err-taken.field-0.0 (IsNoDamage c.take_out.new.cache)
-    c.from_residual.ensures.1
-    (inl (c.in_err-taken.ensures.faults h t.row stands));
+      let stands = stands_there g.row.D (pages c.args.cache.now) c.args.root t can.at can.stands in
+      at_error c.from_residual.result c.in_err-taken.field-0.0 (IsNoDamage c.take_out.new.cache)
+      c.from_residual.ensures.1
+      (inl (c.in_err-taken.ensures.faults h t.row stands));
   damage = λ h none.
-    at_error c.from_residual.result c.in_err-taken.field-0.0
-    (λ f. (n : ℕ) → f ≡ Damaged n → ComesTo g.row.D (given c.args.cache.now) c.args.root.page n)
-    c.from_residual.ensures.1 (c.in_err-taken.ensures.damage h);
+      at_error c.from_residual.result c.in_err-taken.field-0.0
+      (λ f. (n : ℕ) → f ≡ Damaged n → ComesTo g.row.D (given c.args.cache.now) c.args.root.page n)
+      c.from_residual.ensures.1 (c.in_err-taken.ensures.damage h);
   number = λ h.
-    at_error c.from_residual.result c.in_err-taken.field-0.0 NamesInRange
-    c.from_residual.ensures.1
-    (λ n damaged. comes_in_range g.row.D (given c.args.cache.now) c.args.root.page n c.requires.root.page
-    (c.in_err-taken.ensures.damage h n damaged));
+      at_error c.from_residual.result c.in_err-taken.field-0.0 NamesInRange
+      c.from_residual.ensures.1
+      (λ n damaged. comes_in_range g.row.D (given c.args.cache.now) c.args.root.page n c.requires.root.page
+      (c.in_err-taken.ensures.damage h n damaged));
   other_faults = at_error c.from_residual.result c.in_err-taken.field-0.0 IsChangeFault c.from_residual.ensures.1
-    (one_more _ _ _ c.in_err-taken.ensures.other_faults);
+      (one_more _ _ _ c.in_err-taken.ensures.other_faults);
 }
 
 pub returns-then-not-taken : goal.returns-then-not-taken
 returns-then-not-taken g c = record {
   changes = let old = c.args.cache.now in
-    let new = c.take_out.new.cache in
-    asks_changes old new (Some (Damaged c.args.root.page))
-    (damaged_asks old new c.args.root.page (c.in_ok-taken.ensures.none c.if-not-taken.true).0);
+      let new = c.take_out.new.cache in
+      asks_changes old new (Some (Damaged c.args.root.page))
+      (damaged_asks old new c.args.root.page (c.in_ok-taken.ensures.none c.if-not-taken.true).0);
   grows = search rules;
   root = tt;
   removed = λ h t elsewhere can. tt;
   shape = λ h t elsewhere can shape boxes. tt;
   absent = λ h t elsewhere can lacks.
-    ((c.in_ok-taken.ensures.none c.if-not-taken.true).0.touched, inr refl);
+      ((c.in_ok-taken.ensures.none c.if-not-taken.true).0.touched, inr refl);
   faults = λ h t elsewhere can shape boxes has.
-    let stands = stands_there g.row.D (pages c.args.cache.now) c.args.root t can.at can.stands in
-    absurd (true≢false
-    (sym (c.in_ok-taken.ensures.found h t.row stands
-    (leads_there g.row.D c.args.m_max c.args.id (c.args.bounds.now, c.args.tag) t.row shape.below has))
-    ∙ c.if-not-taken.true));
+      let stands = stands_there g.row.D (pages c.args.cache.now) c.args.root t can.at can.stands in
+      absurd (true≢false
+      (sym (c.in_ok-taken.ensures.found h t.row stands
+      (leads_there g.row.D c.args.m_max c.args.id (c.args.bounds.now, c.args.tag) t.row shape.below has))
+      ∙ c.if-not-taken.true));
   damage = λ h none n damaged.
-    ([], damaged_read (Damaged c.args.root.page) c.args.root.page n (inr refl) damaged);
+      ([], damaged_read (Damaged c.args.root.page) c.args.root.page n (inr refl) damaged);
   number = λ h n damaged.
-    let page = c.args.root.page in
-    comes_in_range g.row.D (given c.args.cache.now) page n c.requires.root.page
-    ([], damaged_read (Damaged page) page n (inr refl) damaged);
+      let page = c.args.root.page in
+      comes_in_range g.row.D (given c.args.cache.now) page n c.requires.root.page
+      ([], damaged_read (Damaged page) page n (inr refl) damaged);
   other_faults = search rules;
 }
 
@@ -104,75 +104,75 @@ put_root-requires g c =
 pub returns : goal.returns
 returns g c = record {
   changes = changes_in_turn c.args.cache.now c.take_out.new.cache c.put_root.new.cache (fault_in c.put_root.result)
-    c.in_ok-taken.ensures.changes c.put_root.ensures.changes;
+      c.in_ok-taken.ensures.changes c.put_root.ensures.changes;
   grows = search rules;
   root = c.put_root.ensures.root;
   removed = λ h t elsewhere can.
-    let stands = stands_there g.row.D (pages c.args.cache.now) c.args.root t can.at can.stands in
-    let done = c.in_ok-taken.ensures.taken h t.row stands c.if-not-taken.false in
-    let took =
-    took_out g.row.D c.args.m_max (pages c.args.cache.now) (pages c.take_out.new.cache) c.args.root t
-    elsewhere c.args.id (c.args.bounds.now, c.args.tag) (held_now c.begin.new.self)
-    (held_now c.take_out.new.kept)
-    (map (item_of {D = g.row.D}) c.take_out.new.node.entries.items) can
-    (ap (map (orphan_held {D = g.row.D})) c.begin.ensures) done.1 in
-    c.put_root.ensures.removed done.0 (pages c.args.cache.now) t elsewhere c.args.id
-    (c.args.bounds.now, c.args.tag) took
-    (λ so. c.in_ok-taken.ensures.settled h t.row stands so c.if-not-taken.false);
+      let stands = stands_there g.row.D (pages c.args.cache.now) c.args.root t can.at can.stands in
+      let done = c.in_ok-taken.ensures.taken h t.row stands c.if-not-taken.false in
+      let took =
+      took_out g.row.D c.args.m_max (pages c.args.cache.now) (pages c.take_out.new.cache) c.args.root t
+      elsewhere c.args.id (c.args.bounds.now, c.args.tag) (held_now c.begin.new.self)
+      (held_now c.take_out.new.kept)
+      (map (item_of {D = g.row.D}) c.take_out.new.node.entries.items) can
+      (ap (map (orphan_held {D = g.row.D})) c.begin.ensures) done.1 in
+      c.put_root.ensures.removed done.0 (pages c.args.cache.now) t elsewhere c.args.id
+      (c.args.bounds.now, c.args.tag) took
+      (λ so. c.in_ok-taken.ensures.settled h t.row stands so c.if-not-taken.false);
   shape = λ h t elsewhere can shape boxes.
-    let stands = stands_there g.row.D (pages c.args.cache.now) c.args.root t can.at can.stands in
-    let done = c.in_ok-taken.ensures.taken h t.row stands c.if-not-taken.false in
-    let took =
-    took_out g.row.D c.args.m_max (pages c.args.cache.now) (pages c.take_out.new.cache) c.args.root t
-    elsewhere c.args.id (c.args.bounds.now, c.args.tag) (held_now c.begin.new.self)
-    (held_now c.take_out.new.kept)
-    (map (item_of {D = g.row.D}) c.take_out.new.node.entries.items) can
-    (ap (map (orphan_held {D = g.row.D})) c.begin.ensures) done.1 in
-    keeps_all c.put_root.result (IsPageMap c.put_root.new.cache) g.row.D c.args.m_max
-    (pages c.args.cache.now) (pages c.put_root.new.cache) elsewhere c.args.id
-    (c.args.bounds.now, c.args.tag) t (omega (arith, c.requires.most)) shape boxes
-    (c.put_root.ensures.removed done.0 (pages c.args.cache.now) t elsewhere c.args.id
-    (c.args.bounds.now, c.args.tag) took
-    (λ so. c.in_ok-taken.ensures.settled h t.row stands so c.if-not-taken.false));
+      let stands = stands_there g.row.D (pages c.args.cache.now) c.args.root t can.at can.stands in
+      let done = c.in_ok-taken.ensures.taken h t.row stands c.if-not-taken.false in
+      let took =
+      took_out g.row.D c.args.m_max (pages c.args.cache.now) (pages c.take_out.new.cache) c.args.root t
+      elsewhere c.args.id (c.args.bounds.now, c.args.tag) (held_now c.begin.new.self)
+      (held_now c.take_out.new.kept)
+      (map (item_of {D = g.row.D}) c.take_out.new.node.entries.items) can
+      (ap (map (orphan_held {D = g.row.D})) c.begin.ensures) done.1 in
+      keeps_all c.put_root.result (IsPageMap c.put_root.new.cache) g.row.D c.args.m_max
+      (pages c.args.cache.now) (pages c.put_root.new.cache) elsewhere c.args.id
+      (c.args.bounds.now, c.args.tag) t (omega (arith, c.requires.most)) shape boxes
+      (c.put_root.ensures.removed done.0 (pages c.args.cache.now) t elsewhere c.args.id
+      (c.args.bounds.now, c.args.tag) took
+      (λ so. c.in_ok-taken.ensures.settled h t.row stands so c.if-not-taken.false));
   absent = λ h t elsewhere can lacks.
-    let stands = stands_there g.row.D (pages c.args.cache.now) c.args.root t can.at can.stands in
-    let done = c.in_ok-taken.ensures.taken h t.row stands c.if-not-taken.false in
-    absurd (lacks
-    (takes_contained g.row.D c.args.m_max c.args.id (c.args.bounds.now, c.args.tag) c.args.root.level
-    t.row done.1.out done.1.takes_out));
+      let stands = stands_there g.row.D (pages c.args.cache.now) c.args.root t can.at can.stands in
+      let done = c.in_ok-taken.ensures.taken h t.row stands c.if-not-taken.false in
+      absurd (lacks
+      (takes_contained g.row.D c.args.m_max c.args.id (c.args.bounds.now, c.args.tag) c.args.root.level
+      t.row done.1.out done.1.takes_out));
   faults = λ h t elsewhere can shape boxes has.
-    let stands = stands_there g.row.D (pages c.args.cache.now) c.args.root t can.at can.stands in
-    let done = c.in_ok-taken.ensures.taken h t.row stands c.if-not-taken.false in
-    let took =
-    took_out g.row.D c.args.m_max (pages c.args.cache.now) (pages c.take_out.new.cache) c.args.root t
-    elsewhere c.args.id (c.args.bounds.now, c.args.tag) (held_now c.begin.new.self)
-    (held_now c.take_out.new.kept)
-    (map (item_of {D = g.row.D}) c.take_out.new.node.entries.items) can
-    (ap (map (orphan_held {D = g.row.D})) c.begin.ensures) done.1 in
-    c.put_root.ensures.faults done.0 (pages c.args.cache.now) t elsewhere c.args.id
-    (c.args.bounds.now, c.args.tag) took
-    (λ so. c.in_ok-taken.ensures.settled h t.row stands so c.if-not-taken.false) shape boxes;
+      let stands = stands_there g.row.D (pages c.args.cache.now) c.args.root t can.at can.stands in
+      let done = c.in_ok-taken.ensures.taken h t.row stands c.if-not-taken.false in
+      let took =
+      took_out g.row.D c.args.m_max (pages c.args.cache.now) (pages c.take_out.new.cache) c.args.root t
+      elsewhere c.args.id (c.args.bounds.now, c.args.tag) (held_now c.begin.new.self)
+      (held_now c.take_out.new.kept)
+      (map (item_of {D = g.row.D}) c.take_out.new.node.entries.items) can
+      (ap (map (orphan_held {D = g.row.D})) c.begin.ensures) done.1 in
+      c.put_root.ensures.faults done.0 (pages c.args.cache.now) t elsewhere c.args.id
+      (c.args.bounds.now, c.args.tag) took
+      (λ so. c.in_ok-taken.ensures.settled h t.row stands so c.if-not-taken.false) shape boxes;
   damage = λ h none.
-    let page = c.args.root.page in
-    let low = c.take_out.new.cache in
-    let taken = c.in_ok-taken.ensures.sound h c.if-not-taken.false in
-    let there = taken.1.stay page taken.1.node taken.1.there (omega (arith, taken.1.level_is)) in
-    let live = page_of_node g.row.D (pages low page) taken.1.node there in
-    let kept = ⊎_elim
-    (λ (same : c.take_out.new.kept.orphans.items ≡ c.begin.new.self.orphans.items).
-    inl (same ∙ c.begin.ensures))
-    (λ (touched : touched_of low ≡ true). inr touched)
-    (c.in_ok-taken.ensures.touched h c.if-not-taken.false) in
-    if_error c.put_root.result (λ f. IsOfDevice f ⊎ (f ≡ Damaged page))
-    (λ f. (n : ℕ) → f ≡ Damaged n → ComesTo g.row.D (given c.args.cache.now) page n)
-    (λ f is n damaged. ([], damaged_read f page n is damaged))
-    (c.put_root.ensures.damage taken.0 live kept none);
+      let page = c.args.root.page in
+      let low = c.take_out.new.cache in
+      let taken = c.in_ok-taken.ensures.sound h c.if-not-taken.false in
+      let there = taken.1.stay page taken.1.node taken.1.there (omega (arith, taken.1.level_is)) in
+      let live = page_of_node g.row.D (pages low page) taken.1.node there in
+      let kept = ⊎_elim
+      (λ (same : c.take_out.new.kept.orphans.items ≡ c.begin.new.self.orphans.items).
+      inl (same ∙ c.begin.ensures))
+      (λ (touched : touched_of low ≡ true). inr touched)
+      (c.in_ok-taken.ensures.touched h c.if-not-taken.false) in
+      if_error c.put_root.result (λ f. IsOfDevice f ⊎ (f ≡ Damaged page))
+      (λ f. (n : ℕ) → f ≡ Damaged n → ComesTo g.row.D (given c.args.cache.now) page n)
+      (λ f is n damaged. ([], damaged_read f page n is damaged))
+      (c.put_root.ensures.damage taken.0 live kept none);
   number = λ h.
-    let page = c.args.root.page in
-    let low = c.take_out.new.cache in
-    let taken = c.in_ok-taken.ensures.sound h c.if-not-taken.false in
-    let there = taken.1.stay page taken.1.node taken.1.there (omega (arith, taken.1.level_is)) in
-    c.put_root.ensures.number taken.0 (page_of_node g.row.D (pages low page) taken.1.node there);
+      let page = c.args.root.page in
+      let low = c.take_out.new.cache in
+      let taken = c.in_ok-taken.ensures.sound h c.if-not-taken.false in
+      let there = taken.1.stay page taken.1.node taken.1.there (omega (arith, taken.1.level_is)) in
+      c.put_root.ensures.number taken.0 (page_of_node g.row.D (pages low page) taken.1.node there);
   other_faults = c.put_root.ensures.other_faults;
 }
 
