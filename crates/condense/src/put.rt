@@ -21,6 +21,7 @@ ghost use Rattle.condense.specs.Steps.{PutsBack, PutsChild};
 ghost use Rattle.condense.specs.Taken.{IsCut, held_now, items_without};
 
 use crate::children::child_of;
+use crate::hand::InHand;
 use crate::kept::Kept;
 use block_device::BlockDevice;
 use node_page::write_node;
@@ -39,34 +40,40 @@ fn least_entries(m_max: usize) -> usize
 }
 
 // Puts a child of this node back, of which the object was taken: one of too few entries leaves, else it is
-// written where it is not settled. `settled` tells whether the page of the child has it as it is, and then
-// whether the node is as it was.
+// written where it is not settled. Then the node is settled where it is as it was.
 pub(crate) fn put_child<const D: usize, B: BlockDevice, A: Allocator + Copy>(
     cache: &mut PageCache<B, A>,
-    node: &mut Node<D>,
+    hand: &mut InHand<D>,
     place: usize,
-    lower: &Node<D>,
+    lower: &InHand<D>,
     m_max: usize,
     kept: &mut Kept<D>,
-    settled: &mut bool,
 ) -> Result<(), Fault>
     requires dims { IsDims D }
     requires open { gate_of cache.old ≡ Open }
     requires most { (4 ≤ m_max) × (m_max ≤ 100) }
-    requires above { 0 < node.old.level }
-    requires within { place < array_vec_len node.old.entries }
-    requires spellable { IsSpellable (content_of node.old) }
-    requires cut { IsCut (node.old.level - 1) (content_of lower.now) }
+    requires above { 0 < hand.old.node.level }
+    requires within { place < array_vec_len hand.old.node.entries }
+    requires spellable { IsSpellable (content_of hand.old.node) }
+    requires cut { IsCut (hand.old.node.level - 1) (content_of lower.now.node) }
     requires room { array_vec_len kept.old.orphans + 39 ≤ 1560 }
-    ensures { PutsChild m_max place lower.now cache.old cache.new node.old node.new kept.old kept.new
-        settled.old settled.new result }
+    ensures { PutsChild m_max place lower.now.node cache.old cache.new hand.old.node hand.new.node kept.old kept.new
+        lower.now.settled hand.new.settled result }
 {
-    let page = child_of(node, place).page;
-    if lower.entries.len() < least_entries(m_max) {
-        *settled = false;
-        return leave_out(cache, node, place, page, lower, kept);
+    let page = child_of(&hand.node, place).page;
+    if lower.node.entries.len() < least_entries(m_max) {
+        hand.settled = false;
+        return leave_out(cache, &mut hand.node, place, page, &lower.node, kept);
     }
-    write_back(cache, node, place, page, lower, settled)
+    hand.settled = lower.settled;
+    write_back(
+        cache,
+        &mut hand.node,
+        place,
+        page,
+        &lower.node,
+        &mut hand.settled,
+    )
 }
 
 // A child of too few entries leaves: its page is freed, and its entries are kept.

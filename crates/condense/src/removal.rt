@@ -21,20 +21,21 @@ ghost use Rattle.condense.specs.Steps.{Removes};
 ghost use Rattle.condense.specs.Taken.{IsCut, held_now};
 
 use crate::fill::insert_kept;
+use crate::hand::InHand;
 use crate::kept::Kept;
 use crate::lower::give_way;
 use crate::put::settle;
 use crate::take::take_out;
 use arrayvec::ArrayVec;
 use block_device::BlockDevice;
-use box_math::BBox;
 use page_cache::PageCache;
 use page_file::Fault;
 use reinsert::Waiting;
 use std::alloc::Allocator;
-use tree_node::{Node, Root};
+use tree_node::{Entry, Node, Root};
 
-/// Removes the object of that identifier, box and tag from the tree at that root (docs/RULES.md). The gate
+/// Removes an object from the tree at that root, the first entry in its leaves of that identifier, box and tag
+/// (docs/RULES.md). The gate
 /// has to be open.
 ///
 /// Where the map is sound and the pages stand for a tree at the root, they stand after `Ok` for a tree that a
@@ -54,20 +55,19 @@ pub fn remove<const D: usize, B: BlockDevice, A: Allocator + Copy, H: Allocator 
     alloc: H,
     cache: &mut PageCache<B, A>,
     root: Root,
-    id: u64,
-    bounds: &BBox<D>,
-    tag: u32,
+    object: &Entry<D>,
     m_max: usize,
 ) -> Result<Root, Fault>
     requires dims { IsDims D }
     requires open { gate_of cache.old ≡ Open }
     requires most { (4 ≤ m_max) × (m_max ≤ 100) }
     requires root { IsRoot root }
-    ensures { Removes D m_max root id (bounds.now, tag) cache.old cache.new result }
+    ensures { Removes D m_max root object.now.reference (object.now.bounds, object.now.tag) cache.old cache.new
+        result }
 {
     let mut waiting = Waiting::make(alloc)?;
     let mut kept = Kept::make(alloc)?;
-    remove_with(cache, root, id, bounds, tag, m_max, &mut waiting, &mut kept)
+    remove_with(cache, root, object, m_max, &mut waiting, &mut kept)
 }
 
 /// Removes an object as `remove` does, and takes no memory but what the cache takes. The `Waiting` and the
@@ -75,9 +75,7 @@ pub fn remove<const D: usize, B: BlockDevice, A: Allocator + Copy, H: Allocator 
 pub fn remove_with<const D: usize, B: BlockDevice, A: Allocator + Copy>(
     cache: &mut PageCache<B, A>,
     root: Root,
-    id: u64,
-    bounds: &BBox<D>,
-    tag: u32,
+    object: &Entry<D>,
     m_max: usize,
     waiting: &mut Waiting<D>,
     kept: &mut Kept<D>,
@@ -86,61 +84,53 @@ pub fn remove_with<const D: usize, B: BlockDevice, A: Allocator + Copy>(
     requires open { gate_of cache.old ≡ Open }
     requires most { (4 ≤ m_max) × (m_max ≤ 100) }
     requires root { IsRoot root }
-    ensures { Removes D m_max root id (bounds.now, tag) cache.old cache.new result }
+    ensures { Removes D m_max root object.now.reference (object.now.bounds, object.now.tag) cache.old cache.new
+        result }
 {
     kept.begin();
-    let mut settled = false;
-    let mut node = Node {
-        level: 0,
-        entries: ArrayVec::new(),
+    let mut hand = InHand {
+        node: Node {
+            level: 0,
+            entries: ArrayVec::new(),
+        },
+        settled: false,
     };
-    let taken = take_out(
-        cache,
-        root,
-        id,
-        bounds,
-        tag,
-        m_max,
-        kept,
-        &mut settled,
-        &mut node,
-    )?;
+    let taken = take_out(cache, root, object, m_max, kept, &mut hand)?;
     if !taken {
         return Err(Fault::Damaged(root.page));
     }
-    put_root(cache, root, &node, m_max, waiting, kept, settled)
+    put_root(cache, root, &hand, m_max, waiting, kept)
 }
 
 // Writes what the root has become, where it is not settled, inserts what is kept, and lets the root give way.
 fn put_root<const D: usize, B: BlockDevice, A: Allocator + Copy>(
     cache: &mut PageCache<B, A>,
     root: Root,
-    node: &Node<D>,
+    hand: &InHand<D>,
     m_max: usize,
     waiting: &mut Waiting<D>,
     kept: &mut Kept<D>,
-    settled: bool,
 ) -> Result<Root, Fault>
     requires dims { IsDims D }
     requires open { gate_of cache.old ≡ Open }
     requires most { (4 ≤ m_max) × (m_max ≤ 100) }
     requires root { IsRoot root }
-    requires cut { IsCut root.level (content_of node.now) }
+    requires cut { IsCut root.level (content_of hand.now.node) }
     ensures changes { Changes cache.old cache.new result }
     ensures grows { Grows (most_new_pages * array_vec_len kept.old.orphans) cache.old cache.new }
     ensures root { IfOk result IsRoot }
     ensures removed { IsPageMap cache.old → (m : PageMap) (t : Tree) (elsewhere : ℕ → ℕ) (id : ℕ)
         (removed : Object)
         → TookOut D m_max m (pages cache.old) root t elsewhere id removed (held_now kept.old)
-        (map item_of node.now.entries.items)
-        → (settled ≡ true → node_in D (pages cache.old root.page) ≡ Some (content_of node.now))
+        (map item_of hand.now.node.entries.items)
+        → (hand.now.settled ≡ true → node_in D (pages cache.old root.page) ≡ Some (content_of hand.now.node))
         → IfOk result (λ after. IsPageMap cache.new
         × RemovesTo D m_max m (pages cache.new) elsewhere id removed t after) }
     ensures faults { IsPageMap cache.old → (m : PageMap) (t : Tree) (elsewhere : ℕ → ℕ) (id : ℕ)
         (removed : Object)
         → TookOut D m_max m (pages cache.old) root t elsewhere id removed (held_now kept.old)
-        (map item_of node.now.entries.items)
-        → (settled ≡ true → node_in D (pages cache.old root.page) ≡ Some (content_of node.now))
+        (map item_of hand.now.node.entries.items)
+        → (hand.now.settled ≡ true → node_in D (pages cache.old root.page) ≡ Some (content_of hand.now.node))
         → HasShape D m_max t → RowHasBoxes D t.row
         → IfErr result (IsNoDamage cache.new) }
     ensures damage { IsPageMap cache.old → IsLive cache.old root.page
@@ -149,10 +139,10 @@ fn put_root<const D: usize, B: BlockDevice, A: Allocator + Copy>(
     ensures number { IsPageMap cache.old → IsLive cache.old root.page → IfErr result NamesInRange }
     ensures other_faults { IfErr result IsChangeFault }
 {
-    if lacks_entries(node) {
+    if lacks_entries(&hand.node) {
         return Err(Fault::Damaged(root.page));
     }
-    settle(cache, root.page, node, settled)?;
+    settle(cache, root.page, &hand.node, hand.settled)?;
     let filled = insert_kept(cache, root, m_max, waiting, kept)?;
     give_way::<D, B, A>(cache, filled)
 }

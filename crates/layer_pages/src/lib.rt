@@ -5,6 +5,7 @@
 mod checking;
 mod freeing;
 mod inserting;
+mod layer;
 pub mod laws;
 mod loading;
 mod making;
@@ -14,6 +15,7 @@ mod replacing;
 pub use checking::check;
 pub use freeing::free;
 pub use inserting::insert;
+pub use layer::Layer;
 pub use loading::load;
 pub use making::make;
 pub use removing::remove;

@@ -14,6 +14,7 @@ ghost use Rattle.layer_pages.specs.Changes.{BecomesLayer, BecomesTable, HasPacke
 ghost use Rattle.layer_pages.specs.Changes.{most_filled_pages, most_loaded_pages};
 ghost use Rattle.layer_pages.specs.Layers.{CanBeRoot, IsLayerAt, LayerPages, Objects, part_of_layer};
 
+use crate::layer::Layer;
 use block_device::BlockDevice;
 use box_math::BBox;
 use condense::free_tree;
@@ -23,50 +24,47 @@ use page_cache::PageCache;
 use page_file::Fault;
 use std::alloc::Allocator;
 
-/// Puts these objects into a layer without objects, and answers the root of its tree, which is packed and has
-/// nodes of at most `m_max` entries. Their identifiers are all different. The gate has to be open. The
-/// objects are left in another order.
+/// Puts these objects into a layer without objects, and answers the root of its tree, which is packed. Their
+/// identifiers are all different. The gate has to be open. The objects are left in another order.
 ///
-/// With a sound map, where the pages stand for a layer without objects at that root and directory, a refusal
-/// is `Memory` or `Device`, or `NoPages` where each page number is live. Also after a refusal at most
-/// `most_loaded_pages` more pages are live.
+/// With a sound map, where the pages stand for that layer without objects, a refusal is `Memory` or `Device`,
+/// or `NoPages` where each page number is live. Also after a refusal at most `most_loaded_pages` more pages
+/// are live.
 pub fn load<const D: usize, B: BlockDevice, A: Allocator + Copy, H: Allocator + Copy>(
     alloc: H,
     cache: &mut PageCache<B, A>,
-    root: Root,
-    directory: u32,
+    layer: Layer,
     objects: &mut [(u64, (BBox<D>, u32))],
-    m_max: u8,
 ) -> Result<Root, Fault>
     requires dims { IsDims D }
     requires open { gate_of cache.old ≡ Open }
-    requires most { (4 ≤ m_max) × (m_max ≤ 100) }
-    requires root { CanBeRoot root }
+    requires most { (4 ≤ layer.fanout) × (layer.fanout ≤ 100) }
+    requires root { CanBeRoot layer.root }
     ensures changes { Changes cache.old cache.new result }
     ensures root { IfOk result CanBeRoot }
     ensures sound { IsPageMap cache.old → (l : LayerPages) (most : ℕ) (all : Objects)
-        → IsLayerAt D most (pages cache.old) root directory l map.empty →
+        → IsLayerAt D most (pages cache.old) layer.root layer.directory l map.empty →
         IsPermutation objects.old (map.entries all)
         → IfOk result (λ _. IsPageMap cache.new) }
     ensures loaded { IsPageMap cache.old → (l : LayerPages) (most : ℕ) (all : Objects)
-        → IsLayerAt D most (pages cache.old) root directory l map.empty →
+        → IsLayerAt D most (pages cache.old) layer.root layer.directory l map.empty →
         IsPermutation objects.old (map.entries all)
         → IfOk result (λ after.
-        BecomesLayer D m_max (pages cache.old) (pages cache.new) (part_of_layer l) after
-        directory all (HasPacked D m_max objects.old)) }
+        BecomesLayer D layer.fanout (pages cache.old) (pages cache.new) (part_of_layer l) after
+        layer.directory all (HasPacked D layer.fanout objects.old)) }
     ensures same { IsPermutation objects.old objects.new }
     ensures grows { Grows (most_loaded_pages (length objects.old)) cache.old cache.new }
     ensures faults { IsPageMap cache.old → (l : LayerPages) (most : ℕ) (all : Objects)
-        → IsLayerAt D most (pages cache.old) root directory l map.empty →
+        → IsLayerAt D most (pages cache.old) layer.root layer.directory l map.empty →
         IsPermutation objects.old (map.entries all)
         → IfErr result (IsNoDamage cache.new) }
 {
     let mut entries = entries_of(alloc, objects)?;
-    let after = bulk_load::load(alloc, cache, entries.as_mut_slice(), m_max)?;
+    let after = bulk_load::load(alloc, cache, entries.as_mut_slice(), layer.fanout)?;
     if !can_be_root(after) {
         return Err(Fault::Damaged(after.page));
     }
-    put_ids(cache, root, directory, objects)?;
+    put_ids(cache, layer.root, layer.directory, objects)?;
     Ok(after)
 }
 

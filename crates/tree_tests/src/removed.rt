@@ -76,9 +76,7 @@ impl Scene {
         self.root = remove_with(
             &mut self.cache,
             self.root,
-            object.reference,
-            &object.bounds,
-            object.tag,
+            &object,
             most,
             &mut self.waiting,
             &mut self.kept,

@@ -22,16 +22,16 @@ returns-then-len-least_entries g c = record {
   taken = λ h m page id removed row held took is.
       let m1 = pages c.args.cache.now in
       let reference = c.child_of-page.result.page in
-      let entries = map (item_of {D = g.row.D}) c.args.node.now.entries.items in
-      let es = c.args.lower.now.entries.items in
-      let l = lower c.args.m_max m m1 page c.args.node.now.level id removed row c.args.place held
+      let entries = map (item_of {D = g.row.D}) c.args.hand.now.node.entries.items in
+      let es = c.args.lower.now.node.entries.items in
+      let l = lower c.args.m_max m m1 page c.args.hand.now.node.level id removed row c.args.place held
       (held_now c.args.kept.now) entries es reference took c.requires.above
-      (omega (arith, c.requires.within, length-map c.args.node.now.entries.items (item_of {D = g.row.D})))
+      (omega (arith, c.requires.within, length-map c.args.hand.now.node.entries.items (item_of {D = g.row.D})))
       c.child_of-page.ensures.page in
       let live =
-      lives c.args.m_max m m1 page c.args.node.now.level id removed row c.args.place held
+      lives c.args.m_max m m1 page c.args.hand.now.node.level id removed row c.args.place held
       (held_now c.args.kept.now) entries es reference l in
-      left_ok c.args.m_max m m1 (pages c.leave_out.new.cache) page c.args.node.now.level id removed row
+      left_ok c.args.m_max m m1 (pages c.leave_out.new.cache) page c.args.hand.now.node.level id removed row
       c.args.place held (held_now c.args.kept.now) (held_now c.leave_out.new.kept) entries es reference l
       c.leave_out.result (IsPageMap c.leave_out.new.cache)
       (map (item_of {D = g.row.D}) c.leave_out.new.node.entries.items) (c.leave_out.ensures.back.sound h live)
@@ -41,14 +41,14 @@ returns-then-len-least_entries g c = record {
   faults = λ h m page id removed row held took is.
       let m1 = pages c.args.cache.now in
       let reference = c.child_of-page.result.page in
-      let entries = map (item_of {D = g.row.D}) c.args.node.now.entries.items in
-      let es = c.args.lower.now.entries.items in
-      let l = lower c.args.m_max m m1 page c.args.node.now.level id removed row c.args.place held
+      let entries = map (item_of {D = g.row.D}) c.args.hand.now.node.entries.items in
+      let es = c.args.lower.now.node.entries.items in
+      let l = lower c.args.m_max m m1 page c.args.hand.now.node.level id removed row c.args.place held
       (held_now c.args.kept.now) entries es reference took c.requires.above
-      (omega (arith, c.requires.within, length-map c.args.node.now.entries.items (item_of {D = g.row.D})))
+      (omega (arith, c.requires.within, length-map c.args.hand.now.node.entries.items (item_of {D = g.row.D})))
       c.child_of-page.ensures.page in
       c.leave_out.ensures.back.faults h
-      (lives c.args.m_max m m1 page c.args.node.now.level id removed row c.args.place held
+      (lives c.args.m_max m m1 page c.args.hand.now.node.level id removed row c.args.place held
       (held_now c.args.kept.now) entries es reference l);
   settled = λ yes. absurd (true≢false (sym yes));
   sound = λ h x there lower.
@@ -60,7 +60,7 @@ returns-then-len-least_entries g c = record {
       let live = page_of_node D (m1 page) x here in (
         c.leave_out.ensures.back.sound h live,
         others_keep D m1 (pages c.leave_out.new.cache) page (c.leave_out.ensures.back.others h live)
-            c.args.node.now.level x here lower,
+            c.args.hand.now.node.level x here lower,
       );
   live_faults = λ h live.
       c.leave_out.ensures.back.faults h
@@ -81,38 +81,38 @@ returns g c = record {
   taken = λ h m page id removed row held took is.
       let m1 = pages c.args.cache.now in
       let reference = c.child_of-page.result.page in
-      let entries = map (item_of {D = g.row.D}) c.args.node.now.entries.items in
-      let es = c.args.lower.now.entries.items in
-      let l = lower c.args.m_max m m1 page c.args.node.now.level id removed row c.args.place held
+      let entries = map (item_of {D = g.row.D}) c.args.hand.now.node.entries.items in
+      let es = c.args.lower.now.node.entries.items in
+      let l = lower c.args.m_max m m1 page c.args.hand.now.node.level id removed row c.args.place held
       (held_now c.args.kept.now) entries es reference took c.requires.above
-      (omega (arith, c.requires.within, length-map c.args.node.now.entries.items (item_of {D = g.row.D})))
+      (omega (arith, c.requires.within, length-map c.args.hand.now.node.entries.items (item_of {D = g.row.D})))
       c.child_of-page.ensures.page in
       let live =
-      lives c.args.m_max m m1 page c.args.node.now.level id removed row c.args.place held
+      lives c.args.m_max m m1 page c.args.hand.now.node.level id removed row c.args.place held
       (held_now c.args.kept.now) entries es reference l in
-      let below : c.args.settled.now ≡ true
-      → node_in g.row.D (m1 reference) ≡ Some (content_of c.args.lower.now) = λ yes.
-      subst (λ k. node_in g.row.D (m1 k) ≡ Some (content_of c.args.lower.now))
+      let below : c.args.lower.now.settled ≡ true
+      → node_in g.row.D (m1 reference) ≡ Some (content_of c.args.lower.now.node) = λ yes.
+      subst (λ k. node_in g.row.D (m1 k) ≡ Some (content_of c.args.lower.now.node))
       (sym (c.child_of-page.ensures.page no_item)) (is yes no_item) in
-      stayed_ok c.args.m_max m m1 (pages c.write_back.new.cache) page c.args.node.now.level id removed row
+      stayed_ok c.args.m_max m m1 (pages c.write_back.new.cache) page c.args.hand.now.node.level id removed row
       c.args.place held (held_now c.args.kept.now) (held_now c.args.kept.now) entries es reference l
       c.write_back.result (IsPageMap c.write_back.new.cache)
       (map (item_of {D = g.row.D}) c.write_back.new.node.entries.items) (c.write_back.ensures.back.sound h live)
       (c.write_back.ensures.back.others h live)
       (omega (arith, c.if-len-least_entries.false, c.len.ensures.value, c.least_entries.ensures.value))
-      c.args.lower.now.level c.requires.cut.level_is (c.write_back.ensures.there h live (λ yes. below yes))
+      c.args.lower.now.node.level c.requires.cut.level_is (c.write_back.ensures.there h live (λ yes. below yes))
       c.write_back.ensures.back.entries refl;
   faults = λ h m page id removed row held took is.
       let m1 = pages c.args.cache.now in
       let reference = c.child_of-page.result.page in
-      let entries = map (item_of {D = g.row.D}) c.args.node.now.entries.items in
-      let es = c.args.lower.now.entries.items in
-      let l = lower c.args.m_max m m1 page c.args.node.now.level id removed row c.args.place held
+      let entries = map (item_of {D = g.row.D}) c.args.hand.now.node.entries.items in
+      let es = c.args.lower.now.node.entries.items in
+      let l = lower c.args.m_max m m1 page c.args.hand.now.node.level id removed row c.args.place held
       (held_now c.args.kept.now) entries es reference took c.requires.above
-      (omega (arith, c.requires.within, length-map c.args.node.now.entries.items (item_of {D = g.row.D})))
+      (omega (arith, c.requires.within, length-map c.args.hand.now.node.entries.items (item_of {D = g.row.D})))
       c.child_of-page.ensures.page in
       c.write_back.ensures.back.faults h
-      (lives c.args.m_max m m1 page c.args.node.now.level id removed row c.args.place held
+      (lives c.args.m_max m m1 page c.args.hand.now.node.level id removed row c.args.place held
       (held_now c.args.kept.now) entries es reference l);
   settled = c.write_back.ensures.settled;
   sound = λ h x there lower.
@@ -124,7 +124,7 @@ returns g c = record {
       let live = page_of_node D (m1 page) x here in (
         c.write_back.ensures.back.sound h live,
         others_keep D m1 (pages c.write_back.new.cache) page (c.write_back.ensures.back.others h live)
-            c.args.node.now.level x here lower,
+            c.args.hand.now.node.level x here lower,
       );
   live_faults = λ h live.
       c.write_back.ensures.back.faults h

@@ -28,16 +28,16 @@ use Rattle.condense.proofs.removal.put_root.Goals as goal
 
 pub settle-requires : goal.settle-requires
 settle-requires g c =
-    let spells : IsSpellable (content_of c.args.node.now) = record {
+    let spells : IsSpellable (content_of c.args.hand.now.node) = record {
       few = c.requires.cut.few;
       some = λ high. omega (
         arith,
         c.lacks_entries.ensures.no c.if-lacks_entries.false high,
-        length-map c.args.node.now.entries.items (item_of {D = g.row.D}),
+        length-map c.args.hand.now.node.entries.items (item_of {D = g.row.D}),
       );
       refers =
           subst (λ l. All (λ (item : Item). IsOfLevel l item.reference item.tag)
-          (map (item_of {D = g.row.D}) c.args.node.now.entries.items)) (sym c.requires.cut.level_is)
+          (map (item_of {D = g.row.D}) c.args.hand.now.node.entries.items)) (sym c.requires.cut.level_is)
           c.requires.cut.refers;
     } in
     search (rules, spells)
@@ -58,7 +58,7 @@ returns-then-lacks_entries-clause-faults g c = λ h m t elsewhere id removed too
       some,
       lacks.1,
       ap length took.taken.entries,
-      length-map c.args.node.now.entries.items (item_of {D = g.row.D}),
+      length-map c.args.hand.now.node.entries.items (item_of {D = g.row.D}),
       length-items took.taken.out.row,
     ))
 
@@ -66,7 +66,7 @@ pub returns-in_err-settle-clause-faults : goal.returns-in_err-settle-clause-faul
 returns-in_err-settle-clause-faults g c = λ h m t elsewhere id removed took is shape boxes.
     let live =
     root_stays_live g.row.D c.args.m_max m (pages c.args.cache.now) c.args.root t elsewhere id removed
-    (held_now c.args.kept.now) (map (item_of {D = g.row.D}) c.args.node.now.entries.items) took in
+    (held_now c.args.kept.now) (map (item_of {D = g.row.D}) c.args.hand.now.node.entries.items) took in
     at_error c.from_residual.result c.in_err-settle.field-0.0 (IsNoDamage c.settle.new.cache)
     c.from_residual.ensures.1 (inl (c.in_err-settle.ensures.faults h.honest live))
 
@@ -75,12 +75,12 @@ returns-in_err-filled-clause-faults g c = λ h m t elsewhere id removed took is 
     let D = g.row.D in
     let m1 : PageMap = pages c.args.cache.now in
     let m2 : PageMap = pages c.settle.new.cache in
-    let items = map (item_of {D = D}) c.args.node.now.entries.items in
+    let items = map (item_of {D = D}) c.args.hand.now.node.entries.items in
     let held = held_now c.args.kept.now in
     let live = root_stays_live D c.args.m_max m m1 c.args.root t elsewhere id removed held items took in
     let can =
     can_fill D c.args.m_max m m1 c.args.root t elsewhere id removed held items took m2
-    c.args.node.now.level c.requires.cut.level_is (c.in_ok-settle.ensures.written h.honest live is)
+    c.args.hand.now.node.level c.requires.cut.level_is (c.in_ok-settle.ensures.written h.honest live is)
     (c.in_ok-settle.ensures.others h.honest live) in
     let sound = c.in_ok-settle.ensures.sound h live in
     let s = cut_shaped D c.args.m_max id removed t took.taken.out shape boxes took.taken.takes_out in
@@ -93,12 +93,12 @@ returns-clause-removed g c = λ h m t elsewhere id removed took is.
     let D = g.row.D in
     let m1 : PageMap = pages c.args.cache.now in
     let m2 : PageMap = pages c.settle.new.cache in
-    let items = map (item_of {D = D}) c.args.node.now.entries.items in
+    let items = map (item_of {D = D}) c.args.hand.now.node.entries.items in
     let held = held_now c.args.kept.now in
     let live = root_stays_live D c.args.m_max m m1 c.args.root t elsewhere id removed held items took in
     let can =
     can_fill D c.args.m_max m m1 c.args.root t elsewhere id removed held items took m2
-    c.args.node.now.level c.requires.cut.level_is (c.in_ok-settle.ensures.written h.honest live is)
+    c.args.hand.now.node.level c.requires.cut.level_is (c.in_ok-settle.ensures.written h.honest live is)
     (c.in_ok-settle.ensures.others h.honest live) in
     let sound = c.in_ok-settle.ensures.sound h live in
     let filled = c.in_ok-filled.ensures.filled sound (cut_root took) took.taken.out.kept elsewhere can in
@@ -107,7 +107,7 @@ returns-clause-removed g c = λ h m t elsewhere id removed took is.
     (RemovesTo D c.args.m_max m (pages c.give_way.new.cache) elsewhere id removed t)
     (c.give_way.ensures.lowered filled.0 filled.1.new filled.1.at filled.1.stands)
     (λ after gives. removes_to D c.args.m_max m m1 c.args.root t elsewhere id removed held items took m2
-    c.args.node.now.level c.requires.cut.level_is (c.in_ok-settle.ensures.written h.honest live is)
+    c.args.hand.now.node.level c.requires.cut.level_is (c.in_ok-settle.ensures.written h.honest live is)
     (c.in_ok-settle.ensures.others h.honest live)
     (pages c.insert_kept.new.cache) (pages c.give_way.new.cache) c.in_ok-filled.filled after filled.1 gives)
 
@@ -116,12 +116,12 @@ returns-clause-faults g c = λ h m t elsewhere id removed took is shape boxes.
     let D = g.row.D in
     let m1 : PageMap = pages c.args.cache.now in
     let m2 : PageMap = pages c.settle.new.cache in
-    let items = map (item_of {D = D}) c.args.node.now.entries.items in
+    let items = map (item_of {D = D}) c.args.hand.now.node.entries.items in
     let held = held_now c.args.kept.now in
     let live = root_stays_live D c.args.m_max m m1 c.args.root t elsewhere id removed held items took in
     let can =
     can_fill D c.args.m_max m m1 c.args.root t elsewhere id removed held items took m2
-    c.args.node.now.level c.requires.cut.level_is (c.in_ok-settle.ensures.written h.honest live is)
+    c.args.hand.now.node.level c.requires.cut.level_is (c.in_ok-settle.ensures.written h.honest live is)
     (c.in_ok-settle.ensures.others h.honest live) in
     let sound = c.in_ok-settle.ensures.sound h live in
     let filled = c.in_ok-filled.ensures.filled sound (cut_root took) took.taken.out.kept elsewhere can in

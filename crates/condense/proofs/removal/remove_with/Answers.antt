@@ -81,7 +81,7 @@ returns-then-not-taken g c = record {
       let stands = stands_there g.row.D (pages c.args.cache.now) c.args.root t can.at can.stands in
       absurd (true≢false
       (sym (c.in_ok-taken.ensures.found h t.row stands
-      (leads_there g.row.D c.args.m_max c.args.id (c.args.bounds.now, c.args.tag) t.row shape.below has))
+      (leads_there g.row.D c.args.m_max c.args.object.now.reference (c.args.object.now.bounds, c.args.object.now.tag) t.row shape.below has))
       ∙ c.if-not-taken.true));
   damage = λ h none n damaged.
       ([], damaged_read (Damaged c.args.root.page) c.args.root.page n (inr refl) damaged);
@@ -95,7 +95,7 @@ returns-then-not-taken g c = record {
 pub put_root-requires : goal.put_root-requires
 put_root-requires g c =
     let gate = c.in_ok-taken.ensures.changes.gate.gate ∙ c.requires.open in
-    let cut : IsCut c.args.root.level (content_of c.take_out.new.node) =
+    let cut : IsCut c.args.root.level (content_of c.take_out.new.hand.node) =
     c.in_ok-taken.ensures.cut c.if-not-taken.false in (
       search rules,
       (search rules, (search rules, (c.requires.dims, (gate, (c.requires.most, (c.requires.root, cut)))))),
@@ -112,45 +112,45 @@ returns g c = record {
       let done = c.in_ok-taken.ensures.taken h t.row stands c.if-not-taken.false in
       let took =
       took_out g.row.D c.args.m_max (pages c.args.cache.now) (pages c.take_out.new.cache) c.args.root t
-      elsewhere c.args.id (c.args.bounds.now, c.args.tag) (held_now c.begin.new.self)
+      elsewhere c.args.object.now.reference (c.args.object.now.bounds, c.args.object.now.tag) (held_now c.begin.new.self)
       (held_now c.take_out.new.kept)
-      (map (item_of {D = g.row.D}) c.take_out.new.node.entries.items) can
+      (map (item_of {D = g.row.D}) c.take_out.new.hand.node.entries.items) can
       (ap (map (orphan_held {D = g.row.D})) c.begin.ensures) done.1 in
-      c.put_root.ensures.removed done.0 (pages c.args.cache.now) t elsewhere c.args.id
-      (c.args.bounds.now, c.args.tag) took
+      c.put_root.ensures.removed done.0 (pages c.args.cache.now) t elsewhere c.args.object.now.reference
+      (c.args.object.now.bounds, c.args.object.now.tag) took
       (λ so. c.in_ok-taken.ensures.settled h t.row stands so c.if-not-taken.false);
   shape = λ h t elsewhere can shape boxes.
       let stands = stands_there g.row.D (pages c.args.cache.now) c.args.root t can.at can.stands in
       let done = c.in_ok-taken.ensures.taken h t.row stands c.if-not-taken.false in
       let took =
       took_out g.row.D c.args.m_max (pages c.args.cache.now) (pages c.take_out.new.cache) c.args.root t
-      elsewhere c.args.id (c.args.bounds.now, c.args.tag) (held_now c.begin.new.self)
+      elsewhere c.args.object.now.reference (c.args.object.now.bounds, c.args.object.now.tag) (held_now c.begin.new.self)
       (held_now c.take_out.new.kept)
-      (map (item_of {D = g.row.D}) c.take_out.new.node.entries.items) can
+      (map (item_of {D = g.row.D}) c.take_out.new.hand.node.entries.items) can
       (ap (map (orphan_held {D = g.row.D})) c.begin.ensures) done.1 in
       keeps_all c.put_root.result (IsPageMap c.put_root.new.cache) g.row.D c.args.m_max
-      (pages c.args.cache.now) (pages c.put_root.new.cache) elsewhere c.args.id
-      (c.args.bounds.now, c.args.tag) t (omega (arith, c.requires.most)) shape boxes
-      (c.put_root.ensures.removed done.0 (pages c.args.cache.now) t elsewhere c.args.id
-      (c.args.bounds.now, c.args.tag) took
+      (pages c.args.cache.now) (pages c.put_root.new.cache) elsewhere c.args.object.now.reference
+      (c.args.object.now.bounds, c.args.object.now.tag) t (omega (arith, c.requires.most)) shape boxes
+      (c.put_root.ensures.removed done.0 (pages c.args.cache.now) t elsewhere c.args.object.now.reference
+      (c.args.object.now.bounds, c.args.object.now.tag) took
       (λ so. c.in_ok-taken.ensures.settled h t.row stands so c.if-not-taken.false));
   absent = λ h t elsewhere can lacks.
       let stands = stands_there g.row.D (pages c.args.cache.now) c.args.root t can.at can.stands in
       let done = c.in_ok-taken.ensures.taken h t.row stands c.if-not-taken.false in
       absurd (lacks
-      (takes_contained g.row.D c.args.m_max c.args.id (c.args.bounds.now, c.args.tag) c.args.root.level
+      (takes_contained g.row.D c.args.m_max c.args.object.now.reference (c.args.object.now.bounds, c.args.object.now.tag) c.args.root.level
       t.row done.1.out done.1.takes_out));
   faults = λ h t elsewhere can shape boxes has.
       let stands = stands_there g.row.D (pages c.args.cache.now) c.args.root t can.at can.stands in
       let done = c.in_ok-taken.ensures.taken h t.row stands c.if-not-taken.false in
       let took =
       took_out g.row.D c.args.m_max (pages c.args.cache.now) (pages c.take_out.new.cache) c.args.root t
-      elsewhere c.args.id (c.args.bounds.now, c.args.tag) (held_now c.begin.new.self)
+      elsewhere c.args.object.now.reference (c.args.object.now.bounds, c.args.object.now.tag) (held_now c.begin.new.self)
       (held_now c.take_out.new.kept)
-      (map (item_of {D = g.row.D}) c.take_out.new.node.entries.items) can
+      (map (item_of {D = g.row.D}) c.take_out.new.hand.node.entries.items) can
       (ap (map (orphan_held {D = g.row.D})) c.begin.ensures) done.1 in
-      c.put_root.ensures.faults done.0 (pages c.args.cache.now) t elsewhere c.args.id
-      (c.args.bounds.now, c.args.tag) took
+      c.put_root.ensures.faults done.0 (pages c.args.cache.now) t elsewhere c.args.object.now.reference
+      (c.args.object.now.bounds, c.args.object.now.tag) took
       (λ so. c.in_ok-taken.ensures.settled h t.row stands so c.if-not-taken.false) shape boxes;
   damage = λ h none.
       let page = c.args.root.page in

@@ -55,11 +55,11 @@ returns-then-at-eq0 g t c = record {
       let items = map (item_of {D = g.row.D}) c.take_here.new.node.entries.items in
       IfOk-weaker c.take_here.result
       (λ found. found ≡ true
-      → IsTakenFrom c.args.id (c.args.bounds.now, c.args.tag) (row_items row) items) _
+      → IsTakenFrom c.args.object.now.reference (c.args.object.now.bounds, c.args.object.now.tag) (row_items row) items) _
       (λ found taken yes. (
         c.take_here.ensures.asks.map.sound.0 h,
-        taken_here c.args.m_max (pages c.args.cache.now) (pages c.take_here.new.cache) c.args.at c.args.id
-            (c.args.bounds.now, c.args.tag) row (held_now c.args.kept.now) items c.if-at-eq0.true stands
+        taken_here c.args.m_max (pages c.args.cache.now) (pages c.take_here.new.cache) c.args.at c.args.object.now.reference
+            (c.args.object.now.bounds, c.args.object.now.tag) row (held_now c.args.kept.now) items c.if-at-eq0.true stands
             (c.take_here.ensures.asks.map.pages_stay h.honest) (taken yes),
       ))
       (c.take_here.ensures.taken h.honest (record { level = c.args.at.level; entries = row_items row })
@@ -69,9 +69,9 @@ returns-then-at-eq0 g t c = record {
       IfOk-weaker c.take_here.result
       (λ found. found ≡ false → (k : ℕ) (d : Item) → k < length (row_items row)
       → ¬ (get_or (row_items row) k d
-      ≡ record { bounds = c.args.bounds.now; reference = c.args.id; tag = c.args.tag })) (λ found. found ≡ true)
-      (λ found none. found_leaf c.args.m_max (pages c.args.cache.now) c.args.at c.args.id
-      (c.args.bounds.now, c.args.tag) row c.if-at-eq0.true stands found none leads)
+      ≡ record { bounds = c.args.object.now.bounds; reference = c.args.object.now.reference; tag = c.args.object.now.tag })) (λ found. found ≡ true)
+      (λ found none. found_leaf c.args.m_max (pages c.args.cache.now) c.args.at c.args.object.now.reference
+      (c.args.object.now.bounds, c.args.object.now.tag) row c.if-at-eq0.true stands found none leads)
       (c.take_here.ensures.none h.honest (record { level = c.args.at.level; entries = row_items row })
       stands.root);
   absent = λ h row stands lacks. on_err c.take_here.result _ c.take_here.ensures.asks.touched;
@@ -115,8 +115,8 @@ returns-in_default g t c = record {
   taken = λ h row stands is. absurd (true≢false (sym is));
   settled = λ h row stands yes is. absurd (true≢false (sym is));
   found = λ h row stands leads.
-      absurd (none_leads c.args.m_max (pages c.args.cache.now) c.args.at row c.args.id
-      (c.args.bounds.now, c.args.tag) stands c.if-at-eq0.false
+      absurd (none_leads c.args.m_max (pages c.args.cache.now) c.args.at row c.args.object.now.reference
+      (c.args.object.now.bounds, c.args.object.now.tag) stands c.if-at-eq0.false
       (at_none c.in_ok-first.field-0 _
       (c.in_ok-first.ensures.none h.honest (record { level = c.args.at.level; entries = row_items row })
       stands.root) c.in_default.not-Some) leads);
@@ -136,11 +136,11 @@ children-init g t c =
       c.in_ok-first.ensures.asks,
       refl,
       λ h row stands leads.
-          passed_to c.args.m_max m c.args.at row c.in-Some.first c.args.id (c.args.bounds.now, c.args.tag)
+          passed_to c.args.m_max m c.args.at row c.in-Some.first c.args.object.now.reference (c.args.object.now.bounds, c.args.object.now.tag)
           stands c.if-at-eq0.false
           (subst (λ o. IfSome o
           (λ first. (k : ℕ) → k < first → k < length (row_items row)
-          → ¬ Within D c.args.bounds.now (box_at (row_items row) k))) c.in-Some.is
+          → ¬ Within D c.args.object.now.bounds (box_at (row_items row) k))) c.in-Some.is
           (c.in_ok-first.ensures.before h.honest
           (record { level = c.args.at.level; entries = row_items row }) stands.root)) leads,
       subst (λ o. IfSome o (λ _. now.level ≡ c.args.at.level)) c.in-Some.is c.in_ok-first.ensures.level,
@@ -178,9 +178,9 @@ children-preserved-then-not-encloses g t c = (
   c.children.invariant.0,
   c.children.invariant.1,
   λ h row stands leads.
-      passed_by c.args.m_max (pages c.args.cache.now) c.args.at row c.children.node.level
-      c.children.node.entries.items c.deref.result.now c.children.place c.index-deref-place.result
-      c.args.id (c.args.bounds.now, c.args.tag) stands
+      passed_by c.args.m_max (pages c.args.cache.now) c.args.at row c.children.hand.node.level
+      c.children.hand.node.entries.items c.deref.result.now c.children.place c.index-deref-place.result
+      c.args.object.now.reference (c.args.object.now.bounds, c.args.object.now.tag) stands
       (c.children.invariant.5 h.honest) c.if-at-eq0.false
       (omega (
         arith,
@@ -192,7 +192,7 @@ children-preserved-then-not-encloses g t c = (
       (λ inside. absurd
       (true≢false
       (sym (c.encloses.ensures.encloses.1
-      (subst (λ (x : Entry g.row.D). Within g.row.D c.args.bounds.now x.bounds) c.index-deref-place.is
+      (subst (λ (x : Entry g.row.D). Within g.row.D c.args.object.now.bounds x.bounds) c.index-deref-place.is
       inside)) ∙ c.if-not-encloses.true)))
       (c.children.invariant.2 h row stands leads),
   c.children.invariant.3,
@@ -204,8 +204,8 @@ children-preserved-then-not-encloses g t c = (
 
 pub child_of-below-requires : goal.child_of-below-requires
 child_of-below-requires g t c =
-    let above : 0 < c.children.node.level = omega (arith, c.children.invariant.3, c.if-at-eq0.false) in
-    let within : c.children.place < array_vec_len c.children.node.entries =
+    let above : 0 < c.children.hand.node.level = omega (arith, c.children.invariant.3, c.if-at-eq0.false) in
+    let within : c.children.place < array_vec_len c.children.hand.node.entries =
     omega (
       arith,
       c.children-test.true,
@@ -264,7 +264,7 @@ returns-in_err-taken g t c = record {
       let D = g.row.D in
       let m : PageMap = pages c.args.cache.now in
       let m0 : PageMap = pages c.children.cache in
-      let entries = c.children.node.entries.items in
+      let entries = c.children.hand.node.entries.items in
       let same = c.children.invariant.0.map.pages_stay h.honest in
       let sound = c.children.invariant.0.map.sound.0 h in
       let within : c.children.place < length entries =
@@ -274,19 +274,19 @@ returns-in_err-taken g t c = record {
         c.len-place-end.ensures.value,
         ap (λ (x : Node g.row.D). length x.entries.items) c.children.invariant.6,
       ) in
-      let b = is_below m m0 c.args.at row c.children.node.level entries c.children.place
+      let b = is_below m m0 c.args.at row c.children.hand.node.level entries c.children.place
       c.child_of-below.result stands same (c.children.invariant.5 h.honest) c.children.invariant.3
       c.if-at-eq0.false within c.child_of-below.ensures.page c.child_of-below.ensures.level in
       on_err c.from_residual-in_err-taken.result _
       (c.in_err-taken.ensures.absent sound b.h.from.row b.stands
       (below_contained D c.args.m_max m m0 c.args.at row (map item_of entries) c.children.place
-      c.child_of-below.result b c.args.id (c.args.bounds.now, c.args.tag) lacks)
+      c.child_of-below.result b c.args.object.now.reference (c.args.object.now.bounds, c.args.object.now.tag) lacks)
       ∙ c.children.invariant.0.touched);
   faults = λ h row stands.
       let D = g.row.D in
       let m : PageMap = pages c.args.cache.now in
       let m0 : PageMap = pages c.children.cache in
-      let entries = c.children.node.entries.items in
+      let entries = c.children.hand.node.entries.items in
       let same = c.children.invariant.0.map.pages_stay h.honest in
       let sound = c.children.invariant.0.map.sound.0 h in
       let within : c.children.place < length entries =
@@ -296,7 +296,7 @@ returns-in_err-taken g t c = record {
         c.len-place-end.ensures.value,
         ap (λ (x : Node g.row.D). length x.entries.items) c.children.invariant.6,
       ) in
-      let b = is_below m m0 c.args.at row c.children.node.level entries c.children.place
+      let b = is_below m m0 c.args.at row c.children.hand.node.level entries c.children.place
       c.child_of-below.result stands same (c.children.invariant.5 h.honest) c.children.invariant.3
       c.if-at-eq0.false within c.child_of-below.ensures.page c.child_of-below.ensures.level in
       at_error c.from_residual-in_err-taken.result c.in_err-taken.field-0.0 IsOfDevice
@@ -308,7 +308,7 @@ returns-in_err-taken g t c = record {
       let old = c.args.cache.now in
       let mid = c.children.cache in
       let asks = c.children.invariant.0 in
-      let content = content_of c.children.node in
+      let content = content_of c.children.hand.node in
       let page = c.child_of-below.result.page in
       let above : 0 < content.level = omega (arith, c.children.invariant.3, c.if-at-eq0.false) in
       let within : c.children.place < length content.entries =
@@ -317,7 +317,7 @@ returns-in_err-taken g t c = record {
         c.children-test.true,
         c.len-place-end.ensures.value,
         ap (λ (x : Node g.row.D). length x.entries.items) c.children.invariant.6,
-        length-map c.children.node.entries.items (item_of {D = D}),
+        length-map c.children.hand.node.entries.items (item_of {D = D}),
       ) in
       let named =
       child_named content c.children.place page above within (c.child_of-below.ensures.page no_item) in
@@ -341,7 +341,7 @@ children-preserved g t c =
           let D = g.row.D in
           let m : PageMap = pages c.args.cache.now in
           let m0 : PageMap = pages c.children.cache in
-          let entries = c.children.node.entries.items in
+          let entries = c.children.hand.node.entries.items in
           let same = c.children.invariant.0.map.pages_stay h.honest in
           let sound = c.children.invariant.0.map.sound.0 h in
           let within : c.children.place < length entries =
@@ -351,11 +351,11 @@ children-preserved g t c =
             c.len-place-end.ensures.value,
             ap (λ (x : Node g.row.D). length x.entries.items) c.children.invariant.6,
           ) in
-          let b = is_below m m0 c.args.at row c.children.node.level entries c.children.place
+          let b = is_below m m0 c.args.at row c.children.hand.node.level entries c.children.place
           c.child_of-below.result stands same (c.children.invariant.5 h.honest) c.children.invariant.3
           c.if-at-eq0.false within c.child_of-below.ensures.page c.child_of-below.ensures.level in
           later_than D c.args.m_max m m0 c.args.at row (map item_of entries) c.children.place
-          c.child_of-below.result b c.args.id (c.args.bounds.now, c.args.tag)
+          c.child_of-below.result b c.args.object.now.reference (c.args.object.now.bounds, c.args.object.now.tag)
           (λ both. true≢false (sym (c.in_ok-taken.ensures.found sound b.h.from.row b.stands both.1) ∙ none))
           (c.children.invariant.2 h row stands leads),
       c.children.invariant.3,
@@ -369,16 +369,16 @@ pub put_child-requires : goal.put_child-requires
 put_child-requires g t c =
     let gate = c.in_ok-taken.ensures.changes.gate.gate ∙ c.children.invariant.0.gate.gate
     ∙ c.requires.open in
-    let above : 0 < c.children.node.level = omega (arith, c.children.invariant.3, c.if-at-eq0.false) in
-    let within : c.children.place < array_vec_len c.children.node.entries =
+    let above : 0 < c.children.hand.node.level = omega (arith, c.children.invariant.3, c.if-at-eq0.false) in
+    let within : c.children.place < array_vec_len c.children.hand.node.entries =
     omega (
       arith,
       c.children-test.true,
       c.len-place-end.ensures.value,
       ap (λ (x : Node g.row.D). length x.entries.items) c.children.invariant.6,
     ) in
-    let cut : IsCut (c.children.node.level - 1) (content_of c.take_out.new.node) =
-    subst (λ l. IsCut l (content_of c.take_out.new.node)) c.child_of-below.ensures.level
+    let cut : IsCut (c.children.hand.node.level - 1) (content_of c.take_out.new.hand.node) =
+    subst (λ l. IsCut l (content_of c.take_out.new.hand.node)) c.child_of-below.ensures.level
     (c.in_ok-taken.ensures.cut c.if-not-taken.false) in
     let room : array_vec_len c.take_out.new.kept.orphans + 39 ≤ 1560 =
     omega (
@@ -411,7 +411,7 @@ returns-in_err-put_child g t c = record {
       c.in_ok-taken.ensures.changes) c.in_err-put_child.ensures.changes;
   grows = search rules;
   cut = no_answer c.from_residual-in_err-put_child.result c.in_err-put_child.field-0.0 _ c.from_residual-in_err-put_child.ensures.1;
-  room = let above : 0 < c.children.node.level = omega (arith, c.children.invariant.3, c.if-at-eq0.false) in
+  room = let above : 0 < c.children.hand.node.level = omega (arith, c.children.invariant.3, c.if-at-eq0.false) in
       omega (
         arith,
         ap length c.children.invariant.1,
@@ -429,7 +429,7 @@ returns-in_err-put_child g t c = record {
       let D = g.row.D in
       let m : PageMap = pages c.args.cache.now in
       let m0 : PageMap = pages c.children.cache in
-      let entries = c.children.node.entries.items in
+      let entries = c.children.hand.node.entries.items in
       let same = c.children.invariant.0.map.pages_stay h.honest in
       let sound = c.children.invariant.0.map.sound.0 h in
       let within : c.children.place < length entries =
@@ -439,19 +439,19 @@ returns-in_err-put_child g t c = record {
         c.len-place-end.ensures.value,
         ap (λ (x : Node g.row.D). length x.entries.items) c.children.invariant.6,
       ) in
-      let b = is_below m m0 c.args.at row c.children.node.level entries c.children.place
+      let b = is_below m m0 c.args.at row c.children.hand.node.level entries c.children.place
       c.child_of-below.result stands same (c.children.invariant.5 h.honest) c.children.invariant.3
       c.if-at-eq0.false within c.child_of-below.ensures.page c.child_of-below.ensures.level in
       let done = c.in_ok-taken.ensures.taken sound b.h.from.row b.stands c.if-not-taken.false in
       absurd (below_contained D c.args.m_max m m0 c.args.at row (map item_of entries) c.children.place
-      c.child_of-below.result b c.args.id (c.args.bounds.now, c.args.tag) lacks
-      (takes_contained D c.args.m_max c.args.id (c.args.bounds.now, c.args.tag) c.child_of-below.result.level
+      c.child_of-below.result b c.args.object.now.reference (c.args.object.now.bounds, c.args.object.now.tag) lacks
+      (takes_contained D c.args.m_max c.args.object.now.reference (c.args.object.now.bounds, c.args.object.now.tag) c.child_of-below.result.level
       b.h.from.row done.1.out done.1.takes_out));
   faults = λ h row stands.
       let D = g.row.D in
       let m : PageMap = pages c.args.cache.now in
       let m0 : PageMap = pages c.children.cache in
-      let entries = c.children.node.entries.items in
+      let entries = c.children.hand.node.entries.items in
       let same = c.children.invariant.0.map.pages_stay h.honest in
       let sound = c.children.invariant.0.map.sound.0 h in
       let within : c.children.place < length entries =
@@ -461,23 +461,23 @@ returns-in_err-put_child g t c = record {
         c.len-place-end.ensures.value,
         ap (λ (x : Node g.row.D). length x.entries.items) c.children.invariant.6,
       ) in
-      let b = is_below m m0 c.args.at row c.children.node.level entries c.children.place
+      let b = is_below m m0 c.args.at row c.children.hand.node.level entries c.children.place
       c.child_of-below.result stands same (c.children.invariant.5 h.honest) c.children.invariant.3
       c.if-at-eq0.false within c.child_of-below.ensures.page c.child_of-below.ensures.level in
       let done = c.in_ok-taken.ensures.taken sound b.h.from.row b.stands c.if-not-taken.false in
       let took =
       took_below D c.args.m_max m m0 c.args.at row (map (item_of {D = D}) entries) c.children.place
-      c.child_of-below.result b c.args.id (c.args.bounds.now, c.args.tag) (pages c.take_out.new.cache)
-      c.children.node.level (held_now c.children.kept) (held_now c.args.kept.now)
+      c.child_of-below.result b c.args.object.now.reference (c.args.object.now.bounds, c.args.object.now.tag) (pages c.take_out.new.cache)
+      c.children.hand.node.level (held_now c.children.kept) (held_now c.args.kept.now)
       (held_now c.take_out.new.kept)
-      (map (item_of {D = D}) c.take_out.new.node.entries.items) stands same c.children.invariant.3
+      (map (item_of {D = D}) c.take_out.new.hand.node.entries.items) stands same c.children.invariant.3
       (ap (map (orphan_held {D = D})) c.children.invariant.1) done.1 in
       at_error c.from_residual-in_err-put_child.result c.in_err-put_child.field-0.0 IsOfDevice
       c.from_residual-in_err-put_child.ensures.1
-      (c.in_err-put_child.ensures.faults done.0 m c.args.at.page c.args.id (c.args.bounds.now, c.args.tag) row
+      (c.in_err-put_child.ensures.faults done.0 m c.args.at.page c.args.object.now.reference (c.args.object.now.bounds, c.args.object.now.tag) row
       (held_now c.args.kept.now) took
-      (settled_child c.take_out.new.node (pages c.take_out.new.cache) (map (item_of {D = D}) entries)
-      c.children.place c.child_of-below.result.page c.take_out.new.settled c.child_of-below.ensures.page
+      (settled_child c.take_out.new.hand.node (pages c.take_out.new.cache) (map (item_of {D = D}) entries)
+      c.children.place c.child_of-below.result.page c.take_out.new.hand.settled c.child_of-below.ensures.page
       (λ so. c.in_ok-taken.ensures.settled sound b.h.from.row b.stands so c.if-not-taken.false)));
   sound = λ h. no_answer c.from_residual-in_err-put_child.result c.in_err-put_child.field-0.0 _ c.from_residual-in_err-put_child.ensures.1;
   touched = λ h. no_answer c.from_residual-in_err-put_child.result c.in_err-put_child.field-0.0 _ c.from_residual-in_err-put_child.ensures.1;
@@ -510,9 +510,9 @@ returns-in-children g t c = record {
       (changes_in_turn old mid low None (asks_changes old mid None c.children.invariant.0)
       c.in_ok-taken.ensures.changes) c.in_ok-put_child.ensures.changes;
   grows = search rules;
-  cut = λ yes. subst (λ l. IsCut l (content_of c.put_child.new.node)) c.children.invariant.3
+  cut = λ yes. subst (λ l. IsCut l (content_of c.put_child.new.hand.node)) c.children.invariant.3
       c.in_ok-put_child.ensures.cut;
-  room = let above : 0 < c.children.node.level = omega (arith, c.children.invariant.3, c.if-at-eq0.false) in
+  room = let above : 0 < c.children.hand.node.level = omega (arith, c.children.invariant.3, c.if-at-eq0.false) in
       omega (
         arith,
         ap length c.children.invariant.1,
@@ -527,7 +527,7 @@ returns-in-children g t c = record {
       let D = g.row.D in
       let m : PageMap = pages c.args.cache.now in
       let m0 : PageMap = pages c.children.cache in
-      let entries = c.children.node.entries.items in
+      let entries = c.children.hand.node.entries.items in
       let same = c.children.invariant.0.map.pages_stay h.honest in
       let sound = c.children.invariant.0.map.sound.0 h in
       let within : c.children.place < length entries =
@@ -537,31 +537,31 @@ returns-in-children g t c = record {
         c.len-place-end.ensures.value,
         ap (λ (x : Node g.row.D). length x.entries.items) c.children.invariant.6,
       ) in
-      let b = is_below m m0 c.args.at row c.children.node.level entries c.children.place
+      let b = is_below m m0 c.args.at row c.children.hand.node.level entries c.children.place
       c.child_of-below.result stands same (c.children.invariant.5 h.honest) c.children.invariant.3
       c.if-at-eq0.false within c.child_of-below.ensures.page c.child_of-below.ensures.level in
       let done = c.in_ok-taken.ensures.taken sound b.h.from.row b.stands c.if-not-taken.false in
       let took =
       took_below D c.args.m_max m m0 c.args.at row (map (item_of {D = D}) entries) c.children.place
-      c.child_of-below.result b c.args.id (c.args.bounds.now, c.args.tag) (pages c.take_out.new.cache)
-      c.children.node.level (held_now c.children.kept) (held_now c.args.kept.now)
+      c.child_of-below.result b c.args.object.now.reference (c.args.object.now.bounds, c.args.object.now.tag) (pages c.take_out.new.cache)
+      c.children.hand.node.level (held_now c.children.kept) (held_now c.args.kept.now)
       (held_now c.take_out.new.kept)
-      (map (item_of {D = D}) c.take_out.new.node.entries.items) stands same c.children.invariant.3
+      (map (item_of {D = D}) c.take_out.new.hand.node.entries.items) stands same c.children.invariant.3
       (ap (map (orphan_held {D = D})) c.children.invariant.1) done.1 in
       subst (λ l. IsPageMap c.put_child.new.cache
-      × HasTaken D c.args.m_max m (pages c.put_child.new.cache) l c.args.id (c.args.bounds.now, c.args.tag) row
+      × HasTaken D c.args.m_max m (pages c.put_child.new.cache) l c.args.object.now.reference (c.args.object.now.bounds, c.args.object.now.tag) row
       (held_now c.args.kept.now) (held_now c.put_child.new.kept)
-      (map (item_of {D = D}) c.put_child.new.node.entries.items)) c.children.invariant.3
-      (c.in_ok-put_child.ensures.taken done.0 m c.args.at.page c.args.id (c.args.bounds.now, c.args.tag) row
+      (map (item_of {D = D}) c.put_child.new.hand.node.entries.items)) c.children.invariant.3
+      (c.in_ok-put_child.ensures.taken done.0 m c.args.at.page c.args.object.now.reference (c.args.object.now.bounds, c.args.object.now.tag) row
       (held_now c.args.kept.now) took
-      (settled_child c.take_out.new.node (pages c.take_out.new.cache) (map (item_of {D = D}) entries)
-      c.children.place c.child_of-below.result.page c.take_out.new.settled c.child_of-below.ensures.page
+      (settled_child c.take_out.new.hand.node (pages c.take_out.new.cache) (map (item_of {D = D}) entries)
+      c.children.place c.child_of-below.result.page c.take_out.new.hand.settled c.child_of-below.ensures.page
       (λ so. c.in_ok-taken.ensures.settled sound b.h.from.row b.stands so c.if-not-taken.false)));
   settled = λ h row stands so yes.
       let D = g.row.D in
       let m : PageMap = pages c.args.cache.now in
       let m0 : PageMap = pages c.children.cache in
-      let entries = c.children.node.entries.items in
+      let entries = c.children.hand.node.entries.items in
       let same = c.children.invariant.0.map.pages_stay h.honest in
       let sound = c.children.invariant.0.map.sound.0 h in
       let within : c.children.place < length entries =
@@ -571,28 +571,28 @@ returns-in-children g t c = record {
         c.len-place-end.ensures.value,
         ap (λ (x : Node g.row.D). length x.entries.items) c.children.invariant.6,
       ) in
-      let b = is_below m m0 c.args.at row c.children.node.level entries c.children.place
+      let b = is_below m m0 c.args.at row c.children.hand.node.level entries c.children.place
       c.child_of-below.result stands same (c.children.invariant.5 h.honest) c.children.invariant.3
       c.if-at-eq0.false within c.child_of-below.ensures.page c.child_of-below.ensures.level in
       let done = c.in_ok-taken.ensures.taken sound b.h.from.row b.stands c.if-not-taken.false in
       let took =
       took_below D c.args.m_max m m0 c.args.at row (map (item_of {D = D}) entries) c.children.place
-      c.child_of-below.result b c.args.id (c.args.bounds.now, c.args.tag) (pages c.take_out.new.cache)
-      c.children.node.level (held_now c.children.kept) (held_now c.args.kept.now)
+      c.child_of-below.result b c.args.object.now.reference (c.args.object.now.bounds, c.args.object.now.tag) (pages c.take_out.new.cache)
+      c.children.hand.node.level (held_now c.children.kept) (held_now c.args.kept.now)
       (held_now c.take_out.new.kept)
-      (map (item_of {D = D}) c.take_out.new.node.entries.items) stands same c.children.invariant.3
+      (map (item_of {D = D}) c.take_out.new.hand.node.entries.items) stands same c.children.invariant.3
       (ap (map (orphan_held {D = D})) c.children.invariant.1) done.1 in
-      settled_still c.args.m_max m (pages c.put_child.new.cache) c.args.at.page c.children.node.level c.args.id
-      (c.args.bounds.now, c.args.tag) row (held_now c.args.kept.now) (held_now c.put_child.new.kept)
-      (content_of c.children.node) c.put_child.new.node
+      settled_still c.args.m_max m (pages c.put_child.new.cache) c.args.at.page c.children.hand.node.level c.args.object.now.reference
+      (c.args.object.now.bounds, c.args.object.now.tag) row (held_now c.args.kept.now) (held_now c.put_child.new.kept)
+      (content_of c.children.hand.node) c.put_child.new.hand.node
       (subst (λ k. Stands D m (record { page = c.args.at.page; level = k; row = row }))
       (sym c.children.invariant.3) stands)
       (c.children.invariant.5 h.honest (page_of_node D (m c.args.at.page) _ stands.root))
       (c.in_ok-put_child.ensures.settled so)
-      (c.in_ok-put_child.ensures.taken done.0 m c.args.at.page c.args.id (c.args.bounds.now, c.args.tag) row
+      (c.in_ok-put_child.ensures.taken done.0 m c.args.at.page c.args.object.now.reference (c.args.object.now.bounds, c.args.object.now.tag) row
       (held_now c.args.kept.now) took
-      (settled_child c.take_out.new.node (pages c.take_out.new.cache) (map (item_of {D = D}) entries)
-      c.children.place c.child_of-below.result.page c.take_out.new.settled c.child_of-below.ensures.page
+      (settled_child c.take_out.new.hand.node (pages c.take_out.new.cache) (map (item_of {D = D}) entries)
+      c.children.place c.child_of-below.result.page c.take_out.new.hand.settled c.child_of-below.ensures.page
       (λ so. c.in_ok-taken.ensures.settled sound b.h.from.row b.stands so c.if-not-taken.false))).1;
   found = λ h row stands leads. refl;
   absent = λ h row stands lacks. tt;
@@ -603,8 +603,8 @@ returns-in-children g t c = record {
       let low = c.take_out.new.cache in
       let asks = c.children.invariant.0 in
       let page = c.child_of-below.result.page in
-      let content = content_of c.children.node in
-      let above : 0 < c.children.node.level = omega (arith, c.children.invariant.3, c.if-at-eq0.false) in
+      let content = content_of c.children.hand.node in
+      let above : 0 < c.children.hand.node.level = omega (arith, c.children.invariant.3, c.if-at-eq0.false) in
       let below = c.in_ok-taken.ensures.sound (asks.map.sound.0 h) c.if-not-taken.false in
       let child = below.1 in
       let there = child.stay page child.node child.there (omega (arith, child.level_is)) in
@@ -656,8 +656,8 @@ returns g t c = record {
   taken = λ h row stands is. absurd (true≢false (sym is));
   settled = λ h row stands so is. absurd (true≢false (sym is));
   found = λ h row stands leads.
-      absurd (nothing_later (pages c.args.cache.now) c.args.at row c.children.node.level
-      c.children.node.entries.items c.children.place c.args.id (c.args.bounds.now, c.args.tag) stands
+      absurd (nothing_later (pages c.args.cache.now) c.args.at row c.children.hand.node.level
+      c.children.hand.node.entries.items c.children.place c.args.object.now.reference (c.args.object.now.bounds, c.args.object.now.tag) stands
       (c.children.invariant.5 h.honest)
       (omega (
         arith,

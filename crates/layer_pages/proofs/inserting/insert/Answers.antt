@@ -21,15 +21,15 @@ returns-in_err-after-clause-faults g c = λ sound l objects at.
     let id = c.args.object.now.reference in
     let kept : Object = (c.args.object.now.bounds, c.args.object.now.tag) in
     let is =
-    subst (λ (most : ℕ). IsLayerAt D most m c.args.root c.args.directory l objects) (sym c.from.ensures)
+    subst (λ (most : ℕ). IsLayerAt D most m c.args.layer.root c.args.layer.directory l objects) (sym c.from.ensures)
     at in
     at_error c.from_residual.result c.in_err-after.field-0.0
     (IsNoDamage c.insert_with.new.cache) c.from_residual.ensures.1
     (c.in_err-after.ensures.inserts.faults sound l.tree
-    (branch D c.from.result m c.args.root c.args.directory l objects is id kept) (part_of l.ids)
-    (can_insert D c.from.result m c.args.root c.args.directory l objects is id kept)
+    (branch D c.from.result m c.args.layer.root c.args.layer.directory l objects is id kept) (part_of l.ids)
+    (can_insert D c.from.result m c.args.layer.root c.args.layer.directory l objects is id kept)
     (loose D c.from.result l.tree is.tree.shape) is.boxes
-    (entry_has_shape D c.from.result m c.args.root c.args.directory l objects is id kept
+    (entry_has_shape D c.from.result m c.args.layer.root c.args.layer.directory l objects is id kept
     c.low.ensures.is_box))
 
 pub returns-clause-changes : goal.returns-clause-changes
@@ -44,14 +44,14 @@ returns-clause-sound g c = λ sound l objects at.
     let id = c.args.object.now.reference in
     let kept : Object = (c.args.object.now.bounds, c.args.object.now.tag) in
     let is =
-    subst (λ (most : ℕ). IsLayerAt D most m c.args.root c.args.directory l objects) (sym c.from.ensures)
+    subst (λ (most : ℕ). IsLayerAt D most m c.args.layer.root c.args.layer.directory l objects) (sym c.from.ensures)
     at in
     let to =
     c.in_ok-after.ensures.inserts.inserted sound l.tree
-    (branch D c.from.result m c.args.root c.args.directory l objects is id kept) (part_of l.ids)
-    (can_insert D c.from.result m c.args.root c.args.directory l objects is id kept) in
+    (branch D c.from.result m c.args.layer.root c.args.layer.directory l objects is id kept) (part_of l.ids)
+    (can_insert D c.from.result m c.args.layer.root c.args.layer.directory l objects is id kept) in
     c.in_ok-add.ensures.sound to.0 l.ids is.directory_is
-    (ids_meanwhile D c.from.result m c.args.root c.args.directory l objects is id kept
+    (ids_meanwhile D c.from.result m c.args.layer.root c.args.layer.directory l objects is id kept
     (pages c.insert_with.new.cache) c.in_ok-after.after to.1)
 
 pub returns-clause-inserted : goal.returns-clause-inserted
@@ -62,22 +62,22 @@ returns-clause-inserted g c = λ sound l objects at absent.
     let id = c.args.object.now.reference in
     let kept : Object = (c.args.object.now.bounds, c.args.object.now.tag) in
     let is =
-    subst (λ (most : ℕ). IsLayerAt D most m c.args.root c.args.directory l objects) (sym c.from.ensures)
+    subst (λ (most : ℕ). IsLayerAt D most m c.args.layer.root c.args.layer.directory l objects) (sym c.from.ensures)
     at in
     let to =
     c.in_ok-after.ensures.inserts.inserted sound l.tree
-    (branch D c.from.result m c.args.root c.args.directory l objects is id kept) (part_of l.ids)
-    (can_insert D c.from.result m c.args.root c.args.directory l objects is id kept) in
+    (branch D c.from.result m c.args.layer.root c.args.layer.directory l objects is id kept) (part_of l.ids)
+    (can_insert D c.from.result m c.args.layer.root c.args.layer.directory l objects is id kept) in
     let stand =
-    ids_meanwhile D c.from.result m c.args.root c.args.directory l objects is id kept mid
+    ids_meanwhile D c.from.result m c.args.layer.root c.args.layer.directory l objects is id kept mid
     c.in_ok-after.after to.1 in
     let none =
-    absent_meanwhile D c.from.result m c.args.root c.args.directory l objects is id kept mid
+    absent_meanwhile D c.from.result m c.args.layer.root c.args.layer.directory l objects is id kept mid
     c.in_ok-after.after to.1 absent in
     let added = c.in_ok-add.ensures.added to.0 l.ids is.directory_is stand none in
     subst (λ (most : ℕ). BecomesLayer D most m (pages c.add.new.cache) (part_of_layer l) c.in_ok-after.after
-    c.args.directory (map.insert objects id kept) (HasInserted D most l id kept)) c.from.ensures
-    (layer_inserted D c.from.result m c.args.root c.args.directory l objects is id kept mid
+    c.args.layer.directory (map.insert objects id kept) (HasInserted D most l id kept)) c.from.ensures
+    (layer_inserted D c.from.result m c.args.layer.root c.args.layer.directory l objects is id kept mid
     c.in_ok-after.after to.1 (pages c.add.new.cache) added
     (omega (arith, c.requires.most.0, c.from.ensures)) c.low.ensures.is_box absent)
 
@@ -94,14 +94,14 @@ returns-in_err-add-clause-faults g c = λ sound l objects at.
     let id = c.args.object.now.reference in
     let kept : Object = (c.args.object.now.bounds, c.args.object.now.tag) in
     let is =
-    subst (λ (most : ℕ). IsLayerAt D most m c.args.root c.args.directory l objects) (sym c.from.ensures)
+    subst (λ (most : ℕ). IsLayerAt D most m c.args.layer.root c.args.layer.directory l objects) (sym c.from.ensures)
     at in
     let to =
     c.in_ok-after.ensures.inserts.inserted sound l.tree
-    (branch D c.from.result m c.args.root c.args.directory l objects is id kept) (part_of l.ids)
-    (can_insert D c.from.result m c.args.root c.args.directory l objects is id kept) in
+    (branch D c.from.result m c.args.layer.root c.args.layer.directory l objects is id kept) (part_of l.ids)
+    (can_insert D c.from.result m c.args.layer.root c.args.layer.directory l objects is id kept) in
     let stand =
-    ids_meanwhile D c.from.result m c.args.root c.args.directory l objects is id kept
+    ids_meanwhile D c.from.result m c.args.layer.root c.args.layer.directory l objects is id kept
     (pages c.insert_with.new.cache) c.in_ok-after.after to.1 in
     at_error c.from_residual-in_err-add.result c.in_err-add.field-0.0 (IsNoDamage c.add.new.cache)
     c.from_residual-in_err-add.ensures.1

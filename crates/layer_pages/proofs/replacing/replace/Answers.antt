@@ -30,16 +30,16 @@ returns-in_err-between-clause-absent g c = λ sound l objects at absent.
     let D = g.row.D in
     let m = pages c.args.cache.now in
     let is =
-    subst (λ (most : ℕ). IsLayerAt D most m c.args.root c.args.directory l objects)
+    subst (λ (most : ℕ). IsLayerAt D most m c.args.layer.root c.args.layer.directory l objects)
     (sym c.from-most.ensures) at in
     let refused =
     c.in_err-between.ensures.absent sound l.tree (part_of l.ids)
-    (can_remove D c.from-most.result m c.args.root c.args.directory l objects is)
-    (in_no_leaf D c.from-most.result m c.args.root c.args.directory l objects is c.args.id
-    (c.args.old.now, c.args.tag) absent) in (
+    (can_remove D c.from-most.result m c.args.layer.root c.args.layer.directory l objects is)
+    (in_no_leaf D c.from-most.result m c.args.layer.root c.args.layer.directory l objects is c.args.object.now.reference
+    (c.args.object.now.bounds, c.args.object.now.tag) absent) in (
       refused.0,
       refused_so c.from_residual.result c.in_err-between.field-0.0
-          (λ f. IsOfDevice f ⊎ (f ≡ fault.Damaged c.args.root.page)) c.from_residual.ensures.1 refused.1,
+          (λ f. IsOfDevice f ⊎ (f ≡ fault.Damaged c.args.layer.root.page)) c.from_residual.ensures.1 refused.1,
     )
 
 pub returns-in_err-between-clause-faults : goal.returns-in_err-between-clause-faults
@@ -47,14 +47,14 @@ returns-in_err-between-clause-faults g c = λ sound l objects at there.
     let D = g.row.D in
     let m = pages c.args.cache.now in
     let is =
-    subst (λ (most : ℕ). IsLayerAt D most m c.args.root c.args.directory l objects)
+    subst (λ (most : ℕ). IsLayerAt D most m c.args.layer.root c.args.layer.directory l objects)
     (sym c.from-most.ensures) at in
     at_error c.from_residual.result c.in_err-between.field-0.0
     (IsNoDamage c.remove_with.new.cache) c.from_residual.ensures.1
     (c.in_err-between.ensures.faults sound l.tree (part_of l.ids)
-    (can_remove D c.from-most.result m c.args.root c.args.directory l objects is) is.tree.shape is.boxes
-    (in_a_leaf D c.from-most.result m c.args.root c.args.directory l objects is c.args.id
-    (c.args.old.now, c.args.tag) there))
+    (can_remove D c.from-most.result m c.args.layer.root c.args.layer.directory l objects is) is.tree.shape is.boxes
+    (in_a_leaf D c.from-most.result m c.args.layer.root c.args.layer.directory l objects is c.args.object.now.reference
+    (c.args.object.now.bounds, c.args.object.now.tag) there))
 
 pub returns-in_err-after-clause-changes : goal.returns-in_err-after-clause-changes
 returns-in_err-after-clause-changes g c =
@@ -67,37 +67,37 @@ returns-in_err-after-clause-absent g c = λ sound l objects at absent.
     let D = g.row.D in
     let m = pages c.args.cache.now in
     let is =
-    subst (λ (most : ℕ). IsLayerAt D most m c.args.root c.args.directory l objects)
+    subst (λ (most : ℕ). IsLayerAt D most m c.args.layer.root c.args.layer.directory l objects)
     (sym c.from-most.ensures) at in
     made_so_not_refused (c.in_ok-between.ensures.absent sound l.tree (part_of l.ids)
-    (can_remove D c.from-most.result m c.args.root c.args.directory l objects is)
-    (in_no_leaf D c.from-most.result m c.args.root c.args.directory l objects is c.args.id
-    (c.args.old.now, c.args.tag) absent))
+    (can_remove D c.from-most.result m c.args.layer.root c.args.layer.directory l objects is)
+    (in_no_leaf D c.from-most.result m c.args.layer.root c.args.layer.directory l objects is c.args.object.now.reference
+    (c.args.object.now.bounds, c.args.object.now.tag) absent))
 
 pub returns-in_err-after-clause-faults : goal.returns-in_err-after-clause-faults
 returns-in_err-after-clause-faults g c = λ sound l objects at there.
     let D = g.row.D in
     let m = pages c.args.cache.now in
     let is =
-    subst (λ (most : ℕ). IsLayerAt D most m c.args.root c.args.directory l objects)
+    subst (λ (most : ℕ). IsLayerAt D most m c.args.layer.root c.args.layer.directory l objects)
     (sym c.from-most.ensures) at in
     let four : 4 ≤ c.from-most.result = omega (arith, c.requires.most.0, c.from-most.ensures) in
     let to =
     c.in_ok-between.ensures.removed sound l.tree (part_of l.ids)
-    (can_remove D c.from-most.result m c.args.root c.args.directory l objects is) in
+    (can_remove D c.from-most.result m c.args.layer.root c.args.layer.directory l objects is) in
     let shape =
-    shape_between D c.from-most.result m c.args.root c.args.directory l objects is four c.args.id
-    (c.args.old.now, c.args.tag) (c.args.new.now, c.args.tag) (pages c.remove_with.new.cache)
+    shape_between D c.from-most.result m c.args.layer.root c.args.layer.directory l objects is four c.args.object.now.reference
+    (c.args.object.now.bounds, c.args.object.now.tag) (c.args.new.now, c.args.object.now.tag) (pages c.remove_with.new.cache)
     c.in_ok-between.between to.1 in
     at_error c.from_residual-in_err-after.result c.in_err-after.field-0.0 (IsNoDamage c.insert_with.new.cache)
     c.from_residual-in_err-after.ensures.1
-    (c.in_err-after.ensures.inserts.faults to.0 to.1.new (object (c.args.new.now, c.args.tag) c.args.id)
+    (c.in_err-after.ensures.inserts.faults to.0 to.1.new (object (c.args.new.now, c.args.object.now.tag) c.args.object.now.reference)
     (part_of l.ids)
-    (can_insert_between D c.from-most.result m c.args.root c.args.directory l objects is four c.args.id
-    (c.args.old.now, c.args.tag) (c.args.new.now, c.args.tag) (pages c.remove_with.new.cache)
+    (can_insert_between D c.from-most.result m c.args.layer.root c.args.layer.directory l objects is four c.args.object.now.reference
+    (c.args.object.now.bounds, c.args.object.now.tag) (c.args.new.now, c.args.object.now.tag) (pages c.remove_with.new.cache)
     c.in_ok-between.between to.1) (loose D c.from-most.result to.1.new shape.0) shape.1
-    (entry_has_shape D c.from-most.result m c.args.root c.args.directory l objects is c.args.id
-    (c.args.new.now, c.args.tag) c.low.ensures.is_box))
+    (entry_has_shape D c.from-most.result m c.args.layer.root c.args.layer.directory l objects is c.args.object.now.reference
+    (c.args.new.now, c.args.object.now.tag) c.low.ensures.is_box))
 
 pub returns-in_err-after-clause-other_faults : goal.returns-in_err-after-clause-other_faults
 returns-in_err-after-clause-other_faults g c =
@@ -115,21 +115,21 @@ returns-clause-sound g c = λ sound l objects at there.
     let D = g.row.D in
     let m = pages c.args.cache.now in
     let is =
-    subst (λ (most : ℕ). IsLayerAt D most m c.args.root c.args.directory l objects)
+    subst (λ (most : ℕ). IsLayerAt D most m c.args.layer.root c.args.layer.directory l objects)
     (sym c.from-most.ensures) at in
     let four : 4 ≤ c.from-most.result = omega (arith, c.requires.most.0, c.from-most.ensures) in
     let to =
     c.in_ok-between.ensures.removed sound l.tree (part_of l.ids)
-    (can_remove D c.from-most.result m c.args.root c.args.directory l objects is) in
+    (can_remove D c.from-most.result m c.args.layer.root c.args.layer.directory l objects is) in
     let into =
-    c.in_ok-after.ensures.inserts.inserted to.0 to.1.new (object (c.args.new.now, c.args.tag) c.args.id)
+    c.in_ok-after.ensures.inserts.inserted to.0 to.1.new (object (c.args.new.now, c.args.object.now.tag) c.args.object.now.reference)
     (part_of l.ids)
-    (can_insert_between D c.from-most.result m c.args.root c.args.directory l objects is four c.args.id
-    (c.args.old.now, c.args.tag) (c.args.new.now, c.args.tag) (pages c.remove_with.new.cache)
+    (can_insert_between D c.from-most.result m c.args.layer.root c.args.layer.directory l objects is four c.args.object.now.reference
+    (c.args.object.now.bounds, c.args.object.now.tag) (c.args.new.now, c.args.object.now.tag) (pages c.remove_with.new.cache)
     c.in_ok-between.between to.1) in
     let stand =
-    ids_unchanged D c.from-most.result m c.args.root c.args.directory l objects is four c.args.id
-    (c.args.old.now, c.args.tag) (c.args.new.now, c.args.tag) (pages c.remove_with.new.cache)
+    ids_unchanged D c.from-most.result m c.args.layer.root c.args.layer.directory l objects is four c.args.object.now.reference
+    (c.args.object.now.bounds, c.args.object.now.tag) (c.args.new.now, c.args.object.now.tag) (pages c.remove_with.new.cache)
     c.in_ok-between.between to.1 (pages c.insert_with.new.cache) c.in_ok-after.after into.1 in
     c.in_ok-update.ensures.sound into.0 l.ids is.directory_is stand
 
@@ -138,33 +138,33 @@ returns-clause-replaced g c = λ sound l objects at there.
     let D = g.row.D in
     let m = pages c.args.cache.now in
     let is =
-    subst (λ (most : ℕ). IsLayerAt D most m c.args.root c.args.directory l objects)
+    subst (λ (most : ℕ). IsLayerAt D most m c.args.layer.root c.args.layer.directory l objects)
     (sym c.from-most.ensures) at in
     let four : 4 ≤ c.from-most.result = omega (arith, c.requires.most.0, c.from-most.ensures) in
     let to =
     c.in_ok-between.ensures.removed sound l.tree (part_of l.ids)
-    (can_remove D c.from-most.result m c.args.root c.args.directory l objects is) in
+    (can_remove D c.from-most.result m c.args.layer.root c.args.layer.directory l objects is) in
     let into =
-    c.in_ok-after.ensures.inserts.inserted to.0 to.1.new (object (c.args.new.now, c.args.tag) c.args.id)
+    c.in_ok-after.ensures.inserts.inserted to.0 to.1.new (object (c.args.new.now, c.args.object.now.tag) c.args.object.now.reference)
     (part_of l.ids)
-    (can_insert_between D c.from-most.result m c.args.root c.args.directory l objects is four c.args.id
-    (c.args.old.now, c.args.tag) (c.args.new.now, c.args.tag) (pages c.remove_with.new.cache)
+    (can_insert_between D c.from-most.result m c.args.layer.root c.args.layer.directory l objects is four c.args.object.now.reference
+    (c.args.object.now.bounds, c.args.object.now.tag) (c.args.new.now, c.args.object.now.tag) (pages c.remove_with.new.cache)
     c.in_ok-between.between to.1) in
     let stand =
-    ids_unchanged D c.from-most.result m c.args.root c.args.directory l objects is four c.args.id
-    (c.args.old.now, c.args.tag) (c.args.new.now, c.args.tag) (pages c.remove_with.new.cache)
+    ids_unchanged D c.from-most.result m c.args.layer.root c.args.layer.directory l objects is four c.args.object.now.reference
+    (c.args.object.now.bounds, c.args.object.now.tag) (c.args.new.now, c.args.object.now.tag) (pages c.remove_with.new.cache)
     c.in_ok-between.between to.1 (pages c.insert_with.new.cache) c.in_ok-after.after into.1 in
     let set =
-    c.in_ok-update.ensures.updated into.0 l.ids is.directory_is stand (c.args.old.now, c.args.tag)
-    (kept_in_table D c.from-most.result m c.args.root c.args.directory l objects is c.args.id
-    (c.args.old.now, c.args.tag) there) in
+    c.in_ok-update.ensures.updated into.0 l.ids is.directory_is stand (c.args.object.now.bounds, c.args.object.now.tag)
+    (kept_in_table D c.from-most.result m c.args.layer.root c.args.layer.directory l objects is c.args.object.now.reference
+    (c.args.object.now.bounds, c.args.object.now.tag) there) in
     subst (λ (most : ℕ). BecomesLayer D most m (pages c.update.new.cache) (part_of_layer l)
     c.in_ok-after.after
-    c.args.directory (map.insert objects c.args.id (c.args.new.now, c.args.tag))
-    (HasReplaced D most l c.args.id (c.args.old.now, c.args.tag) (c.args.new.now, c.args.tag)))
+    c.args.layer.directory (map.insert objects c.args.object.now.reference (c.args.new.now, c.args.object.now.tag))
+    (HasReplaced D most l c.args.object.now.reference (c.args.object.now.bounds, c.args.object.now.tag) (c.args.new.now, c.args.object.now.tag)))
     c.from-most.ensures
-    (layer_replaced D c.from-most.result m c.args.root c.args.directory l objects is four c.args.id
-    (c.args.old.now, c.args.tag) (c.args.new.now, c.args.tag) (pages c.remove_with.new.cache)
+    (layer_replaced D c.from-most.result m c.args.layer.root c.args.layer.directory l objects is four c.args.object.now.reference
+    (c.args.object.now.bounds, c.args.object.now.tag) (c.args.new.now, c.args.object.now.tag) (pages c.remove_with.new.cache)
     c.in_ok-between.between to.1 (pages c.insert_with.new.cache) c.in_ok-after.after into.1
     (pages c.update.new.cache) set c.low.ensures.is_box there)
 
@@ -173,12 +173,12 @@ returns-clause-absent g c = λ sound l objects at absent.
     let D = g.row.D in
     let m = pages c.args.cache.now in
     let is =
-    subst (λ (most : ℕ). IsLayerAt D most m c.args.root c.args.directory l objects)
+    subst (λ (most : ℕ). IsLayerAt D most m c.args.layer.root c.args.layer.directory l objects)
     (sym c.from-most.ensures) at in
     made_so_not_refused (c.in_ok-between.ensures.absent sound l.tree (part_of l.ids)
-    (can_remove D c.from-most.result m c.args.root c.args.directory l objects is)
-    (in_no_leaf D c.from-most.result m c.args.root c.args.directory l objects is c.args.id
-    (c.args.old.now, c.args.tag) absent))
+    (can_remove D c.from-most.result m c.args.layer.root c.args.layer.directory l objects is)
+    (in_no_leaf D c.from-most.result m c.args.layer.root c.args.layer.directory l objects is c.args.object.now.reference
+    (c.args.object.now.bounds, c.args.object.now.tag) absent))
 
 pub returns-in_err-update-clause-changes : goal.returns-in_err-update-clause-changes
 returns-in_err-update-clause-changes g c =
@@ -192,39 +192,39 @@ returns-in_err-update-clause-absent g c = λ sound l objects at absent.
     let D = g.row.D in
     let m = pages c.args.cache.now in
     let is =
-    subst (λ (most : ℕ). IsLayerAt D most m c.args.root c.args.directory l objects)
+    subst (λ (most : ℕ). IsLayerAt D most m c.args.layer.root c.args.layer.directory l objects)
     (sym c.from-most.ensures) at in
     made_so_not_refused (c.in_ok-between.ensures.absent sound l.tree (part_of l.ids)
-    (can_remove D c.from-most.result m c.args.root c.args.directory l objects is)
-    (in_no_leaf D c.from-most.result m c.args.root c.args.directory l objects is c.args.id
-    (c.args.old.now, c.args.tag) absent))
+    (can_remove D c.from-most.result m c.args.layer.root c.args.layer.directory l objects is)
+    (in_no_leaf D c.from-most.result m c.args.layer.root c.args.layer.directory l objects is c.args.object.now.reference
+    (c.args.object.now.bounds, c.args.object.now.tag) absent))
 
 pub returns-in_err-update-clause-faults : goal.returns-in_err-update-clause-faults
 returns-in_err-update-clause-faults g c = λ sound l objects at there.
     let D = g.row.D in
     let m = pages c.args.cache.now in
     let is =
-    subst (λ (most : ℕ). IsLayerAt D most m c.args.root c.args.directory l objects)
+    subst (λ (most : ℕ). IsLayerAt D most m c.args.layer.root c.args.layer.directory l objects)
     (sym c.from-most.ensures) at in
     let four : 4 ≤ c.from-most.result = omega (arith, c.requires.most.0, c.from-most.ensures) in
     let to =
     c.in_ok-between.ensures.removed sound l.tree (part_of l.ids)
-    (can_remove D c.from-most.result m c.args.root c.args.directory l objects is) in
+    (can_remove D c.from-most.result m c.args.layer.root c.args.layer.directory l objects is) in
     let into =
-    c.in_ok-after.ensures.inserts.inserted to.0 to.1.new (object (c.args.new.now, c.args.tag) c.args.id)
+    c.in_ok-after.ensures.inserts.inserted to.0 to.1.new (object (c.args.new.now, c.args.object.now.tag) c.args.object.now.reference)
     (part_of l.ids)
-    (can_insert_between D c.from-most.result m c.args.root c.args.directory l objects is four c.args.id
-    (c.args.old.now, c.args.tag) (c.args.new.now, c.args.tag) (pages c.remove_with.new.cache)
+    (can_insert_between D c.from-most.result m c.args.layer.root c.args.layer.directory l objects is four c.args.object.now.reference
+    (c.args.object.now.bounds, c.args.object.now.tag) (c.args.new.now, c.args.object.now.tag) (pages c.remove_with.new.cache)
     c.in_ok-between.between to.1) in
     let stand =
-    ids_unchanged D c.from-most.result m c.args.root c.args.directory l objects is four c.args.id
-    (c.args.old.now, c.args.tag) (c.args.new.now, c.args.tag) (pages c.remove_with.new.cache)
+    ids_unchanged D c.from-most.result m c.args.layer.root c.args.layer.directory l objects is four c.args.object.now.reference
+    (c.args.object.now.bounds, c.args.object.now.tag) (c.args.new.now, c.args.object.now.tag) (pages c.remove_with.new.cache)
     c.in_ok-between.between to.1 (pages c.insert_with.new.cache) c.in_ok-after.after into.1 in
     at_error c.from_residual-in_err-update.result c.in_err-update.field-0.0 (IsNoDamage c.update.new.cache)
     c.from_residual-in_err-update.ensures.1
     (inl (c.in_err-update.ensures.faults into.0 l.ids is.directory_is stand
-    (in_table D c.from-most.result m c.args.root c.args.directory l objects is c.args.id
-    (c.args.old.now, c.args.tag) there)))
+    (in_table D c.from-most.result m c.args.layer.root c.args.layer.directory l objects is c.args.object.now.reference
+    (c.args.object.now.bounds, c.args.object.now.tag) there)))
 
 pub returns-in_err-update-clause-other_faults : goal.returns-in_err-update-clause-other_faults
 returns-in_err-update-clause-other_faults g c =
