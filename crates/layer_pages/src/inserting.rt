@@ -54,7 +54,14 @@ pub fn insert<const D: usize, B: BlockDevice, A: Allocator + Copy>(
 {
     // a box that was looked at is known to be one
     let _ = object.bounds.low();
-    let after = insert_with(cache, layer.root, object, 0, usize::from(layer.fanout), waiting)?;
+    let after = insert_with(
+        cache,
+        layer.root,
+        object,
+        0,
+        usize::from(layer.fanout),
+        waiting,
+    )?;
     id_table::add(
         cache,
         layer.directory,

@@ -5,8 +5,8 @@
 mod checking;
 mod freeing;
 mod inserting;
-mod layer;
 pub mod laws;
+mod layer;
 mod loading;
 mod making;
 mod removing;

@@ -27,12 +27,12 @@ returns-in_err-after-clause-absent g c = λ sound l objects at absent.
     let D = g.row.D in
     let m = pages c.args.cache.now in
     let is =
-    subst (λ (most : ℕ). IsLayerAt D most m c.args.layer.root c.args.layer.directory l objects) (sym c.from.ensures)
+    subst (λ (most : ℕ). IsLayerAt D most m c.args.layer.root c.args.layer.directory l objects) (sym c.from-most.ensures)
     at in
     let refused =
     c.in_err-after.ensures.absent sound l.tree (part_of l.ids)
-    (can_remove D c.from.result m c.args.layer.root c.args.layer.directory l objects is)
-    (in_no_leaf D c.from.result m c.args.layer.root c.args.layer.directory l objects is c.args.object.now.reference
+    (can_remove D c.from-most.result m c.args.layer.root c.args.layer.directory l objects is)
+    (in_no_leaf D c.from-most.result m c.args.layer.root c.args.layer.directory l objects is c.args.object.now.reference
     (c.args.object.now.bounds, c.args.object.now.tag) absent) in (
       refused.0,
       refused_so c.from_residual.result c.in_err-after.field-0.0
@@ -44,13 +44,13 @@ returns-in_err-after-clause-faults g c = λ sound l objects at there.
     let D = g.row.D in
     let m = pages c.args.cache.now in
     let is =
-    subst (λ (most : ℕ). IsLayerAt D most m c.args.layer.root c.args.layer.directory l objects) (sym c.from.ensures)
+    subst (λ (most : ℕ). IsLayerAt D most m c.args.layer.root c.args.layer.directory l objects) (sym c.from-most.ensures)
     at in
     at_error c.from_residual.result c.in_err-after.field-0.0
     (IsNoDamage c.remove_with.new.cache) c.from_residual.ensures.1
     (c.in_err-after.ensures.faults sound l.tree (part_of l.ids)
-    (can_remove D c.from.result m c.args.layer.root c.args.layer.directory l objects is) is.tree.shape is.boxes
-    (in_a_leaf D c.from.result m c.args.layer.root c.args.layer.directory l objects is c.args.object.now.reference
+    (can_remove D c.from-most.result m c.args.layer.root c.args.layer.directory l objects is) is.tree.shape is.boxes
+    (in_a_leaf D c.from-most.result m c.args.layer.root c.args.layer.directory l objects is c.args.object.now.reference
     (c.args.object.now.bounds, c.args.object.now.tag) there))
 
 pub returns-clause-changes : goal.returns-clause-changes
@@ -63,13 +63,13 @@ returns-clause-sound g c = λ sound l objects at.
     let D = g.row.D in
     let m = pages c.args.cache.now in
     let is =
-    subst (λ (most : ℕ). IsLayerAt D most m c.args.layer.root c.args.layer.directory l objects) (sym c.from.ensures)
+    subst (λ (most : ℕ). IsLayerAt D most m c.args.layer.root c.args.layer.directory l objects) (sym c.from-most.ensures)
     at in
     let to =
     c.in_ok-after.ensures.removed sound l.tree (part_of l.ids)
-    (can_remove D c.from.result m c.args.layer.root c.args.layer.directory l objects is) in
+    (can_remove D c.from-most.result m c.args.layer.root c.args.layer.directory l objects is) in
     c.in_ok-remove.ensures.sound to.0 l.ids is.directory_is
-    (ids_between D c.from.result m c.args.layer.root c.args.layer.directory l objects is c.args.object.now.reference
+    (ids_between D c.from-most.result m c.args.layer.root c.args.layer.directory l objects is c.args.object.now.reference
     (c.args.object.now.bounds, c.args.object.now.tag) (pages c.remove_with.new.cache) c.in_ok-after.after to.1)
 
 pub returns-clause-removed : goal.returns-clause-removed
@@ -80,34 +80,34 @@ returns-clause-removed g c = λ sound l objects at there.
     let id = c.args.object.now.reference in
     let kept : Object = (c.args.object.now.bounds, c.args.object.now.tag) in
     let is =
-    subst (λ (most : ℕ). IsLayerAt D most m c.args.layer.root c.args.layer.directory l objects) (sym c.from.ensures)
+    subst (λ (most : ℕ). IsLayerAt D most m c.args.layer.root c.args.layer.directory l objects) (sym c.from-most.ensures)
     at in
     let to =
     c.in_ok-after.ensures.removed sound l.tree (part_of l.ids)
-    (can_remove D c.from.result m c.args.layer.root c.args.layer.directory l objects is) in
+    (can_remove D c.from-most.result m c.args.layer.root c.args.layer.directory l objects is) in
     let stand =
-    ids_between D c.from.result m c.args.layer.root c.args.layer.directory l objects is id kept mid
+    ids_between D c.from-most.result m c.args.layer.root c.args.layer.directory l objects is id kept mid
     c.in_ok-after.after to.1 in
     let removed =
     c.in_ok-remove.ensures.removed to.0 l.ids is.directory_is stand
-    (in_table D c.from.result m c.args.layer.root c.args.layer.directory l objects is id kept there) in
+    (in_table D c.from-most.result m c.args.layer.root c.args.layer.directory l objects is id kept there) in
     subst (λ (most : ℕ). BecomesLayer D most m (pages c.remove.new.cache) (part_of_layer l)
     c.in_ok-after.after c.args.layer.directory (map.remove objects id) (HasRemoved D most l id kept))
-    c.from.ensures
-    (layer_removed D c.from.result m c.args.layer.root c.args.layer.directory l objects is id kept mid
+    c.from-most.ensures
+    (layer_removed D c.from-most.result m c.args.layer.root c.args.layer.directory l objects is id kept mid
     c.in_ok-after.after to.1 (pages c.remove.new.cache) removed
-    (omega (arith, c.requires.most.0, c.from.ensures)) there)
+    (omega (arith, c.requires.most.0, c.from-most.ensures)) there)
 
 pub returns-clause-absent : goal.returns-clause-absent
 returns-clause-absent g c = λ sound l objects at absent.
     let D = g.row.D in
     let m = pages c.args.cache.now in
     let is =
-    subst (λ (most : ℕ). IsLayerAt D most m c.args.layer.root c.args.layer.directory l objects) (sym c.from.ensures)
+    subst (λ (most : ℕ). IsLayerAt D most m c.args.layer.root c.args.layer.directory l objects) (sym c.from-most.ensures)
     at in
     made_so_not_refused (c.in_ok-after.ensures.absent sound l.tree (part_of l.ids)
-    (can_remove D c.from.result m c.args.layer.root c.args.layer.directory l objects is)
-    (in_no_leaf D c.from.result m c.args.layer.root c.args.layer.directory l objects is c.args.object.now.reference
+    (can_remove D c.from-most.result m c.args.layer.root c.args.layer.directory l objects is)
+    (in_no_leaf D c.from-most.result m c.args.layer.root c.args.layer.directory l objects is c.args.object.now.reference
     (c.args.object.now.bounds, c.args.object.now.tag) absent))
 
 pub returns-in_err-remove-clause-changes : goal.returns-in_err-remove-clause-changes
@@ -121,11 +121,11 @@ returns-in_err-remove-clause-absent g c = λ sound l objects at absent.
     let D = g.row.D in
     let m = pages c.args.cache.now in
     let is =
-    subst (λ (most : ℕ). IsLayerAt D most m c.args.layer.root c.args.layer.directory l objects) (sym c.from.ensures)
+    subst (λ (most : ℕ). IsLayerAt D most m c.args.layer.root c.args.layer.directory l objects) (sym c.from-most.ensures)
     at in
     made_so_not_refused (c.in_ok-after.ensures.absent sound l.tree (part_of l.ids)
-    (can_remove D c.from.result m c.args.layer.root c.args.layer.directory l objects is)
-    (in_no_leaf D c.from.result m c.args.layer.root c.args.layer.directory l objects is c.args.object.now.reference
+    (can_remove D c.from-most.result m c.args.layer.root c.args.layer.directory l objects is)
+    (in_no_leaf D c.from-most.result m c.args.layer.root c.args.layer.directory l objects is c.args.object.now.reference
     (c.args.object.now.bounds, c.args.object.now.tag) absent))
 
 pub returns-in_err-remove-clause-faults : goal.returns-in_err-remove-clause-faults
@@ -135,19 +135,19 @@ returns-in_err-remove-clause-faults g c = λ sound l objects at there.
     let id = c.args.object.now.reference in
     let kept : Object = (c.args.object.now.bounds, c.args.object.now.tag) in
     let is =
-    subst (λ (most : ℕ). IsLayerAt D most m c.args.layer.root c.args.layer.directory l objects) (sym c.from.ensures)
+    subst (λ (most : ℕ). IsLayerAt D most m c.args.layer.root c.args.layer.directory l objects) (sym c.from-most.ensures)
     at in
     let to =
     c.in_ok-after.ensures.removed sound l.tree (part_of l.ids)
-    (can_remove D c.from.result m c.args.layer.root c.args.layer.directory l objects is) in
+    (can_remove D c.from-most.result m c.args.layer.root c.args.layer.directory l objects is) in
     let stand =
-    ids_between D c.from.result m c.args.layer.root c.args.layer.directory l objects is id kept
+    ids_between D c.from-most.result m c.args.layer.root c.args.layer.directory l objects is id kept
     (pages c.remove_with.new.cache) c.in_ok-after.after to.1 in
     at_error c.from_residual-in_err-remove.result c.in_err-remove.field-0.0 (IsNoDamage c.remove.new.cache)
     c.from_residual-in_err-remove.ensures.1
     (inl
     (c.in_err-remove.ensures.faults to.0 l.ids is.directory_is stand
-    (in_table D c.from.result m c.args.layer.root c.args.layer.directory l objects is id kept there)))
+    (in_table D c.from-most.result m c.args.layer.root c.args.layer.directory l objects is id kept there)))
 
 pub returns-in_err-remove-clause-other_faults : goal.returns-in_err-remove-clause-other_faults
 returns-in_err-remove-clause-other_faults g c =
