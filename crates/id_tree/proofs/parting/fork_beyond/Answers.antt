@@ -1,0 +1,6 @@
+-- An empty fork takes the children from the place on.
+use Rattle.std.proofs.Common.{[]}
+use Rattle.id_tree.proofs.parting.fork_beyond.Goals as goal
+
+pub returns : goal.returns
+returns g c = λ content is. c.append_links.ensures.appended g.row.D (record { level = c.args.level; links = [] }) content c.start_fork.ensures.empty is

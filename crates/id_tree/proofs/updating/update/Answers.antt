@@ -1,0 +1,66 @@
+-- The object that was found is put anew.
+use Rattle.std.proofs.Common.{◌≡◌, ◌≤◌, ℕ, refl, ap, subst, arith}
+use Rattle.box_math.specs.Objects.{Object, tag_of}
+use Rattle.page_cache.specs.Cache.{pages}
+use Rattle.node_page.proofs.NodeLemmas.{on_ok}
+use Rattle.id_tree.specs.Changes.{Sets}
+use Rattle.id_tree.specs.Rows.{IsFoundBelow}
+use Rattle.id_tree.specs.Tree.{objects_in}
+use Rattle.id_tree.proofs.NodeLemmas.{node_there}
+use Rattle.id_tree.proofs.PutLemmas.{kept_is, last_of, not_missing, sets_put}
+use Rattle.id_tree.proofs.RootLemmas.{sets_from, tree_same}
+use Rattle.id_tree.proofs.updating.update.Goals as goal
+
+pub returns-in_default-clause-faults : goal.returns-in_default-clause-faults
+returns-in_default-clause-faults g c = λ map t at stands there.
+    let none = subst (IsFoundBelow c.args.root t.level c.args.id t.row) c.in_default.is (c.in_ok-found.ensures.found map.honest t at stands) in
+    absurd (not_missing t c.args.id there none)
+
+pub returns-clause-updated : goal.returns-clause-updated
+returns-clause-updated g c = λ map t at stands kept is.
+    let D = g.row.D in
+    let root = c.args.root in
+    let id = c.args.id in
+    let leaf = c.in-Some.leaf in
+    let place = c.in-Some.place in
+    let was = c.in-Some.kept in
+    let bounds = c.args.bounds.now in
+    let old = pages c.args.cache.now in
+    let mid = pages c.find.new.cache in
+    let new = pages c.move_at.new.cache in
+    let asks = c.in_ok-found.ensures.asks in
+    let same = asks.map.pages_stay map.honest in
+    let honest = asks.gate.honest.0 map.honest in
+    let tree = tree_same D old mid t same stands in
+    let below = subst (IsFoundBelow root t.level id t.row) c.in-Some.is (c.in_ok-found.ensures.found map.honest t at stands) in
+    let last = last_of D mid t root id leaf place was at tree below in
+    let live = node_there D mid leaf 0 below.last last.stands.node in
+    let tag : was.1 ≡ tag_of kept = ap (λ (o : Object). o.1) (kept_is t root id leaf place kept was is below) in
+    on_ok c.move_at.result (λ there.
+    subst (λ (n : ℕ). Sets D old new t id (bounds, n)) tag
+    (sets_from D old mid new t id (bounds, was.1) same
+    (sets_put D mid new t root id leaf place was (bounds, was.1) at tree below (c.move_at.ensures.others honest live) there (few_times (last.few id) (stands.single id)))))
+    (c.move_at.ensures.written honest (objects_in below.last) (last.stands.node.leaf refl) below.has.within)
+  where
+    few_times : {a b : ℕ} → a ≤ b → b ≤ 1 → a ≤ 1
+    few_times {a} {b} le few = omega (arith, le, few)
+
+pub returns-clause-sound : goal.returns-clause-sound
+returns-clause-sound g c = λ map t at stands.
+    let D = g.row.D in
+    let mid = pages c.find.new.cache in
+    let asks = c.in_ok-found.ensures.asks in
+    let tree = tree_same D (pages c.args.cache.now) mid t (asks.map.pages_stay map.honest) stands in
+    let below = subst (IsFoundBelow c.args.root t.level c.args.id t.row) c.in-Some.is (c.in_ok-found.ensures.found map.honest t at stands) in
+    let last = last_of D mid t c.args.root c.args.id c.in-Some.leaf c.in-Some.place c.in-Some.kept at tree below in
+    c.move_at.ensures.sound (asks.map.sound.0 map) (node_there D mid c.in-Some.leaf 0 below.last last.stands.node)
+
+pub returns-clause-faults : goal.returns-clause-faults
+returns-clause-faults g c = λ map t at stands there.
+    let D = g.row.D in
+    let mid = pages c.find.new.cache in
+    let asks = c.in_ok-found.ensures.asks in
+    let tree = tree_same D (pages c.args.cache.now) mid t (asks.map.pages_stay map.honest) stands in
+    let below = subst (IsFoundBelow c.args.root t.level c.args.id t.row) c.in-Some.is (c.in_ok-found.ensures.found map.honest t at stands) in
+    let last = last_of D mid t c.args.root c.args.id c.in-Some.leaf c.in-Some.place c.in-Some.kept at tree below in
+    c.move_at.ensures.faults (asks.gate.honest.0 map.honest) (node_there D mid c.in-Some.leaf 0 below.last last.stands.node)

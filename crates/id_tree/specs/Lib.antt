@@ -1,0 +1,8 @@
+-- The files of definitions.
+pub mod Tree
+pub mod Changes
+pub mod Rows
+pub mod Steps
+pub mod Halving
+pub mod Writes
+pub mod Cutting

@@ -1,0 +1,223 @@
+//! An object added.
+
+ghost use Rattle.std.specs.Prelude.{◌≡◌, ◌<◌, ◌⊎◌, false, IfErr, OnOk};
+ghost use Rattle.std.specs.FinMap as map;
+ghost use Rattle.box_math.specs.Bounds.{IsDims};
+ghost use Rattle.page_file.specs.Fault.{IsDamage, IsOfDevice};
+ghost use Rattle.page_file.specs.declared.gate.Gate.TheVariants.{Open};
+ghost use Rattle.page_cache.specs.Cache.{Grows, IsPageMap, gate_of, pages};
+ghost use Rattle.node_page.specs.Broken.{Alters};
+ghost use Rattle.node_page.specs.Faults.{IsNoDamage};
+ghost use Rattle.id_tree.specs.Changes.{Sets, most_added_pages};
+ghost use Rattle.id_tree.specs.Steps.{Becomes, IsFullBelow, IsFullTree, MayGrow, Widens};
+ghost use Rattle.id_tree.specs.Steps.Step.{adds};
+ghost use Rattle.id_tree.specs.Tree.{IdTree, Row, TreeStands, objects_of};
+
+use crate::below::look_below;
+use crate::broken::{after_begun, midway};
+use crate::looks::step;
+use crate::pushing::push;
+use crate::rooting::{deepen, start};
+use crate::splitting::split;
+use block_device::BlockDevice;
+use box_math::BBox;
+use id_page::MOST_CHILDREN;
+use node_page::Broken;
+use page_cache::PageCache;
+use page_file::Fault;
+use std::alloc::Allocator;
+
+/// The greatest level of a root: a tree with one level more would have more pages than there are numbers.
+const MOST_LEVELS: u8 = 6;
+
+/// Adds an object to the table, which does not have its identifier. The gate has to be open.
+///
+/// With a sound map, where the pages stand for a table at that root, a refusal is `Memory` or `Device`, or
+/// `NoPages` where each page number is live.
+pub fn add<const D: usize, B: BlockDevice, A: Allocator + Copy>(
+    cache: &mut PageCache<B, A>,
+    root: u32,
+    id: u64,
+    bounds: &BBox<D>,
+    tag: u32,
+) -> Result<(), Broken>
+    requires dims { IsDims D }
+    requires open { gate_of cache.old ≡ Open }
+    ensures alters { Alters cache.old cache.new result }
+    ensures sound { IsPageMap cache.old → (t : IdTree) → t.page ≡ root → TreeStands D (pages cache.old) t
+        → map.contains_key (objects_of t) id ≡ false → IsPageMap cache.new }
+    ensures added { IsPageMap cache.old → (t : IdTree) → t.page ≡ root → TreeStands D (pages cache.old) t
+        → map.contains_key (objects_of t) id ≡ false
+        → OnOk result (Sets D (pages cache.old) (pages cache.new) t id (bounds.now, tag)) }
+    ensures grows { Grows most_added_pages cache.old cache.new }
+    ensures faults { IsPageMap cache.old → (t : IdTree) → t.page ≡ root → TreeStands D (pages cache.old) t
+        → map.contains_key (objects_of t) id ≡ false → IfErr result (λ b. IsNoDamage cache.new b.cause) }
+    ensures other_faults { IfErr result (λ b. IsNoDamage cache.new b.cause ⊎ IsDamage b.cause) }
+{
+    add_object::<D, B, A>(cache, root, &(id, (*bounds, tag)))
+}
+
+// Adds an object to the table at a root.
+pub(crate) fn add_object<const D: usize, B: BlockDevice, A: Allocator + Copy>(
+    cache: &mut PageCache<B, A>,
+    root: u32,
+    object: &(u64, (BBox<D>, u32)),
+) -> Result<(), Broken>
+    requires dims { IsDims D }
+    requires open { gate_of cache.old ≡ Open }
+    ensures alters { Alters cache.old cache.new result }
+    ensures sound { IsPageMap cache.old → (t : IdTree) → t.page ≡ root → TreeStands D (pages cache.old) t
+        → map.contains_key (objects_of t) object.now.0 ≡ false → IsPageMap cache.new }
+    ensures added { IsPageMap cache.old → (t : IdTree) → t.page ≡ root → TreeStands D (pages cache.old) t
+        → map.contains_key (objects_of t) object.now.0 ≡ false
+        → OnOk result (Sets D (pages cache.old) (pages cache.new) t object.now.0 object.now.1) }
+    ensures grows { Grows most_added_pages cache.old cache.new }
+    ensures faults { IsPageMap cache.old → (t : IdTree) → t.page ≡ root → TreeStands D (pages cache.old) t
+        → map.contains_key (objects_of t) object.now.0 ≡ false
+        → IfErr result (λ b. IsNoDamage cache.new b.cause) }
+    ensures other_faults { IfErr result (λ b. IsNoDamage cache.new b.cause ⊎ IsDamage b.cause) }
+{
+    let way = step::<D, B, A>(cache, root, object.0)?;
+    if way.count == 0 {
+        return midway(start(cache, root, object));
+    }
+    if way.level > MOST_LEVELS {
+        return Err(Broken::from(Fault::Damaged(root)));
+    }
+    if way.count < MOST_CHILDREN {
+        return add_below(cache, root, way.level, true, object);
+    }
+    add_deeper(cache, root, way.level, object)
+}
+
+// Adds an object to the table at a root of that level that has no room: the root gets one level more.
+fn add_deeper<const D: usize, B: BlockDevice, A: Allocator + Copy>(
+    cache: &mut PageCache<B, A>,
+    root: u32,
+    level: u8,
+    object: &(u64, (BBox<D>, u32)),
+) -> Result<(), Broken>
+    requires dims { IsDims D }
+    requires open { gate_of cache.old ≡ Open }
+    ensures alters { Alters cache.old cache.new result }
+    ensures sound { IsPageMap cache.old → (t : IdTree) → t.page ≡ root
+        → IsFullTree D (pages cache.old) t level
+        → map.contains_key (objects_of t) object.now.0 ≡ false → IsPageMap cache.new }
+    ensures added { IsPageMap cache.old → (t : IdTree) → t.page ≡ root
+        → IsFullTree D (pages cache.old) t level
+        → map.contains_key (objects_of t) object.now.0 ≡ false
+        → OnOk result (Sets D (pages cache.old) (pages cache.new) t object.now.0 object.now.1) }
+    ensures grows { Grows most_added_pages cache.old cache.new }
+    ensures faults { IsPageMap cache.old → (t : IdTree) → t.page ≡ root
+        → IsFullTree D (pages cache.old) t level
+        → map.contains_key (objects_of t) object.now.0 ≡ false
+        → IfErr result (λ b. IsNoDamage cache.new b.cause) }
+    ensures other_faults { IfErr result (λ b. IsNoDamage cache.new b.cause ⊎ IsDamage b.cause) }
+{
+    if level >= MOST_LEVELS {
+        return Err(Broken::from(Fault::Damaged(root)));
+    }
+    let child = deepen::<D, B, A>(cache, root, level)?;
+    after_begun(add_split(cache, root, level + 1, child, object))
+}
+
+// Adds an object to the table at a root of that level whose only child is full: that one is split first.
+fn add_split<const D: usize, B: BlockDevice, A: Allocator + Copy>(
+    cache: &mut PageCache<B, A>,
+    root: u32,
+    level: u8,
+    child: u32,
+    object: &(u64, (BBox<D>, u32)),
+) -> Result<(), Broken>
+    requires dims { IsDims D }
+    requires open { gate_of cache.old ≡ Open }
+    requires high { 0 < level }
+    ensures alters { Alters cache.old cache.new result }
+    ensures grown { IsPageMap cache.old → (row : Row)
+        → IsFullBelow D (pages cache.old) root level row object.now.0 child
+        → OnOk result (Widens D (pages cache.old) (pages cache.new) root level row object.now.0
+        (adds object.now.1)) }
+    ensures sound { IsPageMap cache.old → (row : Row)
+        → IsFullBelow D (pages cache.old) root level row object.now.0 child
+        → IsPageMap cache.new }
+    ensures grows { Grows level cache.old cache.new }
+    ensures faults { IsPageMap cache.old → (row : Row)
+        → IsFullBelow D (pages cache.old) root level row object.now.0 child
+        → IfErr result (λ b. IsNoDamage cache.new b.cause) }
+    ensures other_faults { IfErr result (λ b. IsNoDamage cache.new b.cause ⊎ IsDamage b.cause) }
+{
+    let (half, half_last) = split::<D, B, A>(cache, root, level, 0, child, true, object.0)?;
+    after_begun(add_below(cache, half, level - 1, half_last, object))
+}
+
+// Adds an object at or below the node of that level at a page, which has room and some object: on the way
+// down each full child is split. The flag says whether the node is at the edge of its tree.
+pub(crate) fn add_below<const D: usize, B: BlockDevice, A: Allocator + Copy>(
+    cache: &mut PageCache<B, A>,
+    page: u32,
+    level: u8,
+    edge: bool,
+    object: &(u64, (BBox<D>, u32)),
+) -> Result<(), Broken>
+    requires dims { IsDims D }
+    requires open { gate_of cache.old ≡ Open }
+    ensures alters { Alters cache.old cache.new result }
+    ensures grown { IsPageMap cache.old → (row : Row)
+        → MayGrow D (pages cache.old) page level edge row object.now.0
+        → OnOk result (Becomes D (pages cache.old) (pages cache.new) page level edge row object.now.0
+        (adds object.now.1)) }
+    ensures sound { IsPageMap cache.old → (row : Row)
+        → MayGrow D (pages cache.old) page level edge row object.now.0
+        → IsPageMap cache.new }
+    ensures grows { Grows level cache.old cache.new }
+    ensures faults { IsPageMap cache.old → (row : Row)
+        → MayGrow D (pages cache.old) page level edge row object.now.0
+        → IfErr result (λ b. IsNoDamage cache.new b.cause) }
+    ensures other_faults { IfErr result (λ b. IsNoDamage cache.new b.cause ⊎ IsDamage b.cause) }
+{
+    if level == 0 {
+        return push_in(cache, page, edge, object);
+    }
+    let below = look_below::<D, B, A>(cache, page, level, edge, object.0)?;
+    if below.room {
+        return add_below(cache, below.child, level - 1, below.last, object);
+    }
+    let (half, half_last) = split::<D, B, A>(
+        cache,
+        page,
+        level,
+        below.place,
+        below.child,
+        below.last,
+        object.0,
+    )?;
+    after_begun(add_below(cache, half, level - 1, half_last, object))
+}
+
+// Adds an object to the leaf at a page, which has room.
+#[tactic(auto, using(node_page::specs::Broken::breaks))]
+fn push_in<const D: usize, B: BlockDevice, A: Allocator + Copy>(
+    cache: &mut PageCache<B, A>,
+    page: u32,
+    edge: bool,
+    object: &(u64, (BBox<D>, u32)),
+) -> Result<(), Broken>
+    requires dims { IsDims D }
+    requires open { gate_of cache.old ≡ Open }
+    ensures alters { Alters cache.old cache.new result }
+    ensures grown { IsPageMap cache.old → (row : Row)
+        → MayGrow D (pages cache.old) page 0 edge row object.now.0
+        → OnOk result (Becomes D (pages cache.old) (pages cache.new) page 0 edge row object.now.0
+        (adds object.now.1)) }
+    ensures sound { IsPageMap cache.old → (row : Row)
+        → MayGrow D (pages cache.old) page 0 edge row object.now.0
+        → IsPageMap cache.new }
+    ensures grows { Grows 0 cache.old cache.new }
+    ensures faults { IsPageMap cache.old → (row : Row)
+        → MayGrow D (pages cache.old) page 0 edge row object.now.0
+        → IfErr result (λ b. IsOfDevice b.cause) }
+    ensures other_faults { IfErr result (λ b. IsOfDevice b.cause ⊎ IsDamage b.cause) }
+{
+    push(cache, page, object)?;
+    Ok(())
+}

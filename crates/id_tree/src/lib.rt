@@ -1,0 +1,27 @@
+//! The identifier table of a layer as a tree of pages: the box and the tag of each identifier, in leaves that
+//! are found by the keys of forks (docs/FORMAT.md).
+#![tactic(auto)]
+
+mod adding;
+mod below;
+mod broken;
+mod filling;
+mod freeing;
+mod giving;
+mod halving;
+mod looks;
+mod making;
+mod moving;
+mod parting;
+mod pushing;
+mod rooting;
+mod search;
+mod splitting;
+mod updating;
+
+pub use adding::add;
+pub use filling::fill;
+pub use freeing::free_all;
+pub use making::make;
+pub use search::get;
+pub use updating::update;
