@@ -1,10 +1,8 @@
 -- What the steps of a change make of nodes and of their objects.
-use Rattle.std.specs.Prelude.{◌≡◌, ℕ, ◌+◌, ◌-◌, ◌<◌, ◌≤◌, Bool, true, false, List, length, All, Option, Some, None, if◌then◌else◌, ◌==◌, Result, Ok, Err}
+use Rattle.std.specs.Prelude.{◌≡◌, ℕ, ◌+◌, ◌-◌, ◌<◌, ◌≤◌, Bool, true, false, List, length, All, Option, Some, None, if◌then◌else◌, ◌==◌}
 use Rattle.box_math.specs.Objects.{Object}
 use Rattle.bucket_page.specs.Layout.{Entry}
 use Rattle.id_page.specs.Fork.{route_place}
-use Rattle.node_page.specs.Broken.{midway}
-use Rattle.node_page.specs.declared.broken.Broken.{Broken}
 use Rattle.node_page.specs.Parts.{Moves}
 use Rattle.node_page.specs.Standing.{PageMap}
 use Rattle.id_table.specs.Table.{kept_in, times_in}
@@ -112,11 +110,6 @@ pub record MayHalve (dims : ℕ) (pages : PageMap) (page level : ℕ) (edge : Bo
   pub stands : NodeStands dims pages page level edge row
   pub full : IsFull dims level row
   pub single : (q : ℕ) → times_in q (objects_in row) ≤ 1
-
--- the answer of a change, as that of a longer one that had begun before it
-abbrev pub begun_of : {T : Type 0} → Result T Broken → Result T Broken
-begun_of (Ok x) = Ok x
-begun_of (Err b) = Err (midway b.cause)
 
 -- a table whose root, of this level, takes no child more
 pub record IsFullTree (dims : ℕ) (pages : PageMap) (t : IdTree) (level : ℕ) : Type 0 where

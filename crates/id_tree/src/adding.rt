@@ -6,7 +6,7 @@ ghost use Rattle.box_math.specs.Bounds.{IsDims};
 ghost use Rattle.page_file.specs.Fault.{IsDamage, IsOfDevice};
 ghost use Rattle.page_file.specs.declared.gate.Gate.TheVariants.{Open};
 ghost use Rattle.page_cache.specs.Cache.{Grows, IsPageMap, gate_of, pages};
-ghost use Rattle.node_page.specs.Broken.{Alters};
+ghost use Rattle.page_cache.specs.Calls.{Changes};
 ghost use Rattle.node_page.specs.Faults.{IsNoDamage};
 ghost use Rattle.id_tree.specs.Changes.{Sets, most_added_pages};
 ghost use Rattle.id_tree.specs.Steps.{Becomes, IsFullBelow, IsFullTree, MayGrow, Widens};
@@ -14,7 +14,6 @@ ghost use Rattle.id_tree.specs.Steps.Step.{adds};
 ghost use Rattle.id_tree.specs.Tree.{IdTree, Row, TreeStands, objects_of};
 
 use crate::below::look_below;
-use crate::broken::{after_begun, midway};
 use crate::looks::step;
 use crate::pushing::push;
 use crate::rooting::{deepen, start};
@@ -22,7 +21,6 @@ use crate::splitting::split;
 use block_device::BlockDevice;
 use box_math::BBox;
 use id_page::MOST_CHILDREN;
-use node_page::Broken;
 use page_cache::PageCache;
 use page_file::Fault;
 use std::alloc::Allocator;
@@ -40,10 +38,10 @@ pub fn add<const D: usize, B: BlockDevice, A: Allocator + Copy>(
     id: u64,
     bounds: &BBox<D>,
     tag: u32,
-) -> Result<(), Broken>
+) -> Result<(), Fault>
     requires dims { IsDims D }
     requires open { gate_of cache.old ≡ Open }
-    ensures alters { Alters cache.old cache.new result }
+    ensures changes { Changes cache.old cache.new result }
     ensures sound { IsPageMap cache.old → (t : IdTree) → t.page ≡ root → TreeStands D (pages cache.old) t
         → map.contains_key (objects_of t) id ≡ false → IsPageMap cache.new }
     ensures added { IsPageMap cache.old → (t : IdTree) → t.page ≡ root → TreeStands D (pages cache.old) t
@@ -51,8 +49,8 @@ pub fn add<const D: usize, B: BlockDevice, A: Allocator + Copy>(
         → OnOk result (Sets D (pages cache.old) (pages cache.new) t id (bounds.now, tag)) }
     ensures grows { Grows most_added_pages cache.old cache.new }
     ensures faults { IsPageMap cache.old → (t : IdTree) → t.page ≡ root → TreeStands D (pages cache.old) t
-        → map.contains_key (objects_of t) id ≡ false → IfErr result (λ b. IsNoDamage cache.new b.cause) }
-    ensures other_faults { IfErr result (λ b. IsNoDamage cache.new b.cause ⊎ IsDamage b.cause) }
+        → map.contains_key (objects_of t) id ≡ false → IfErr result (IsNoDamage cache.new) }
+    ensures other_faults { IfErr result (λ f. IsNoDamage cache.new f ⊎ IsDamage f) }
 {
     add_object::<D, B, A>(cache, root, &(id, (*bounds, tag)))
 }
@@ -62,10 +60,10 @@ pub(crate) fn add_object<const D: usize, B: BlockDevice, A: Allocator + Copy>(
     cache: &mut PageCache<B, A>,
     root: u32,
     object: &(u64, (BBox<D>, u32)),
-) -> Result<(), Broken>
+) -> Result<(), Fault>
     requires dims { IsDims D }
     requires open { gate_of cache.old ≡ Open }
-    ensures alters { Alters cache.old cache.new result }
+    ensures changes { Changes cache.old cache.new result }
     ensures sound { IsPageMap cache.old → (t : IdTree) → t.page ≡ root → TreeStands D (pages cache.old) t
         → map.contains_key (objects_of t) object.now.0 ≡ false → IsPageMap cache.new }
     ensures added { IsPageMap cache.old → (t : IdTree) → t.page ≡ root → TreeStands D (pages cache.old) t
@@ -74,15 +72,15 @@ pub(crate) fn add_object<const D: usize, B: BlockDevice, A: Allocator + Copy>(
     ensures grows { Grows most_added_pages cache.old cache.new }
     ensures faults { IsPageMap cache.old → (t : IdTree) → t.page ≡ root → TreeStands D (pages cache.old) t
         → map.contains_key (objects_of t) object.now.0 ≡ false
-        → IfErr result (λ b. IsNoDamage cache.new b.cause) }
-    ensures other_faults { IfErr result (λ b. IsNoDamage cache.new b.cause ⊎ IsDamage b.cause) }
+        → IfErr result (IsNoDamage cache.new) }
+    ensures other_faults { IfErr result (λ f. IsNoDamage cache.new f ⊎ IsDamage f) }
 {
     let way = step::<D, B, A>(cache, root, object.0)?;
     if way.count == 0 {
-        return midway(start(cache, root, object));
+        return start(cache, root, object);
     }
     if way.level > MOST_LEVELS {
-        return Err(Broken::from(Fault::Damaged(root)));
+        return Err(Fault::Damaged(root));
     }
     if way.count < MOST_CHILDREN {
         return add_below(cache, root, way.level, true, object);
@@ -96,10 +94,10 @@ fn add_deeper<const D: usize, B: BlockDevice, A: Allocator + Copy>(
     root: u32,
     level: u8,
     object: &(u64, (BBox<D>, u32)),
-) -> Result<(), Broken>
+) -> Result<(), Fault>
     requires dims { IsDims D }
     requires open { gate_of cache.old ≡ Open }
-    ensures alters { Alters cache.old cache.new result }
+    ensures changes { Changes cache.old cache.new result }
     ensures sound { IsPageMap cache.old → (t : IdTree) → t.page ≡ root
         → IsFullTree D (pages cache.old) t level
         → map.contains_key (objects_of t) object.now.0 ≡ false → IsPageMap cache.new }
@@ -111,14 +109,14 @@ fn add_deeper<const D: usize, B: BlockDevice, A: Allocator + Copy>(
     ensures faults { IsPageMap cache.old → (t : IdTree) → t.page ≡ root
         → IsFullTree D (pages cache.old) t level
         → map.contains_key (objects_of t) object.now.0 ≡ false
-        → IfErr result (λ b. IsNoDamage cache.new b.cause) }
-    ensures other_faults { IfErr result (λ b. IsNoDamage cache.new b.cause ⊎ IsDamage b.cause) }
+        → IfErr result (IsNoDamage cache.new) }
+    ensures other_faults { IfErr result (λ f. IsNoDamage cache.new f ⊎ IsDamage f) }
 {
     if level >= MOST_LEVELS {
-        return Err(Broken::from(Fault::Damaged(root)));
+        return Err(Fault::Damaged(root));
     }
     let child = deepen::<D, B, A>(cache, root, level)?;
-    after_begun(add_split(cache, root, level + 1, child, object))
+    add_split(cache, root, level + 1, child, object)
 }
 
 // Adds an object to the table at a root of that level whose only child is full: that one is split first.
@@ -128,11 +126,11 @@ fn add_split<const D: usize, B: BlockDevice, A: Allocator + Copy>(
     level: u8,
     child: u32,
     object: &(u64, (BBox<D>, u32)),
-) -> Result<(), Broken>
+) -> Result<(), Fault>
     requires dims { IsDims D }
     requires open { gate_of cache.old ≡ Open }
     requires high { 0 < level }
-    ensures alters { Alters cache.old cache.new result }
+    ensures changes { Changes cache.old cache.new result }
     ensures grown { IsPageMap cache.old → (row : Row)
         → IsFullBelow D (pages cache.old) root level row object.now.0 child
         → OnOk result (Widens D (pages cache.old) (pages cache.new) root level row object.now.0
@@ -143,11 +141,11 @@ fn add_split<const D: usize, B: BlockDevice, A: Allocator + Copy>(
     ensures grows { Grows level cache.old cache.new }
     ensures faults { IsPageMap cache.old → (row : Row)
         → IsFullBelow D (pages cache.old) root level row object.now.0 child
-        → IfErr result (λ b. IsNoDamage cache.new b.cause) }
-    ensures other_faults { IfErr result (λ b. IsNoDamage cache.new b.cause ⊎ IsDamage b.cause) }
+        → IfErr result (IsNoDamage cache.new) }
+    ensures other_faults { IfErr result (λ f. IsNoDamage cache.new f ⊎ IsDamage f) }
 {
     let (half, half_last) = split::<D, B, A>(cache, root, level, 0, child, true, object.0)?;
-    after_begun(add_below(cache, half, level - 1, half_last, object))
+    add_below(cache, half, level - 1, half_last, object)
 }
 
 // Adds an object at or below the node of that level at a page, which has room and some object: on the way
@@ -158,10 +156,10 @@ pub(crate) fn add_below<const D: usize, B: BlockDevice, A: Allocator + Copy>(
     level: u8,
     edge: bool,
     object: &(u64, (BBox<D>, u32)),
-) -> Result<(), Broken>
+) -> Result<(), Fault>
     requires dims { IsDims D }
     requires open { gate_of cache.old ≡ Open }
-    ensures alters { Alters cache.old cache.new result }
+    ensures changes { Changes cache.old cache.new result }
     ensures grown { IsPageMap cache.old → (row : Row)
         → MayGrow D (pages cache.old) page level edge row object.now.0
         → OnOk result (Becomes D (pages cache.old) (pages cache.new) page level edge row object.now.0
@@ -172,8 +170,8 @@ pub(crate) fn add_below<const D: usize, B: BlockDevice, A: Allocator + Copy>(
     ensures grows { Grows level cache.old cache.new }
     ensures faults { IsPageMap cache.old → (row : Row)
         → MayGrow D (pages cache.old) page level edge row object.now.0
-        → IfErr result (λ b. IsNoDamage cache.new b.cause) }
-    ensures other_faults { IfErr result (λ b. IsNoDamage cache.new b.cause ⊎ IsDamage b.cause) }
+        → IfErr result (IsNoDamage cache.new) }
+    ensures other_faults { IfErr result (λ f. IsNoDamage cache.new f ⊎ IsDamage f) }
 {
     if level == 0 {
         return push_in(cache, page, edge, object);
@@ -191,20 +189,20 @@ pub(crate) fn add_below<const D: usize, B: BlockDevice, A: Allocator + Copy>(
         below.last,
         object.0,
     )?;
-    after_begun(add_below(cache, half, level - 1, half_last, object))
+    add_below(cache, half, level - 1, half_last, object)
 }
 
 // Adds an object to the leaf at a page, which has room.
-#[tactic(auto, using(node_page::specs::Broken::breaks))]
+#[tactic(auto, using(page_cache::specs::Calls::changing))]
 fn push_in<const D: usize, B: BlockDevice, A: Allocator + Copy>(
     cache: &mut PageCache<B, A>,
     page: u32,
     edge: bool,
     object: &(u64, (BBox<D>, u32)),
-) -> Result<(), Broken>
+) -> Result<(), Fault>
     requires dims { IsDims D }
     requires open { gate_of cache.old ≡ Open }
-    ensures alters { Alters cache.old cache.new result }
+    ensures changes { Changes cache.old cache.new result }
     ensures grown { IsPageMap cache.old → (row : Row)
         → MayGrow D (pages cache.old) page 0 edge row object.now.0
         → OnOk result (Becomes D (pages cache.old) (pages cache.new) page 0 edge row object.now.0
@@ -215,9 +213,8 @@ fn push_in<const D: usize, B: BlockDevice, A: Allocator + Copy>(
     ensures grows { Grows 0 cache.old cache.new }
     ensures faults { IsPageMap cache.old → (row : Row)
         → MayGrow D (pages cache.old) page 0 edge row object.now.0
-        → IfErr result (λ b. IsOfDevice b.cause) }
-    ensures other_faults { IfErr result (λ b. IsOfDevice b.cause ⊎ IsDamage b.cause) }
+        → IfErr result IsOfDevice }
+    ensures other_faults { IfErr result (λ f. IsOfDevice f ⊎ IsDamage f) }
 {
-    push(cache, page, object)?;
-    Ok(())
+    push(cache, page, object)
 }

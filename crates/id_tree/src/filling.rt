@@ -5,33 +5,32 @@ ghost use Rattle.box_math.specs.Bounds.{IsDims};
 ghost use Rattle.page_file.specs.Fault.{IsDamage};
 ghost use Rattle.page_file.specs.declared.gate.Gate.TheVariants.{Open};
 ghost use Rattle.page_cache.specs.Cache.{Grows, IsPageMap, gate_of, pages};
-ghost use Rattle.node_page.specs.Broken.{Alters};
+ghost use Rattle.page_cache.specs.Calls.{Changes};
 ghost use Rattle.node_page.specs.Faults.{IsNoDamage};
 ghost use Rattle.id_table.specs.Changes.{AreNew};
 ghost use Rattle.id_tree.specs.Changes.{Fills, most_added_pages};
 ghost use Rattle.id_tree.specs.Tree.{IdTree, TreeStands, objects_of};
 
 use crate::adding::add_object;
-use crate::broken::broken_after;
 use block_device::BlockDevice;
 use box_math::BBox;
-use node_page::Broken;
 use page_cache::PageCache;
+use page_file::Fault;
 use std::alloc::Allocator;
 
 /// Adds objects to the table, none of which has an identifier that is there or that one before it has. In the
 /// order of their identifiers they leave full leaves. The gate has to be open.
 ///
 /// With a sound map, where the pages stand for a table at that root, a refusal is `Memory` or `Device`, or
-/// `NoPages` where each page number is live. It is untouched where the first object was refused so.
+/// `NoPages` where each page number is live.
 pub fn fill<const D: usize, B: BlockDevice, A: Allocator + Copy>(
     cache: &mut PageCache<B, A>,
     root: u32,
     objects: &[(u64, (BBox<D>, u32))],
-) -> Result<(), Broken>
+) -> Result<(), Fault>
     requires dims { IsDims D }
     requires open { gate_of cache.old ≡ Open }
-    ensures alters { Alters cache.old cache.new result }
+    ensures changes { Changes cache.old cache.new result }
     ensures sound { IsPageMap cache.old → (t : IdTree) → t.page ≡ root → TreeStands D (pages cache.old) t
         → AreNew (objects_of t) objects.now → IsPageMap cache.new }
     ensures filled { IsPageMap cache.old → (t : IdTree) → t.page ≡ root → TreeStands D (pages cache.old) t
@@ -39,15 +38,13 @@ pub fn fill<const D: usize, B: BlockDevice, A: Allocator + Copy>(
         → OnOk result (Fills D (pages cache.old) (pages cache.new) t objects.now) }
     ensures grows { Grows (most_added_pages * length objects.now) cache.old cache.new }
     ensures faults { IsPageMap cache.old → (t : IdTree) → t.page ≡ root → TreeStands D (pages cache.old) t
-        → AreNew (objects_of t) objects.now → IfErr result (λ b. IsNoDamage cache.new b.cause) }
-    ensures other_faults { IfErr result (λ b. IsNoDamage cache.new b.cause ⊎ IsDamage b.cause) }
+        → AreNew (objects_of t) objects.now → IfErr result (IsNoDamage cache.new) }
+    ensures other_faults { IfErr result (λ f. IsNoDamage cache.new f ⊎ IsDamage f) }
 {
     let mut filled = 0;
     while filled < objects.len() {
-        match add_object::<D, B, A>(cache, root, &objects[filled]) {
-            Ok(()) => filled += 1,
-            Err(broken) => return Err(broken_after(filled > 0, broken)),
-        }
+        add_object::<D, B, A>(cache, root, &objects[filled])?;
+        filled += 1;
     }
     Ok(())
 }

@@ -5,16 +5,13 @@ ghost use Rattle.page_file.specs.Fault.{IsDamage, IsOfDevice};
 ghost use Rattle.page_file.specs.declared.gate.Gate.TheVariants.{Open};
 ghost use Rattle.page_cache.specs.Cache.{Grows, IsPageMap, gate_of, next_of, pages};
 ghost use Rattle.page_cache.specs.Calls.{Changes};
-ghost use Rattle.node_page.specs.Broken.{Alters};
 ghost use Rattle.node_page.specs.Parts.{Moves, no_page};
 ghost use Rattle.id_tree.specs.Rows.{NodeStands, part_at};
 ghost use Rattle.id_tree.specs.Tree.{IdTree, Row, TreeStands, part_of};
 
-use crate::broken::midway;
 use crate::looks::{copy_page, step};
 use block_device::BlockDevice;
 use id_page::{count_at, has_fork_head, page_at};
-use node_page::Broken;
 use page_cache::PageCache;
 use page_file::Fault;
 use std::alloc::Allocator;
@@ -22,13 +19,13 @@ use std::alloc::Allocator;
 /// Frees all pages of the table. The gate has to be open.
 ///
 /// With a sound map, where the pages stand for a table at that root, a refusal is `Memory` or `Device`.
-#[tactic(auto, using(node_page::specs::Broken::breaks))]
+#[tactic(auto, using(page_cache::specs::Calls::changing))]
 pub fn free_all<const D: usize, B: BlockDevice, A: Allocator + Copy>(
     cache: &mut PageCache<B, A>,
     root: u32,
-) -> Result<(), Broken>
+) -> Result<(), Fault>
     requires open { gate_of cache.old ≡ Open }
-    ensures alters { Alters cache.old cache.new result }
+    ensures changes { Changes cache.old cache.new result }
     ensures sound { IsPageMap cache.old → (t : IdTree) → t.page ≡ root → TreeStands D (pages cache.old) t
         → IsPageMap cache.new }
     ensures freed { IsPageMap cache.old → (t : IdTree) → t.page ≡ root → TreeStands D (pages cache.old) t
@@ -36,11 +33,11 @@ pub fn free_all<const D: usize, B: BlockDevice, A: Allocator + Copy>(
     ensures next { next_of cache.new ≡ next_of cache.old }
     ensures grows { Grows 0 cache.old cache.new }
     ensures faults { IsPageMap cache.old → (t : IdTree) → t.page ≡ root → TreeStands D (pages cache.old) t
-        → IfErr result (λ b. IsOfDevice b.cause) }
-    ensures other_faults { IfErr result (λ b. IsOfDevice b.cause ⊎ IsDamage b.cause) }
+        → IfErr result IsOfDevice }
+    ensures other_faults { IfErr result (λ f. IsOfDevice f ⊎ IsDamage f) }
 {
     let way = step::<D, B, A>(cache, root, 0)?;
-    midway(free_node::<D, B, A>(cache, root, way.level))
+    free_node::<D, B, A>(cache, root, way.level)
 }
 
 // Frees the node of that level at a page, and all below it.

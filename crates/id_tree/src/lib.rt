@@ -4,7 +4,6 @@
 
 mod adding;
 mod below;
-mod broken;
 mod filling;
 mod freeing;
 mod giving;

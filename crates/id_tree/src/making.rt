@@ -6,16 +6,13 @@ ghost use Rattle.page_file.specs.Fault.{IsDamage};
 ghost use Rattle.page_file.specs.declared.gate.Gate.TheVariants.{Open};
 ghost use Rattle.page_cache.specs.Cache.{Grows, IsPageMap, gate_of, next_of, pages};
 ghost use Rattle.page_cache.specs.Calls.{Changes};
-ghost use Rattle.node_page.specs.Broken.{Alters};
 ghost use Rattle.node_page.specs.Faults.{IsNoDamage};
 ghost use Rattle.id_tree.specs.Changes.{Makes};
 
-use crate::broken::midway;
 use crate::giving::give_page;
 use block_bytes::zero_block;
 use block_device::BlockDevice;
 use id_page::start_fork;
-use node_page::Broken;
 use page_cache::PageCache;
 use page_file::Fault;
 use std::alloc::Allocator;
@@ -24,24 +21,6 @@ use std::alloc::Allocator;
 ///
 /// With a sound map a refusal is `Memory` or `Device`, or `NoPages` where each page number is live.
 pub fn make<const D: usize, B: BlockDevice, A: Allocator + Copy>(
-    cache: &mut PageCache<B, A>,
-) -> Result<u32, Broken>
-    requires dims { IsDims D }
-    requires open { gate_of cache.old ≡ Open }
-    ensures alters { Alters cache.old cache.new result }
-    ensures sound { IsPageMap cache.old → IsPageMap cache.new }
-    ensures made { IsPageMap cache.old
-        → IfOk result (λ root. Makes D (pages cache.old) (pages cache.new) root) }
-    ensures number { IfOk result (λ root. (3 ≤ root) × (root < next_of cache.new)) }
-    ensures grows { Grows 1 cache.old cache.new }
-    ensures faults { IsPageMap cache.old → IfErr result (λ b. IsNoDamage cache.new b.cause) }
-    ensures other_faults { IfErr result (λ b. IsNoDamage cache.new b.cause ⊎ IsDamage b.cause) }
-{
-    midway(make_page::<D, B, A>(cache))
-}
-
-// Gives out a page with a fork of no children.
-fn make_page<const D: usize, B: BlockDevice, A: Allocator + Copy>(
     cache: &mut PageCache<B, A>,
 ) -> Result<u32, Fault>
     requires dims { IsDims D }

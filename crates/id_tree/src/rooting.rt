@@ -6,20 +6,17 @@ ghost use Rattle.page_file.specs.Fault.{IsDamage};
 ghost use Rattle.page_file.specs.declared.gate.Gate.TheVariants.{Open};
 ghost use Rattle.page_cache.specs.Cache.{Grows, IsLive, IsPageMap, gate_of, pages};
 ghost use Rattle.page_cache.specs.Calls.{Changes};
-ghost use Rattle.node_page.specs.Broken.{Alters};
 ghost use Rattle.node_page.specs.Faults.{IsNoDamage};
 ghost use Rattle.id_page.specs.Fork.{fork_at};
 ghost use Rattle.id_page.specs.Leaf.{leaf_at};
 ghost use Rattle.id_tree.specs.Writes.{Deepens, NamesNew, Starts};
 
-use crate::broken::midway;
 use crate::giving::give_page;
 use crate::looks::copy_page;
 use block_bytes::zero_block;
 use block_device::BlockDevice;
 use box_math::BBox;
 use id_page::{push_link, push_object, start_fork, start_leaf};
-use node_page::Broken;
 use page_cache::PageCache;
 use page_file::Fault;
 use std::alloc::Allocator;
@@ -101,19 +98,19 @@ pub(crate) fn deepen<const D: usize, B: BlockDevice, A: Allocator + Copy>(
     cache: &mut PageCache<B, A>,
     root: u32,
     level: u8,
-) -> Result<u32, Broken>
+) -> Result<u32, Fault>
     requires dims { IsDims D }
     requires open { gate_of cache.old ≡ Open }
     requires low { level < 255 }
-    ensures alters { Alters cache.old cache.new result }
+    ensures changes { Changes cache.old cache.new result }
     ensures deepened { IsPageMap cache.old → IsLive cache.old root
         → IfOk result (λ number. Deepens D (pages cache.old) (pages cache.new) root level number) }
     ensures sound { IsPageMap cache.old → IsLive cache.old root → IsPageMap cache.new }
     ensures grows { Grows 1 cache.old cache.new }
     ensures faults { IsPageMap cache.old → IsLive cache.old root
-        → IfErr result (λ b. IsNoDamage cache.new b.cause) }
-    ensures other_faults { IfErr result (λ b. IsNoDamage cache.new b.cause ⊎ IsDamage b.cause) }
+        → IfErr result (IsNoDamage cache.new) }
+    ensures other_faults { IfErr result (λ f. IsNoDamage cache.new f ⊎ IsDamage f) }
 {
     let bytes = copy_page(cache, root)?;
-    midway(name_new::<D, B, A>(cache, root, level + 1, &bytes))
+    name_new::<D, B, A>(cache, root, level + 1, &bytes)
 }

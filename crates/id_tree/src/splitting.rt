@@ -7,20 +7,17 @@ ghost use Rattle.page_file.specs.Fault.{IsDamage, IsOfDevice};
 ghost use Rattle.page_file.specs.declared.gate.Gate.TheVariants.{Open};
 ghost use Rattle.page_cache.specs.Cache.{Grows, IsHonest, IsLive, IsPageMap, gate_of, pages};
 ghost use Rattle.page_cache.specs.Calls.{Asks, Changes};
-ghost use Rattle.node_page.specs.Broken.{Alters};
 ghost use Rattle.node_page.specs.Faults.{IsNoDamage};
 ghost use Rattle.id_page.specs.Fork.{ForkContent, fork_at, with_links};
 ghost use Rattle.id_tree.specs.Cutting.{Cuts, Splits};
 ghost use Rattle.id_tree.specs.Steps.{MakesRoom, MaySplit};
 ghost use Rattle.id_tree.specs.Tree.{Row, links_of};
 
-use crate::broken::midway;
 use crate::giving::give_and_put;
 use crate::halving::{Cut, plan};
 use crate::looks::copy_page;
 use block_device::BlockDevice;
 use id_page::{MOST_CHILDREN, count_at, insert_link};
-use node_page::Broken;
 use page_cache::PageCache;
 use page_file::Fault;
 use std::alloc::Allocator;
@@ -35,11 +32,11 @@ pub(crate) fn split<const D: usize, B: BlockDevice, A: Allocator + Copy>(
     child: u32,
     last: bool,
     id: u64,
-) -> Result<(u32, bool), Broken>
+) -> Result<(u32, bool), Fault>
     requires dims { IsDims D }
     requires open { gate_of cache.old ≡ Open }
     requires high { 0 < level }
-    ensures alters { Alters cache.old cache.new result }
+    ensures changes { Changes cache.old cache.new result }
     ensures made { IsPageMap cache.old → (edge : Bool) (row : Row)
         → MaySplit D (pages cache.old) page level edge row id child place last → IfOk result (λ r.
         MakesRoom D (pages cache.old) (pages cache.new) page level edge row id r.0 r.1) }
@@ -48,11 +45,11 @@ pub(crate) fn split<const D: usize, B: BlockDevice, A: Allocator + Copy>(
     ensures grows { Grows 1 cache.old cache.new }
     ensures faults { IsPageMap cache.old → (edge : Bool) (row : Row)
         → MaySplit D (pages cache.old) page level edge row id child place last
-        → IfErr result (λ b. IsNoDamage cache.new b.cause) }
-    ensures other_faults { IfErr result (λ b. IsNoDamage cache.new b.cause ⊎ IsDamage b.cause) }
+        → IfErr result (IsNoDamage cache.new) }
+    ensures other_faults { IfErr result (λ f. IsNoDamage cache.new f ⊎ IsDamage f) }
 {
     let plan = plan_split::<D, B, A>(cache, page, level, place, child, last, id)?;
-    midway(put_split::<D, B, A>(cache, page, place, child, last, id, &plan))
+    put_split::<D, B, A>(cache, page, place, child, last, id, &plan)
 }
 
 /// A split that was looked out: the page of the fork as it is, and the halves of its child.

@@ -2,16 +2,13 @@
 use Rattle.std.proofs.Common.{◌<◌, ℕ, None, inl, subst, sym, arith}
 use Rattle.page_file.specs.Fault.{IsOfDevice}
 use Rattle.page_cache.specs.Cache.{pages}
-use Rattle.page_cache.specs.Calls.{asks_changes, changes_in_turn, no_call_asks}
-use Rattle.node_page.specs.Broken.{asks_and_alters, asks_and_breaks}
+use Rattle.page_cache.specs.Calls.{asks_changes, changes_in_turn, no_call_asks, asks_and_changes, asks_and_gives_up, changes_and_refuses, fault_in}
 use Rattle.node_page.specs.Faults.{IsNoDamage}
-use Rattle.node_page.specs.declared.broken.Broken.{Broken}
-use Rattle.node_page.proofs.NodeLemmas.{on_ok}
-use Rattle.id_table.proofs.Results.{refused_before, refused_so}
+use Rattle.node_page.proofs.NodeLemmas.{on_ok, at_error}
 use Rattle.id_tree.specs.Steps.{Becomes, MayGrow}
 use Rattle.id_tree.specs.Steps.Step.{adds}
 use Rattle.id_tree.proofs.AddLemmas.{becomes_after, becomes_beneath, becomes_from, grow_beneath, grow_same, may_grow_after, some_links, split_beneath}
-use Rattle.id_tree.proofs.ResultLemmas.{alters_passed, begun_alters, begun_err, begun_ok, if_err}
+use Rattle.id_tree.proofs.ResultLemmas.{if_err}
 use Rattle.id_tree.proofs.adding.+add_below.Goals as goal
 
 pub returns-then-level-eq0-clause-grown : goal.returns-then-level-eq0-clause-grown
@@ -27,12 +24,12 @@ returns-then-level-eq0-clause-sound g t c = λ map row may.
 
 pub returns-then-level-eq0-clause-faults : goal.returns-then-level-eq0-clause-faults
 returns-then-level-eq0-clause-faults g t c = λ map row may.
-    if_err c.push_in.result (λ (b : Broken). IsOfDevice b.cause) (λ (b : Broken). IsNoDamage c.push_in.new.cache b.cause) (λ b is. inl is)
+    if_err c.push_in.result IsOfDevice (IsNoDamage c.push_in.new.cache) (λ f is. inl is)
     (c.push_in.ensures.faults map row (subst (λ (l : ℕ). MayGrow g.row.D (pages c.args.cache.now) c.args.page l c.args.edge row c.args.object.now.0) c.if-level-eq0.true may))
 
-pub returns-in_err-below-clause-alters : goal.returns-in_err-below-clause-alters
-returns-in_err-below-clause-alters g t c =
-    asks_and_breaks c.args.cache.now c.args.cache.now c.look_below.new.cache c.in_err-below.field-0.0 c.from_residual.result c.from_residual.ensures.1 (no_call_asks c.args.cache.now) c.in_err-below.ensures.asks
+pub returns-in_err-below-clause-changes : goal.returns-in_err-below-clause-changes
+returns-in_err-below-clause-changes g t c =
+    asks_and_gives_up c.args.cache.now c.args.cache.now c.look_below.new.cache c.in_err-below.field-0.0 c.from_residual.result c.from_residual.ensures.1 (no_call_asks c.args.cache.now) c.in_err-below.ensures.asks
 
 pub returns-in_err-below-clause-sound : goal.returns-in_err-below-clause-sound
 returns-in_err-below-clause-sound g t c = λ map row may. c.in_err-below.ensures.asks.map.sound.0 map
@@ -40,11 +37,10 @@ returns-in_err-below-clause-sound g t c = λ map row may. c.in_err-below.ensures
 pub returns-in_err-below-clause-faults : goal.returns-in_err-below-clause-faults
 returns-in_err-below-clause-faults g t c = λ map row may.
     let high : 0 < c.args.level = omega (arith, c.if-level-eq0.false) in
-    refused_before c.from_residual.result c.in_err-below.field-0.0 (IsNoDamage c.look_below.new.cache) c.from_residual.ensures.1
-    (inl (c.in_err-below.ensures.there map.honest row may.stands (some_links g.row.D (pages c.args.cache.now) c.args.level row high may.stands.below may.some)))
+    at_error c.from_residual.result c.in_err-below.field-0.0 (IsNoDamage c.look_below.new.cache) c.from_residual.ensures.1 (inl (c.in_err-below.ensures.there map.honest row may.stands (some_links g.row.D (pages c.args.cache.now) c.args.level row high may.stands.below may.some)))
 
-pub returns-then-below-clause-alters : goal.returns-then-below-clause-alters
-returns-then-below-clause-alters g t c = asks_and_alters c.args.cache.now c.look_below.new.cache c.add_below.new.cache c.add_below.result c.in_ok-below.ensures.asks c.add_below.ensures.alters
+pub returns-then-below-clause-changes : goal.returns-then-below-clause-changes
+returns-then-below-clause-changes g t c = asks_and_changes c.args.cache.now c.look_below.new.cache c.add_below.new.cache c.add_below.result c.in_ok-below.ensures.asks c.add_below.ensures.changes
 
 pub returns-then-below-clause-grown : goal.returns-then-below-clause-grown
 returns-then-below-clause-grown g t c = λ map row may.
@@ -88,9 +84,9 @@ returns-then-below-clause-faults g t c = λ map row may.
     let beneath = c.in_ok-below.ensures.found map.honest row may.stands in
     c.add_below.ensures.faults (asks.map.sound.0 map) beneath.way.below (grow_beneath D old mid c.args.page c.args.level c.args.edge row id b.child b.place b.last b.room high same may beneath c.if-below.true)
 
-pub returns-in_err-half-clause-alters : goal.returns-in_err-half-clause-alters
-returns-in_err-half-clause-alters g t c =
-    alters_passed c.args.cache.now c.look_below.new.cache c.split.new.cache c.in_err-half.field-0.0 c.from_residual-in_err-half.result c.from_residual-in_err-half.ensures.1 c.in_ok-below.ensures.asks c.in_err-half.ensures.alters
+pub returns-in_err-half-clause-changes : goal.returns-in_err-half-clause-changes
+returns-in_err-half-clause-changes g t c =
+    changes_and_refuses c.args.cache.now c.look_below.new.cache c.split.new.cache c.in_err-half.field-0.0 c.from_residual-in_err-half.result c.from_residual-in_err-half.ensures.1 (asks_changes c.args.cache.now c.look_below.new.cache None c.in_ok-below.ensures.asks) c.in_err-half.ensures.changes
 
 pub returns-in_err-half-clause-sound : goal.returns-in_err-half-clause-sound
 returns-in_err-half-clause-sound g t c = λ map row may.
@@ -116,14 +112,11 @@ returns-in_err-half-clause-faults g t c = λ map row may.
     let b = c.in_ok-below.below in
     let id = c.args.object.now.0 in
     let beneath = c.in_ok-below.ensures.found map.honest row may.stands in
-    refused_so c.from_residual-in_err-half.result c.in_err-half.field-0.0 (IsNoDamage c.split.new.cache) c.from_residual-in_err-half.ensures.1
-    (c.in_err-half.ensures.faults (asks.map.sound.0 map) c.args.edge row (split_beneath D old mid c.args.page c.args.level c.args.edge row id b.child b.place b.last b.room high same may beneath c.if-below.false))
+    at_error c.from_residual-in_err-half.result c.in_err-half.field-0.0 (IsNoDamage c.split.new.cache) c.from_residual-in_err-half.ensures.1 (c.in_err-half.ensures.faults (asks.map.sound.0 map) c.args.edge row (split_beneath D old mid c.args.page c.args.level c.args.edge row id b.child b.place b.last b.room high same may beneath c.if-below.false))
 
-pub returns-clause-alters : goal.returns-clause-alters
-returns-clause-alters g t c =
-    begun_alters c.args.cache.now c.split.new.cache c.add_below-2.new.cache c.add_below-2.result c.after_begun.result c.after_begun.ensures
-    (changes_in_turn c.args.cache.now c.look_below.new.cache c.split.new.cache None (asks_changes c.args.cache.now c.look_below.new.cache None c.in_ok-below.ensures.asks) c.in_ok-half.ensures.alters.changes)
-    c.add_below-2.ensures.alters
+pub returns-clause-changes : goal.returns-clause-changes
+returns-clause-changes g t c =
+    changes_in_turn c.args.cache.now c.split.new.cache c.add_below-2.new.cache (fault_in c.add_below-2.result) (changes_in_turn c.args.cache.now c.look_below.new.cache c.split.new.cache None (asks_changes c.args.cache.now c.look_below.new.cache None c.in_ok-below.ensures.asks) c.in_ok-half.ensures.changes) c.add_below-2.ensures.changes
 
 pub returns-clause-grown : goal.returns-clause-grown
 returns-clause-grown g t c = λ map row may.
@@ -149,7 +142,6 @@ returns-clause-grown g t c = λ map row may.
     let half = c.in_ok-half.half in
     let last = c.in_ok-half.half_last in
     let may1 = grow_same D old mid page level edge row id same may in
-    begun_ok c.add_below-2.result c.after_begun.result (Becomes D old new page level edge row id (adds kept)) c.after_begun.ensures
     (on_ok c.add_below-2.result (λ done. becomes_from D old mid new page level edge row id (adds kept) same (becomes_after D mid cut new page level edge row id half last kept high may.large made done))
     (c.add_below-2.ensures.grown map2 made.way.below (may_grow_after D mid cut page level edge row id half last high may1 made)))
 
@@ -195,5 +187,4 @@ returns-clause-faults g t c = λ map row may.
     let made = c.in_ok-half.ensures.made map1 edge row splits in
     let map2 = c.split.ensures.sound map1 edge row splits in
     let may1 = grow_same D old mid page level edge row id same may in
-    begun_err c.add_below-2.result c.after_begun.result (IsNoDamage c.add_below-2.new.cache) c.after_begun.ensures
     (c.add_below-2.ensures.faults map2 made.way.below (may_grow_after D mid cut page level edge row id c.in_ok-half.half c.in_ok-half.half_last high may1 made))

@@ -1,28 +1,24 @@
 -- The root takes the object as its count and its level tell.
 use Rattle.std.proofs.Common.{inl, arith}
 use Rattle.page_cache.specs.Cache.{pages}
-use Rattle.page_cache.specs.Calls.{no_call_asks}
-use Rattle.node_page.specs.Broken.{asks_and_alters, asks_and_breaks}
+use Rattle.page_cache.specs.Calls.{no_call_asks, asks_and_changes, asks_and_gives_up}
 use Rattle.node_page.specs.Faults.{IsNoDamage}
-use Rattle.node_page.proofs.NodeLemmas.{on_ok}
-use Rattle.id_table.proofs.Results.{alters_after, broken_err, broken_ok, refused_before}
-use Rattle.id_tree.specs.Changes.{Sets}
+use Rattle.node_page.proofs.NodeLemmas.{on_ok, at_error}
 use Rattle.id_tree.specs.Tree.{links_of}
 use Rattle.id_tree.proofs.AddLemmas.{grow_root, sets_root, started_root}
 use Rattle.id_tree.proofs.RootLemmas.{absent_of, root_fork, root_live, sets_from, tree_same}
 use Rattle.id_tree.proofs.adding.add_object.Goals as goal
 
-pub returns-in_err-way-clause-alters : goal.returns-in_err-way-clause-alters
-returns-in_err-way-clause-alters g c =
-    asks_and_breaks c.args.cache.now c.args.cache.now c.step.new.cache c.in_err-way.field-0.0 c.from_residual.result c.from_residual.ensures.1 (no_call_asks c.args.cache.now) c.in_err-way.ensures.asks
+pub returns-in_err-way-clause-changes : goal.returns-in_err-way-clause-changes
+returns-in_err-way-clause-changes g c =
+    asks_and_gives_up c.args.cache.now c.args.cache.now c.step.new.cache c.in_err-way.field-0.0 c.from_residual.result c.from_residual.ensures.1 (no_call_asks c.args.cache.now) c.in_err-way.ensures.asks
 
 pub returns-in_err-way-clause-faults : goal.returns-in_err-way-clause-faults
 returns-in_err-way-clause-faults g c = λ map t at stands absent.
-    refused_before c.from_residual.result c.in_err-way.field-0.0 (IsNoDamage c.step.new.cache) c.from_residual.ensures.1
-    (inl (c.in_err-way.ensures.there map.honest (record { level = t.level; links = links_of t.row }) (root_fork g.row.D (pages c.args.cache.now) c.args.root t at stands)))
+    at_error c.from_residual.result c.in_err-way.field-0.0 (IsNoDamage c.step.new.cache) c.from_residual.ensures.1 (inl (c.in_err-way.ensures.there map.honest (record { level = t.level; links = links_of t.row }) (root_fork g.row.D (pages c.args.cache.now) c.args.root t at stands)))
 
-pub returns-then-way-eq0-clause-alters : goal.returns-then-way-eq0-clause-alters
-returns-then-way-eq0-clause-alters g c = alters_after c.args.cache.now c.step.new.cache c.start.new.cache c.start.result c.midway.result c.midway.ensures c.in_ok-way.ensures.asks c.start.ensures.changes
+pub returns-then-way-eq0-clause-changes : goal.returns-then-way-eq0-clause-changes
+returns-then-way-eq0-clause-changes g c = asks_and_changes c.args.cache.now c.step.new.cache c.start.new.cache c.start.result c.in_ok-way.ensures.asks c.start.ensures.changes
 
 pub returns-then-way-eq0-clause-added : goal.returns-then-way-eq0-clause-added
 returns-then-way-eq0-clause-added g c = λ map t at stands absent.
@@ -37,7 +33,6 @@ returns-then-way-eq0-clause-added g c = λ map t at stands absent.
     let same = asks.map.pages_stay map.honest in
     let tree = tree_same D old mid t same stands in
     let count = c.in_ok-way.ensures.count map.honest (record { level = t.level; links = links_of t.row }) (root_fork D old root t at stands) in
-    broken_ok c.start.result c.midway.result (Sets D old new t id kept) c.midway.ensures
     (on_ok c.start.result (λ w. sets_from D old mid new t id kept same (started_root D mid new t root id kept at tree (omega (arith, count, c.if-way-eq0.true)) w))
     (c.start.ensures.started (asks.map.sound.0 map) (root_live D mid t root at tree)))
 
@@ -51,7 +46,6 @@ pub returns-then-way-eq0-clause-faults : goal.returns-then-way-eq0-clause-faults
 returns-then-way-eq0-clause-faults g c = λ map t at stands absent.
     let asks = c.in_ok-way.ensures.asks in
     let tree = tree_same g.row.D (pages c.args.cache.now) (pages c.step.new.cache) t (asks.map.pages_stay map.honest) stands in
-    broken_err c.start.result c.midway.result (IsNoDamage c.start.new.cache) c.midway.ensures
     (c.start.ensures.faults (asks.map.sound.0 map) (root_live g.row.D (pages c.step.new.cache) t c.args.root at tree))
 
 pub returns-then-way-gt-MOST_LEVELS-clause-faults : goal.returns-then-way-gt-MOST_LEVELS-clause-faults
@@ -59,8 +53,8 @@ returns-then-way-gt-MOST_LEVELS-clause-faults g c = λ map t at stands absent.
     let level = c.in_ok-way.ensures.level map.honest (record { level = t.level; links = links_of t.row }) (root_fork g.row.D (pages c.args.cache.now) c.args.root t at stands) in
     absurd (omega (arith, level, stands.bounded, c.if-way-gt-MOST_LEVELS.true))
 
-pub returns-then-way-lt-MOST_CHILDREN-clause-alters : goal.returns-then-way-lt-MOST_CHILDREN-clause-alters
-returns-then-way-lt-MOST_CHILDREN-clause-alters g c = asks_and_alters c.args.cache.now c.step.new.cache c.add_below.new.cache c.add_below.result c.in_ok-way.ensures.asks c.add_below.ensures.alters
+pub returns-then-way-lt-MOST_CHILDREN-clause-changes : goal.returns-then-way-lt-MOST_CHILDREN-clause-changes
+returns-then-way-lt-MOST_CHILDREN-clause-changes g c = asks_and_changes c.args.cache.now c.step.new.cache c.add_below.new.cache c.add_below.result c.in_ok-way.ensures.asks c.add_below.ensures.changes
 
 pub returns-then-way-lt-MOST_CHILDREN-clause-added : goal.returns-then-way-lt-MOST_CHILDREN-clause-added
 returns-then-way-lt-MOST_CHILDREN-clause-added g c = λ map t at stands absent.
@@ -112,8 +106,8 @@ returns-then-way-lt-MOST_CHILDREN-clause-faults g c = λ map t at stands absent.
     let count = c.in_ok-way.ensures.count map.honest (record { level = t.level; links = links_of t.row }) fork in
     c.add_below.ensures.faults (asks.map.sound.0 map) t.row (grow_root D mid t root way.level id at level tree (omega (arith, count, c.if-way-eq0.false)) (omega (arith, count, c.if-way-lt-MOST_CHILDREN.true)) (absent_of t id absent))
 
-pub returns-clause-alters : goal.returns-clause-alters
-returns-clause-alters g c = asks_and_alters c.args.cache.now c.step.new.cache c.add_deeper.new.cache c.add_deeper.result c.in_ok-way.ensures.asks c.add_deeper.ensures.alters
+pub returns-clause-changes : goal.returns-clause-changes
+returns-clause-changes g c = asks_and_changes c.args.cache.now c.step.new.cache c.add_deeper.new.cache c.add_deeper.result c.in_ok-way.ensures.asks c.add_deeper.ensures.changes
 
 pub returns-clause-added : goal.returns-clause-added
 returns-clause-added g c = λ map t at stands absent.

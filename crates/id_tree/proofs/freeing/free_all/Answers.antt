@@ -2,29 +2,26 @@
 use Rattle.std.proofs.Common.{ℕ, subst, sym}
 use Rattle.page_file.specs.Fault.{IsOfDevice}
 use Rattle.page_cache.specs.Cache.{pages}
-use Rattle.page_cache.specs.Calls.{no_call_asks}
-use Rattle.node_page.specs.Broken.{asks_and_breaks}
+use Rattle.page_cache.specs.Calls.{no_call_asks, asks_and_changes, asks_and_gives_up}
 use Rattle.node_page.specs.Parts.{Moves, no_page}
-use Rattle.node_page.proofs.NodeLemmas.{on_ok}
+use Rattle.node_page.proofs.NodeLemmas.{on_ok, at_error}
 use Rattle.node_page.proofs.PartLemmas.{moves_from}
-use Rattle.id_table.proofs.Results.{alters_after, broken_err, broken_ok, refused_before}
 use Rattle.id_tree.specs.Rows.{part_at}
 use Rattle.id_tree.specs.Tree.{links_of, part_of}
 use Rattle.id_tree.proofs.FreeLemmas.{root_node}
 use Rattle.id_tree.proofs.RootLemmas.{root_fork}
 use Rattle.id_tree.proofs.freeing.free_all.Goals as goal
 
-pub returns-in_err-way-clause-alters : goal.returns-in_err-way-clause-alters
-returns-in_err-way-clause-alters g c =
-    asks_and_breaks c.args.cache.now c.args.cache.now c.step.new.cache c.in_err-way.field-0.0 c.from_residual.result c.from_residual.ensures.1 (no_call_asks c.args.cache.now) c.in_err-way.ensures.asks
+pub returns-in_err-way-clause-changes : goal.returns-in_err-way-clause-changes
+returns-in_err-way-clause-changes g c =
+    asks_and_gives_up c.args.cache.now c.args.cache.now c.step.new.cache c.in_err-way.field-0.0 c.from_residual.result c.from_residual.ensures.1 (no_call_asks c.args.cache.now) c.in_err-way.ensures.asks
 
 pub returns-in_err-way-clause-faults : goal.returns-in_err-way-clause-faults
 returns-in_err-way-clause-faults g c = λ map t at stands.
-    refused_before c.from_residual.result c.in_err-way.field-0.0 IsOfDevice c.from_residual.ensures.1
-    (c.in_err-way.ensures.there map.honest (record { level = t.level; links = links_of t.row }) (root_fork g.row.D (pages c.args.cache.now) c.args.root t at stands))
+    at_error c.from_residual.result c.in_err-way.field-0.0 IsOfDevice c.from_residual.ensures.1 (c.in_err-way.ensures.there map.honest (record { level = t.level; links = links_of t.row }) (root_fork g.row.D (pages c.args.cache.now) c.args.root t at stands))
 
-pub returns-clause-alters : goal.returns-clause-alters
-returns-clause-alters g c = alters_after c.args.cache.now c.step.new.cache c.free_node.new.cache c.free_node.result c.midway.result c.midway.ensures c.in_ok-way.ensures.asks c.free_node.ensures.changes
+pub returns-clause-changes : goal.returns-clause-changes
+returns-clause-changes g c = asks_and_changes c.args.cache.now c.step.new.cache c.free_node.new.cache c.free_node.result c.in_ok-way.ensures.asks c.free_node.ensures.changes
 
 pub returns-clause-freed : goal.returns-clause-freed
 returns-clause-freed g c = λ map t at stands.
@@ -35,7 +32,6 @@ returns-clause-freed g c = λ map t at stands.
     let asks = c.in_ok-way.ensures.asks in
     let same = asks.map.pages_stay map.honest in
     let level = c.in_ok-way.ensures.level map.honest (record { level = t.level; links = links_of t.row }) (root_fork D old c.args.root t at stands) in
-    broken_ok c.free_node.result c.midway.result (Moves old new (part_of t) no_page) c.midway.ensures
     (on_ok c.free_node.result (λ moves. moves_from old mid new (part_of t) no_page same (subst (λ (p : ℕ). Moves mid new (part_at p t.row) no_page) (sym at) moves))
     (c.free_node.ensures.freed (asks.map.sound.0 map) _ t.row (root_node D old mid t c.args.root c.in_ok-way.way.level at level same stands)))
 
@@ -55,5 +51,4 @@ returns-clause-faults g c = λ map t at stands.
     let mid = pages c.step.new.cache in
     let asks = c.in_ok-way.ensures.asks in
     let level = c.in_ok-way.ensures.level map.honest (record { level = t.level; links = links_of t.row }) (root_fork D old c.args.root t at stands) in
-    broken_err c.free_node.result c.midway.result IsOfDevice c.midway.ensures
     (c.free_node.ensures.faults (asks.map.sound.0 map) _ t.row (root_node D old mid t c.args.root c.in_ok-way.way.level at level (asks.map.pages_stay map.honest) stands))

@@ -1,26 +1,25 @@
 -- What the root had is read first.
 use Rattle.std.proofs.Common.{◌+◌, inl}
 use Rattle.page_cache.specs.Cache.{pages}
-use Rattle.page_cache.specs.Calls.{no_call_asks}
-use Rattle.node_page.specs.Broken.{asks_and_breaks}
+use Rattle.page_cache.specs.Calls.{no_call_asks, asks_and_changes, asks_and_gives_up}
 use Rattle.node_page.specs.Faults.{IsNoDamage}
-use Rattle.id_table.proofs.Results.{alters_after, broken_err, refused_before}
+use Rattle.node_page.proofs.NodeLemmas.{at_error}
 use Rattle.id_tree.specs.Writes.{Deepens, NamesNew}
-use Rattle.id_tree.proofs.ResultLemmas.{broken_ok_if}
+use Rattle.id_tree.proofs.ResultLemmas.{if_ok}
 use Rattle.id_tree.proofs.RootLemmas.{names_from}
 use Rattle.id_tree.proofs.SplitLemmas.{live_same}
 use Rattle.id_tree.proofs.rooting.deepen.Goals as goal
 
-pub returns-in_err-bytes-clause-alters : goal.returns-in_err-bytes-clause-alters
-returns-in_err-bytes-clause-alters g c =
-    asks_and_breaks c.args.cache.now c.args.cache.now c.copy_page.new.cache c.in_err-bytes.field-0.0 c.from_residual.result c.from_residual.ensures.1 (no_call_asks c.args.cache.now) c.in_err-bytes.ensures.asks
+pub returns-in_err-bytes-clause-changes : goal.returns-in_err-bytes-clause-changes
+returns-in_err-bytes-clause-changes g c =
+    asks_and_gives_up c.args.cache.now c.args.cache.now c.copy_page.new.cache c.in_err-bytes.field-0.0 c.from_residual.result c.from_residual.ensures.1 (no_call_asks c.args.cache.now) c.in_err-bytes.ensures.asks
 
 pub returns-in_err-bytes-clause-faults : goal.returns-in_err-bytes-clause-faults
 returns-in_err-bytes-clause-faults g c = λ map live.
-    refused_before c.from_residual.result c.in_err-bytes.field-0.0 (IsNoDamage c.copy_page.new.cache) c.from_residual.ensures.1 (inl (c.in_err-bytes.ensures.there map.honest live))
+    at_error c.from_residual.result c.in_err-bytes.field-0.0 (IsNoDamage c.copy_page.new.cache) c.from_residual.ensures.1 (inl (c.in_err-bytes.ensures.there map.honest live))
 
-pub returns-clause-alters : goal.returns-clause-alters
-returns-clause-alters g c = alters_after c.args.cache.now c.copy_page.new.cache c.name_new.new.cache c.name_new.result c.midway.result c.midway.ensures c.in_ok-bytes.ensures.asks c.name_new.ensures.changes
+pub returns-clause-changes : goal.returns-clause-changes
+returns-clause-changes g c = asks_and_changes c.args.cache.now c.copy_page.new.cache c.name_new.new.cache c.name_new.result c.in_ok-bytes.ensures.asks c.name_new.ensures.changes
 
 pub returns-clause-deepened : goal.returns-clause-deepened
 returns-clause-deepened g c = λ map live.
@@ -30,9 +29,7 @@ returns-clause-deepened g c = λ map live.
     let new = pages c.name_new.new.cache in
     let asks = c.in_ok-bytes.ensures.asks in
     let same = asks.map.pages_stay map.honest in
-    broken_ok_if c.name_new.result c.midway.result
-    (λ number. NamesNew D mid new c.args.root (c.args.level + 1) number c.in_ok-bytes.bytes) (λ number. Deepens D old new c.args.root c.args.level number) c.midway.ensures
-    (λ number named. record {
+    if_ok c.name_new.result (λ number. NamesNew D mid new c.args.root (c.args.level + 1) number c.in_ok-bytes.bytes) (λ number. Deepens D old new c.args.root c.args.level number) (λ number named. record {
       bytes = c.in_ok-bytes.bytes;
       was = c.in_ok-bytes.ensures.bytes map.honest live;
       named = names_from D old mid new c.args.root (c.args.level + 1) number c.in_ok-bytes.bytes same named;
@@ -46,5 +43,4 @@ returns-clause-sound g c = λ map live.
 pub returns-clause-faults : goal.returns-clause-faults
 returns-clause-faults g c = λ map live.
     let asks = c.in_ok-bytes.ensures.asks in
-    broken_err c.name_new.result c.midway.result (IsNoDamage c.name_new.new.cache) c.midway.ensures
     (c.name_new.ensures.faults (asks.map.sound.0 map) (live_same (pages c.args.cache.now) (pages c.copy_page.new.cache) c.args.root (asks.map.pages_stay map.honest) live))

@@ -4,7 +4,7 @@ use Rattle.id_tree.specs.Changes.{Makes}
 use Rattle.id_tree.specs.Writes.{Gives}
 use Rattle.id_tree.proofs.ResultLemmas.{if_ok}
 use Rattle.id_tree.proofs.RootLemmas.{made}
-use Rattle.id_tree.proofs.making.make_page.Goals as goal
+use Rattle.id_tree.proofs.making.make.Goals as goal
 
 pub returns-clause-made : goal.returns-clause-made
 returns-clause-made g c = λ map.
