@@ -28,6 +28,7 @@ pub fn append_links(page: &mut [u8; 4096], other: &[u8; 4096], from: usize)
     requires from { from ≤ number_at 2 2 other.now }
     requires few { number_at 2 2 other.now ≤ 340 }
     requires room { number_at 2 2 page.old + (number_at 2 2 other.now - from) ≤ 340 }
+    ensures count { number_at 2 2 page.new ≡ number_at 2 2 page.old + (number_at 2 2 other.now - from) }
     ensures appended { (dims : ℕ) (c more : ForkContent) → fork_at dims page.old ≡ Some c
         → fork_at dims other.now ≡ Some more
         → fork_at dims page.new ≡ Some (with_links c (c.links ++ drop from more.links)) }
@@ -41,6 +42,7 @@ pub fn append_links(page: &mut [u8; 4096], other: &[u8; 4096], from: usize)
 /// Keeps the first children of a fork page, and takes all others. Their bytes are zeros then.
 pub fn keep_links(page: &mut [u8; 4096], many: usize)
     requires few { number_at 2 2 page.old ≤ 340 }
+    ensures count { number_at 2 2 page.new ≤ many }
     ensures kept { (dims : ℕ) (c : ForkContent) → fork_at dims page.old ≡ Some c
         → fork_at dims page.new ≡ Some (with_links c (take many c.links)) }
     ensures tidy { IsTidyFork page.old → IsTidyFork page.new }

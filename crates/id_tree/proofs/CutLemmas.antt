@@ -13,7 +13,7 @@ use Rattle.id_tree.specs.Halving.{from_key, under_key}
 use Rattle.id_tree.specs.Steps.{Keeps, MayHalve}
 use Rattle.id_tree.specs.Rows.{Begins, joined}
 use Rattle.id_tree.specs.Tree.{IsFilled, IsParted, Row, end, more, object, child, RowStands, least_objects, links_of, objects_in, occurs}
-use Rattle.id_tree.proofs.HalvingLemmas.{all_from, all_under, both_keep, both_lengths}
+use Rattle.id_tree.proofs.HalvingLemmas.{all_from, all_under, both_keep}
 use Rattle.id_tree.proofs.NodeLemmas.{fork_bytes, leaf_bytes, leaf_pages, objects_of_row, row_of, row_of_filled, row_of_parted, row_of_stands, some_objects}
 use Rattle.id_tree.proofs.ObjectLemmas.{keeps_same}
 use Rattle.id_tree.proofs.RowLemmas.{behind_from, filled-behind, filled-front, front_below, objects-joined, occurs-joined, parted-behind, parted-front, stands-behind, stands-front}
@@ -36,13 +36,12 @@ sizes dims = by_dims (eqb dims 2)
 
 -- ---- leaves
 
-pub leaf_cut : (dims : ℕ) (edge : Bool) (row : Row) (key : ℕ) (first second : List ℕ) → ((n : ℕ) → occurs n row ≡ 0) → length (objects_in row) ≡ most_objects dims
+pub leaf_cut : (dims : ℕ) (edge : Bool) (row : Row) (key : ℕ) (first second : List ℕ) → ((n : ℕ) → occurs n row ≡ 0)
     → CutsLeaf dims edge (objects_in row) key first second → Cuts dims 0 edge row key first second
-leaf_cut dims edge row key first second leaf full c =
+leaf_cut dims edge row key first second leaf c =
     let xs = objects_in row in
     let lefts = objects_of_row (under_key key xs) in
     let rights = objects_of_row (from_key key xs) in
-    let both = both_lengths key xs in
     let size = sizes dims in
     record {
       left = row_of (under_key key xs);
@@ -59,8 +58,8 @@ leaf_cut dims edge row key first second leaf full c =
       large_right = λ off. record { leaf = λ low. omega (arith, c.rest off, ap length rights); fork = λ high. absurd (omega (arith, high)) };
       some_left = omega (arith, size.some, c.large, ap length lefts);
       some_right = omega (arith, c.some, ap length rights);
-      room_left = record { leaf = λ low. omega (arith, ap length lefts, both, full, c.some); fork = λ high. absurd (omega (arith, high)) };
-      room_right = record { leaf = λ low. omega (arith, ap length rights, both, full, size.some, c.large); fork = λ high. absurd (omega (arith, high)) };
+      room_left = record { leaf = λ low. omega (arith, ap length lefts, c.room_first); fork = λ high. absurd (omega (arith, high)) };
+      room_right = record { leaf = λ low. omega (arith, ap length rights, c.room_second); fork = λ high. absurd (omega (arith, high)) };
       lesser = subst (λ ys. All (λ o. o.0 < key) ys) (sym lefts) (all_under key xs);
       from = subst (λ ys. All (λ o. key ≤ o.0) ys) (sym rights) (all_from key xs);
       keeps = subst (λ ys. Keeps xs (ys ++ objects_in (row_of (from_key key xs)))) (sym lefts) (subst (λ ys. Keeps xs (under_key key xs ++ ys)) (sym rights) (both_keep key xs));
@@ -122,17 +121,17 @@ first_child dims pages level (more (child key page below) rest) x xs high stands
     first k p ls e = ap (λ (l : List Link). (get_or l 0 (0, 0)).0) e
 
 pub fork_cut : (dims : ℕ) (pages : PageMap) (level : ℕ) (edge : Bool) (row : Row) (key : ℕ) (first second : List ℕ) → 0 < level → RowStands dims pages level row → IsParted row → IsFilled dims level edge row
-    → length (links_of row) ≡ 340 → CutsFork dims level edge (links_of row) key first second → Cuts dims level edge row key first second
-fork_cut dims pages level edge row key first second high stands parted filled full c =
+    → CutsFork dims level edge (links_of row) key first second → Cuts dims level edge row key first second
+fork_cut dims pages level edge row key first second high stands parted filled c =
     let links = links_of row in
     let cut = part_at_place dims pages level row c.many high stands in
     let on = subst (RowStands dims pages level) cut.is stands in
     let on_left = stands-front dims pages level cut.left cut.right on in
     let on_right = stands-behind dims pages level cut.left cut.right on in
-    let size_left = length-take-le c.many links (omega (arith, c.some, full)) in
+    let size_left = length-take-le c.many links (omega (arith, c.some)) in
     let size_right = length-drop c.many links in
     let x = get_or links c.many (0, 0) in
-    let head = first_child dims pages level cut.right x (drop (c.many + 1) links) high on_right (cut.links_right ∙ drop_more links c.many (0, 0) (omega (arith, c.some, full))) in
+    let head = first_child dims pages level cut.right x (drop (c.many + 1) links) high on_right (cut.links_right ∙ drop_more links c.many (0, 0) c.some) in
     let right_is : cut.right ≡ more (child key head.page head.below) head.rest = head.is ∙ ap (λ k. more (child k head.page head.below) head.rest) (c.key_is (0, 0)) in
     let begins : Begins key cut.right = subst (Begins key) (sym right_is) refl in
     let all = subst IsParted cut.is parted in
@@ -151,11 +150,11 @@ fork_cut dims pages level edge row key first second high stands parted filled fu
       filled_left = filled-front dims level edge cut.left (child key head.page head.below) head.rest (subst (λ r. IsFilled dims level edge (joined cut.left r)) right_is whole);
       filled_right = filled-behind dims level edge cut.left cut.right whole;
       large_left = record { leaf = λ low. absurd (omega (arith, low, high)); fork = λ up. omega (arith, c.large, size_left, sizes_left) };
-      large_right = λ off. record { leaf = λ low. absurd (omega (arith, low, high)); fork = λ up. omega (arith, c.rest off, full, size_right, sizes_right) };
+      large_right = λ off. record { leaf = λ low. absurd (omega (arith, low, high)); fork = λ up. omega (arith, c.rest off, size_right, sizes_right) };
       some_left = some_objects dims pages level cut.left high on_left (omega (arith, c.large, size_left, sizes_left));
-      some_right = some_objects dims pages level cut.right high on_right (omega (arith, c.some, full, size_right, sizes_right));
-      room_left = record { leaf = λ low. absurd (omega (arith, low, high)); fork = λ up. omega (arith, c.some, size_left, sizes_left) };
-      room_right = record { leaf = λ low. absurd (omega (arith, low, high)); fork = λ up. omega (arith, c.large, full, size_right, sizes_right) };
+      some_right = some_objects dims pages level cut.right high on_right (omega (arith, c.some, size_right, sizes_right));
+      room_left = record { leaf = λ low. absurd (omega (arith, low, high)); fork = λ up. omega (arith, c.room_first, size_left, sizes_left) };
+      room_right = record { leaf = λ low. absurd (omega (arith, low, high)); fork = λ up. omega (arith, c.room_second, size_right, sizes_right) };
       lesser = front_below dims pages level key cut.left cut.right high on_left begins all;
       from = from_there cut.left cut.right (omega (arith, c.large, size_left, sizes_left)) on_left begins all;
       keeps = subst (λ ys. Keeps ys (objects_in cut.left ++ objects_in cut.right)) (sym (ap objects_in cut.is ∙ objects-joined cut.left cut.right)) (keeps_same (objects_in cut.left ++ objects_in cut.right));
@@ -186,17 +185,8 @@ fork_full dims pages page level edge row bytes high may there =
     let full = may.full.fork high in
     (is, omega (arith, count_of_fork dims bytes content is, full, s.head.few))
 
-pub cut_of_leaf : (dims : ℕ) (pages : PageMap) (page level : ℕ) (edge : Bool) (row : Row) (bytes : List ℕ) (key : ℕ) (first second : List ℕ) → level ≡ 0 → MayHalve dims pages page level edge row → pages page ≡ Some bytes
+pub cut_of_leaf : (dims : ℕ) (pages : PageMap) (level : ℕ) (edge : Bool) (row : Row) (key : ℕ) (first second : List ℕ) → level ≡ 0 → RowStands dims pages level row
     → CutsLeaf dims edge (objects_in row) key first second → Cuts dims level edge row key first second
-cut_of_leaf dims pages page level edge row bytes key first second low may there c =
-    let full = leaf_full dims pages page level edge row bytes low may there in
-    let stands : RowStands dims pages 0 row = subst (λ l. RowStands dims pages l row) low may.stands.below in
-    subst (λ l. Cuts dims l edge row key first second) (sym low)
-    (leaf_cut dims edge row key first second (λ n. leaf_pages dims pages row n stands) (sym (count_of_leaf dims bytes (objects_in row) full.0) ∙ full.1) c)
-
-pub cut_of_fork : (dims : ℕ) (pages : PageMap) (page level : ℕ) (edge : Bool) (row : Row) (bytes : List ℕ) (key : ℕ) (first second : List ℕ) → 0 < level → MayHalve dims pages page level edge row → pages page ≡ Some bytes
-    → CutsFork dims level edge (links_of row) key first second → Cuts dims level edge row key first second
-cut_of_fork dims pages page level edge row bytes key first second high may there c =
-    let full = fork_full dims pages page level edge row bytes high may there in
-    fork_cut dims pages level edge row key first second high may.stands.below may.stands.parted may.stands.filled
-    (sym (count_of_fork dims bytes (record { level = level; links = links_of row }) full.0) ∙ full.1) c
+cut_of_leaf dims pages level edge row key first second low stands c =
+    let stands : RowStands dims pages 0 row = subst (λ l. RowStands dims pages l row) low stands in
+    subst (λ l. Cuts dims l edge row key first second) (sym low) (leaf_cut dims edge row key first second (λ n. leaf_pages dims pages row n stands) c)

@@ -2,7 +2,7 @@
 use Rattle.std.specs.Prelude.{◌≡◌, ℕ, ◌+◌, ◌<◌, ◌≤◌, Bool, false, List, ◌++◌, length, take, drop, slice_index_or, insert, All, Some}
 use Rattle.bucket_page.specs.Layout.{Entry}
 use Rattle.id_page.specs.Fork.{ForkContent, Link, fork_at, with_links}
-use Rattle.id_page.specs.Leaf.{leaf_at}
+use Rattle.id_page.specs.Leaf.{leaf_at, most_objects}
 use Rattle.page_file.specs.Pages.{SameBut}
 use Rattle.node_page.specs.Standing.{PageMap}
 use Rattle.id_tree.specs.Halving.{from_key, under_key}
@@ -11,30 +11,34 @@ use Rattle.id_tree.specs.Steps.{Keeps}
 use Rattle.id_tree.specs.Writes.{GivesAndPuts}
 use Rattle.id_tree.specs.Tree.{IsFilled, IsLarge, IsParted, Row, RowStands, fork_in, least_objects, links_of, objects_in, occurs}
 
--- a full leaf was cut at a key into these pages
+-- the objects of a leaf, or of two, were cut at a key into these pages
 pub record CutsLeaf (dims : ℕ) (edge : Bool) (objects : List Entry) (key : ℕ) (first second : List ℕ) : Type 0 where
   pub under : leaf_at dims first ≡ Some (under_key key objects)
   pub from : leaf_at dims second ≡ Some (from_key key objects)
   pub large : least_objects dims ≤ length (under_key key objects)
   pub some : 0 < length (from_key key objects)
   pub rest : edge ≡ false → least_objects dims ≤ length (from_key key objects)
+  pub room_first : length (under_key key objects) < most_objects dims
+  pub room_second : length (from_key key objects) < most_objects dims
 
--- a full fork was cut at the key of a child into these pages
+-- the children of a fork, or of two, were cut at the key of one into these pages
 pub record CutsFork (dims level : ℕ) (edge : Bool) (links : List Link) (key : ℕ) (first second : List ℕ) : Type 0 where
   pub many : ℕ
   pub key_is : (other : Link) → (slice_index_or links many other).0 ≡ key
   pub upto : fork_at dims first ≡ Some (record { level = level; links = take many links })
   pub beyond : fork_at dims second ≡ Some (record { level = level; links = drop many links })
   pub large : 85 ≤ many
-  pub some : many < 340
-  pub rest : edge ≡ false → many + 85 ≤ 340
+  pub some : many < length links
+  pub rest : edge ≡ false → many + 85 ≤ length links
+  pub room_first : many < 340
+  pub room_second : length links < many + 340
 
 -- a page spells the node of this level with this row
 pub record SpellsNode (dims level : ℕ) (row : Row) (page : List ℕ) : Type 0 where
   pub leaf : level ≡ 0 → leaf_at dims page ≡ Some (objects_in row)
   pub fork : 0 < level → fork_at dims page ≡ Some (record { level = level; links = links_of row })
 
--- a full node is cut at a key into these pages
+-- a node that is full, or more, is cut at a key into these pages
 pub record Cuts (dims level : ℕ) (edge : Bool) (row : Row) (key : ℕ) (first second : List ℕ) : Type 0 where
   pub left : Row
   pub right : Row

@@ -6,3 +6,4 @@ pub mod Steps
 pub mod Halving
 pub mod Writes
 pub mod Cutting
+pub mod Joining

@@ -10,9 +10,8 @@ ghost use Rattle.node_page.specs.Faults.{IsNoDamage};
 ghost use Rattle.id_tree.specs.Changes.{Makes};
 
 use crate::giving::give_page;
-use block_bytes::zero_block;
+use crate::rooting::no_child;
 use block_device::BlockDevice;
-use id_page::start_fork;
 use page_cache::PageCache;
 use page_file::Fault;
 use std::alloc::Allocator;
@@ -34,7 +33,5 @@ pub fn make<const D: usize, B: BlockDevice, A: Allocator + Copy>(
     ensures faults { IsPageMap cache.old → IfErr result (IsNoDamage cache.new) }
     ensures other_faults { IfErr result (λ f. IsNoDamage cache.new f ⊎ IsDamage f) }
 {
-    let mut bytes = zero_block();
-    start_fork::<D>(&mut bytes, 1);
-    give_page(cache, &bytes)
+    give_page(cache, &no_child::<D>())
 }

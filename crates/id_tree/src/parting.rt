@@ -147,7 +147,8 @@ pub(crate) fn leaf_from<const D: usize>(page: &[u8; 4096], key: u64) -> [u8; 409
 // The fork of the first children of a fork page, and that of those from a place on.
 pub(crate) fn fork_upto(page: &[u8; 4096], many: usize) -> [u8; 4096]
     requires few { number_at 2 2 page.now ≤ 340 }
-    ensures { (dims : ℕ) (c : ForkContent) → fork_at dims page.now ≡ Some c
+    ensures count { number_at 2 2 result ≤ many }
+    ensures upto { (dims : ℕ) (c : ForkContent) → fork_at dims page.now ≡ Some c
         → fork_at dims result ≡ Some (with_links c (take many c.links)) }
 {
     let mut first = *page;
@@ -160,7 +161,8 @@ pub(crate) fn fork_beyond<const D: usize>(page: &[u8; 4096], level: u8, many: us
     requires high { 1 ≤ level }
     requires few { number_at 2 2 page.now ≤ 340 }
     requires within { many ≤ number_at 2 2 page.now }
-    ensures { (c : ForkContent) → fork_at D page.now ≡ Some c
+    ensures count { number_at 2 2 result + many ≡ number_at 2 2 page.now }
+    ensures beyond { (c : ForkContent) → fork_at D page.now ≡ Some c
         → fork_at D result ≡ Some (record { level = level; links = drop many c.links }) }
 {
     let mut last = zero_block();

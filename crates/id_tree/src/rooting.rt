@@ -59,6 +59,16 @@ fn only_child<const D: usize>(level: u8, number: u32) -> [u8; 4096]
     fork
 }
 
+// The fork of level 1 without children.
+pub(crate) fn no_child<const D: usize>() -> [u8; 4096]
+    requires dims { IsDims D }
+    ensures { fork_at D result ≡ Some (record { level = 1; links = [] }) }
+{
+    let mut fork = zero_block();
+    start_fork::<D>(&mut fork, 1);
+    fork
+}
+
 // Makes the live page of a root, which has no children, one with a leaf of this object.
 #[tactic(auto, using(page_cache::specs::Calls::turns))]
 pub(crate) fn start<const D: usize, B: BlockDevice, A: Allocator + Copy>(

@@ -10,9 +10,11 @@ returns g c = λ content is level.
     record {
       many = many;
       key_is = λ other. sym (c.key_at.ensures.of_fork g.row.D content other is (omega (arith, count, c.requires.full, c.children_kept-many.ensures.some)));
-      upto = c.fork_upto.ensures g.row.D content is ∙ ap (λ l. Some (record { level = l; links = take many content.links })) level;
-      beyond = c.fork_beyond.ensures content is;
+      upto = c.fork_upto.ensures.upto g.row.D content is ∙ ap (λ l. Some (record { level = l; links = take many content.links })) level;
+      beyond = c.fork_beyond.ensures.beyond content is;
       large = c.children_kept-many.ensures.large;
-      some = c.children_kept-many.ensures.some;
-      rest = c.children_kept-many.ensures.rest;
+      some = omega (arith, count, c.requires.full, c.children_kept-many.ensures.some);
+      rest = λ off. let rest = c.children_kept-many.ensures.rest off in omega (arith, count, c.requires.full, rest);
+      room_first = c.children_kept-many.ensures.some;
+      room_second = omega (arith, count, c.requires.full, c.children_kept-many.ensures.large);
     }

@@ -4,7 +4,7 @@ use Rattle.page_file.specs.Fault.{IsOfDevice}
 use Rattle.page_cache.specs.Cache.{pages}
 use Rattle.node_page.proofs.NodeLemmas.{at_error}
 use Rattle.id_tree.specs.Tree.{links_of, objects_in}
-use Rattle.id_tree.proofs.CutLemmas.{cut_of_fork, cut_of_leaf, fork_full, leaf_full}
+use Rattle.id_tree.proofs.CutLemmas.{cut_of_leaf, fork_cut, fork_full, leaf_full}
 use Rattle.id_tree.proofs.NodeLemmas.{node_there}
 use Rattle.id_tree.proofs.halving.plan.Goals as goal
 
@@ -25,7 +25,7 @@ returns-then-level-eq0-clause-cuts g c = λ h row may.
     let old = pages c.args.cache.now in
     let there = c.in_ok-bytes.ensures.bytes h (node_there g.row.D old c.args.page c.args.level row may.stands.node) in
     let full = leaf_full g.row.D old c.args.page c.args.level c.args.edge row c.in_ok-bytes.bytes c.if-level-eq0.true may there in
-    cut_of_leaf g.row.D old c.args.page c.args.level c.args.edge row c.in_ok-bytes.bytes c.cut_leaf.result.key c.cut_leaf.result.first c.cut_leaf.result.second c.if-level-eq0.true may there
+    cut_of_leaf g.row.D old c.args.level c.args.edge row c.cut_leaf.result.key c.cut_leaf.result.first c.cut_leaf.result.second c.if-level-eq0.true may.stands.below
     (c.cut_leaf.ensures (objects_in row) full.0 may.single)
 
 pub returns-then-count-ne-MOST_CHILDREN-clause-there : goal.returns-then-count-ne-MOST_CHILDREN-clause-there
@@ -42,5 +42,5 @@ returns-clause-cuts g c = λ h row may.
     let high : 0 < c.args.level = omega (arith, c.if-level-eq0.false) in
     let there = c.in_ok-bytes.ensures.bytes h (node_there g.row.D old c.args.page c.args.level row may.stands.node) in
     let full = fork_full g.row.D old c.args.page c.args.level c.args.edge row c.in_ok-bytes.bytes high may there in
-    cut_of_fork g.row.D old c.args.page c.args.level c.args.edge row c.in_ok-bytes.bytes c.cut_fork.result.key c.cut_fork.result.first c.cut_fork.result.second high may there
+    fork_cut g.row.D old c.args.level c.args.edge row c.cut_fork.result.key c.cut_fork.result.first c.cut_fork.result.second high may.stands.below may.stands.parted may.stands.filled
     (c.cut_fork.ensures (record { level = c.args.level; links = links_of row }) full.0 refl)
