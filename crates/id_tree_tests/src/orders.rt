@@ -7,7 +7,7 @@ ghost use Rattle.page_cache.specs.Cache.{gate_of};
 
 use block_device::MemoryDevice;
 use box_math::BBox;
-use id_tree::{add, fill, free_all, get, make, update};
+use id_tree::{add, fill, free_all, get, make, remove, update};
 use page_file::Fault;
 use std::alloc::Global;
 use std::collections::BTreeMap;
@@ -56,7 +56,7 @@ fn new_table<const D: usize>(cache: &mut Cache) -> Result<u32, Fault>
     requires open { gate_of cache.old ≡ Open }
     ensures open { gate_of cache.new ≡ Open }
 {
-    make::<D, _, _>(cache).map_err(|broken| broken.cause)
+    make::<D, _, _>(cache)
 }
 
 fn put<const D: usize>(
@@ -70,7 +70,7 @@ fn put<const D: usize>(
     requires open { gate_of cache.old ≡ Open }
     ensures open { gate_of cache.new ≡ Open }
 {
-    add(cache, table, id, &point::<D>(at)?, tag).map_err(|broken| broken.cause)
+    add(cache, table, id, &point::<D>(at)?, tag)
 }
 
 fn shift<const D: usize>(cache: &mut Cache, table: u32, id: u64, at: i32) -> Result<(), Fault>
@@ -142,6 +142,29 @@ fn move_all<const D: usize>(
             let _ = plain
                 .insert(id, (-9, tag_of(number)))
                 .map_err(|_| Fault::Memory)?;
+        }
+    }
+    Ok(())
+}
+
+// Removes the objects but for every so many, and takes them from the plain map. Where that is 0, none stays.
+fn remove_all_but<const D: usize>(
+    cache: &mut Cache,
+    table: u32,
+    plain: &mut Plain,
+    order: Order,
+    count: u32,
+    every: u32,
+) -> Result<(), Fault>
+    requires dims { IsDims D }
+    requires open { gate_of cache.old ≡ Open }
+    ensures open { gate_of cache.new ≡ Open }
+{
+    for number in 0..count {
+        if every == 0 || number % every != 0 {
+            let id = id_of(order, number);
+            remove::<D, _, _>(cache, table, id)?;
+            let _ = plain.remove(&id);
         }
     }
     Ok(())
@@ -220,17 +243,71 @@ fn clustered_identifiers_are_found(rt: HostRuntime) -> Result<(), Fail> {
     Ok(())
 }
 
+// Adds so many objects, and removes all but every so many. Answers how many identifiers are answered right then,
+// and how many pages are live, the catalog aside.
+fn shrink<const D: usize>(
+    alloc: Global,
+    order: Order,
+    count: u32,
+    every: u32,
+) -> Result<(u32, u32), Fault>
+    requires dims { IsDims D }
+    requires few { count ≤ 100000 }
+{
+    let mut cache = bare(alloc)?;
+    let table = new_table::<D>(&mut cache)?;
+    let mut plain = BTreeMap::new(alloc);
+    add_all::<D>(&mut cache, table, &mut plain, order, count)?;
+    remove_all_but::<D>(&mut cache, table, &mut plain, order, count, every)?;
+    let alike = count_alike::<D>(&mut cache, table, &plain, order, count)?;
+    let live = cache
+        .next_number()
+        .saturating_sub(3)
+        .saturating_sub(cache.free_count());
+    Ok((alike, live))
+}
+
+#[test]
+fn a_tenth_that_stays_has_few_pages(rt: HostRuntime) -> Result<(), Fail> {
+    let (alike, pages) = shrink::<2>(rt.alloc(), Order::Random, 30000, 10)?;
+    assert_eq!(rt; alike, 30000);
+    assert!(rt; pages <= 52, "{pages}");
+    Ok(())
+}
+
+#[test]
+fn what_descends_and_is_clustered_shrinks(rt: HostRuntime) -> Result<(), Fail> {
+    let (alike, pages) = shrink::<3>(rt.alloc(), Order::Descending, 8000, 20)?;
+    assert_eq!(rt; alike, 8000);
+    assert!(rt; pages <= 10, "{pages}");
+    let (alike, pages) = shrink::<3>(rt.alloc(), Order::Clustered, 8000, 5)?;
+    assert_eq!(rt; alike, 8000);
+    assert!(rt; pages <= 36, "{pages}");
+    Ok(())
+}
+
+#[test]
+fn a_table_of_which_all_went_is_its_root(rt: HostRuntime) -> Result<(), Fail> {
+    let (alike, pages) = shrink::<2>(rt.alloc(), Order::Ascending, 60000, 0)?;
+    assert_eq!(rt; alike, 60000);
+    assert_eq!(rt; pages, 1);
+    let (alike, pages) = shrink::<2>(rt.alloc(), Order::Random, 20000, 0)?;
+    assert_eq!(rt; alike, 20000);
+    assert_eq!(rt; pages, 1);
+    Ok(())
+}
+
 #[test]
 fn many_objects_are_added_at_once(rt: HostRuntime) -> Result<(), Fail> {
     let mut cache = bare(rt.alloc())?;
     let table = new_table::<2>(&mut cache)?;
     let mut plain = BTreeMap::new(rt.alloc());
     let objects = objects_of::<2>(rt.alloc(), &mut plain, Order::Ascending, 6000)?;
-    fill(&mut cache, table, objects.as_slice()).map_err(|broken| broken.cause)?;
+    fill(&mut cache, table, objects.as_slice())?;
     let alike = count_alike::<2>(&mut cache, table, &plain, Order::Ascending, 12000)?;
     assert_eq!(rt; alike, 12000);
     assert!(rt; cache.next_number() <= 48);
-    free_all::<2, _, _>(&mut cache, table).map_err(|broken| broken.cause)?;
+    free_all::<2, _, _>(&mut cache, table)?;
     assert_eq!(rt;
         u64::from(cache.free_count()) + 3,
         u64::from(cache.next_number())
