@@ -1,5 +1,5 @@
 -- A full node cut in two, as bytes and as rows.
-use Rattle.std.proofs.Common.{◌≡◌, ◌∙◌, ℕ, zero, suc, ◌+◌, ◌<◌, ◌≤◌, Bool, true, false, cond, eqb, Some, None, List, [], ◌∷◌, ◌++◌, length, get_or, take, drop, All, refl, sym, ap, subst, arith, length-drop}
+use Rattle.std.proofs.Common.{◌≡◌, ◌∙◌, ℕ, zero, suc, ◌+◌, ◌*◌, ◌/◌, ◌<◌, ◌≤◌, Bool, true, false, cond, eqb, Some, None, List, [], ◌∷◌, ◌++◌, length, get_or, take, drop, All, refl, sym, ap, subst, arith, length-drop}
 use Rattle.std.proofs.lemmas.List.{drop_more, length-take-le}
 use Rattle.bucket_page.specs.Layout.{Entry}
 use Rattle.block_bytes.specs.Numbers.{number_at}
@@ -8,13 +8,13 @@ use Rattle.id_page.specs.Leaf.{leaf_at, most_objects}
 use Rattle.id_page.proofs.ForkReading.{count_of_fork, fork_spells}
 use Rattle.id_page.proofs.LeafReading.{count_of_leaf, leaf_spells}
 use Rattle.node_page.specs.Standing.{PageMap}
-use Rattle.id_tree.specs.Cutting.{Cuts, CutsFork, CutsLeaf}
+use Rattle.id_tree.specs.Cutting.{Cuts, CutsFork, CutsLeaf, FitsOne}
 use Rattle.id_tree.specs.Halving.{from_key, under_key}
 use Rattle.id_tree.specs.Steps.{Keeps, MayHalve}
 use Rattle.id_tree.specs.Rows.{Begins, joined}
-use Rattle.id_tree.specs.Tree.{IsFilled, IsParted, Row, end, more, object, child, RowStands, least_objects, links_of, objects_in, occurs}
-use Rattle.id_tree.proofs.HalvingLemmas.{all_from, all_under, both_keep}
-use Rattle.id_tree.proofs.NodeLemmas.{fork_bytes, leaf_bytes, leaf_pages, objects_of_row, row_of, row_of_filled, row_of_parted, row_of_stands, some_objects}
+use Rattle.id_tree.specs.Tree.{HasNode, IsFilled, IsParted, Row, end, more, object, child, RowStands, least_objects, links_of, objects_in, occurs}
+use Rattle.id_tree.proofs.HalvingLemmas.{all_from, all_under, both_keep, both_lengths}
+use Rattle.id_tree.proofs.NodeLemmas.{bytes_of_fork, bytes_of_leaf, fork_bytes, leaf_bytes, leaf_pages, objects_of_row, row_of, row_of_filled, row_of_parted, row_of_stands, some_objects}
 use Rattle.id_tree.proofs.ObjectLemmas.{keeps_same}
 use Rattle.id_tree.proofs.RowLemmas.{behind_from, filled-behind, filled-front, front_below, objects-joined, occurs-joined, parted-behind, parted-front, stands-behind, stands-front}
 
@@ -23,16 +23,17 @@ use Rattle.id_tree.proofs.RowLemmas.{behind_from, filled-behind, filled-front, f
 -- what is used of their numbers
 pub record AreSizes (least most : ℕ) : Type 0 where
   pub some : 29 ≤ least
-  pub half : least + least ≤ most
+  pub half : least + least + 2 ≤ most
   pub few : most ≤ 145
+  pub ample : least < most * 2 / 5
 
 pub sizes : (dims : ℕ) → AreSizes (least_objects dims) (most_objects dims)
 unfolding least_objects most_objects
 sizes dims = by_dims (eqb dims 2)
   where
     by_dims : (b : Bool) → AreSizes (cond b 37 29) (cond b 145 113)
-    by_dims true = record { some = omega arith; half = omega arith; few = omega arith }
-    by_dims false = record { some = omega arith; half = omega arith; few = omega arith }
+    by_dims true = record { some = omega arith; half = omega arith; few = omega arith; ample = omega arith }
+    by_dims false = record { some = omega arith; half = omega arith; few = omega arith; ample = omega arith }
 
 -- ---- leaves
 
@@ -42,6 +43,7 @@ leaf_cut dims edge row key first second leaf c =
     let xs = objects_in row in
     let lefts = objects_of_row (under_key key xs) in
     let rights = objects_of_row (from_key key xs) in
+    let both = both_lengths key xs in
     let size = sizes dims in
     record {
       left = row_of (under_key key xs);
@@ -58,8 +60,8 @@ leaf_cut dims edge row key first second leaf c =
       large_right = λ off. record { leaf = λ low. omega (arith, c.rest off, ap length rights); fork = λ high. absurd (omega (arith, high)) };
       some_left = omega (arith, size.some, c.large, ap length lefts);
       some_right = omega (arith, c.some, ap length rights);
-      room_left = record { leaf = λ low. omega (arith, ap length lefts, c.room_first); fork = λ high. absurd (omega (arith, high)) };
-      room_right = record { leaf = λ low. omega (arith, ap length rights, c.room_second); fork = λ high. absurd (omega (arith, high)) };
+      room_left = λ one. record { leaf = λ low. let few = one.leaf low in omega (arith, ap length lefts, both, few, c.some); fork = λ high. absurd (omega (arith, high)) };
+      room_right = λ one. record { leaf = λ low. let few = one.leaf low in omega (arith, ap length rights, both, few, size.some, c.large); fork = λ high. absurd (omega (arith, high)) };
       lesser = subst (λ ys. All (λ o. o.0 < key) ys) (sym lefts) (all_under key xs);
       from = subst (λ ys. All (λ o. key ≤ o.0) ys) (sym rights) (all_from key xs);
       keeps = subst (λ ys. Keeps xs (ys ++ objects_in (row_of (from_key key xs)))) (sym lefts) (subst (λ ys. Keeps xs (under_key key xs ++ ys)) (sym rights) (both_keep key xs));
@@ -153,8 +155,8 @@ fork_cut dims pages level edge row key first second high stands parted filled c 
       large_right = λ off. record { leaf = λ low. absurd (omega (arith, low, high)); fork = λ up. omega (arith, c.rest off, size_right, sizes_right) };
       some_left = some_objects dims pages level cut.left high on_left (omega (arith, c.large, size_left, sizes_left));
       some_right = some_objects dims pages level cut.right high on_right (omega (arith, c.some, size_right, sizes_right));
-      room_left = record { leaf = λ low. absurd (omega (arith, low, high)); fork = λ up. omega (arith, c.room_first, size_left, sizes_left) };
-      room_right = record { leaf = λ low. absurd (omega (arith, low, high)); fork = λ up. omega (arith, c.room_second, size_right, sizes_right) };
+      room_left = λ one. record { leaf = λ low. absurd (omega (arith, low, high)); fork = λ up. let few = one.fork up in omega (arith, few, c.some, size_left, sizes_left) };
+      room_right = λ one. record { leaf = λ low. absurd (omega (arith, low, high)); fork = λ up. let few = one.fork up in omega (arith, few, c.large, size_right, sizes_right) };
       lesser = front_below dims pages level key cut.left cut.right high on_left begins all;
       from = from_there cut.left cut.right (omega (arith, c.large, size_left, sizes_left)) on_left begins all;
       keeps = subst (λ ys. Keeps ys (objects_in cut.left ++ objects_in cut.right)) (sym (ap objects_in cut.is ∙ objects-joined cut.left cut.right)) (keeps_same (objects_in cut.left ++ objects_in cut.right));
@@ -167,6 +169,20 @@ fork_cut dims pages level edge row key first second high stands parted filled c 
     from_there (more (child k p b) l) r some stands begins parted = behind_from dims pages level key k p b l r high stands.5 begins parted
 
 -- ---- the node in a page that is to be cut
+
+-- what a node in a page has fits into one
+pub node_fits : (dims : ℕ) (pages : PageMap) (page level : ℕ) (row : Row) → HasNode dims pages page level row → FitsOne dims level row
+node_fits dims pages page level row node = record {
+  leaf = λ low.
+      let there = bytes_of_leaf dims (pages page) (objects_in row) (node.leaf low) in
+      let s = leaf_spells dims there.0 (objects_in row) there.2 in
+      omega (arith, count_of_leaf dims there.0 (objects_in row) there.2, s.head.few);
+  fork = λ high.
+      let content : ForkContent = record { level = level; links = links_of row } in
+      let there = bytes_of_fork dims (pages page) content (node.fork high) in
+      let s = fork_spells dims there.0 content there.2 in
+      omega (arith, count_of_fork dims there.0 content there.2, s.head.few);
+}
 
 pub leaf_full : (dims : ℕ) (pages : PageMap) (page level : ℕ) (edge : Bool) (row : Row) (bytes : List ℕ) → level ≡ 0 → MayHalve dims pages page level edge row → pages page ≡ Some bytes
     → (leaf_at dims bytes ≡ Some (objects_in row)) × (number_at 2 2 bytes ≡ most_objects dims)

@@ -19,3 +19,7 @@ pub mod DropLemmas
 pub mod FillLemmas
 pub mod FreeLemmas
 pub mod CountLemmas
+pub mod MeetLemmas
+pub mod PairLemmas
+pub mod JoinLemmas
+pub mod RemoveLemmas

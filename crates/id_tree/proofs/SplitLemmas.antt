@@ -15,6 +15,7 @@ use Rattle.id_tree.specs.Rows.{NodeStands, joined, part_at}
 use Rattle.id_tree.specs.Steps.{Keeps, MakesRoom, MayHalve, MaySplit}
 use Rattle.id_tree.specs.Writes.{GivesAndPuts}
 use Rattle.id_tree.specs.Tree.{HasNode, IsFilled, IsParted, Row, end, more, child, RowStands, at_edge, fork_in, leaf_in, links_of, objects_in, occurs}
+use Rattle.id_tree.proofs.CutLemmas.{node_fits}
 use Rattle.id_tree.proofs.NodeLemmas.{below_there, is_there, node_there, not_there, occurs_here, row_stays, stands_same}
 use Rattle.id_tree.proofs.ObjectLemmas.{keeps_within}
 use Rattle.id_tree.proofs.RowLemmas.{joined-joined, links-joined, objects-joined, passes-more}
@@ -227,7 +228,7 @@ module _ (dims : ℕ) (old mid new : PageMap) (page level : ℕ) (edge : Bool) (
         passes = may.way.passes;
         stops = less;
       };
-      room = cut.room_left;
+      room = cut.room_left (node_fits dims old p (level - 1) may.way.below inner.node);
       last_is = refl;
     }
 
@@ -248,7 +249,7 @@ module _ (dims : ℕ) (old mid new : PageMap) (page level : ℕ) (edge : Bool) (
         passes = passes-more id may.way.key key p may.way.front cut.left may.way.passes le;
         stops = may.way.stops;
       };
-      room = cut.room_right;
+      room = cut.room_right (node_fits dims old p (level - 1) may.way.below inner.node);
       last_is = may.last_is;
     }
 

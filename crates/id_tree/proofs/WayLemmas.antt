@@ -15,10 +15,36 @@ use Rattle.id_tree.proofs.ObjectLemmas.{none_behind, none_below, none_from, or_e
 use Rattle.id_tree.proofs.RowLemmas.{at_route, filled-behind, front_below, links-joined, objects-joined, occurs-joined, parted-behind, passes_last, place_of_way, stands-behind, stands-front}
 use Rattle.id_tree.proofs.SwapLemmas.{KeepsBounds, Swaps, swapped, swapped_as_is}
 
+-- a node became another one, with the same children at the same keys
+pub record TurnsChild (dims : ℕ) (old new : PageMap) (page level : ℕ) (edge : Bool) (row : Row) (id : ℕ) (step : Step) : Type 0 where
+  pub becomes : Becomes dims old new page level edge row id step
+  pub links : links_of becomes.now ≡ links_of row
+
 pub stops_before : (id key : ℕ) (rest : Row) → Stops id rest → Begins key rest → id < key
 stops_before id key end stops begins = absurd begins
 stops_before id key (more (object i o) r) stops begins = absurd begins
 stops_before id key (more (child k p b) r) stops begins = omega (arith, stops, begins)
+
+-- the child in a place is at the edge, if the node is, where so many are behind it
+module _ (dims : ℕ) (pages : PageMap) (level : ℕ) (high : 0 < level) where
+  is_end : (place count : ℕ) → count ≡ place + 1 → (place + 1 == count) ≡ true
+  is_end place count all = grind (arith, nat_tests)
+
+  no_end : (place count others : ℕ) → count ≡ place + 1 + (1 + others) → (place + 1 == count) ≡ false
+  no_end place count others all = grind (arith, nat_tests)
+
+  and_true : (e b : Bool) → b ≡ true → (e && b) ≡ e
+  and_true true b is = is
+  and_true false b is = refl
+
+  and_false : (e b : Bool) → b ≡ false → (e && b) ≡ false
+  and_false true b is = is
+  and_false false b is = refl
+
+  pub edge_of : (rest : Row) (e : Bool) (place count : ℕ) → RowStands dims pages level rest → count ≡ place + 1 + length (links_of rest) → (e && (place + 1 == count)) ≡ at_edge e rest
+  edge_of end e place count stands all = and_true e (place + 1 == count) (is_end place count (omega (arith, all)))
+  edge_of (more (object i o) r) e place count stands all = absurd (omega (arith, high, stands.0))
+  edge_of (more (child k q b) r) e place count stands all = and_false e (place + 1 == count) (no_end place count (length (links_of r)) (omega (arith, all)))
 
 module _ (dims : ℕ) (pages : PageMap) (page level : ℕ) (edge : Bool) (id p : ℕ) (row : Row) (high : 0 < level) (s : NodeStands dims pages page level edge row) (way : At id p row) where
   pub stands_all : RowStands dims pages level (joined way.front (more (child way.key p way.below) way.rest))
@@ -117,30 +143,11 @@ module _ (dims : ℕ) (pages : PageMap) (page level : ℕ) (edge : Bool) (id p :
       let parts = length-append (links_of way.front) ((way.key, p) ∷ links_of way.rest) in
       let here : place ≡ length (links_of way.front) = at ∙ sym place_here in
       let all : count ≡ place + 1 + length (links_of way.rest) = omega (arith, size, long, parts, here) in
-      by_rest way.rest edge on_tail.5 all
-    where
-      is_end : (place count : ℕ) → count ≡ place + 1 → (place + 1 == count) ≡ true
-      is_end place count all = grind (arith, nat_tests)
-
-      no_end : (place count others : ℕ) → count ≡ place + 1 + (1 + others) → (place + 1 == count) ≡ false
-      no_end place count others all = grind (arith, nat_tests)
-
-      and_true : (e b : Bool) → b ≡ true → (e && b) ≡ e
-      and_true true b is = is
-      and_true false b is = refl
-
-      and_false : (e b : Bool) → b ≡ false → (e && b) ≡ false
-      and_false true b is = is
-      and_false false b is = refl
-
-      by_rest : (rest : Row) (e : Bool) → RowStands dims pages level rest → count ≡ place + 1 + length (links_of rest) → (e && (place + 1 == count)) ≡ at_edge e rest
-      by_rest end e stands all = and_true e (place + 1 == count) (is_end place count (omega (arith, all)))
-      by_rest (more (object i o) r) e stands all = absurd (omega (arith, high, stands.0))
-      by_rest (more (child k q b) r) e stands all = and_false e (place + 1 == count) (no_end place count (length (links_of r)) (omega (arith, all)))
+      edge_of dims pages level high way.rest edge place count on_tail.5 all
 
   -- the child became another one by a step of the identifier: so did the node
-  pub by_child : (new : PageMap) (step : Step) → (edge ≡ false → IsLarge dims level row) → Becomes dims pages new p (level - 1) (at_edge edge way.rest) way.below id step → Becomes dims pages new page level edge row id step
-  by_child new step large b =
+  pub child_turned : (new : PageMap) (step : Step) → (edge ≡ false → IsLarge dims level row) → Becomes dims pages new p (level - 1) (at_edge edge way.rest) way.below id step → TurnsChild dims pages new page level edge row id step
+  child_turned new step large b =
       let was : Row = more (child way.key p way.below) end in
       let turned : Row = more (child way.key p b.now) end in
       let now : Row = joined way.front (more (child way.key p b.now) way.rest) in
@@ -161,7 +168,7 @@ module _ (dims : ℕ) (pages : PageMap) (page level : ℕ) (edge : Bool) (id p :
       let links : links_of now ≡ links_of row = links-joined way.front (more (child way.key p b.now) way.rest) ∙ sym links_here in
       let objects : objects_in now ≡ objects_in way.front ++ (objects_in b.now ++ objects_in way.rest) = objects-joined way.front (more (child way.key p b.now) way.rest) in
       let turns = turns_within id step (objects_in way.front) (objects_in way.below) (objects_in b.now) (objects_in way.rest) none_before none_after b.turns in
-      record {
+      let done : Becomes dims pages new page level edge row id step = record {
         now = now;
         stands = swapped_as_is dims pages new page level edge row now high s links sw;
         turns = subst (λ xs. Turns id step xs (objects_in now)) (sym objects_here) (subst (Turns id step (objects_in way.front ++ (objects_in way.below ++ objects_in way.rest))) (sym objects) turns);
@@ -172,7 +179,8 @@ module _ (dims : ℕ) (pages : PageMap) (page level : ℕ) (edge : Bool) (id p :
         };
         wide = omega (arith, ap length links);
         moves = sw.moves;
-      }
+      } in
+      record { becomes = done; links = links }
     where
       first_part : (key : ℕ) (below : Row) → All (λ o. o.0 < key) (objects_in below ++ []) → All (λ o. o.0 < key) (objects_in below)
       first_part key below all = subst (λ xs. All (λ o. o.0 < key) xs) (append-nil (objects_in below)) all
@@ -190,6 +198,9 @@ module _ (dims : ℕ) (pages : PageMap) (page level : ℕ) (edge : Bool) (id p :
       passed q r c l e =
           let stands : RowStands dims pages level (more (child q r c) l) = subst (RowStands dims pages level) e on_front in
           passes_last dims pages level id way.key q r c l high stands.5 (subst (λ f. Passes id f way.key) e way.passes)
+
+  pub by_child : (new : PageMap) (step : Step) → (edge ≡ false → IsLarge dims level row) → Becomes dims pages new p (level - 1) (at_edge edge way.rest) way.below id step → Becomes dims pages new page level edge row id step
+  by_child new step large b = (child_turned new step large b).becomes
 
 -- the way in a fork
 pub way_of : (dims : ℕ) (pages : PageMap) (page level : ℕ) (edge : Bool) (row : Row) (id p : ℕ) → 0 < level → NodeStands dims pages page level edge row → Some p ≡ route id (links_of row) → At id p row

@@ -18,8 +18,6 @@ pub record CutsLeaf (dims : ℕ) (edge : Bool) (objects : List Entry) (key : ℕ
   pub large : least_objects dims ≤ length (under_key key objects)
   pub some : 0 < length (from_key key objects)
   pub rest : edge ≡ false → least_objects dims ≤ length (from_key key objects)
-  pub room_first : length (under_key key objects) < most_objects dims
-  pub room_second : length (from_key key objects) < most_objects dims
 
 -- the children of a fork, or of two, were cut at the key of one into these pages
 pub record CutsFork (dims level : ℕ) (edge : Bool) (links : List Link) (key : ℕ) (first second : List ℕ) : Type 0 where
@@ -30,13 +28,16 @@ pub record CutsFork (dims level : ℕ) (edge : Bool) (links : List Link) (key : 
   pub large : 85 ≤ many
   pub some : many < length links
   pub rest : edge ≡ false → many + 85 ≤ length links
-  pub room_first : many < 340
-  pub room_second : length links < many + 340
 
 -- a page spells the node of this level with this row
 pub record SpellsNode (dims level : ℕ) (row : Row) (page : List ℕ) : Type 0 where
   pub leaf : level ≡ 0 → leaf_at dims page ≡ Some (objects_in row)
   pub fork : 0 < level → fork_at dims page ≡ Some (record { level = level; links = links_of row })
+
+-- what a node has fits into one page
+pub record FitsOne (dims level : ℕ) (row : Row) : Type 0 where
+  pub leaf : level ≡ 0 → length (objects_in row) ≤ most_objects dims
+  pub fork : 0 < level → length (links_of row) ≤ 340
 
 -- a node that is full, or more, is cut at a key into these pages
 pub record Cuts (dims level : ℕ) (edge : Bool) (row : Row) (key : ℕ) (first second : List ℕ) : Type 0 where
@@ -54,8 +55,8 @@ pub record Cuts (dims level : ℕ) (edge : Bool) (row : Row) (key : ℕ) (first 
   pub large_right : edge ≡ false → IsLarge dims level right
   pub some_left : 0 < length (objects_in left)
   pub some_right : 0 < length (objects_in right)
-  pub room_left : HasRoom dims level left
-  pub room_right : HasRoom dims level right
+  pub room_left : FitsOne dims level row → HasRoom dims level left
+  pub room_right : FitsOne dims level row → HasRoom dims level right
   pub lesser : All (λ o. o.0 < key) (objects_in left)
   pub from : All (λ o. key ≤ o.0) (objects_in right)
   pub keeps : Keeps (objects_in row) (objects_in left ++ objects_in right)

@@ -1,5 +1,6 @@
 -- Two neighbouring nodes made one, or cut in two again elsewhere.
 use Rattle.std.specs.Prelude.{◌≡◌, ℕ, ◌+◌, ◌-◌, ◌<◌, ◌≤◌, Bool, true, false, List, [], ◌∷◌, ◌++◌, length, remove, slice_index_or, slice_set, All, Some, None, IsSome}
+use Rattle.block_bytes.specs.Numbers.{number_at}
 use Rattle.id_page.specs.Fork.{ForkContent, Link, fork_at, route_place, with_links}
 use Rattle.id_page.specs.Leaf.{most_objects}
 use Rattle.id_table.specs.Table.{kept_in, times_in}
@@ -105,6 +106,13 @@ pub record FitTogether (dims level : ℕ) (one two : Row) : Type 0 where
 pub record AreTooMany (dims level : ℕ) (one two : Row) : Type 0 where
   pub leaf : level ≡ 0 → most_objects dims < length (objects_in one) + length (objects_in two)
   pub fork : 0 < level → 340 < length (links_of one) + length (links_of two)
+
+-- two pages say that they have more than a node has to have
+pub record IsBalanced (dims level : ℕ) (first second : List ℕ) : Type 0 where
+  pub first_leaf : level ≡ 0 → least_objects dims < number_at 2 2 first
+  pub first_fork : 0 < level → least_children < number_at 2 2 first
+  pub second_leaf : level ≡ 0 → least_objects dims < number_at 2 2 second
+  pub second_fork : 0 < level → least_children < number_at 2 2 second
 
 -- ---- what is written
 

@@ -60,7 +60,7 @@ pub(crate) fn look_below<const D: usize, B: BlockDevice, A: Allocator + Copy>(
 }
 
 // Whether the child in a place, of so many, is at the edge of the tree.
-fn is_last(edge: bool, place: usize, count: usize) -> bool
+pub(crate) fn is_last(edge: bool, place: usize, count: usize) -> bool
     requires within { place ≤ count }
     requires few { count ≤ 340 }
     ensures { result ≡ (edge && (place + 1 == count)) }

@@ -1,6 +1,6 @@
 //! A child with little, joined with the one next to it before one of what it has is taken.
 
-ghost use Rattle.std.specs.Prelude.{◌≡◌, ◌<◌, ◌⊎◌, ◌+◌, ◌-◌, ℕ, Bool, true, length, IfErr, IfOk};
+ghost use Rattle.std.specs.Prelude.{◌≡◌, ◌<◌, ◌≤◌, ◌⊎◌, ◌+◌, ◌-◌, ◌*◌, ◌/◌, ℕ, Bool, true, IfErr, IfOk};
 ghost use Rattle.block_bytes.specs.Numbers.{number_at};
 ghost use Rattle.box_math.specs.Bounds.{IsDims};
 ghost use Rattle.page_file.specs.Fault.{IsDamage, IsOfDevice};
@@ -35,9 +35,17 @@ pub(crate) fn is_ample<const D: usize, B: BlockDevice, A: Allocator + Copy>(
 {
     let count = count_in(cache, number)?;
     if level == 0 {
-        return Ok(count >= objects_that_fit::<D>() * 2 / 5);
+        return Ok(are_two_fifths(count, objects_that_fit::<D>()));
     }
-    Ok(count >= MOST_CHILDREN * 2 / 5)
+    Ok(are_two_fifths(count, MOST_CHILDREN))
+}
+
+// Whether so many are two fifths of so many or more.
+fn are_two_fifths(count: usize, most: usize) -> bool
+    requires { most ≤ 340 }
+    ensures { result ≡ true → most * 2 / 5 ≤ count }
+{
+    count >= most * 2 / 5
 }
 
 // Joins the child in a place of the fork of that level at a page with the one before it, or behind it where
@@ -98,7 +106,8 @@ fn join_pair<const D: usize, B: BlockDevice, A: Allocator + Copy>(
         pair.now.second pair.now.key pair.now.last → IfErr result IsOfDevice }
     ensures other_faults { IfErr result (λ f. IsOfDevice f ⊎ IsDamage f) }
 {
-    if fit_together::<D, B, A>(cache, pair.first, pair.second, level - 1)? {
+    let fit = fit_together::<D, B, A>(cache, pair.first, pair.second, level - 1)?;
+    if fit {
         return make_one::<D, B, A>(cache, page, level, pair);
     }
     share::<D, B, A>(cache, page, level, id, pair)

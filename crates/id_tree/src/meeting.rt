@@ -13,7 +13,7 @@ ghost use Rattle.id_page.specs.Leaf.{leaf_at, most_objects};
 ghost use Rattle.id_table.specs.Table.{times_in};
 ghost use Rattle.id_tree.specs.Cutting.{Cuts, CutsFork, CutsLeaf, SpellsNode};
 ghost use Rattle.id_tree.specs.Halving.{from_key, under_key};
-ghost use Rattle.id_tree.specs.Joining.{AreNeighbours, AreTooMany, FitTogether, met, with_key};
+ghost use Rattle.id_tree.specs.Joining.{AreNeighbours, AreTooMany, FitTogether, IsBalanced, met, with_key};
 ghost use Rattle.id_tree.specs.Tree.{HasNode, Row};
 
 use crate::halving::Cut;
@@ -151,6 +151,9 @@ pub(crate) fn shared<const D: usize, B: BlockDevice, A: Allocator + Copy>(
     ensures cuts { IsHonest cache.old → (edge : Bool) (one two : Row)
         → AreNeighbours D (pages cache.old) level edge first second key one two → AreTooMany D level one two
         → IfOk result (λ cut. Cuts D level edge (met key one two) cut.key cut.first cut.second) }
+    ensures balanced { IsHonest cache.old → (edge : Bool) (one two : Row)
+        → AreNeighbours D (pages cache.old) level edge first second key one two → AreTooMany D level one two
+        → IfOk result (λ cut. IsBalanced D level cut.first cut.second) }
     ensures there { IsHonest cache.old → (edge : Bool) (one two : Row)
         → AreNeighbours D (pages cache.old) level edge first second key one two → AreTooMany D level one two
         → IfErr result IsOfDevice }
@@ -191,9 +194,12 @@ fn shared_leaf<const D: usize>(one: &[u8; 4096], two: &[u8; 4096], key: u64) -> 
     requires few_one { number_at 2 2 one.now ≤ most_objects D }
     requires few_two { number_at 2 2 two.now ≤ most_objects D }
     requires many { most_objects D < number_at 2 2 one.now + number_at 2 2 two.now }
-    ensures { (edge : Bool) (xs ys : List Entry) → leaf_at D one.now ≡ Some xs → leaf_at D two.now ≡ Some ys
+    ensures cuts { (edge : Bool) (xs ys : List Entry) → leaf_at D one.now ≡ Some xs
+        → leaf_at D two.now ≡ Some ys → ((q : ℕ) → times_in q (xs ++ ys) ≤ 1) → All (λ o. o.0 < key) xs
+        → All (λ o. key ≤ o.0) ys → CutsLeaf D edge (xs ++ ys) result.key result.first result.second }
+    ensures balanced { (xs ys : List Entry) → leaf_at D one.now ≡ Some xs → leaf_at D two.now ≡ Some ys
         → ((q : ℕ) → times_in q (xs ++ ys) ≤ 1) → All (λ o. o.0 < key) xs → All (λ o. key ≤ o.0) ys
-        → CutsLeaf D edge (xs ++ ys) result.key result.first result.second }
+        → IsBalanced D 0 result.first result.second }
 {
     let many = (count_at(one) + count_at(two)) / 2;
     let middle = middle_key::<D>(one, two, key, many);
@@ -263,9 +269,11 @@ fn shared_fork<const D: usize>(one: &[u8; 4096], two: &[u8; 4096], level: u8, ke
     requires few_one { number_at 2 2 one.now ≤ 340 }
     requires few_two { number_at 2 2 two.now ≤ 340 }
     requires many { 340 < number_at 2 2 one.now + number_at 2 2 two.now }
-    ensures { (edge : Bool) (c d : ForkContent) → fork_at D one.now ≡ Some c → c.level ≡ level
+    ensures cuts { (edge : Bool) (c d : ForkContent) → fork_at D one.now ≡ Some c → c.level ≡ level
         → fork_at D two.now ≡ Some d → d.level ≡ level
         → CutsFork D level edge (c.links ++ with_key key d.links) result.key result.first result.second }
+    ensures balanced { (c d : ForkContent) → fork_at D one.now ≡ Some c → fork_at D two.now ≡ Some d
+        → IsBalanced D level result.first result.second }
 {
     let behind = with_first_key(two, key);
     let count = count_at(one);
@@ -283,7 +291,7 @@ fn cut_first<const D: usize>(one: &[u8; 4096], two: &[u8; 4096], level: u8, many
     requires few_one { number_at 2 2 one.now ≤ 340 }
     requires within { many < number_at 2 2 one.now }
     requires room { (number_at 2 2 one.now - many) + number_at 2 2 two.now ≤ 340 }
-    ensures key { (c d : ForkContent) (other : Link) → fork_at D one.now ≡ Some c
+    ensures key { (c : ForkContent) (other : Link) → fork_at D one.now ≡ Some c
         → result.key ≡ (slice_index_or c.links many other).0 }
     ensures first { (c : ForkContent) → fork_at D one.now ≡ Some c
         → fork_at D result.first ≡ Some (with_links c (take many c.links)) }

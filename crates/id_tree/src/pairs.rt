@@ -1,6 +1,6 @@
 //! Two children of a fork next to one another, one of which is on the way to an identifier.
 
-ghost use Rattle.std.specs.Prelude.{◌≡◌, ℕ, ◌<◌, ◌≤◌, ◌+◌, ◌⊎◌, ◌&&◌, ◌==◌, Some, length};
+ghost use Rattle.std.specs.Prelude.{◌≡◌, ℕ, ◌<◌, ◌≤◌, ◌+◌, ◌⊎◌, Some, length};
 ghost use Rattle.std.specs.Prelude.{remove, slice_index_or, slice_set, IfErr, IfOk, OnOk};
 ghost use Rattle.block_bytes.specs.Numbers.{number_at};
 ghost use Rattle.page_file.specs.Fault.{IsDamage, IsOfDevice};
@@ -11,6 +11,7 @@ ghost use Rattle.id_page.specs.Fork.{ForkContent, Link, fork_at, with_links};
 ghost use Rattle.id_tree.specs.Joining.{AreApart, IsPair, Joins, MayFree, MayMeet, PutsAndFrees, PutsBoth, Shares};
 ghost use Rattle.id_tree.specs.Tree.{Row};
 
+use crate::below::is_last;
 use crate::halving::Cut;
 use crate::looks::copy_page;
 use block_device::BlockDevice;
@@ -62,13 +63,17 @@ pub(crate) fn look_pair<const D: usize, B: BlockDevice, A: Allocator + Copy>(
         return Err(Fault::Damaged(page));
     }
     let left = left_of(place);
+    let first = page_at(&fork, left);
+    let second = page_at(&fork, left + 1);
+    let key = key_at(&fork, left + 1);
+    let last = is_last(edge, left + 1, count);
     Ok(Pair {
-        first: page_at(&fork, left),
-        second: page_at(&fork, left + 1),
-        key: key_at(&fork, left + 1),
-        last: is_last_pair(edge, left, count),
-        left,
         fork,
+        left,
+        first,
+        second,
+        key,
+        last,
     })
 }
 
@@ -81,15 +86,6 @@ fn left_of(place: usize) -> usize
         return 0;
     }
     place - 1
-}
-
-// Whether the child behind a place, of so many, is at the edge of the tree.
-fn is_last_pair(edge: bool, left: usize, count: usize) -> bool
-    requires within { left + 1 < count }
-    requires few { count ≤ 340 }
-    ensures { result ≡ (edge && (left + 2 == count)) }
-{
-    edge && left + 2 == count
 }
 
 // Puts what both children of a pair have into the first one, frees the second one, and takes it from their

@@ -144,10 +144,10 @@ fn take_in<const D: usize, B: BlockDevice, A: Allocator + Copy>(
     ensures other_faults { IfErr result (λ f. IsOfDevice f ⊎ IsDamage f) }
 {
     let found = look::<D, B, A>(cache, page, id)?;
-    let Some((place, _)) = found else {
+    let Some(object) = found else {
         return Err(Fault::Damaged(page));
     };
-    take_at::<D, B, A>(cache, page, place)
+    take_at::<D, B, A>(cache, page, object.0)
 }
 
 // Removes an object from the table whose root has one leaf.
@@ -199,8 +199,8 @@ fn remove_last<const D: usize, B: BlockDevice, A: Allocator + Copy>(
     ensures other_faults { IfErr result (λ f. IsOfDevice f ⊎ IsDamage f) }
 {
     let found = look::<D, B, A>(cache, leaf, id)?;
-    if found.is_none() {
+    let Some(_) = found else {
         return Err(Fault::Damaged(leaf));
-    }
+    };
     put_and_free(cache, root, leaf, &no_child::<D>())
 }

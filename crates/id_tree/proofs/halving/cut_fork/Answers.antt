@@ -15,6 +15,4 @@ returns g c = λ content is level.
       large = c.children_kept-many.ensures.large;
       some = omega (arith, count, c.requires.full, c.children_kept-many.ensures.some);
       rest = λ off. let rest = c.children_kept-many.ensures.rest off in omega (arith, count, c.requires.full, rest);
-      room_first = c.children_kept-many.ensures.some;
-      room_second = omega (arith, count, c.requires.full, c.children_kept-many.ensures.large);
     }

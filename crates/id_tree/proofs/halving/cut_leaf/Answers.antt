@@ -19,6 +19,4 @@ returns g c = λ objects is single.
       large = omega (arith, under, kept.large);
       some = omega (arith, under, both, count, c.requires.full, kept.some);
       rest = λ off. let rest = kept.rest off in omega (arith, under, both, count, c.requires.full, rest);
-      room_first = omega (arith, under, kept.some);
-      room_second = omega (arith, under, both, count, c.requires.full, size.some, kept.large);
     }

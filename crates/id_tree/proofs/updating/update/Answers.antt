@@ -2,7 +2,9 @@
 use Rattle.std.proofs.Common.{◌≡◌, ◌≤◌, ℕ, refl, ap, subst, arith}
 use Rattle.box_math.specs.Objects.{Object, tag_of}
 use Rattle.page_cache.specs.Cache.{pages}
+use Rattle.page_cache.specs.Laws.{the_map_is_kept_in_turn}
 use Rattle.node_page.proofs.NodeLemmas.{on_ok}
+use Rattle.id_table.proofs.Results.{on_err}
 use Rattle.id_tree.specs.Changes.{Sets}
 use Rattle.id_tree.specs.Rows.{IsFoundBelow}
 use Rattle.id_tree.specs.Tree.{objects_in}
@@ -15,6 +17,11 @@ pub returns-in_default-clause-faults : goal.returns-in_default-clause-faults
 returns-in_default-clause-faults g c = λ map t at stands there.
     let none = subst (IsFoundBelow c.args.root t.level c.args.id t.row) c.in_default.is (c.in_ok-found.ensures.found map.honest t at stands) in
     absurd (not_missing t c.args.id there none)
+
+pub returns-clause-refused : goal.returns-clause-refused
+returns-clause-refused g c =
+    let asks = c.in_ok-found.ensures.asks in
+    on_err c.move_at.result (the_map_is_kept_in_turn c.args.cache.now c.find.new.cache c.move_at.new.cache asks.gate.honest.0 asks.map) c.move_at.ensures.refused
 
 pub returns-clause-updated : goal.returns-clause-updated
 returns-clause-updated g c = λ map t at stands kept is.
