@@ -10,7 +10,7 @@ use Rattle.id_tree.specs.Tree.{IdTree, IsFilled, IsLarge, Row, end, more, object
 use Rattle.id_tree.proofs.NodeLemmas.{below_there, occurs_here}
 
 -- how many pages are below a node, and which
-nodes : Row → ℕ
+unfoldable pub nodes : Row → ℕ
 nodes end = 0
 nodes (more (object id kept) rest) = nodes rest
 nodes (more (child key page below) rest) = 1 + nodes below + nodes rest

@@ -139,14 +139,11 @@ module _ (dims : ℕ) (old : PageMap) (page level : ℕ) (edge : Bool) (row : Ro
     spare : HasSpare dims (level - 1) (at_edge edge at.rest) (met at.between at.one at.two)
     spare = record {
       leaf = λ low. omega (arith, many_objects at.between at.one at.two, nb.one_some, nb.two_some);
-      fork = λ up. omega (arith, sum up, first_some up, second_some up);
+      fork = λ up. omega (arith, many_links at.between at.one at.two, first_some up, second_some up);
       large_leaf = λ low off. let large = nb.one_large.leaf low in omega (arith, many_objects at.between at.one at.two, nb.two_some, large);
-      large_fork = λ up off. let large = nb.one_large.fork up in omega (arith, sum up, second_some up, large);
+      large_fork = λ up off. let large = nb.one_large.fork up in omega (arith, many_links at.between at.one at.two, second_some up, large);
     }
       where
-        sum : 0 < level - 1 → length (links_of (met at.between at.one at.two)) ≡ length (links_of at.one) + length (links_of at.two)
-        sum up = many_links dims old (level - 1) at.between at.one at.two up nb.two_stands.below
-
         first_some : 0 < level - 1 → 0 < length (links_of at.one)
         first_some up = some_links dims old (level - 1) at.one up nb.one_stands.below nb.one_some
 
@@ -437,9 +434,9 @@ join_same dims old new page level edge row id fork left first second key last sa
   pair = may.pair;
 }
 
-pub pair_may_join : (dims : ℕ) (old new : PageMap) (page level : ℕ) (edge : Bool) (row : Row) (id child place : ℕ) (fork : List ℕ) (left first second key : ℕ) (last : Bool) → ((n : ℕ) → new n ≡ old n)
-    → MayMeet dims old page level edge row id child place → IsPair dims level edge row id fork left first second key last → MayJoin dims new page level edge row id fork left first second key last
-pair_may_join dims old new page level edge row id child place fork left first second key last same may pair =
+pub pair_may_join : (dims : ℕ) (old new : PageMap) (page level : ℕ) (edge : Bool) (row : Row) (id q place : ℕ) (fork : List ℕ) (left first second key : ℕ) (last : Bool) → ((n : ℕ) → new n ≡ old n)
+    → MayMeet dims old page level edge row id q place → IsPair dims level edge row id fork left first second key last → MayJoin dims new page level edge row id fork left first second key last
+pair_may_join dims old new page level edge row id q place fork left first second key last same may pair =
     record { stands = stands_same dims old new page level edge row same may.stands; high = may.high; single = may.single; pair = pair }
 
 module _ (dims : ℕ) (old : PageMap) (page level : ℕ) (edge : Bool) (row : Row) (id : ℕ) (fork : List ℕ) (left first second key : ℕ) (last : Bool) (may : MayJoin dims old page level edge row id fork left first second key last) where

@@ -23,3 +23,5 @@ pub mod MeetLemmas
 pub mod PairLemmas
 pub mod JoinLemmas
 pub mod RemoveLemmas
+pub mod ShareLemmas
+pub mod FewLemmas

@@ -1,5 +1,5 @@
 -- What two neighbouring nodes have together, as a row.
-use Rattle.std.proofs.Common.{◌≡◌, ◌∙◌, ℕ, ◌+◌, ◌<◌, ◌≤◌, Bool, true, false, List, [], ◌∷◌, ◌++◌, length, All, refl, sym, ap, subst, ⊎_elim, arith, length-append}
+use Rattle.std.proofs.Common.{◌≡◌, ◌∙◌, ℕ, ◌+◌, ◌<◌, ◌≤◌, Bool, true, false, List, [], ◌∷◌, ◌++◌, length, get_or, set, All, refl, sym, ap, subst, ⊎_elim, arith, length-append}
 use Rattle.std.proofs.lemmas.Bool.{cases_eq}
 use Rattle.bucket_page.specs.Layout.{Entry}
 use Rattle.id_page.specs.Fork.{Link}
@@ -14,28 +14,28 @@ use Rattle.id_tree.proofs.RowLemmas.{filled-joined, leaf_parted, links-joined, o
 
 objects-rekeyed : (key : ℕ) (row : Row) → objects_in (rekeyed key row) ≡ objects_in row
 objects-rekeyed key end = refl
-objects-rekeyed key (more (object id kept) rest) = refl
+objects-rekeyed key (more (object id kept) rest) = ap (λ (xs : List Entry). (id, kept) ∷ xs) (objects-rekeyed key rest)
 objects-rekeyed key (more (child k page below) rest) = refl
 
 occurs-rekeyed : (key n : ℕ) (row : Row) → occurs n (rekeyed key row) ≡ occurs n row
 occurs-rekeyed key n end = refl
-occurs-rekeyed key n (more (object id kept) rest) = refl
+occurs-rekeyed key n (more (object id kept) rest) = occurs-rekeyed key n rest
 occurs-rekeyed key n (more (child k page below) rest) = refl
 
 stands-rekeyed : (dims : ℕ) (pages : PageMap) (level key : ℕ) (row : Row) → RowStands dims pages level row → RowStands dims pages level (rekeyed key row)
 stands-rekeyed dims pages level key end stands = stands
-stands-rekeyed dims pages level key (more (object id kept) rest) stands = stands
+stands-rekeyed dims pages level key (more (object id kept) rest) stands = (stands.0, stands-rekeyed dims pages level key rest stands.1)
 stands-rekeyed dims pages level key (more (child k page below) rest) stands = stands
 
 parted-rekeyed : (key : ℕ) (row : Row) → IsParted row → IsParted (rekeyed key row)
 parted-rekeyed key end parted = parted
-parted-rekeyed key (more (object id kept) rest) parted = parted
+parted-rekeyed key (more (object id kept) rest) parted = parted-rekeyed key rest parted
 parted-rekeyed key (more (child k page below) rest) parted = parted
 
-links-rekeyed : (dims : ℕ) (pages : PageMap) (level key : ℕ) (row : Row) → 0 < level → RowStands dims pages level row → links_of (rekeyed key row) ≡ with_key key (links_of row)
-links-rekeyed dims pages level key end high stands = refl
-links-rekeyed dims pages level key (more (object id kept) rest) high stands = absurd (omega (arith, high, stands.0))
-links-rekeyed dims pages level key (more (child k page below) rest) high stands = refl
+links-rekeyed : (key : ℕ) (row : Row) → links_of (rekeyed key row) ≡ with_key key (links_of row)
+links-rekeyed key end = refl
+links-rekeyed key (more (object id kept) rest) = links-rekeyed key rest
+links-rekeyed key (more (child k page below) rest) = refl
 
 begins-rekeyed : (dims : ℕ) (pages : PageMap) (level key : ℕ) (row : Row) → 0 < level → RowStands dims pages level row → 0 < length (links_of row) → Begins key (rekeyed key row)
 begins-rekeyed dims pages level key end high stands some = absurd (omega (arith, some))
@@ -45,6 +45,15 @@ begins-rekeyed dims pages level key (more (child k page below) rest) high stands
 pub length-with_key : (key : ℕ) (links : List Link) → length (with_key key links) ≡ length links
 length-with_key key [] = refl
 length-with_key key (x ∷ xs) = refl
+
+-- with no child, and with some
+pub keyed_none : (key : ℕ) (links : List Link) → length links ≡ 0 → with_key key links ≡ links
+keyed_none key [] none = refl
+keyed_none key (x ∷ xs) none = absurd (omega (arith, none))
+
+pub keyed_first : (key : ℕ) (links : List Link) (other : Link) → 0 < length links → set links 0 (key, (get_or links 0 other).1) ≡ with_key key links
+keyed_first key [] other some = absurd (omega (arith, some))
+keyed_first key (x ∷ xs) other some = refl
 
 -- ---- a leaf has no children that are filled or not
 
@@ -61,12 +70,11 @@ objects-met key one two = objects-joined one (rekeyed key two) ∙ ap (λ (xs : 
 pub occurs-met : (key n : ℕ) (one two : Row) → occurs n (met key one two) ≡ occurs n one + occurs n two
 occurs-met key n one two = omega (arith, occurs-joined n one (rekeyed key two), occurs-rekeyed key n two)
 
-pub links-met : (dims : ℕ) (pages : PageMap) (level key : ℕ) (one two : Row) → 0 < level → RowStands dims pages level two → links_of (met key one two) ≡ links_of one ++ with_key key (links_of two)
-links-met dims pages level key one two high stands = links-joined one (rekeyed key two) ∙ ap (λ (xs : List Link). links_of one ++ xs) (links-rekeyed dims pages level key two high stands)
+pub links-met : (key : ℕ) (one two : Row) → links_of (met key one two) ≡ links_of one ++ with_key key (links_of two)
+links-met key one two = links-joined one (rekeyed key two) ∙ ap (λ (xs : List Link). links_of one ++ xs) (links-rekeyed key two)
 
-pub many_links : (dims : ℕ) (pages : PageMap) (level key : ℕ) (one two : Row) → 0 < level → RowStands dims pages level two → length (links_of (met key one two)) ≡ length (links_of one) + length (links_of two)
-many_links dims pages level key one two high stands =
-    omega (arith, ap length (links-met dims pages level key one two high stands), length-append (links_of one) (with_key key (links_of two)), length-with_key key (links_of two))
+pub many_links : (key : ℕ) (one two : Row) → length (links_of (met key one two)) ≡ length (links_of one) + length (links_of two)
+many_links key one two = omega (arith, ap length (links-met key one two), length-append (links_of one) (with_key key (links_of two)), length-with_key key (links_of two))
 
 pub many_objects : (key : ℕ) (one two : Row) → length (objects_in (met key one two)) ≡ length (objects_in one) + length (objects_in two)
 many_objects key one two = omega (arith, ap length (objects-met key one two), length-append (objects_in one) (objects_in two))

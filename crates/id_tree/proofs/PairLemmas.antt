@@ -216,22 +216,22 @@ is_pair dims level edge row id fork left first second key last pair fork_is firs
     (record { at = pair.at; fork_is = fork_is; left_is = pair.left_is; key_is = key_is; last_is = last_is }))
 
 -- the pair in a place and the one before it, or behind it
-pub pair_in : (dims : ℕ) (pages : PageMap) (page level : ℕ) (edge : Bool) (row : Row) (id child place left : ℕ) → MayMeet dims pages page level edge row id child place → (place ≡ 0 → left ≡ 0) → (0 < place → left + 1 ≡ place) → PairAt id row left
-pair_in dims pages page level edge row id child place left may first later =
-    let at = place_here dims pages page level edge id child row may.high may.stands may.way in
-    let links = ap length (links_here dims pages page level edge id child row may.high may.stands may.way) in
-    let sum = length-append (links_of may.way.front) ((may.way.key, child) ∷ links_of may.way.rest) in
+pub pair_in : (dims : ℕ) (pages : PageMap) (page level : ℕ) (edge : Bool) (row : Row) (id q place left : ℕ) → MayMeet dims pages page level edge row id q place → (place ≡ 0 → left ≡ 0) → (0 < place → left + 1 ≡ place) → PairAt id row left
+pair_in dims pages page level edge row id q place left may first later =
+    let at = place_here dims pages page level edge id q row may.high may.stands may.way in
+    let links = ap length (links_here dims pages page level edge id q row may.high may.stands may.way) in
+    let sum = length-append (links_of may.way.front) ((may.way.key, q) ∷ links_of may.way.rest) in
     ⊎_elim
     (λ (none : place ≡ 0).
     subst (PairAt id row) (sym (first none))
-    (pair_behind dims pages page level edge id child row may.high may.stands may.way (omega (arith, at, may.place_is, none)) (omega (arith, at, may.place_is, none, links, sum, may.wide))))
+    (pair_behind dims pages page level edge id q row may.high may.stands may.way (omega (arith, at, may.place_is, none)) (omega (arith, at, may.place_is, none, links, sum, may.wide))))
     (λ (some : ¬ (place ≡ 0)).
     let before = later (omega (arith, some)) in
-    pair_before dims pages page level edge id child row may.high may.stands may.way left (omega (arith, at, may.place_is, before)))
+    pair_before dims pages page level edge id q row may.high may.stands may.way left (omega (arith, at, may.place_is, before)))
     (cases_eq place 0)
 
-pub place_under : (dims : ℕ) (pages : PageMap) (page level : ℕ) (edge : Bool) (row : Row) (id child place : ℕ) → MayMeet dims pages page level edge row id child place → place < length (links_of row)
-place_under dims pages page level edge row id child place may =
-    let at = place_here dims pages page level edge id child row may.high may.stands may.way in
-    let links = ap length (links_here dims pages page level edge id child row may.high may.stands may.way) in
-    omega (arith, at, may.place_is, links, length-append (links_of may.way.front) ((may.way.key, child) ∷ links_of may.way.rest))
+pub place_under : (dims : ℕ) (pages : PageMap) (page level : ℕ) (edge : Bool) (row : Row) (id q place : ℕ) → MayMeet dims pages page level edge row id q place → place < length (links_of row)
+place_under dims pages page level edge row id q place may =
+    let at = place_here dims pages page level edge id q row may.high may.stands may.way in
+    let links = ap length (links_here dims pages page level edge id q row may.high may.stands may.way) in
+    omega (arith, at, may.place_is, links, length-append (links_of may.way.front) ((may.way.key, q) ∷ links_of may.way.rest))

@@ -17,14 +17,14 @@ use Rattle.id_tree.proofs.HalvingLemmas.{all_below_key, one_key_more, skip_from,
 abbrev pub some_object : Entry
 some_object = (0, (origin_box 2, 0))
 
-under-append : (key : ℕ) (xs ys : List Entry) → under_key key (xs ++ ys) ≡ under_key key xs ++ under_key key ys
+pub under-append : (key : ℕ) (xs ys : List Entry) → under_key key (xs ++ ys) ≡ under_key key xs ++ under_key key ys
 under-append key [] ys = refl
 under-append key (x ∷ xs) ys = ⊎_elim
     (λ (lt : x.0 < key). step_under key x (xs ++ ys) lt ∙ ap (λ (zs : List Entry). x ∷ zs) (under-append key xs ys) ∙ sym (ap (λ (zs : List Entry). zs ++ under_key key ys) (step_under key x xs lt)))
     (λ (le : key ≤ x.0). skip_under key x (xs ++ ys) le ∙ under-append key xs ys ∙ sym (ap (λ (zs : List Entry). zs ++ under_key key ys) (skip_under key x xs le)))
     (cases_lt x.0 key)
 
-from-append : (key : ℕ) (xs ys : List Entry) → from_key key (xs ++ ys) ≡ from_key key xs ++ from_key key ys
+pub from-append : (key : ℕ) (xs ys : List Entry) → from_key key (xs ++ ys) ≡ from_key key xs ++ from_key key ys
 from-append key [] ys = refl
 from-append key (x ∷ xs) ys = ⊎_elim
     (λ (lt : x.0 < key). skip_from key x (xs ++ ys) lt ∙ from-append key xs ys ∙ sym (ap (λ (zs : List Entry). zs ++ from_key key ys) (skip_from key x xs lt)))

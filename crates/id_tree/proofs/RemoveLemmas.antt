@@ -109,9 +109,9 @@ has_made dims old mid page level edge row id p last high made there =
     has_below dims mid page level edge made.now id p high made.stands made.way (λ none. there (sym (made.keeps.kept id) ∙ none))
 
 -- the child is joined where it has too little
-pub may_meet : (dims : ℕ) (pages : PageMap) (page level : ℕ) (edge : Bool) (row : Row) (id child place : ℕ) (last room : Bool) → 0 < level → MayShrink dims pages page level edge row → IsBeneath dims level edge row id child place last room
-    → MayMeet dims pages page level edge row id child place
-may_meet dims pages page level edge row id child place last room high may beneath =
+pub may_meet : (dims : ℕ) (pages : PageMap) (page level : ℕ) (edge : Bool) (row : Row) (id q place : ℕ) (last room : Bool) → 0 < level → MayShrink dims pages page level edge row → IsBeneath dims level edge row id q place last room
+    → MayMeet dims pages page level edge row id q place
+may_meet dims pages page level edge row id q place last room high may beneath =
     record { stands = may.stands; high = high; wide = may.spare.fork high; single = may.single; way = beneath.way; place_is = beneath.place_is }
 
 -- ---- a table
@@ -282,6 +282,9 @@ module _ (dims : ℕ) (old : PageMap) (t : IdTree) (root leaf id : ℕ) (at : t.
       nothing true = refl
       nothing false = refl
 
+      swap_cases : (a b : ℕ) → (¬ (a ≡ b)) ⊎ (a ≡ b)
+      swap_cases a b = ⊎_elim (λ (is : a ≡ b). inr is) (λ (other : ¬ (a ≡ b)). inl other) (cases_eq a b)
+
       last_drops : (xs : List Entry) → ¬ (kept_in id xs ≡ None) → length xs ≤ 1 → Turns id drops xs []
       last_drops [] there few = absurd (there refl)
       last_drops (x ∷ y ∷ ys) there few = absurd (omega (arith, few))
@@ -298,9 +301,6 @@ module _ (dims : ℕ) (old : PageMap) (t : IdTree) (root leaf id : ℕ) (at : t.
             from = λ key all le. search rules;
           })
           (swap_cases x.0 id)
-
-      swap_cases : (a b : ℕ) → (¬ (a ≡ b)) ⊎ (a ≡ b)
-      swap_cases a b = ⊎_elim (λ (is : a ≡ b). inr is) (λ (other : ¬ (a ≡ b)). inl other) (cases_eq a b)
 
 -- ---- a root with one child above others
 
@@ -437,10 +437,10 @@ pub puts_from : (old mid new : PageMap) (first second : ℕ) (bytes : List ℕ) 
 puts_from old mid new first second bytes same puts = record { others = λ n off away. puts.others n off away ∙ same n; there = puts.there; gone = puts.gone }
 
 -- the only child is the one that the way names
-pub named_child : (dims : ℕ) (pages : PageMap) (root level : ℕ) (row : Row) (named : Option ℕ) (child : ℕ) → MayLower dims pages root level row → (one : OnlyChild row) → named ≡ route 0 (links_of row) → named ≡ Some child → child ≡ one.page
-named_child dims pages root level row named child may one is there = same_page (sym there ∙ is ∙ ap (λ (r : Row). route 0 (links_of r)) one.is)
+pub named_child : (dims : ℕ) (pages : PageMap) (root level : ℕ) (row : Row) (named : Option ℕ) (q : ℕ) → MayLower dims pages root level row → (one : OnlyChild row) → named ≡ route 0 (links_of row) → named ≡ Some q → q ≡ one.page
+named_child dims pages root level row named q may one is there = same_page (sym there ∙ is ∙ ap (λ (r : Row). route 0 (links_of r)) one.is)
   where
-    same_page : Some child ≡ Some one.page → child ≡ one.page
+    same_page : Some q ≡ Some one.page → q ≡ one.page
     same_page e = cc
 
 -- ---- the root as the code reads it

@@ -91,7 +91,7 @@ with_key key (x ∷ xs) = (key, x.1) ∷ xs
 
 abbrev pub rekeyed : ℕ → Row → Row
 rekeyed key end = end
-rekeyed key (more (object id kept) rest) = more (object id kept) rest
+rekeyed key (more (object id kept) rest) = more (object id kept) (rekeyed key rest)
 rekeyed key (more (child k page below) rest) = more (child key page below) rest
 
 -- what two neighbours have, in order: the key between them becomes that of the first child of the second one

@@ -7,3 +7,4 @@ pub mod Halving
 pub mod Writes
 pub mod Cutting
 pub mod Joining
+pub mod Laws

@@ -9,6 +9,7 @@ mod freeing;
 mod giving;
 mod halving;
 mod joining;
+pub mod laws;
 mod looks;
 mod lowering;
 mod making;

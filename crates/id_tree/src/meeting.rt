@@ -125,12 +125,16 @@ fn joined_fork(one: &[u8; 4096], two: &[u8; 4096], key: u64) -> [u8; 4096]
     all
 }
 
-// A fork page with another key of its first child.
+// A fork page with another key of its first child, if it has one.
 fn with_first_key(page: &[u8; 4096], key: u64) -> [u8; 4096]
     ensures count { number_at 2 2 result ≡ number_at 2 2 page.now }
     ensures keyed { (dims : ℕ) (c : ForkContent) → fork_at dims page.now ≡ Some c
         → fork_at dims result ≡ Some (with_links c (with_key key c.links)) }
 {
+    let count = count_at(page);
+    if count == 0 {
+        return *page;
+    }
     let mut keyed = *page;
     set_key(&mut keyed, 0, key);
     keyed
@@ -177,7 +181,7 @@ pub(crate) fn shared<const D: usize, B: BlockDevice, A: Allocator + Copy>(
 fn are_many(one: usize, two: usize, most: usize) -> bool
     ensures few { result ≡ true → (one ≤ most) × (two ≤ most) }
     ensures many { result ≡ true → most < one + two }
-    ensures not { result ≡ false → (most < one) ⊎ ((most < two) ⊎ (one + two ≤ most)) }
+    ensures accepts { one ≤ most → two ≤ most → most < one + two → result ≡ true }
 {
     if one > most {
         return false;
@@ -298,13 +302,11 @@ fn cut_first<const D: usize>(one: &[u8; 4096], two: &[u8; 4096], level: u8, many
     ensures second { (c d : ForkContent) → fork_at D one.now ≡ Some c → fork_at D two.now ≡ Some d
         → fork_at D result.second ≡ Some (record { level = level; links = drop many c.links ++ d.links }) }
 {
+    let key = key_at(one, many);
+    let first = fork_upto(one, many);
     let mut second = fork_beyond::<D>(one, level, many);
     append_links(&mut second, two, 0);
-    Cut {
-        key: key_at(one, many),
-        first: fork_upto(one, many),
-        second,
-    }
+    Cut { key, first, second }
 }
 
 // Both forks where the cut is before a child of the second one.
@@ -321,12 +323,10 @@ fn cut_second<const D: usize>(one: &[u8; 4096], two: &[u8; 4096], level: u8, man
     ensures second { (d : ForkContent) → fork_at D two.now ≡ Some d
         → fork_at D result.second ≡ Some (record { level = level; links = drop many d.links }) }
 {
+    let key = key_at(two, many);
+    let second = fork_beyond::<D>(two, level, many);
     let upto = fork_upto(two, many);
     let mut first = *one;
     append_links(&mut first, &upto, 0);
-    Cut {
-        key: key_at(two, many),
-        first,
-        second: fork_beyond::<D>(two, level, many),
-    }
+    Cut { key, first, second }
 }

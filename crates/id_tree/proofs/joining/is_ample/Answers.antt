@@ -6,6 +6,9 @@ use Rattle.id_tree.proofs.CutLemmas.{sizes}
 use Rattle.id_tree.proofs.NodeLemmas.{there_bytes}
 use Rattle.id_tree.proofs.joining.is_ample.Goals as goal
 
+pub are_two_fifths-requires : goal.are_two_fifths-requires
+are_two_fifths-requires g c = omega (arith, c.objects_that_fit.ensures, (sizes g.row.D).few)
+
 pub returns-then-level-eq0-clause-ample : goal.returns-then-level-eq0-clause-ample
 returns-then-level-eq0-clause-ample g c = λ h edge row node yes.
     let D = g.row.D in
