@@ -41,7 +41,7 @@ returns-then-not-fit_in-clause-there g c = λ h one two node_one node_two fit.
     let two_is = leaf_bytes D (old second) c.in_ok-two.two (objects_in two) there_two (node_two.leaf low) in
     let few = fit.leaf low in
     let many = c.fit_in.ensures.many c.if-not-fit_in.true in
-    absurd (omega (arith, few, many, c.count_at.ensures.value, c.count_at-2.ensures.value, count_of_leaf D c.in_ok-one.one (objects_in one) one_is, count_of_leaf D c.in_ok-two.two (objects_in two) two_is, c.objects_that_fit.ensures))
+    absurd (omega (arith, few, many, c.count_at.ensures.value, c.count_at-then-level-eq0.ensures.value, count_of_leaf D c.in_ok-one.one (objects_in one) one_is, count_of_leaf D c.in_ok-two.two (objects_in two) two_is, c.objects_that_fit.ensures))
 
 pub returns-then-level-eq0-clause-all : goal.returns-then-level-eq0-clause-all
 returns-then-level-eq0-clause-all g c = λ h one two node_one node_two fit.
@@ -80,7 +80,7 @@ returns-then-not-fit_in-2-clause-there g c = λ h one two node_one node_two fit.
     let two_is = fork_bytes D (old second) c.in_ok-two.two b there_two (node_two.fork up) in
     let few = fit.fork up in
     let many = c.fit_in-2.ensures.many c.if-not-fit_in-2.true in
-    absurd (omega (arith, few, many, c.count_at-3.ensures.value, c.count_at-4.ensures.value, count_of_fork D c.in_ok-one.one a one_is, count_of_fork D c.in_ok-two.two b two_is))
+    absurd (omega (arith, few, many, c.count_at-2.ensures.value, c.count_at-3.ensures.value, count_of_fork D c.in_ok-one.one a one_is, count_of_fork D c.in_ok-two.two b two_is))
 
 pub returns-clause-all : goal.returns-clause-all
 returns-clause-all g c = λ h one two node_one node_two fit.

@@ -46,8 +46,8 @@ returns-then-not-are_many-clause-there g c = λ h edge one two n many.
     let some = many.leaf low in
     let few_one = (leaf_spells D c.in_ok-one.one (objects_in one) one_is).head.few in
     let few_two = (leaf_spells D c.in_ok-two.two (objects_in two) two_is).head.few in
-    let yes = c.are_many.ensures.accepts (omega (arith, few_one, c.count_at.ensures.value, c.objects_that_fit.ensures)) (omega (arith, few_two, c.count_at-2.ensures.value, c.objects_that_fit.ensures))
-    (omega (arith, some, c.count_at.ensures.value, c.count_at-2.ensures.value, count_of_leaf D c.in_ok-one.one (objects_in one) one_is, count_of_leaf D c.in_ok-two.two (objects_in two) two_is, c.objects_that_fit.ensures)) in
+    let yes = c.are_many.ensures.accepts (omega (arith, few_one, c.count_at.ensures.value, c.objects_that_fit.ensures)) (omega (arith, few_two, c.count_at-then-level-eq0.ensures.value, c.objects_that_fit.ensures))
+    (omega (arith, some, c.count_at.ensures.value, c.count_at-then-level-eq0.ensures.value, count_of_leaf D c.in_ok-one.one (objects_in one) one_is, count_of_leaf D c.in_ok-two.two (objects_in two) two_is, c.objects_that_fit.ensures)) in
     absurd (cc)
 
 pub returns-then-level-eq0-clause-cuts : goal.returns-then-level-eq0-clause-cuts
@@ -109,8 +109,8 @@ returns-then-not-are_many-2-clause-there g c = λ h edge one two n many.
     let some = many.fork up in
     let few_one = (fork_spells D c.in_ok-one.one a one_is).head.few in
     let few_two = (fork_spells D c.in_ok-two.two b two_is).head.few in
-    let yes = c.are_many-2.ensures.accepts (omega (arith, few_one, c.count_at-3.ensures.value)) (omega (arith, few_two, c.count_at-4.ensures.value))
-    (omega (arith, some, c.count_at-3.ensures.value, c.count_at-4.ensures.value, count_of_fork D c.in_ok-one.one a one_is, count_of_fork D c.in_ok-two.two b two_is)) in
+    let yes = c.are_many-2.ensures.accepts (omega (arith, few_one, c.count_at-2.ensures.value)) (omega (arith, few_two, c.count_at-3.ensures.value))
+    (omega (arith, some, c.count_at-2.ensures.value, c.count_at-3.ensures.value, count_of_fork D c.in_ok-one.one a one_is, count_of_fork D c.in_ok-two.two b two_is)) in
     absurd (cc)
 
 pub returns-clause-cuts : goal.returns-clause-cuts

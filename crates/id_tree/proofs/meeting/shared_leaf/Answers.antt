@@ -2,8 +2,12 @@
 use Rattle.std.proofs.Common.{◌≡◌, ◌<◌, ◌≤◌, ◌+◌, ◌/◌, ◌++◌, length, arith}
 use Rattle.id_page.specs.Leaf.{most_objects}
 use Rattle.id_tree.specs.Halving.{under_key}
+use Rattle.id_tree.proofs.CutLemmas.{sizes}
 use Rattle.id_tree.proofs.ShareLemmas.{leaf_balanced, leaf_halves, leaf_shared}
 use Rattle.id_tree.proofs.meeting.shared_leaf.Goals as goal
+
+pub overflow_add-many : goal.overflow_add-many
+overflow_add-many g c = omega (arith, c.count_at.ensures.value, c.count_at-2.ensures.value, c.requires.few_one, c.requires.few_two, (sizes g.row.D).few)
 
 pub returns-clause-cuts : goal.returns-clause-cuts
 returns-clause-cuts g c = λ edge xs ys one two single less from.
