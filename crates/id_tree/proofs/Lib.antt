@@ -25,3 +25,5 @@ pub mod JoinLemmas
 pub mod RemoveLemmas
 pub mod ShareLemmas
 pub mod FewLemmas
+pub mod CheckLemmas
+pub mod GivenLemmas

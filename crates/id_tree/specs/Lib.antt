@@ -8,3 +8,4 @@ pub mod Writes
 pub mod Cutting
 pub mod Joining
 pub mod Laws
+pub mod Checked

@@ -4,6 +4,7 @@
 
 mod adding;
 mod below;
+mod check;
 mod filling;
 mod freeing;
 mod giving;
@@ -25,6 +26,7 @@ mod splitting;
 mod updating;
 
 pub use adding::add;
+pub use check::{TableFacts, check_table};
 pub use filling::fill;
 pub use freeing::free_all;
 pub use making::make;
