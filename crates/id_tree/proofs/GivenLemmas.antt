@@ -1,5 +1,5 @@
 -- Tables in the pages given out: one that stands in live pages stands there too, and the other way round in a sound map.
-use Rattle.std.proofs.Common.{◌≡◌, ◌∙◌, ◌⊎◌, ℕ, ◌-◌, ◌<◌, ◌≤◌, List, Option, Some, None, IsSome, refl, sym, ap, subst, ⊎_elim, arith}
+use Rattle.std.proofs.Common.{◌≡◌, ◌∙◌, ◌⊎◌, ℕ, ◌-◌, ◌<◌, ◌≤◌, List, Option, Some, None, [], ◌∷◌, length, get_or, refl, sym, ap, subst, ⊎_elim, arith}
 use Rattle.std.proofs.lemmas.Bool.{cases_eq}
 use Rattle.std.specs.Prelude.{Result, Ok, Err, IfErr}
 use Rattle.bucket_page.specs.Layout.{Entry}
@@ -13,11 +13,11 @@ use Rattle.page_cache.specs.Laws.{a_live_page_is_given, a_page_in_use_is_live}
 use Rattle.page_cache.specs.declared.cache.PageCache.{PageCache}
 use Rattle.node_page.specs.Standing.{PageMap}
 use Rattle.node_page.proofs.CheckLemmas.{quiet_visit}
-use Rattle.id_page.specs.Fork.{ForkContent, fork_at}
+use Rattle.id_page.specs.Fork.{Link, fork_at}
 use Rattle.id_page.specs.Leaf.{leaf_at}
 use Rattle.id_page.proofs.ForkReading.{fork_spells}
 use Rattle.id_page.proofs.LeafReading.{leaf_spells}
-use Rattle.id_tree.specs.Checked.{IsCheckedTable}
+use Rattle.id_tree.specs.Checked.{ComesTo, IsCheckedTable, Leads}
 use Rattle.id_tree.specs.Tree.{HasNode, IdTree, Row, end, more, object, child, RowStands, TreeStands, fork_in, leaf_in, links_of, objects_in}
 use Rattle.id_tree.proofs.NodeLemmas.{there_bytes}
 
@@ -96,3 +96,21 @@ module _ {D A : Type 0} {m : _} where
     pairs_are = is.pairs_are;
     pages_are = is.pages_are;
   }
+
+-- ---- walks to a page that is damaged
+
+leads_so : (dims : ℕ) (old new : PageMap) (page : ℕ) (walk : List ℕ) (n : ℕ) → ((k : ℕ) → new k ≡ old k) → Leads dims new page walk n → Leads dims old page walk n
+leads_so dims old new page [] n same leads = leads
+leads_so dims old new page (next ∷ walk) n same leads = ((leads.0.0, ap (fork_in dims) (sym (same page)) ∙ leads.0.1, leads.0.2), leads_so dims old new next walk n same leads.1)
+
+pub comes_so : (dims : ℕ) (old new : PageMap) (page n : ℕ) → ((k : ℕ) → new k ≡ old k) → ComesTo dims new page n → ComesTo dims old page n
+comes_so dims old new page n same comes = (comes.0, leads_so dims old new page comes.0 n same comes.1)
+
+pub comes_here : (dims : ℕ) (m : PageMap) (page n : ℕ) → n ≡ page → ComesTo dims m page n
+comes_here dims m page n is = ([], is)
+
+-- by way of a child
+pub comes_below : (dims : ℕ) (m : PageMap) (page level : ℕ) (bytes : List ℕ) (links : List Link) (place p n : ℕ) → m page ≡ Some bytes → fork_at dims bytes ≡ Some (record { level = level; links = links }) → place < length links
+    → ((other : Link) → p ≡ (get_or links place other).1) → ComesTo dims m p n → ComesTo dims m page n
+comes_below dims m page level bytes links place p n there is within named comes =
+    (p ∷ comes.0, ((record { level = level; links = links }, ap (fork_in dims) there ∙ is, (place, within, λ other. sym (named other))), comes.1))

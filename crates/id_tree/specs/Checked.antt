@@ -1,14 +1,14 @@
 -- What a check of an identifier tree finds.
-use Rattle.std.specs.Prelude.{◌≡◌, ◌&&◌, ◌==◌, ℕ, Bool, false, ◌+◌, ◌<◌, ◌≤◌, List, ◌++◌, All, Some, length, slice_index_or, take}
+use Rattle.std.specs.Prelude.{◌≡◌, ◌&&◌, ◌==◌, ℕ, Bool, false, ◌+◌, ◌<◌, ◌≤◌, List, [], ◌∷◌, ◌++◌, All, Some, length, slice_index_or, take}
 use Rattle.std.specs.BTreeSet.{BTreeSet}
 use Rattle.bucket_page.specs.Layout.{Entry}
-use Rattle.id_page.specs.Fork.{Link, fork_at}
+use Rattle.id_page.specs.Fork.{ForkContent, Link, fork_at}
 use Rattle.id_page.specs.Leaf.{leaf_at}
 use Rattle.id_table.specs.Checked.{seen_times}
 use Rattle.id_table.specs.Table.{times_in}
 use Rattle.node_page.specs.Checked.{named_pages}
 use Rattle.node_page.specs.Standing.{PageMap}
-use Rattle.id_tree.specs.Tree.{HasNode, IdTree, IsFilled, IsLarge, IsParted, Row, RowStands, TreeStands, least_children, least_objects, links_of, objects_in, occurs, part_of}
+use Rattle.id_tree.specs.Tree.{HasNode, IdTree, IsFilled, IsLarge, IsParted, Row, RowStands, TreeStands, fork_in, least_children, least_objects, links_of, objects_in, occurs, part_of}
 
 -- the pages stand for a table with its root at this page, with these objects leaf after leaf, and with these pages
 pub record IsCheckedTable (dims : ℕ) (pages : PageMap) (root : ℕ) (pairs : List Entry) (list : List ℕ) : Type 0 where
@@ -114,3 +114,19 @@ pub record FindsRoot (dims level count : ℕ) (page : List ℕ) : Type 0 where
   pub high : 0 < level
   pub bounded : level ≤ 6
   pub wide : 1 < level → 2 ≤ count
+
+-- ---- the page that is damaged where no such table stands
+
+-- a fork names a page as that of a child
+abbrev pub Names : ForkContent → ℕ → Type 0
+Names c page = (place : ℕ) × (place < length c.links) × ((other : Link) → (slice_index_or c.links place other).1 ≡ page)
+
+-- a walk leads from one page to another, each time to a page that the fork of the one before names
+abbrev pub Leads : ℕ → PageMap → ℕ → List ℕ → ℕ → Type 0
+Leads dims pages page [] last = last ≡ page
+Leads dims pages page (next ∷ walk) last =
+    ((c : ForkContent) × (fork_in dims (pages page) ≡ Some c) × Names c next) × Leads dims pages next walk last
+
+-- some walk from a page comes to another
+abbrev pub ComesTo : ℕ → PageMap → ℕ → ℕ → Type 0
+ComesTo dims pages page last = (walk : List ℕ) × Leads dims pages page walk last

@@ -14,7 +14,7 @@ ghost use Rattle.id_page.specs.Fork.{ForkContent, Link, fork_at};
 ghost use Rattle.id_page.specs.Leaf.{leaf_at, most_objects};
 ghost use Rattle.id_table.specs.Checked.{SeesOne, seen_times};
 ghost use Rattle.id_table.specs.Table.{times_in};
-ghost use Rattle.id_tree.specs.Checked.{AddsNode, AddsObjects, FindsFork, FindsLeaf, FindsRoot};
+ghost use Rattle.id_tree.specs.Checked.{AddsNode, AddsObjects, ComesTo, FindsFork, FindsLeaf, FindsRoot};
 ghost use Rattle.id_tree.specs.Checked.{IsCheckedTable, IsRange, MayAdd, MayBeLeaf, most_identifier};
 ghost use Rattle.id_tree.specs.Tree.{IdTree, Row, TreeStands, least_children, least_objects};
 
@@ -46,8 +46,9 @@ pub struct TableFacts<const D: usize, H: Allocator> {
 /// Checks the table with its root at a page, and answers what it holds.
 ///
 /// On an honest device it answers so only where a table stands there; else it is `Damaged` with the number of
-/// a page. Where a table stands, a refusal is `Memory` or `Device`. It makes no more looks than the file's
-/// next number, whatever the pages are. Map and gate stay, also after a refusal.
+/// a page that a walk down the forks comes to. Where a table stands, a refusal is `Memory` or `Device`. It
+/// makes no more looks than the file's next number, whatever the pages are. Map and gate stay, also after a
+/// refusal.
 pub fn check_table<const D: usize, B: BlockDevice, A: Allocator + Copy, H: Allocator + Copy>(
     alloc: H,
     cache: &mut PageCache<B, A>,
@@ -62,6 +63,8 @@ pub fn check_table<const D: usize, B: BlockDevice, A: Allocator + Copy, H: Alloc
     ensures stands { IsHonest cache.old → (t : IdTree) → t.page ≡ root → TreeStands D (pages cache.old) t
         → IfErr result IsOfDevice }
     ensures looks { looks_of cache.new ≤ looks_of cache.old + next_of cache.old }
+    ensures damage { IsHonest cache.old
+        → IfErr result (λ f. (n : ℕ) → f ≡ fault.Damaged n → ComesTo D (given cache.old) root n) }
     ensures other_faults { IfErr result (λ f. IsOfDevice f ⊎ IsDamage f) }
 {
     let mut visits = Visits::new(alloc, cache.next_number())?;
@@ -122,6 +125,7 @@ fn copy_given<B: BlockDevice, A: Allocator + Copy>(
     ensures there { IsHonest cache.old → 2 ≤ number → number < next_of cache.old →
         IfErr result IsOfDevice }
     ensures looks { looks_of cache.new ≤ looks_of cache.old + 1 }
+    ensures damage { IsHonest cache.old → IfErr result (λ f. IsOfDevice f ⊎ (f ≡ fault.Damaged number)) }
     ensures other_faults { IfErr result (λ f. IsOfDevice f ⊎ IsDamage f) }
 {
     Ok(*cache.page(number)?)
@@ -178,6 +182,8 @@ fn add_below<const D: usize, B: BlockDevice, A: Allocator + Copy, H: Allocator +
     ensures numbers { length visits.new.marks.items ≡ length visits.old.marks.items }
     ensures looks { looks_of cache.new + length visits.old.pages.items
         ≤ looks_of cache.old + length visits.new.pages.items }
+    ensures damage { IsHonest cache.old → given cache.old page ≡ Some bytes.now
+        → IfErr result (λ f. (n : ℕ) → f ≡ fault.Damaged n → ComesTo D (given cache.old) page n) }
     ensures other_faults { IfErr result (λ f. IsOfDevice f ⊎ IsDamage f) }
 {
     if level == 0 {

@@ -1,19 +1,20 @@
 -- The children are found to stand one after the other.
-use Rattle.std.proofs.Common.{◌≡◌, ◌∙◌, ◌⊎◌, ◌<◌, ◌≤◌, ◌-◌, ◌+◌, ◌++◌, ◌∷◌, ◌&&◌, ◌==◌, [], None, inl, get_or, length, ap, subst, sym, refl, arith}
+use Rattle.std.proofs.Common.{◌≡◌, ◌∙◌, ◌⊎◌, ◌<◌, ◌≤◌, ◌-◌, ◌+◌, ◌++◌, ◌∷◌, ◌&&◌, ◌==◌, [], ℕ, None, inl, get_or, length, ap, subst, sym, refl, arith}
 use Rattle.page_file.specs.Fault.{IsDamage, IsOfDevice}
 use Rattle.page_file.specs.declared.fault.Fault.TheVariants as fault
 use Rattle.page_file.specs.declared.fault.Fault.{Fault}
 use Rattle.page_cache.specs.Cache.{given, looks_of}
 use Rattle.page_cache.specs.Calls.{asks_and_refuses, asks_in_turn, no_call_asks}
 use Rattle.node_page.proofs.CheckLemmas.{one_longer, quiet_visit, refuses_quietly, visit_faults}
+use Rattle.node_page.proofs.DamageLemmas.{damaged_read, damaged_visit}
 use Rattle.node_page.proofs.NodeLemmas.{at_error, if_error, on_ok}
 use Rattle.id_page.specs.Fork.{ForkContent, Link}
 use Rattle.id_page.proofs.ForkReading.{some_link}
-use Rattle.id_tree.specs.Checked.{AddsNode, MayAdd}
+use Rattle.id_tree.specs.Checked.{AddsNode, ComesTo, MayAdd}
 use Rattle.id_tree.specs.Tree.{links_of, objects_in}
 use Rattle.id_tree.proofs.AddLemmas.{some_links}
 use Rattle.id_tree.proofs.CheckLemmas.{adds_all, adds_more, adds_none, leaf_adds, links_found, may_be_leaf, may_on, next_may, no_zero, node_on}
-use Rattle.id_tree.proofs.GivenLemmas.{leaf_asks, node_given_out}
+use Rattle.id_tree.proofs.GivenLemmas.{comes_below, comes_here, comes_so, leaf_asks, node_given_out}
 use Rattle.id_tree.proofs.NodeLemmas.{fork_bytes, leaf_bytes}
 use Rattle.id_tree.proofs.check.+add_below.Goals as goal
 
@@ -217,3 +218,52 @@ returns-clause-found g t c = λ h there.
     let count = c.count_at-count.ensures.of_fork D (record { level = c.args.level; links = f.links }) f.is in
     adds_all D (given c.args.cache.now) c.args.page c.args.level c.args.edge c.args.low c.args.top c.args.bytes.now c.loop-place.place c.args.pairs.now.items c.loop-place.pairs.items c.args.visits.now.pages.items c.loop-place.visits.pages.items c.args.seen.now
     c.loop-place.seen high c.requires.low_page there f (omega (arith, count, c.loop-place-test.false)) (c.loop-place.invariant.found h f)
+
+-- ---- what is damaged
+
+pub returns-then-level-eq0-clause-damage : goal.returns-then-level-eq0-clause-damage
+returns-then-level-eq0-clause-damage g t c = λ h there.
+    if_error c.add_leaf.result (λ (f : Fault). (f ≡ fault.Memory) ⊎ (f ≡ fault.Damaged c.args.page)) (λ f. (n : ℕ) → f ≡ fault.Damaged n → ComesTo g.row.D (given c.args.cache.now) c.args.page n)
+    (λ f either n damaged. comes_here g.row.D (given c.args.cache.now) c.args.page n (damaged_visit f c.args.page n either damaged)) c.add_leaf.ensures.faults
+
+pub returns-then-not-is_fork_of-clause-damage : goal.returns-then-not-is_fork_of-clause-damage
+returns-then-not-is_fork_of-clause-damage g t c = λ h there n (damaged : fault.Damaged c.args.page ≡ fault.Damaged n). comes_here g.row.D (given c.args.cache.now) c.args.page n (cc)
+
+pub returns-in_default-clause-damage : goal.returns-in_default-clause-damage
+returns-in_default-clause-damage g t c = λ h there n (damaged : fault.Damaged c.args.page ≡ fault.Damaged n). comes_here g.row.D (given c.args.cache.now) c.args.page n (cc)
+
+pub returns-in_err-come_to-clause-damage : goal.returns-in_err-come_to-clause-damage
+returns-in_err-come_to-clause-damage g t c = λ h there.
+    at_error c.from_residual.result c.in_err-come_to.field-0.0 (λ f. (n : ℕ) → f ≡ fault.Damaged n → ComesTo g.row.D (given c.args.cache.now) c.args.page n) c.from_residual.ensures.1 (λ n damaged.
+    let f = c.is_fork_of.ensures.fork c.if-not-is_fork_of.false in
+    let content : ForkContent = record { level = c.args.level; links = f.links } in
+    let count : c.count_at-count.result ≡ length f.links = c.count_at-count.ensures.of_fork g.row.D content f.is in
+    let within : c.loop-place.place < length f.links = omega (arith, c.loop-place-test.true, count) in
+    let named = λ (other : Link). c.page_at-child.ensures.of_fork g.row.D content other f.is within in
+    let below = comes_below g.row.D (given c.args.cache.now) c.args.page c.args.level c.args.bytes.now f.links c.loop-place.place c.page_at-child.result n there f.is within named in
+    below (comes_here g.row.D (given c.args.cache.now) c.page_at-child.result n (damaged_visit c.in_err-come_to.field-0.0 c.page_at-child.result n c.in_err-come_to.ensures.faults damaged)))
+
+pub returns-in_err-below-clause-damage : goal.returns-in_err-below-clause-damage
+returns-in_err-below-clause-damage g t c = λ h there.
+    at_error c.from_residual-in_err-below.result c.in_err-below.field-0.0 (λ f. (n : ℕ) → f ≡ fault.Damaged n → ComesTo g.row.D (given c.args.cache.now) c.args.page n) c.from_residual-in_err-below.ensures.1 (λ n damaged.
+    let f = c.is_fork_of.ensures.fork c.if-not-is_fork_of.false in
+    let content : ForkContent = record { level = c.args.level; links = f.links } in
+    let count : c.count_at-count.result ≡ length f.links = c.count_at-count.ensures.of_fork g.row.D content f.is in
+    let within : c.loop-place.place < length f.links = omega (arith, c.loop-place-test.true, count) in
+    let named = λ (other : Link). c.page_at-child.ensures.of_fork g.row.D content other f.is within in
+    let below = comes_below g.row.D (given c.args.cache.now) c.args.page c.args.level c.args.bytes.now f.links c.loop-place.place c.page_at-child.result n there f.is within named in
+    below (comes_here g.row.D (given c.args.cache.now) c.page_at-child.result n (damaged_read c.in_err-below.field-0.0 c.page_at-child.result n (c.in_err-below.ensures.damage (c.loop-place.invariant.asks.gate.honest.0 h)) damaged)))
+
+pub returns-in_err-add_below-clause-damage : goal.returns-in_err-add_below-clause-damage
+returns-in_err-add_below-clause-damage g t c = λ h there.
+    at_error c.from_residual-in_err-add_below.result c.in_err-add_below.field-0.0 (λ f. (n : ℕ) → f ≡ fault.Damaged n → ComesTo g.row.D (given c.args.cache.now) c.args.page n) c.from_residual-in_err-add_below.ensures.1 (λ n damaged.
+    let f = c.is_fork_of.ensures.fork c.if-not-is_fork_of.false in
+    let content : ForkContent = record { level = c.args.level; links = f.links } in
+    let count : c.count_at-count.result ≡ length f.links = c.count_at-count.ensures.of_fork g.row.D content f.is in
+    let within : c.loop-place.place < length f.links = omega (arith, c.loop-place-test.true, count) in
+    let named = λ (other : Link). c.page_at-child.ensures.of_fork g.row.D content other f.is within in
+    let below = comes_below g.row.D (given c.args.cache.now) c.args.page c.args.level c.args.bytes.now f.links c.loop-place.place c.page_at-child.result n there f.is within named in
+    let inv = c.loop-place.invariant in
+    let a = asks_in_turn c.args.cache.now c.loop-place.cache c.copy_given.new.cache None inv.asks c.in_ok-below.ensures.asks in
+    let there_now = c.in_ok-below.ensures.asks.map.given_stay (inv.asks.gate.honest.0 h) c.page_at-child.result ∙ c.in_ok-below.ensures.bytes (inv.asks.gate.honest.0 h) in
+    below (comes_so g.row.D (given c.args.cache.now) (given c.copy_given.new.cache) c.page_at-child.result n (λ k. a.map.given_stay h k) (c.in_err-add_below.ensures.damage (a.gate.honest.0 h) there_now n damaged)))

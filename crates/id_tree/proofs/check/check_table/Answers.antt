@@ -3,17 +3,19 @@ use Rattle.std.proofs.Common.{◌≡◌, ◌∙◌, ◌⊎◌, ◌<◌, ◌≤�
 use Rattle.block_bytes.specs.Numbers.{number_at}
 use Rattle.bucket_page.specs.Layout.{Entry}
 use Rattle.page_file.specs.Fault.{IsOfDevice}
+use Rattle.page_file.specs.declared.fault.Fault.TheVariants as fault
 use Rattle.page_cache.specs.Cache.{given}
 use Rattle.page_cache.specs.Calls.{asks_and_refuses, asks_in_turn, no_call_asks}
 use Rattle.node_page.specs.Checked.{named_pages}
 use Rattle.node_page.proofs.CheckLemmas.{quiet_visit, refuses_quietly}
+use Rattle.node_page.proofs.DamageLemmas.{damaged_read, damaged_visit}
 use Rattle.node_page.proofs.NodeLemmas.{at_error}
 use Rattle.id_page.specs.Fork.{ForkContent}
 use Rattle.id_table.proofs.CheckLemmas.{none_seen, seen_once}
-use Rattle.id_tree.specs.Checked.{AddsNode, FindsRoot, IsCheckedTable}
+use Rattle.id_tree.specs.Checked.{AddsNode, ComesTo, FindsRoot, IsCheckedTable}
 use Rattle.id_tree.specs.Tree.{links_of}
 use Rattle.id_tree.proofs.CheckLemmas.{empty_checked, may_add_root, may_on, node_on, table_checked}
-use Rattle.id_tree.proofs.GivenLemmas.{checked_live, live_table, node_given_out}
+use Rattle.id_tree.proofs.GivenLemmas.{checked_live, comes_here, comes_so, live_table, node_given_out}
 use Rattle.id_tree.proofs.NodeLemmas.{fork_bytes}
 use Rattle.id_tree.proofs.check.check_table.Goals as goal
 
@@ -106,3 +108,25 @@ returns-clause-given_table g c = λ h.
 pub returns-clause-table : goal.returns-clause-table
 returns-clause-table g c = λ sound.
     checked_live g.row.D c.args.cache.now c.args.root c.add_below.new.pairs.items c.into_pages-pages-2.result.items sound (returns-clause-given_table g c sound.honest)
+
+-- ---- what is damaged
+
+pub returns-in_err-come_to-clause-damage : goal.returns-in_err-come_to-clause-damage
+returns-in_err-come_to-clause-damage g c = λ h.
+    at_error c.from_residual-in_err-come_to.result c.in_err-come_to.field-0.0 (λ f. (n : ℕ) → f ≡ fault.Damaged n → ComesTo g.row.D (given c.args.cache.now) c.args.root n) c.from_residual-in_err-come_to.ensures.1
+    (λ n damaged. comes_here g.row.D (given c.args.cache.now) c.args.root n (damaged_visit c.in_err-come_to.field-0.0 c.args.root n c.in_err-come_to.ensures.faults damaged))
+
+pub returns-in_err-bytes-clause-damage : goal.returns-in_err-bytes-clause-damage
+returns-in_err-bytes-clause-damage g c = λ h.
+    at_error c.from_residual-in_err-bytes.result c.in_err-bytes.field-0.0 (λ f. (n : ℕ) → f ≡ fault.Damaged n → ComesTo g.row.D (given c.args.cache.now) c.args.root n) c.from_residual-in_err-bytes.ensures.1
+    (λ n damaged. comes_here g.row.D (given c.args.cache.now) c.args.root n (damaged_read c.in_err-bytes.field-0.0 c.args.root n (c.in_err-bytes.ensures.damage h) damaged))
+
+pub returns-then-not-is_root-clause-damage : goal.returns-then-not-is_root-clause-damage
+returns-then-not-is_root-clause-damage g c = λ h n (damaged : fault.Damaged c.args.root ≡ fault.Damaged n). comes_here g.row.D (given c.args.cache.now) c.args.root n (cc)
+
+pub returns-in_err-add_below-clause-damage : goal.returns-in_err-add_below-clause-damage
+returns-in_err-add_below-clause-damage g c = λ h.
+    let a = c.in_ok-bytes.ensures.asks in
+    at_error c.from_residual-in_err-add_below.result c.in_err-add_below.field-0.0 (λ f. (n : ℕ) → f ≡ fault.Damaged n → ComesTo g.row.D (given c.args.cache.now) c.args.root n) c.from_residual-in_err-add_below.ensures.1
+    (λ n damaged. comes_so g.row.D (given c.args.cache.now) (given c.copy_given.new.cache) c.args.root n (λ k. a.map.given_stay h k)
+    (c.in_err-add_below.ensures.damage (a.gate.honest.0 h) (a.map.given_stay h c.args.root ∙ c.in_ok-bytes.ensures.bytes h) n damaged))
