@@ -7,7 +7,7 @@ ghost use Rattle.page_cache.specs.Cache.{gate_of};
 
 use block_device::MemoryDevice;
 use box_math::BBox;
-use id_tree::{add, fill, free_all, get, make, remove, update};
+use id_tree::{add, check_table, fill, free_all, get, make, remove, update};
 use page_file::Fault;
 use std::alloc::Global;
 use std::collections::BTreeMap;
@@ -196,7 +196,7 @@ fn count_alike<const D: usize>(
     Ok(alike)
 }
 
-// Adds so many objects, moves some, and looks for these and as many more. Answers how many are answered right, and how
+// Adds so many objects, moves some, looks for these and as many more, and checks the table. Answers how many are answered right, and how
 // many pages there are.
 fn round<const D: usize>(alloc: Global, order: Order, count: u32) -> Result<(u32, u32), Fault>
     requires dims { IsDims D }
@@ -208,6 +208,10 @@ fn round<const D: usize>(alloc: Global, order: Order, count: u32) -> Result<(u32
     add_all::<D>(&mut cache, table, &mut plain, order, count)?;
     move_all::<D>(&mut cache, table, &mut plain, order, count)?;
     let alike = count_alike::<D>(&mut cache, table, &plain, order, 2 * count)?;
+    let facts = check_table::<D, _, _, _>(alloc, &mut cache, table)?;
+    if facts.pairs.len() != plain.len() {
+        return Err(Fault::Damaged(table));
+    }
     Ok((alike, cache.next_number()))
 }
 
@@ -229,9 +233,9 @@ fn descending_identifiers_are_found(rt: HostRuntime) -> Result<(), Fail> {
 
 #[test]
 fn random_identifiers_fill_their_pages(rt: HostRuntime) -> Result<(), Fail> {
-    let (alike, pages) = round::<2>(rt.alloc(), Order::Random, 30000)?;
-    assert_eq!(rt; alike, 60000);
-    assert!(rt; pages <= 376, "{pages}");
+    let (alike, pages) = round::<2>(rt.alloc(), Order::Random, 12000)?;
+    assert_eq!(rt; alike, 24000);
+    assert!(rt; pages <= 152, "{pages}");
     Ok(())
 }
 
@@ -264,14 +268,21 @@ fn shrink<const D: usize>(
         .next_number()
         .saturating_sub(3)
         .saturating_sub(cache.free_count());
+    let facts = check_table::<D, _, _, _>(alloc, &mut cache, table)?;
+    if facts.pages.len() as u64 != u64::from(live) {
+        return Err(Fault::Damaged(table));
+    }
+    if facts.pairs.len() != plain.len() {
+        return Err(Fault::Damaged(table));
+    }
     Ok((alike, live))
 }
 
 #[test]
 fn a_tenth_that_stays_has_few_pages(rt: HostRuntime) -> Result<(), Fail> {
-    let (alike, pages) = shrink::<2>(rt.alloc(), Order::Random, 30000, 10)?;
-    assert_eq!(rt; alike, 30000);
-    assert!(rt; pages <= 52, "{pages}");
+    let (alike, pages) = shrink::<2>(rt.alloc(), Order::Random, 12000, 10)?;
+    assert_eq!(rt; alike, 12000);
+    assert!(rt; pages <= 22, "{pages}");
     Ok(())
 }
 
@@ -288,11 +299,11 @@ fn what_descends_and_is_clustered_shrinks(rt: HostRuntime) -> Result<(), Fail> {
 
 #[test]
 fn a_table_of_which_all_went_is_its_root(rt: HostRuntime) -> Result<(), Fail> {
-    let (alike, pages) = shrink::<2>(rt.alloc(), Order::Ascending, 60000, 0)?;
-    assert_eq!(rt; alike, 60000);
+    let (alike, pages) = shrink::<3>(rt.alloc(), Order::Ascending, 39000, 0)?;
+    assert_eq!(rt; alike, 39000);
     assert_eq!(rt; pages, 1);
-    let (alike, pages) = shrink::<2>(rt.alloc(), Order::Random, 20000, 0)?;
-    assert_eq!(rt; alike, 20000);
+    let (alike, pages) = shrink::<2>(rt.alloc(), Order::Random, 6000, 0)?;
+    assert_eq!(rt; alike, 6000);
     assert_eq!(rt; pages, 1);
     Ok(())
 }
