@@ -1,12 +1,14 @@
 -- A table has few pages beside its objects.
-use Rattle.std.proofs.Common.{◌≡◌, ℕ, ◌+◌, ◌-◌, ◌*◌, ◌<◌, ◌≤◌, Bool, true, false, length, refl, subst, ⊎_elim, arith, length-append}
+use Rattle.std.proofs.Common.{◌≡◌, ℕ, ◌+◌, ◌-◌, ◌*◌, ◌<◌, ◌≤◌, Bool, true, false, length, refl, subst, ⊎_elim}
+use Rattle.std.proofs.Common.{arith, length-append}
 use Rattle.std.proofs.lemmas.Bool.{cases_eq}
 use Rattle.box_math.specs.Measures.{sum_over}
 use Rattle.node_page.specs.Parts.{both, one_page}
 use Rattle.node_page.specs.Standing.{PageMap}
 use Rattle.node_page.proofs.CountLemmas.{sum_both, sum_none, sum_one}
 use Rattle.id_tree.specs.Laws.{HasFewPages}
-use Rattle.id_tree.specs.Tree.{IsFilled, IsLarge, Row, end, more, object, child, RowStands, at_edge, links_of, objects_in, occurs}
+use Rattle.id_tree.specs.Tree.{IsFilled, IsLarge, Row, end, more, object, child, RowStands, at_edge, links_of}
+use Rattle.id_tree.specs.Tree.{objects_in, occurs}
 use Rattle.id_tree.proofs.CountLemmas.{nodes}
 use Rattle.id_tree.proofs.CutLemmas.{sizes}
 
@@ -31,14 +33,18 @@ leaf_nodes dims pages (more (object id kept) rest) stands = leaf_nodes dims page
 leaf_nodes dims pages (more (child key page below) rest) stands = absurd (omega (arith, stands.0))
 
 -- children that are all large
-large_children : (dims : ℕ) (pages : PageMap) (level : ℕ) (row : Row) → RowStands dims pages level row → IsFilled dims level false row → 0 < level → 28 * nodes row + length (links_of row) ≤ length (objects_in row)
+large_children : (dims : ℕ) (pages : PageMap) (level : ℕ) (row : Row) → RowStands dims pages level row
+    → IsFilled dims level false row → 0 < level → 28 * nodes row + length (links_of row) ≤ length
+    (objects_in row)
 unfolding nodes
 large_children dims pages level end stands filled high = omega arith
-large_children dims pages level (more (object id kept) rest) stands filled high = absurd (omega (arith, high, stands.0))
+large_children dims pages level (more (object id kept) rest) stands filled high = absurd
+    (omega (arith, high, stands.0))
 large_children dims pages level (more (child key page below) rest) stands filled high =
     let off = away rest in
     let large : IsLarge dims (level - 1) below = filled.0 off in
-    let inner : IsFilled dims (level - 1) false below = subst (λ e. IsFilled dims (level - 1) e below) off filled.1 in
+    let inner : IsFilled dims (level - 1) false below = subst (λ e. IsFilled dims (level - 1) e below) off
+        filled.1 in
     let later = large_children dims pages level rest stands.5 filled.2 high in
     let sum = length-append (objects_in below) (objects_in rest) in
     ⊎_elim
@@ -58,7 +64,8 @@ large_children dims pages level (more (child key page below) rest) stands filled
     away (more b r) = refl
 
 -- one large node and all below it
-large_node : (dims : ℕ) (pages : PageMap) (level : ℕ) (row : Row) → RowStands dims pages level row → IsFilled dims level false row → IsLarge dims level row → 28 * (1 + nodes row) ≤ length (objects_in row)
+large_node : (dims : ℕ) (pages : PageMap) (level : ℕ) (row : Row) → RowStands dims pages level row
+    → IsFilled dims level false row → IsLarge dims level row → 28 * (1 + nodes row) ≤ length (objects_in row)
 large_node dims pages level row stands filled large = ⊎_elim
     (λ (low : level ≡ 0).
     let none = leaf_nodes dims pages row (subst (λ l. RowStands dims pages l row) low stands) in
@@ -71,12 +78,15 @@ large_node dims pages level row stands filled large = ⊎_elim
     (cases_eq level 0)
 
 -- with those at the edge, one on each level
-edge_children : (dims : ℕ) (pages : PageMap) (level : ℕ) (row : Row) → RowStands dims pages level row → IsFilled dims level true row → 28 * nodes row ≤ length (objects_in row) + 28 * level
+edge_children : (dims : ℕ) (pages : PageMap) (level : ℕ) (row : Row) → RowStands dims pages level row
+    → IsFilled dims level true row → 28 * nodes row ≤ length (objects_in row) + 28 * level
 unfolding nodes
 edge_children dims pages level end stands filled = omega arith
-edge_children dims pages level (more (object id kept) rest) stands filled = omega (arith, edge_children dims pages level rest stands.1 filled)
+edge_children dims pages level (more (object id kept) rest) stands filled = omega
+    (arith, edge_children dims pages level rest stands.1 filled)
 edge_children dims pages level (more (child key page below) end) stands filled =
-    omega (arith, stands.0, edge_children dims pages (level - 1) below stands.4 filled.1, length-append (objects_in below) (objects_in end))
+    omega (arith, stands.0, edge_children dims pages (level - 1) below stands.4 filled.1, length-append
+        (objects_in below) (objects_in end))
 edge_children dims pages level (more (child key page below) (more b rest)) stands filled =
     omega (
       arith,

@@ -1,5 +1,6 @@
 -- Objects added one after the other.
-use Rattle.std.proofs.Common.{◌≡◌, ◌∙◌, ℕ, ◌+◌, ◌<◌, ◌≤◌, false, None, List, [], ◌∷◌, ◌++◌, length, take, drop, get_or, refl, sym, ap, subst}
+use Rattle.std.proofs.Common.{◌≡◌, ◌∙◌, ℕ, ◌+◌, ◌<◌, ◌≤◌, false, None, List, [], ◌∷◌, ◌++◌, length, take}
+use Rattle.std.proofs.Common.{drop, get_or, refl, sym, ap, subst}
 use Rattle.std.proofs.lemmas.List.{drop_more, take_all, take_more}
 use Rattle.std.specs.FinMap as map
 use Rattle.std.specs.FinMap.{FinMap}
@@ -17,13 +18,15 @@ use Rattle.id_tree.specs.Tree.{IdTree, TreeStands, objects_of, part_of}
 use Rattle.id_tree.proofs.NodeLemmas.{part_there}
 use Rattle.id_tree.proofs.RootLemmas.{root_stands}
 
-with_all-append : (m : FinMap nat_cmp Object) (xs ys : List Entry) → with_all m (xs ++ ys) ≡ with_all (with_all m xs) ys
+with_all-append : (m : FinMap nat_cmp Object) (xs ys : List Entry)
+    → with_all m (xs ++ ys) ≡ with_all (with_all m xs) ys
 with_all-append m [] ys = refl
 with_all-append m (x ∷ xs) ys = with_all-append (map.insert m x.0 x.1) xs ys
 
 module _ {B A : Type 0} {m : _} where
   -- the table with the objects so far
-  pub record Filled (dims : ℕ) (old now : PageCache B A m) (t : IdTree) (objects : List Entry) (count : ℕ) : Type 0 where
+  pub record Filled (dims : ℕ) (old now : PageCache B A m) (t : IdTree) (objects : List Entry) (count : ℕ) :
+      Type 0 where
     pub table : IdTree
     pub page : table.page ≡ t.page
     pub stands : TreeStands dims (pages now) table
@@ -32,11 +35,14 @@ module _ {B A : Type 0} {m : _} where
     pub rest : AreNew (objects_of table) (drop count objects)
     pub moves : Moves (pages old) (pages now) (part_of t) (part_of table)
 
-  pub record Filling (dims root : ℕ) (old now : PageCache B A m) (objects : List Entry) (count : ℕ) : Type 0 where
+  pub record Filling (dims root : ℕ) (old now : PageCache B A m) (objects : List Entry) (count : ℕ) : Type 0
+      where
     pub changes : ChangesUntil old now None
-    pub left : IsPageMap old → (t : IdTree) → t.page ≡ root → TreeStands dims (pages old) t → AreNew (objects_of t) objects → Filled dims old now t objects count
+    pub left : IsPageMap old → (t : IdTree) → t.page ≡ root → TreeStands dims (pages old) t
+        → AreNew (objects_of t) objects → Filled dims old now t objects count
 
-  pub filling_begins : (dims root : ℕ) (cache : PageCache B A m) (objects : List Entry) → ChangesUntil cache cache None → Filling dims root cache cache objects 0
+  pub filling_begins : (dims root : ℕ) (cache : PageCache B A m) (objects : List Entry)
+      → ChangesUntil cache cache None → Filling dims root cache cache objects 0
   filling_begins dims root cache objects changes = record {
     changes = changes;
     left = λ sound t at stands new. record {
@@ -46,44 +52,63 @@ module _ {B A : Type 0} {m : _} where
       map_is = sound;
       has = refl;
       rest = new;
-      moves = staying_moves (pages cache) (pages cache) (part_of t) (λ n. refl) stands.once (λ n here. part_there dims (pages cache) t.page t.level _ t.row n (root_stands dims (pages cache) t stands) here);
+      moves = staying_moves (pages cache) (pages cache) (part_of t) (λ n. refl) stands.once
+          (λ n here. part_there dims (pages cache) t.page t.level _ t.row n
+          (root_stands dims (pages cache) t stands) here);
     };
   }
 
   -- the next object is new
-  pub next_new : {dims : ℕ} {old now : PageCache B A m} {t : IdTree} {objects : List Entry} {count : ℕ} (object : Entry) → count < length objects → object ≡ get_or objects count object → (f : Filled dims old now t objects count)
-      → (map.contains_key (objects_of f.table) object.0 ≡ false) × AreNew (map.insert (objects_of f.table) object.0 object.1) (drop (count + 1) objects)
+  pub next_new : {dims : ℕ} {old now : PageCache B A m} {t : IdTree} {objects : List Entry} {count : ℕ}
+      (object : Entry) → count < length objects → object ≡ get_or objects count object
+      → (f : Filled dims old now t objects count)
+      → (map.contains_key (objects_of f.table) object.0 ≡ false) × AreNew
+          (map.insert (objects_of f.table) object.0 object.1) (drop (count + 1) objects)
   next_new {objects = objects} {count = count} object within is f =
-      subst (λ (o : Entry). (map.contains_key (objects_of f.table) o.0 ≡ false) × AreNew (map.insert (objects_of f.table) o.0 o.1) (drop (count + 1) objects)) (sym is)
+      subst (λ (o : Entry). (map.contains_key (objects_of f.table) o.0 ≡ false) × AreNew
+          (map.insert (objects_of f.table) o.0 o.1) (drop (count + 1) objects)) (sym is)
       (subst (AreNew (objects_of f.table)) (drop_more objects count object within) f.rest)
 
   -- and is added
-  pub fills_on : {dims root : ℕ} {old now : PageCache B A m} {objects : List Entry} {count : ℕ} (so_far : Filling dims root old now objects count) (object : Entry) (new : PageCache B A m) → count < length objects → object ≡ get_or objects count object → ChangesUntil now new None
-      → (IsPageMap now → (t : IdTree) → t.page ≡ root → TreeStands dims (pages now) t → map.contains_key (objects_of t) object.0 ≡ false → IsPageMap new)
-      → (IsPageMap now → (t : IdTree) → t.page ≡ root → TreeStands dims (pages now) t → map.contains_key (objects_of t) object.0 ≡ false → Sets dims (pages now) (pages new) t object.0 object.1)
+  pub fills_on : {dims root : ℕ} {old now : PageCache B A m} {objects : List Entry} {count : ℕ}
+      (so_far : Filling dims root old now objects count) (object : Entry) (new : PageCache B A m)
+      → count < length objects → object ≡ get_or objects count object → ChangesUntil now new None
+      → (IsPageMap now → (t : IdTree) → t.page ≡ root → TreeStands dims (pages now) t
+          → map.contains_key (objects_of t) object.0 ≡ false → IsPageMap new)
+      → (IsPageMap now → (t : IdTree) → t.page ≡ root → TreeStands dims (pages now) t
+          → map.contains_key (objects_of t) object.0 ≡ false
+          → Sets dims (pages now) (pages new) t object.0 object.1)
       → Filling dims root old new objects (count + 1)
-  fills_on {dims} {root} {old} {now} {objects} {count} so_far object new within is changes sound sets = record {
+  fills_on {dims} {root} {old} {now} {objects} {count} so_far object new within is changes sound sets = record
+      {
     changes = changes_in_turn old now new None so_far.changes changes;
     left = λ sound_old t at stands fresh.
         let f = so_far.left sound_old t at stands fresh in
         let next = next_new object within is f in
         let set = sets f.map_is f.table (f.page ∙ at) f.stands next.0 in
-        let taken : take (count + 1) objects ≡ take count objects ++ object ∷ [] = take_more objects count object within ∙ ap (λ (o : Entry). take count objects ++ o ∷ []) (sym is) in
+        let taken : take (count + 1) objects ≡ take count objects ++ object ∷ [] = take_more objects count
+            object within ∙ ap (λ (o : Entry). take count objects ++ o ∷ []) (sym is) in
         record {
           table = set.table;
           page = set.page ∙ f.page;
           stands = set.stands;
           map_is = sound f.map_is f.table (f.page ∙ at) f.stands next.0;
           has = set.objects ∙ ap (λ (k : FinMap nat_cmp Object). map.insert k object.0 object.1) f.has
-              ∙ sym (with_all-append (objects_of t) (take count objects) (object ∷ [])) ∙ ap (with_all (objects_of t)) (sym taken);
-          rest = subst (λ (k : FinMap nat_cmp Object). AreNew k (drop (count + 1) objects)) (sym set.objects) next.1;
-          moves = moves_in_turn (pages old) (pages now) (pages new) (part_of t) (part_of f.table) (part_of set.table) f.moves set.moves;
+              ∙ sym (with_all-append (objects_of t) (take count objects) (object ∷ []))
+                  ∙ ap (with_all (objects_of t)) (sym taken);
+          rest = subst (λ (k : FinMap nat_cmp Object). AreNew k (drop (count + 1) objects)) (sym set.objects)
+              next.1;
+          moves = moves_in_turn (pages old) (pages now) (pages new) (part_of t) (part_of f.table)
+              (part_of set.table) f.moves set.moves;
         };
   }
 
   -- all of them
-  pub all_filled : (dims root : ℕ) (old now : PageCache B A m) (objects : List Entry) (count : ℕ) → length objects ≤ count → Filling dims root old now objects count
-      → IsPageMap old → (t : IdTree) → t.page ≡ root → TreeStands dims (pages old) t → AreNew (objects_of t) objects → Fills dims (pages old) (pages now) t objects
+  pub all_filled : (dims root : ℕ) (old now : PageCache B A m) (objects : List Entry) (count : ℕ)
+      → length objects ≤ count → Filling dims root old now objects count
+      → IsPageMap old → (t : IdTree) → t.page ≡ root → TreeStands dims (pages old) t
+          → AreNew (objects_of t) objects → Fills dims (pages old) (pages now) t objects
   all_filled dims root old now objects count all so_far sound t at stands new =
       let f = so_far.left sound t at stands new in
-      record { table = f.table; page = f.page; stands = f.stands; objects = f.has ∙ ap (with_all (objects_of t)) (take_all count objects all); moves = f.moves }
+      record { table = f.table; page = f.page; stands = f.stands; objects = f.has
+          ∙ ap (with_all (objects_of t)) (take_all count objects all); moves = f.moves }

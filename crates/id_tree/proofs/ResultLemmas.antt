@@ -5,6 +5,7 @@ pub if_ok : {T E : Type 0} (r : Result T E) (P Q : T → Type 0) → ((x : T) �
 if_ok (Ok x) P Q f p = f x p
 if_ok (Err e) P Q f p = tt
 
-pub if_err : {T E : Type 0} (r : Result T E) (P Q : E → Type 0) → ((x : E) → P x → Q x) → IfErr r P → IfErr r Q
+pub if_err : {T E : Type 0} (r : Result T E) (P Q : E → Type 0) → ((x : E) → P x → Q x) → IfErr r P
+    → IfErr r Q
 if_err (Ok x) P Q f p = tt
 if_err (Err e) P Q f p = f e p

@@ -1,4 +1,5 @@
--- What the calls on an identifier tree make of it and of its pages: the words of id_table/specs/Changes.antt for such a
+-- What the calls on an identifier tree make of it and of its pages: the words of id_table/specs/Changes.antt
+-- for such a
 -- table.
 use Rattle.std.specs.Prelude.{◌≡◌, ℕ, List}
 use Rattle.std.specs.FinMap as map
@@ -17,7 +18,8 @@ pub record Makes (dims : ℕ) (old new : PageMap) (root : ℕ) : Type 0 where
   pub objects : objects_of table ≡ map.empty
   pub moves : Moves old new no_page (part_of table)
 
--- the table with an object with this identifier, of which this is kept: with one more, or another box of one that it has
+-- the table with an object with this identifier, of which this is kept: with one more, or another box of one
+-- that it has
 pub record Sets (dims : ℕ) (old new : PageMap) (t : IdTree) (id : ℕ) (kept : Object) : Type 0 where
   pub table : IdTree
   pub page : table.page ≡ t.page

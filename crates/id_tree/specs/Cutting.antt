@@ -1,5 +1,6 @@
 -- Nodes cut in two, as bytes of pages.
-use Rattle.std.specs.Prelude.{◌≡◌, ℕ, ◌+◌, ◌<◌, ◌≤◌, Bool, false, List, ◌++◌, length, take, drop, slice_index_or, insert, All, Some}
+use Rattle.std.specs.Prelude.{◌≡◌, ℕ, ◌+◌, ◌<◌, ◌≤◌, Bool, false, List, ◌++◌, length, take, drop}
+use Rattle.std.specs.Prelude.{slice_index_or, insert, All, Some}
 use Rattle.bucket_page.specs.Layout.{Entry}
 use Rattle.id_page.specs.Fork.{ForkContent, Link, fork_at, with_links}
 use Rattle.id_page.specs.Leaf.{leaf_at, most_objects}
@@ -9,10 +10,12 @@ use Rattle.id_tree.specs.Halving.{from_key, under_key}
 use Rattle.id_tree.specs.Rows.{HasRoom}
 use Rattle.id_tree.specs.Steps.{Keeps}
 use Rattle.id_tree.specs.Writes.{GivesAndPuts}
-use Rattle.id_tree.specs.Tree.{IsFilled, IsLarge, IsParted, Row, RowStands, fork_in, least_objects, links_of, objects_in, occurs}
+use Rattle.id_tree.specs.Tree.{IsFilled, IsLarge, IsParted, Row, RowStands, fork_in, least_objects, links_of}
+use Rattle.id_tree.specs.Tree.{objects_in, occurs}
 
 -- the objects of a leaf, or of two, were cut at a key into these pages
-pub record CutsLeaf (dims : ℕ) (edge : Bool) (objects : List Entry) (key : ℕ) (first second : List ℕ) : Type 0 where
+pub record CutsLeaf (dims : ℕ) (edge : Bool) (objects : List Entry) (key : ℕ) (first second : List ℕ) : Type 0
+    where
   pub under : leaf_at dims first ≡ Some (under_key key objects)
   pub from : leaf_at dims second ≡ Some (from_key key objects)
   pub large : least_objects dims ≤ length (under_key key objects)
@@ -20,7 +23,8 @@ pub record CutsLeaf (dims : ℕ) (edge : Bool) (objects : List Entry) (key : ℕ
   pub rest : edge ≡ false → least_objects dims ≤ length (from_key key objects)
 
 -- the children of a fork, or of two, were cut at the key of one into these pages
-pub record CutsFork (dims level : ℕ) (edge : Bool) (links : List Link) (key : ℕ) (first second : List ℕ) : Type 0 where
+pub record CutsFork (dims level : ℕ) (edge : Bool) (links : List Link) (key : ℕ) (first second : List ℕ) :
+    Type 0 where
   pub many : ℕ
   pub key_is : (other : Link) → (slice_index_or links many other).0 ≡ key
   pub upto : fork_at dims first ≡ Some (record { level = level; links = take many links })
@@ -62,9 +66,12 @@ pub record Cuts (dims level : ℕ) (edge : Bool) (row : Row) (key : ℕ) (first 
   pub keeps : Keeps (objects_in row) (objects_in left ++ objects_in right)
   pub counts : (n : ℕ) → occurs n left + occurs n right ≡ occurs n row
 
--- A page that was not live has the second half and the page of the node the first, and then its fork names both.
-pub record Splits (dims : ℕ) (old new : PageMap) (page child number place key : ℕ) (fork first second : List ℕ) : Type 0 where
+-- A page that was not live has the second half and the page of the node the first, and then its fork names
+-- both.
+pub record Splits (dims : ℕ) (old new : PageMap) (page child number place key : ℕ)
+    (fork first second : List ℕ) : Type 0 where
   pub mid : PageMap
   pub given : GivesAndPuts old mid child number first second
   pub others : SameBut page mid new
-  pub named : (c : ForkContent) → fork_at dims fork ≡ Some c → fork_in dims (new page) ≡ Some (with_links c (insert c.links place (key, number)))
+  pub named : (c : ForkContent) → fork_at dims fork ≡ Some c
+      → fork_in dims (new page) ≡ Some (with_links c (insert c.links place (key, number)))

@@ -1,5 +1,6 @@
 -- Two neighbouring nodes made one, or cut in two again elsewhere.
-use Rattle.std.specs.Prelude.{◌≡◌, ℕ, ◌+◌, ◌-◌, ◌<◌, ◌≤◌, Bool, true, false, List, [], ◌∷◌, ◌++◌, length, remove, slice_index_or, slice_set, All, Some, None, IsSome}
+use Rattle.std.specs.Prelude.{◌≡◌, ℕ, ◌+◌, ◌-◌, ◌<◌, ◌≤◌, Bool, true, false, List, [], ◌∷◌, ◌++◌, length}
+use Rattle.std.specs.Prelude.{remove, slice_index_or, slice_set, All, Some, None, IsSome}
 use Rattle.block_bytes.specs.Numbers.{number_at}
 use Rattle.id_page.specs.Fork.{ForkContent, Link, fork_at, route_place, with_links}
 use Rattle.id_page.specs.Leaf.{most_objects}
@@ -9,7 +10,8 @@ use Rattle.node_page.specs.Parts.{Moves}
 use Rattle.node_page.specs.Standing.{PageMap}
 use Rattle.id_tree.specs.Rows.{At, NodeStands, Passes, Stops, joined, part_at}
 use Rattle.id_tree.specs.Steps.{Keeps}
-use Rattle.id_tree.specs.Tree.{IdTree, IsLarge, Row, TreeStands, end, more, object, child, at_edge, fork_in, least_children, least_objects, links_of, objects_in}
+use Rattle.id_tree.specs.Tree.{IdTree, IsLarge, Row, TreeStands, end, more, object, child, at_edge, fork_in}
+use Rattle.id_tree.specs.Tree.{least_children, least_objects, links_of, objects_in}
 
 -- ---- nodes with enough
 
@@ -32,7 +34,8 @@ Has id row = ¬ (kept_in id (objects_in row) ≡ None)
 
 -- ---- two children next to one another
 
--- a row has these pages as those of two children next to one another, and the way to an identifier leads to one of them
+-- a row has these pages as those of two children next to one another, and the way to an identifier leads to
+-- one of them
 pub record AtPair (id first second : ℕ) (row : Row) : Type 0 where
   pub front : Row
   pub key : ℕ
@@ -44,9 +47,11 @@ pub record AtPair (id first second : ℕ) (row : Row) : Type 0 where
   pub passes : Passes id front key
   pub stops : Stops id rest
 
--- what a fork page says of them: the place of the first one, the key of the second one, and whether that one is at the
+-- what a fork page says of them: the place of the first one, the key of the second one, and whether that one
+-- is at the
 -- edge of the tree
-pub record IsPair (dims level : ℕ) (edge : Bool) (row : Row) (id : ℕ) (fork : List ℕ) (left first second key : ℕ) (last : Bool) : Type 0 where
+pub record IsPair (dims level : ℕ) (edge : Bool) (row : Row) (id : ℕ) (fork : List ℕ)
+    (left first second key : ℕ) (last : Bool) : Type 0 where
   pub at : AtPair id first second row
   pub fork_is : fork_at dims fork ≡ Some (record { level = level; links = links_of row })
   pub left_is : left ≡ length (links_of at.front)
@@ -54,14 +59,16 @@ pub record IsPair (dims level : ℕ) (edge : Bool) (row : Row) (id : ℕ) (fork 
   pub last_is : last ≡ at_edge edge at.rest
 
 -- such a fork, and two of its children
-pub record MayJoin (dims : ℕ) (pages : PageMap) (page level : ℕ) (edge : Bool) (row : Row) (id : ℕ) (fork : List ℕ) (left first second key : ℕ) (last : Bool) : Type 0 where
+pub record MayJoin (dims : ℕ) (pages : PageMap) (page level : ℕ) (edge : Bool) (row : Row) (id : ℕ)
+    (fork : List ℕ) (left first second key : ℕ) (last : Bool) : Type 0 where
   pub stands : NodeStands dims pages page level edge row
   pub high : 0 < level
   pub single : (q : ℕ) → times_in q (objects_in row) ≤ 1
   pub pair : IsPair dims level edge row id fork left first second key last
 
 -- a fork of two children or more, and the page and the place of the one where an identifier is
-pub record MayMeet (dims : ℕ) (pages : PageMap) (page level : ℕ) (edge : Bool) (row : Row) (id child place : ℕ) : Type 0 where
+pub record MayMeet (dims : ℕ) (pages : PageMap) (page level : ℕ) (edge : Bool) (row : Row)
+    (id child place : ℕ) : Type 0 where
   pub stands : NodeStands dims pages page level edge row
   pub high : 0 < level
   pub wide : 1 < length (links_of row)
@@ -69,8 +76,10 @@ pub record MayMeet (dims : ℕ) (pages : PageMap) (page level : ℕ) (edge : Boo
   pub way : At id child row
   pub place_is : place ≡ route_place id (links_of row)
 
--- two nodes of one level next to one another: a key parts their objects, and no page and no identifier is in both
-pub record AreNeighbours (dims : ℕ) (pages : PageMap) (level : ℕ) (edge : Bool) (first second key : ℕ) (one two : Row) : Type 0 where
+-- two nodes of one level next to one another: a key parts their objects, and no page and no identifier is in
+-- both
+pub record AreNeighbours (dims : ℕ) (pages : PageMap) (level : ℕ) (edge : Bool) (first second key : ℕ)
+    (one two : Row) : Type 0 where
   pub one_stands : NodeStands dims pages first level false one
   pub two_stands : NodeStands dims pages second level edge two
   pub one_some : 0 < length (objects_in one)
@@ -143,22 +152,27 @@ pub record PutsBoth (old new : PageMap) (first second : ℕ) (one two : List ℕ
   pub there_second : new second ≡ Some two
 
 -- The first page has all, the second one is free, and then their fork names the first one alone.
-pub record Joins (dims : ℕ) (old new : PageMap) (page first second place : ℕ) (fork all : List ℕ) : Type 0 where
+pub record Joins (dims : ℕ) (old new : PageMap) (page first second place : ℕ) (fork all : List ℕ) : Type 0
+    where
   pub mid : PageMap
   pub puts : PutsAndFrees old mid first second all
   pub rest : SameBut page mid new
-  pub named : (c : ForkContent) → fork_at dims fork ≡ Some c → fork_in dims (new page) ≡ Some (with_links c (remove c.links place))
+  pub named : (c : ForkContent) → fork_at dims fork ≡ Some c
+      → fork_in dims (new page) ≡ Some (with_links c (remove c.links place))
 
 -- Both pages have their shares, and then their fork has the key between these.
-pub record Shares (dims : ℕ) (old new : PageMap) (page first second place key : ℕ) (fork one two : List ℕ) : Type 0 where
+pub record Shares (dims : ℕ) (old new : PageMap) (page first second place key : ℕ) (fork one two : List ℕ) :
+    Type 0 where
   pub mid : PageMap
   pub puts : PutsBoth old mid first second one two
   pub rest : SameBut page mid new
   pub named : (c : ForkContent) (other : Link) → fork_at dims fork ≡ Some c → place < length c.links
-      → fork_in dims (new page) ≡ Some (with_links c (slice_set c.links place (key, (slice_index_or c.links place other).1)))
+      → fork_in dims (new page) ≡ Some (with_links c
+          (slice_set c.links place (key, (slice_index_or c.links place other).1)))
 
 -- the node has the same objects, and enough in the child where an identifier is
-pub record MakesSpare (dims : ℕ) (old new : PageMap) (page level : ℕ) (edge : Bool) (row : Row) (id below : ℕ) (last : Bool) : Type 0 where
+pub record MakesSpare (dims : ℕ) (old new : PageMap) (page level : ℕ) (edge : Bool) (row : Row) (id below : ℕ)
+    (last : Bool) : Type 0 where
   pub now : Row
   pub stands : NodeStands dims new page level edge now
   pub keeps : Keeps (objects_in row) (objects_in now)
@@ -196,7 +210,8 @@ pub record MayLower (dims : ℕ) (pages : PageMap) (root level : ℕ) (row : Row
   pub high : 0 < level
   pub some : 0 < length (links_of row)
 
--- A root became one with two children or of level 1, its only child in its place as long as it had one above others: it has
+-- A root became one with two children or of level 1, its only child in its place as long as it had one above
+-- others: it has
 -- the same objects.
 pub record Lowers (dims : ℕ) (old new : PageMap) (root level : ℕ) (row : Row) : Type 0 where
   pub height : ℕ

@@ -1,12 +1,14 @@
 -- Rows of children taken apart at the child where an identifier is, and nodes that stand in pages.
-use Rattle.std.specs.Prelude.{◌≡◌, ℕ, ◌+◌, ◌-◌, ◌<◌, ◌≤◌, Bool, List, length, slice_index_or, Option, Some, None, ⊤, if◌then◌else◌, ◌==◌}
+use Rattle.std.specs.Prelude.{◌≡◌, ℕ, ◌+◌, ◌-◌, ◌<◌, ◌≤◌, Bool, List, length, slice_index_or, Option, Some}
+use Rattle.std.specs.Prelude.{None, ⊤, if◌then◌else◌, ◌==◌}
 use Rattle.box_math.specs.Objects.{Object}
 use Rattle.bucket_page.specs.Layout.{Entry}
 use Rattle.id_table.specs.Table.{kept_in, times_in}
 use Rattle.id_page.specs.Leaf.{most_objects}
 use Rattle.node_page.specs.Parts.{Part}
 use Rattle.node_page.specs.Standing.{PageMap}
-use Rattle.id_tree.specs.Tree.{HasNode, IsFilled, IsParted, Row, end, more, object, child, RowStands, links_of, objects_in, occurs}
+use Rattle.id_tree.specs.Tree.{HasNode, IsFilled, IsParted, Row, end, more, object, child, RowStands}
+use Rattle.id_tree.specs.Tree.{links_of, objects_in, occurs}
 
 -- two rows one after the other
 abbrev pub joined : Row → Row → Row
@@ -51,7 +53,8 @@ pub record At (id page : ℕ) (row : Row) : Type 0 where
 abbrev pub part_at : ℕ → Row → Part
 part_at page row n = (if page == n then 1 else 0) + occurs n row
 
--- A node and all below it stand, on pages of their own; the flag says whether the node is at the edge of its tree.
+-- A node and all below it stand, on pages of their own; the flag says whether the node is at the edge of its
+-- tree.
 pub record NodeStands (dims : ℕ) (pages : PageMap) (page level : ℕ) (edge : Bool) (row : Row) : Type 0 where
   pub low : 2 < page
   pub node : HasNode dims pages page level row
@@ -83,9 +86,11 @@ IsFoundAt id objects (Some found) = HasAt id objects found.0 found.1
 -- the way from a node down to the leaf where an identifier is
 pub data Reaches (id : ℕ) : ℕ → ℕ → Row → ℕ → Row → Type 0 where
   here : (page : ℕ) (row : Row) → Reaches id 0 page row page row
-  down : (level page below leaf : ℕ) (row last : Row) → 0 < level → (way : At id below row) → Reaches id (level - 1) below way.below leaf last → Reaches id level page row leaf last
+  down : (level page below leaf : ℕ) (row last : Row) → 0 < level → (way : At id below row)
+      → Reaches id (level - 1) below way.below leaf last → Reaches id level page row leaf last
 
--- where an identifier is below a node: its leaf, its place there and what is kept of its object, if it is there
+-- where an identifier is below a node: its leaf, its place there and what is kept of its object, if it is
+-- there
 pub record IsBelow (page level id : ℕ) (row : Row) (leaf place : ℕ) (kept : Object) : Type 0 where
   pub last : Row
   pub way : Reaches id level page row leaf last

@@ -1,5 +1,6 @@
 -- What the steps of a change make of nodes and of their objects.
-use Rattle.std.specs.Prelude.{◌≡◌, ℕ, ◌+◌, ◌-◌, ◌<◌, ◌≤◌, Bool, true, false, List, length, All, Option, Some, None, if◌then◌else◌, ◌==◌}
+use Rattle.std.specs.Prelude.{◌≡◌, ℕ, ◌+◌, ◌-◌, ◌<◌, ◌≤◌, Bool, true, false, List, length, All, Option, Some}
+use Rattle.std.specs.Prelude.{None, if◌then◌else◌, ◌==◌}
 use Rattle.box_math.specs.Objects.{Object}
 use Rattle.bucket_page.specs.Layout.{Entry}
 use Rattle.id_page.specs.Fork.{route_place}
@@ -42,12 +43,15 @@ gone drops = 1
 -- objects after such a step, wherever they stand
 pub record Turns (id : ℕ) (step : Step) (old new : List Entry) : Type 0 where
   pub kept : (q : ℕ) → kept_in q new ≡ (if id == q then kept_after step else kept_in q old)
-  pub times : (q : ℕ) → times_in q new + (if id == q then gone step else 0) ≡ times_in q old + (if id == q then come step else 0)
+  pub times : (q : ℕ) → times_in q new + (if id == q then gone step else 0) ≡ times_in q old +
+      (if id == q then come step else 0)
   pub below : (key : ℕ) → All (λ o. o.0 < key) old → id < key → All (λ o. o.0 < key) new
   pub from : (key : ℕ) → All (λ o. key ≤ o.0) old → key ≤ id → All (λ o. key ≤ o.0) new
 
--- a node became another one at its page by such a step, with some object, and as large as one at that place has to be
-pub record Becomes (dims : ℕ) (old new : PageMap) (page level : ℕ) (edge : Bool) (row : Row) (id : ℕ) (step : Step) : Type 0 where
+-- a node became another one at its page by such a step, with some object, and as large as one at that place
+-- has to be
+pub record Becomes (dims : ℕ) (old new : PageMap) (page level : ℕ) (edge : Bool) (row : Row) (id : ℕ)
+    (step : Step) : Type 0 where
   pub now : Row
   pub stands : NodeStands dims new page level edge now
   pub turns : Turns id step (objects_in row) (objects_in now)
@@ -57,7 +61,8 @@ pub record Becomes (dims : ℕ) (old new : PageMap) (page level : ℕ) (edge : B
   pub moves : Moves old new (part_at page row) (part_at page now)
 
 -- the node has the same objects, and room in the child where an identifier is
-pub record MakesRoom (dims : ℕ) (old new : PageMap) (page level : ℕ) (edge : Bool) (row : Row) (id below : ℕ) (last : Bool) : Type 0 where
+pub record MakesRoom (dims : ℕ) (old new : PageMap) (page level : ℕ) (edge : Bool) (row : Row) (id below : ℕ)
+    (last : Bool) : Type 0 where
   pub now : Row
   pub stands : NodeStands dims new page level edge now
   pub keeps : Keeps (objects_in row) (objects_in now)
@@ -68,7 +73,8 @@ pub record MakesRoom (dims : ℕ) (old new : PageMap) (page level : ℕ) (edge :
   pub last_is : last ≡ at_edge edge way.rest
 
 -- a node of some objects and with room, which does not have the identifier
-pub record MayGrow (dims : ℕ) (pages : PageMap) (page level : ℕ) (edge : Bool) (row : Row) (id : ℕ) : Type 0 where
+pub record MayGrow (dims : ℕ) (pages : PageMap) (page level : ℕ) (edge : Bool) (row : Row) (id : ℕ) : Type 0
+    where
   pub stands : NodeStands dims pages page level edge row
   pub room : HasRoom dims level row
   pub some : 0 < length (objects_in row)
@@ -76,8 +82,10 @@ pub record MayGrow (dims : ℕ) (pages : PageMap) (page level : ℕ) (edge : Boo
   pub absent : kept_in id (objects_in row) ≡ None
   pub single : (q : ℕ) → times_in q (objects_in row) ≤ 1
 
--- a row has a child where an identifier is, with this page, in this place, at the edge or not, and with room or full
-pub record IsBeneath (dims level : ℕ) (edge : Bool) (row : Row) (id child place : ℕ) (last room : Bool) : Type 0 where
+-- a row has a child where an identifier is, with this page, in this place, at the edge or not, and with room
+-- or full
+pub record IsBeneath (dims level : ℕ) (edge : Bool) (row : Row) (id child place : ℕ) (last room : Bool) : Type
+    0 where
   pub way : At id child row
   pub place_is : place ≡ route_place id (links_of row)
   pub last_is : last ≡ at_edge edge way.rest
@@ -85,7 +93,8 @@ pub record IsBeneath (dims level : ℕ) (edge : Bool) (row : Row) (id child plac
   pub is_full : room ≡ false → IsFull dims (level - 1) way.below
 
 -- a fork with room for a child more, and the page and the place of its full child where the identifier is
-pub record MaySplit (dims : ℕ) (pages : PageMap) (page level : ℕ) (edge : Bool) (row : Row) (id child place : ℕ) (last : Bool) : Type 0 where
+pub record MaySplit (dims : ℕ) (pages : PageMap) (page level : ℕ) (edge : Bool) (row : Row)
+    (id child place : ℕ) (last : Bool) : Type 0 where
   pub stands : NodeStands dims pages page level edge row
   pub high : 0 < level
   pub room : length (links_of row) < 340
@@ -101,7 +110,8 @@ pub record IsFullBelow (dims : ℕ) (pages : PageMap) (page level : ℕ) (row : 
   pub absent : kept_in id (objects_in row) ≡ None
 
 -- a root became another one by such a step, with a child more
-pub record Widens (dims : ℕ) (old new : PageMap) (page level : ℕ) (row : Row) (id : ℕ) (step : Step) : Type 0 where
+pub record Widens (dims : ℕ) (old new : PageMap) (page level : ℕ) (row : Row) (id : ℕ) (step : Step) : Type 0
+    where
   pub becomes : Becomes dims old new page level true row id step
   pub wider : length (links_of row) + 1 ≤ length (links_of becomes.now)
 

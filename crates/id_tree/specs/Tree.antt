@@ -1,6 +1,8 @@
--- Identifier trees, and the pages that they stand in (our format, docs/FORMAT.md): a root and further forks, and leaves
+-- Identifier trees, and the pages that they stand in (our format, docs/FORMAT.md): a root and further forks,
+-- and leaves
 -- with the objects.
-use Rattle.std.specs.Prelude.{◌≡◌, ℕ, ◌+◌, ◌-◌, ◌<◌, ◌≤◌, Bool, true, false, List, [], ◌∷◌, ◌++◌, length, All, Option, Some, ⊤, if◌then◌else◌, ◌==◌, option_and_then}
+use Rattle.std.specs.Prelude.{◌≡◌, ℕ, ◌+◌, ◌-◌, ◌<◌, ◌≤◌, Bool, true, false, List, [], ◌∷◌, ◌++◌, length, All}
+use Rattle.std.specs.Prelude.{Option, Some, ⊤, if◌then◌else◌, ◌==◌, option_and_then}
 use Rattle.std.specs.FinMap.{FinMap, from_entries}
 use Rattle.std.specs.Ordering.{nat_cmp}
 use Rattle.box_math.specs.Objects.{Object}
@@ -11,7 +13,8 @@ use Rattle.id_table.specs.Table.{times_in}
 use Rattle.node_page.specs.Parts.{Part}
 use Rattle.node_page.specs.Standing.{PageMap}
 
--- What a node has, in order of position: a leaf (level 0) objects, a fork children, each with its key, its page and what
+-- What a node has, in order of position: a leaf (level 0) objects, a fork children, each with its key, its
+-- page and what
 -- it has itself.
 mutual
   pub data Row : Type 0 where
@@ -73,7 +76,8 @@ pub record HasNode (dims : ℕ) (pages : PageMap) (page level : ℕ) (row : Row)
   pub leaf : level ≡ 0 → leaf_in dims (pages page) ≡ Some (objects_in row)
   pub fork : 0 < level → fork_in dims (pages page) ≡ Some (record { level = level; links = links_of row })
 
--- the nodes below one of this level stand in the pages, each with some object: it has objects on level 0, and children
+-- the nodes below one of this level stand in the pages, each with some object: it has objects on level 0, and
+-- children
 -- above it
 abbrev pub RowStands : ℕ → PageMap → ℕ → Row → Type 0
 RowStands dims pages level end = ⊤
@@ -82,7 +86,8 @@ RowStands dims pages level (more (child key page below) rest) =
     (0 < level) × (2 < page) × (0 < length (objects_in below)) × HasNode dims pages page (level - 1) below
     × RowStands dims pages (level - 1) below × RowStands dims pages level rest
 
--- The key of the next child parts a child's objects from all behind: these have lesser identifiers, and those have none.
+-- The key of the next child parts a child's objects from all behind: these have lesser identifiers, and those
+-- have none.
 abbrev pub Parts : List Entry → Row → Type 0
 Parts objects end = ⊤
 Parts objects (more (object id kept) rest) = ⊤
@@ -119,14 +124,16 @@ abbrev pub IsFilled : ℕ → ℕ → Bool → Row → Type 0
 IsFilled dims level edge end = ⊤
 IsFilled dims level edge (more (object id kept) rest) = IsFilled dims level edge rest
 IsFilled dims level edge (more (child key page below) rest) =
-    (at_edge edge rest ≡ false → IsLarge dims (level - 1) below) × IsFilled dims (level - 1) (at_edge edge rest) below
+    (at_edge edge rest ≡ false → IsLarge dims (level - 1) below) × IsFilled dims (level - 1)
+        (at_edge edge rest) below
     × IsFilled dims level edge rest
 
 -- the greatest level of a root: a tree with one level more would have more pages than there are numbers
 abbrev pub most_levels : ℕ
 most_levels = 6
 
--- the pages stand for the table: no identifier and no page is in it twice, and a root above others has two children
+-- the pages stand for the table: no identifier and no page is in it twice, and a root above others has two
+-- children
 pub record TreeStands (dims : ℕ) (pages : PageMap) (t : IdTree) : Type 0 where
   pub low : 2 < t.page
   pub high : 0 < t.level

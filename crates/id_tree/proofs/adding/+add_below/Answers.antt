@@ -2,12 +2,14 @@
 use Rattle.std.proofs.Common.{◌<◌, ℕ, None, inl, subst, sym, arith}
 use Rattle.page_file.specs.Fault.{IsOfDevice}
 use Rattle.page_cache.specs.Cache.{pages}
-use Rattle.page_cache.specs.Calls.{asks_changes, changes_in_turn, no_call_asks, asks_and_changes, asks_and_gives_up, changes_and_refuses, fault_in}
+use Rattle.page_cache.specs.Calls.{asks_changes, changes_in_turn, no_call_asks, asks_and_changes}
+use Rattle.page_cache.specs.Calls.{asks_and_gives_up, changes_and_refuses, fault_in}
 use Rattle.node_page.specs.Faults.{IsNoDamage}
 use Rattle.node_page.proofs.NodeLemmas.{on_ok, at_error}
 use Rattle.id_tree.specs.Steps.{Becomes, MayGrow}
 use Rattle.id_tree.specs.Steps.Step.{adds}
-use Rattle.id_tree.proofs.AddLemmas.{becomes_after, becomes_beneath, becomes_from, grow_beneath, grow_same, may_grow_after, some_links, split_beneath}
+use Rattle.id_tree.proofs.AddLemmas.{becomes_after, becomes_beneath, becomes_from, grow_beneath, grow_same}
+use Rattle.id_tree.proofs.AddLemmas.{may_grow_after, some_links, split_beneath}
 use Rattle.id_tree.proofs.ResultLemmas.{if_err}
 use Rattle.id_tree.proofs.adding.+add_below.Goals as goal
 
@@ -15,21 +17,27 @@ pub returns-then-level-eq0-clause-grown : goal.returns-then-level-eq0-clause-gro
 returns-then-level-eq0-clause-grown g t c = λ map row may.
     let low = c.if-level-eq0.true in
     let old = pages c.args.cache.now in
-    on_ok c.push_in.result (λ b. subst (λ (l : ℕ). Becomes g.row.D old (pages c.push_in.new.cache) c.args.page l c.args.edge row c.args.object.now.0 (adds c.args.object.now.1)) (sym low) b)
-    (c.push_in.ensures.grown map row (subst (λ (l : ℕ). MayGrow g.row.D old c.args.page l c.args.edge row c.args.object.now.0) low may))
+    on_ok c.push_in.result (λ b. subst (λ (l : ℕ). Becomes g.row.D old (pages c.push_in.new.cache) c.args.page
+        l c.args.edge row c.args.object.now.0 (adds c.args.object.now.1)) (sym low) b)
+    (c.push_in.ensures.grown map row (subst (λ (l : ℕ). MayGrow g.row.D old c.args.page l c.args.edge row
+        c.args.object.now.0) low may))
 
 pub returns-then-level-eq0-clause-sound : goal.returns-then-level-eq0-clause-sound
 returns-then-level-eq0-clause-sound g t c = λ map row may.
-    c.push_in.ensures.sound map row (subst (λ (l : ℕ). MayGrow g.row.D (pages c.args.cache.now) c.args.page l c.args.edge row c.args.object.now.0) c.if-level-eq0.true may)
+    c.push_in.ensures.sound map row (subst (λ (l : ℕ). MayGrow g.row.D (pages c.args.cache.now) c.args.page l
+        c.args.edge row c.args.object.now.0) c.if-level-eq0.true may)
 
 pub returns-then-level-eq0-clause-faults : goal.returns-then-level-eq0-clause-faults
 returns-then-level-eq0-clause-faults g t c = λ map row may.
     if_err c.push_in.result IsOfDevice (IsNoDamage c.push_in.new.cache) (λ f is. inl is)
-    (c.push_in.ensures.faults map row (subst (λ (l : ℕ). MayGrow g.row.D (pages c.args.cache.now) c.args.page l c.args.edge row c.args.object.now.0) c.if-level-eq0.true may))
+    (c.push_in.ensures.faults map row (subst (λ (l : ℕ). MayGrow g.row.D (pages c.args.cache.now) c.args.page
+        l c.args.edge row c.args.object.now.0) c.if-level-eq0.true may))
 
 pub returns-in_err-below-clause-changes : goal.returns-in_err-below-clause-changes
 returns-in_err-below-clause-changes g t c =
-    asks_and_gives_up c.args.cache.now c.args.cache.now c.look_below.new.cache c.in_err-below.field-0.0 c.from_residual.result c.from_residual.ensures.1 (no_call_asks c.args.cache.now) c.in_err-below.ensures.asks
+    asks_and_gives_up c.args.cache.now c.args.cache.now c.look_below.new.cache c.in_err-below.field-0.0
+        c.from_residual.result c.from_residual.ensures.1 (no_call_asks c.args.cache.now)
+        c.in_err-below.ensures.asks
 
 pub returns-in_err-below-clause-sound : goal.returns-in_err-below-clause-sound
 returns-in_err-below-clause-sound g t c = λ map row may. c.in_err-below.ensures.asks.map.sound.0 map
@@ -37,10 +45,13 @@ returns-in_err-below-clause-sound g t c = λ map row may. c.in_err-below.ensures
 pub returns-in_err-below-clause-faults : goal.returns-in_err-below-clause-faults
 returns-in_err-below-clause-faults g t c = λ map row may.
     let high : 0 < c.args.level = omega (arith, c.if-level-eq0.false) in
-    at_error c.from_residual.result c.in_err-below.field-0.0 (IsNoDamage c.look_below.new.cache) c.from_residual.ensures.1 (inl (c.in_err-below.ensures.there map.honest row may.stands (some_links g.row.D (pages c.args.cache.now) c.args.level row high may.stands.below may.some)))
+    at_error c.from_residual.result c.in_err-below.field-0.0 (IsNoDamage c.look_below.new.cache)
+        c.from_residual.ensures.1 (inl (c.in_err-below.ensures.there map.honest row may.stands
+        (some_links g.row.D (pages c.args.cache.now) c.args.level row high may.stands.below may.some)))
 
 pub returns-then-below-clause-changes : goal.returns-then-below-clause-changes
-returns-then-below-clause-changes g t c = asks_and_changes c.args.cache.now c.look_below.new.cache c.add_below.new.cache c.add_below.result c.in_ok-below.ensures.asks c.add_below.ensures.changes
+returns-then-below-clause-changes g t c = asks_and_changes c.args.cache.now c.look_below.new.cache
+    c.add_below.new.cache c.add_below.result c.in_ok-below.ensures.asks c.add_below.ensures.changes
 
 pub returns-then-below-clause-grown : goal.returns-then-below-clause-grown
 returns-then-below-clause-grown g t c = λ map row may.
@@ -55,8 +66,11 @@ returns-then-below-clause-grown g t c = λ map row may.
     let id = c.args.object.now.0 in
     let kept = c.args.object.now.1 in
     let beneath = c.in_ok-below.ensures.found map.honest row may.stands in
-    on_ok c.add_below.result (becomes_beneath D old mid c.args.page c.args.level c.args.edge row id b.child b.place b.last b.room high same may beneath new kept)
-    (c.add_below.ensures.grown (asks.map.sound.0 map) beneath.way.below (grow_beneath D old mid c.args.page c.args.level c.args.edge row id b.child b.place b.last b.room high same may beneath c.if-below.true))
+    on_ok c.add_below.result (becomes_beneath D old mid c.args.page c.args.level c.args.edge row id b.child
+        b.place b.last b.room high same may beneath new kept)
+    (c.add_below.ensures.grown (asks.map.sound.0 map) beneath.way.below
+        (grow_beneath D old mid c.args.page c.args.level c.args.edge row id b.child b.place b.last b.room high
+        same may beneath c.if-below.true))
 
 pub returns-then-below-clause-sound : goal.returns-then-below-clause-sound
 returns-then-below-clause-sound g t c = λ map row may.
@@ -69,7 +83,9 @@ returns-then-below-clause-sound g t c = λ map row may.
     let b = c.in_ok-below.below in
     let id = c.args.object.now.0 in
     let beneath = c.in_ok-below.ensures.found map.honest row may.stands in
-    c.add_below.ensures.sound (asks.map.sound.0 map) beneath.way.below (grow_beneath D old mid c.args.page c.args.level c.args.edge row id b.child b.place b.last b.room high same may beneath c.if-below.true)
+    c.add_below.ensures.sound (asks.map.sound.0 map) beneath.way.below
+        (grow_beneath D old mid c.args.page c.args.level c.args.edge row id b.child b.place b.last b.room high
+        same may beneath c.if-below.true)
 
 pub returns-then-below-clause-faults : goal.returns-then-below-clause-faults
 returns-then-below-clause-faults g t c = λ map row may.
@@ -82,11 +98,16 @@ returns-then-below-clause-faults g t c = λ map row may.
     let b = c.in_ok-below.below in
     let id = c.args.object.now.0 in
     let beneath = c.in_ok-below.ensures.found map.honest row may.stands in
-    c.add_below.ensures.faults (asks.map.sound.0 map) beneath.way.below (grow_beneath D old mid c.args.page c.args.level c.args.edge row id b.child b.place b.last b.room high same may beneath c.if-below.true)
+    c.add_below.ensures.faults (asks.map.sound.0 map) beneath.way.below
+        (grow_beneath D old mid c.args.page c.args.level c.args.edge row id b.child b.place b.last b.room high
+        same may beneath c.if-below.true)
 
 pub returns-in_err-half-clause-changes : goal.returns-in_err-half-clause-changes
 returns-in_err-half-clause-changes g t c =
-    changes_and_refuses c.args.cache.now c.look_below.new.cache c.split.new.cache c.in_err-half.field-0.0 c.from_residual-in_err-half.result c.from_residual-in_err-half.ensures.1 (asks_changes c.args.cache.now c.look_below.new.cache None c.in_ok-below.ensures.asks) c.in_err-half.ensures.changes
+    changes_and_refuses c.args.cache.now c.look_below.new.cache c.split.new.cache c.in_err-half.field-0.0
+        c.from_residual-in_err-half.result c.from_residual-in_err-half.ensures.1
+        (asks_changes c.args.cache.now c.look_below.new.cache None c.in_ok-below.ensures.asks)
+        c.in_err-half.ensures.changes
 
 pub returns-in_err-half-clause-sound : goal.returns-in_err-half-clause-sound
 returns-in_err-half-clause-sound g t c = λ map row may.
@@ -99,7 +120,9 @@ returns-in_err-half-clause-sound g t c = λ map row may.
     let b = c.in_ok-below.below in
     let id = c.args.object.now.0 in
     let beneath = c.in_ok-below.ensures.found map.honest row may.stands in
-    c.split.ensures.sound (asks.map.sound.0 map) c.args.edge row (split_beneath D old mid c.args.page c.args.level c.args.edge row id b.child b.place b.last b.room high same may beneath c.if-below.false)
+    c.split.ensures.sound (asks.map.sound.0 map) c.args.edge row
+        (split_beneath D old mid c.args.page c.args.level c.args.edge row id b.child b.place b.last b.room
+        high same may beneath c.if-below.false)
 
 pub returns-in_err-half-clause-faults : goal.returns-in_err-half-clause-faults
 returns-in_err-half-clause-faults g t c = λ map row may.
@@ -112,11 +135,17 @@ returns-in_err-half-clause-faults g t c = λ map row may.
     let b = c.in_ok-below.below in
     let id = c.args.object.now.0 in
     let beneath = c.in_ok-below.ensures.found map.honest row may.stands in
-    at_error c.from_residual-in_err-half.result c.in_err-half.field-0.0 (IsNoDamage c.split.new.cache) c.from_residual-in_err-half.ensures.1 (c.in_err-half.ensures.faults (asks.map.sound.0 map) c.args.edge row (split_beneath D old mid c.args.page c.args.level c.args.edge row id b.child b.place b.last b.room high same may beneath c.if-below.false))
+    at_error c.from_residual-in_err-half.result c.in_err-half.field-0.0 (IsNoDamage c.split.new.cache)
+        c.from_residual-in_err-half.ensures.1 (c.in_err-half.ensures.faults (asks.map.sound.0 map) c.args.edge
+        row (split_beneath D old mid c.args.page c.args.level c.args.edge row id b.child b.place b.last b.room
+        high same may beneath c.if-below.false))
 
 pub returns-clause-changes : goal.returns-clause-changes
 returns-clause-changes g t c =
-    changes_in_turn c.args.cache.now c.split.new.cache c.add_below-2.new.cache (fault_in c.add_below-2.result) (changes_in_turn c.args.cache.now c.look_below.new.cache c.split.new.cache None (asks_changes c.args.cache.now c.look_below.new.cache None c.in_ok-below.ensures.asks) c.in_ok-half.ensures.changes) c.add_below-2.ensures.changes
+    changes_in_turn c.args.cache.now c.split.new.cache c.add_below-2.new.cache (fault_in c.add_below-2.result)
+        (changes_in_turn c.args.cache.now c.look_below.new.cache c.split.new.cache None
+        (asks_changes c.args.cache.now c.look_below.new.cache None c.in_ok-below.ensures.asks)
+        c.in_ok-half.ensures.changes) c.add_below-2.ensures.changes
 
 pub returns-clause-grown : goal.returns-clause-grown
 returns-clause-grown g t c = λ map row may.
@@ -136,14 +165,17 @@ returns-clause-grown g t c = λ map row may.
     let id = c.args.object.now.0 in
     let kept = c.args.object.now.1 in
     let beneath = c.in_ok-below.ensures.found map.honest row may.stands in
-    let splits = split_beneath D old mid page level edge row id b.child b.place b.last b.room high same may beneath c.if-below.false in
+    let splits = split_beneath D old mid page level edge row id b.child b.place b.last b.room high same may
+        beneath c.if-below.false in
     let made = c.in_ok-half.ensures.made map1 edge row splits in
     let map2 = c.split.ensures.sound map1 edge row splits in
     let half = c.in_ok-half.half in
     let last = c.in_ok-half.half_last in
     let may1 = grow_same D old mid page level edge row id same may in
-    (on_ok c.add_below-2.result (λ done. becomes_from D old mid new page level edge row id (adds kept) same (becomes_after D mid cut new page level edge row id half last kept high may.large made done))
-    (c.add_below-2.ensures.grown map2 made.way.below (may_grow_after D mid cut page level edge row id half last high may1 made)))
+    (on_ok c.add_below-2.result (λ done. becomes_from D old mid new page level edge row id (adds kept) same
+        (becomes_after D mid cut new page level edge row id half last kept high may.large made done))
+    (c.add_below-2.ensures.grown map2 made.way.below
+        (may_grow_after D mid cut page level edge row id half last high may1 made)))
 
 pub returns-clause-sound : goal.returns-clause-sound
 returns-clause-sound g t c = λ map row may.
@@ -161,11 +193,14 @@ returns-clause-sound g t c = λ map row may.
     let b = c.in_ok-below.below in
     let id = c.args.object.now.0 in
     let beneath = c.in_ok-below.ensures.found map.honest row may.stands in
-    let splits = split_beneath D old mid page level edge row id b.child b.place b.last b.room high same may beneath c.if-below.false in
+    let splits = split_beneath D old mid page level edge row id b.child b.place b.last b.room high same may
+        beneath c.if-below.false in
     let made = c.in_ok-half.ensures.made map1 edge row splits in
     let map2 = c.split.ensures.sound map1 edge row splits in
     let may1 = grow_same D old mid page level edge row id same may in
-    c.add_below-2.ensures.sound map2 made.way.below (may_grow_after D mid cut page level edge row id c.in_ok-half.half c.in_ok-half.half_last high may1 made)
+    c.add_below-2.ensures.sound map2 made.way.below
+        (may_grow_after D mid cut page level edge row id c.in_ok-half.half c.in_ok-half.half_last high may1
+        made)
 
 pub returns-clause-faults : goal.returns-clause-faults
 returns-clause-faults g t c = λ map row may.
@@ -183,8 +218,11 @@ returns-clause-faults g t c = λ map row may.
     let b = c.in_ok-below.below in
     let id = c.args.object.now.0 in
     let beneath = c.in_ok-below.ensures.found map.honest row may.stands in
-    let splits = split_beneath D old mid page level edge row id b.child b.place b.last b.room high same may beneath c.if-below.false in
+    let splits = split_beneath D old mid page level edge row id b.child b.place b.last b.room high same may
+        beneath c.if-below.false in
     let made = c.in_ok-half.ensures.made map1 edge row splits in
     let map2 = c.split.ensures.sound map1 edge row splits in
     let may1 = grow_same D old mid page level edge row id same may in
-    (c.add_below-2.ensures.faults map2 made.way.below (may_grow_after D mid cut page level edge row id c.in_ok-half.half c.in_ok-half.half_last high may1 made))
+    (c.add_below-2.ensures.faults map2 made.way.below
+        (may_grow_after D mid cut page level edge row id c.in_ok-half.half c.in_ok-half.half_last high may1
+        made))

@@ -14,22 +14,30 @@ use Rattle.id_tree.proofs.adding.add_deeper.Goals as goal
 pub returns-then-level-ge-MOST_LEVELS-clause-faults : goal.returns-then-level-ge-MOST_LEVELS-clause-faults
 returns-then-level-ge-MOST_LEVELS-clause-faults g c = λ map t at full absent.
     absurd (not_so_high g.row.D (pages c.args.cache.now) t c.args.level
-    (λ n there. let given = a_live_page_was_given_out c.args.cache.now n there in below_limit n _ given.1 given.2) full c.if-level-ge-MOST_LEVELS.true)
+    (λ n there. let given = a_live_page_was_given_out c.args.cache.now n there in below_limit n _ given.1
+        given.2) full c.if-level-ge-MOST_LEVELS.true)
 
 pub returns-in_err-child-clause-changes : goal.returns-in_err-child-clause-changes
 returns-in_err-child-clause-changes g c =
-    changes_and_refuses c.args.cache.now c.args.cache.now c.deepen.new.cache c.in_err-child.field-0.0 c.from_residual.result c.from_residual.ensures.1 (asks_changes c.args.cache.now c.args.cache.now None (no_call_asks c.args.cache.now)) c.in_err-child.ensures.changes
+    changes_and_refuses c.args.cache.now c.args.cache.now c.deepen.new.cache c.in_err-child.field-0.0
+        c.from_residual.result c.from_residual.ensures.1
+        (asks_changes c.args.cache.now c.args.cache.now None (no_call_asks c.args.cache.now))
+        c.in_err-child.ensures.changes
 
 pub returns-in_err-child-clause-sound : goal.returns-in_err-child-clause-sound
-returns-in_err-child-clause-sound g c = λ map t at full absent. c.deepen.ensures.sound map (root_live g.row.D (pages c.args.cache.now) t c.args.root at full.stands)
+returns-in_err-child-clause-sound g c = λ map t at full absent. c.deepen.ensures.sound map
+    (root_live g.row.D (pages c.args.cache.now) t c.args.root at full.stands)
 
 pub returns-in_err-child-clause-faults : goal.returns-in_err-child-clause-faults
 returns-in_err-child-clause-faults g c = λ map t at full absent.
-    at_error c.from_residual.result c.in_err-child.field-0.0 (IsNoDamage c.deepen.new.cache) c.from_residual.ensures.1 (c.in_err-child.ensures.faults map (root_live g.row.D (pages c.args.cache.now) t c.args.root at full.stands))
+    at_error c.from_residual.result c.in_err-child.field-0.0 (IsNoDamage c.deepen.new.cache)
+        c.from_residual.ensures.1 (c.in_err-child.ensures.faults map
+        (root_live g.row.D (pages c.args.cache.now) t c.args.root at full.stands))
 
 pub returns-clause-changes : goal.returns-clause-changes
 returns-clause-changes g c =
-    changes_in_turn c.args.cache.now c.deepen.new.cache c.add_split.new.cache (fault_in c.add_split.result) c.in_ok-child.ensures.changes c.add_split.ensures.changes
+    changes_in_turn c.args.cache.now c.deepen.new.cache c.add_split.new.cache (fault_in c.add_split.result)
+        c.in_ok-child.ensures.changes c.add_split.ensures.changes
 
 pub returns-clause-added : goal.returns-clause-added
 returns-clause-added g c = λ map t at full absent.
@@ -46,8 +54,10 @@ returns-clause-added g c = λ map t at full absent.
     let gone = absent_of t id absent in
     let d = c.in_ok-child.ensures.deepened map live in
     let map1 = c.deepen.ensures.sound map live in
-    (on_ok c.add_split.result (sets_deep D old mid t root level number at full d new id kept (omega (arith, c.if-level-ge-MOST_LEVELS.false)) gone)
-    (c.add_split.ensures.grown map1 (more (child 0 number t.row) end) (full_below_root D old mid t root level number at full d id gone)))
+    (on_ok c.add_split.result (sets_deep D old mid t root level number at full d new id kept
+        (omega (arith, c.if-level-ge-MOST_LEVELS.false)) gone)
+    (c.add_split.ensures.grown map1 (more (child 0 number t.row) end)
+        (full_below_root D old mid t root level number at full d id gone)))
 
 pub returns-clause-sound : goal.returns-clause-sound
 returns-clause-sound g c = λ map t at full absent.
@@ -58,7 +68,9 @@ returns-clause-sound g c = λ map t at full absent.
     let number = c.in_ok-child.child in
     let live = root_live D old t root at full.stands in
     let d = c.in_ok-child.ensures.deepened map live in
-    c.add_split.ensures.sound (c.deepen.ensures.sound map live) (more (child 0 number t.row) end) (full_below_root D old mid t root c.args.level number at full d c.args.object.now.0 (absent_of t c.args.object.now.0 absent))
+    c.add_split.ensures.sound (c.deepen.ensures.sound map live) (more (child 0 number t.row) end)
+        (full_below_root D old mid t root c.args.level number at full d c.args.object.now.0
+        (absent_of t c.args.object.now.0 absent))
 
 pub returns-clause-faults : goal.returns-clause-faults
 returns-clause-faults g c = λ map t at full absent.
@@ -69,4 +81,6 @@ returns-clause-faults g c = λ map t at full absent.
     let number = c.in_ok-child.child in
     let live = root_live D old t root at full.stands in
     let d = c.in_ok-child.ensures.deepened map live in
-    (c.add_split.ensures.faults (c.deepen.ensures.sound map live) (more (child 0 number t.row) end) (full_below_root D old mid t root c.args.level number at full d c.args.object.now.0 (absent_of t c.args.object.now.0 absent)))
+    (c.add_split.ensures.faults (c.deepen.ensures.sound map live) (more (child 0 number t.row) end)
+        (full_below_root D old mid t root c.args.level number at full d c.args.object.now.0
+        (absent_of t c.args.object.now.0 absent)))

@@ -11,14 +11,20 @@ use Rattle.id_tree.proofs.adding.add_object.Goals as goal
 
 pub returns-in_err-way-clause-changes : goal.returns-in_err-way-clause-changes
 returns-in_err-way-clause-changes g c =
-    asks_and_gives_up c.args.cache.now c.args.cache.now c.step.new.cache c.in_err-way.field-0.0 c.from_residual.result c.from_residual.ensures.1 (no_call_asks c.args.cache.now) c.in_err-way.ensures.asks
+    asks_and_gives_up c.args.cache.now c.args.cache.now c.step.new.cache c.in_err-way.field-0.0
+        c.from_residual.result c.from_residual.ensures.1 (no_call_asks c.args.cache.now)
+        c.in_err-way.ensures.asks
 
 pub returns-in_err-way-clause-faults : goal.returns-in_err-way-clause-faults
 returns-in_err-way-clause-faults g c = λ map t at stands absent.
-    at_error c.from_residual.result c.in_err-way.field-0.0 (IsNoDamage c.step.new.cache) c.from_residual.ensures.1 (inl (c.in_err-way.ensures.there map.honest (record { level = t.level; links = links_of t.row }) (root_fork g.row.D (pages c.args.cache.now) c.args.root t at stands)))
+    at_error c.from_residual.result c.in_err-way.field-0.0 (IsNoDamage c.step.new.cache)
+        c.from_residual.ensures.1 (inl (c.in_err-way.ensures.there map.honest
+        (record { level = t.level; links = links_of t.row })
+        (root_fork g.row.D (pages c.args.cache.now) c.args.root t at stands)))
 
 pub returns-then-way-eq0-clause-changes : goal.returns-then-way-eq0-clause-changes
-returns-then-way-eq0-clause-changes g c = asks_and_changes c.args.cache.now c.step.new.cache c.start.new.cache c.start.result c.in_ok-way.ensures.asks c.start.ensures.changes
+returns-then-way-eq0-clause-changes g c = asks_and_changes c.args.cache.now c.step.new.cache c.start.new.cache
+    c.start.result c.in_ok-way.ensures.asks c.start.ensures.changes
 
 pub returns-then-way-eq0-clause-added : goal.returns-then-way-eq0-clause-added
 returns-then-way-eq0-clause-added g c = λ map t at stands absent.
@@ -32,29 +38,37 @@ returns-then-way-eq0-clause-added g c = λ map t at stands absent.
     let asks = c.in_ok-way.ensures.asks in
     let same = asks.map.pages_stay map.honest in
     let tree = tree_same D old mid t same stands in
-    let count = c.in_ok-way.ensures.count map.honest (record { level = t.level; links = links_of t.row }) (root_fork D old root t at stands) in
-    (on_ok c.start.result (λ w. sets_from D old mid new t id kept same (started_root D mid new t root id kept at tree (omega (arith, count, c.if-way-eq0.true)) w))
+    let count = c.in_ok-way.ensures.count map.honest (record { level = t.level; links = links_of t.row })
+        (root_fork D old root t at stands) in
+    (on_ok c.start.result (λ w. sets_from D old mid new t id kept same
+        (started_root D mid new t root id kept at tree (omega (arith, count, c.if-way-eq0.true)) w))
     (c.start.ensures.started (asks.map.sound.0 map) (root_live D mid t root at tree)))
 
 pub returns-then-way-eq0-clause-sound : goal.returns-then-way-eq0-clause-sound
 returns-then-way-eq0-clause-sound g c = λ map t at stands absent.
     let asks = c.in_ok-way.ensures.asks in
-    let tree = tree_same g.row.D (pages c.args.cache.now) (pages c.step.new.cache) t (asks.map.pages_stay map.honest) stands in
-    c.start.ensures.sound (asks.map.sound.0 map) (root_live g.row.D (pages c.step.new.cache) t c.args.root at tree)
+    let tree = tree_same g.row.D (pages c.args.cache.now) (pages c.step.new.cache) t
+        (asks.map.pages_stay map.honest) stands in
+    c.start.ensures.sound (asks.map.sound.0 map) (root_live g.row.D (pages c.step.new.cache) t c.args.root at
+        tree)
 
 pub returns-then-way-eq0-clause-faults : goal.returns-then-way-eq0-clause-faults
 returns-then-way-eq0-clause-faults g c = λ map t at stands absent.
     let asks = c.in_ok-way.ensures.asks in
-    let tree = tree_same g.row.D (pages c.args.cache.now) (pages c.step.new.cache) t (asks.map.pages_stay map.honest) stands in
-    (c.start.ensures.faults (asks.map.sound.0 map) (root_live g.row.D (pages c.step.new.cache) t c.args.root at tree))
+    let tree = tree_same g.row.D (pages c.args.cache.now) (pages c.step.new.cache) t
+        (asks.map.pages_stay map.honest) stands in
+    (c.start.ensures.faults (asks.map.sound.0 map)
+        (root_live g.row.D (pages c.step.new.cache) t c.args.root at tree))
 
 pub returns-then-way-gt-MOST_LEVELS-clause-faults : goal.returns-then-way-gt-MOST_LEVELS-clause-faults
 returns-then-way-gt-MOST_LEVELS-clause-faults g c = λ map t at stands absent.
-    let level = c.in_ok-way.ensures.level map.honest (record { level = t.level; links = links_of t.row }) (root_fork g.row.D (pages c.args.cache.now) c.args.root t at stands) in
+    let level = c.in_ok-way.ensures.level map.honest (record { level = t.level; links = links_of t.row })
+        (root_fork g.row.D (pages c.args.cache.now) c.args.root t at stands) in
     absurd (omega (arith, level, stands.bounded, c.if-way-gt-MOST_LEVELS.true))
 
 pub returns-then-way-lt-MOST_CHILDREN-clause-changes : goal.returns-then-way-lt-MOST_CHILDREN-clause-changes
-returns-then-way-lt-MOST_CHILDREN-clause-changes g c = asks_and_changes c.args.cache.now c.step.new.cache c.add_below.new.cache c.add_below.result c.in_ok-way.ensures.asks c.add_below.ensures.changes
+returns-then-way-lt-MOST_CHILDREN-clause-changes g c = asks_and_changes c.args.cache.now c.step.new.cache
+    c.add_below.new.cache c.add_below.result c.in_ok-way.ensures.asks c.add_below.ensures.changes
 
 pub returns-then-way-lt-MOST_CHILDREN-clause-added : goal.returns-then-way-lt-MOST_CHILDREN-clause-added
 returns-then-way-lt-MOST_CHILDREN-clause-added g c = λ map t at stands absent.
@@ -71,10 +85,15 @@ returns-then-way-lt-MOST_CHILDREN-clause-added g c = λ map t at stands absent.
     let tree = tree_same D old mid t same stands in
     let gone = absent_of t id absent in
     let fork = root_fork D old root t at stands in
-    let level = c.in_ok-way.ensures.level map.honest (record { level = t.level; links = links_of t.row }) fork in
-    let count = c.in_ok-way.ensures.count map.honest (record { level = t.level; links = links_of t.row }) fork in
-    let may = grow_root D mid t root way.level id at level tree (omega (arith, count, c.if-way-eq0.false)) (omega (arith, count, c.if-way-lt-MOST_CHILDREN.true)) gone in
-    on_ok c.add_below.result (λ b. sets_from D old mid new t id kept same (sets_root D mid new t root way.level id kept at level tree gone b)) (c.add_below.ensures.grown (asks.map.sound.0 map) t.row may)
+    let level = c.in_ok-way.ensures.level map.honest (record { level = t.level; links = links_of t.row }) fork
+        in
+    let count = c.in_ok-way.ensures.count map.honest (record { level = t.level; links = links_of t.row }) fork
+        in
+    let may = grow_root D mid t root way.level id at level tree (omega (arith, count, c.if-way-eq0.false))
+        (omega (arith, count, c.if-way-lt-MOST_CHILDREN.true)) gone in
+    on_ok c.add_below.result (λ b. sets_from D old mid new t id kept same
+        (sets_root D mid new t root way.level id kept at level tree gone b))
+        (c.add_below.ensures.grown (asks.map.sound.0 map) t.row may)
 
 pub returns-then-way-lt-MOST_CHILDREN-clause-sound : goal.returns-then-way-lt-MOST_CHILDREN-clause-sound
 returns-then-way-lt-MOST_CHILDREN-clause-sound g c = λ map t at stands absent.
@@ -87,9 +106,13 @@ returns-then-way-lt-MOST_CHILDREN-clause-sound g c = λ map t at stands absent.
     let asks = c.in_ok-way.ensures.asks in
     let tree = tree_same D old mid t (asks.map.pages_stay map.honest) stands in
     let fork = root_fork D old root t at stands in
-    let level = c.in_ok-way.ensures.level map.honest (record { level = t.level; links = links_of t.row }) fork in
-    let count = c.in_ok-way.ensures.count map.honest (record { level = t.level; links = links_of t.row }) fork in
-    c.add_below.ensures.sound (asks.map.sound.0 map) t.row (grow_root D mid t root way.level id at level tree (omega (arith, count, c.if-way-eq0.false)) (omega (arith, count, c.if-way-lt-MOST_CHILDREN.true)) (absent_of t id absent))
+    let level = c.in_ok-way.ensures.level map.honest (record { level = t.level; links = links_of t.row }) fork
+        in
+    let count = c.in_ok-way.ensures.count map.honest (record { level = t.level; links = links_of t.row }) fork
+        in
+    c.add_below.ensures.sound (asks.map.sound.0 map) t.row
+        (grow_root D mid t root way.level id at level tree (omega (arith, count, c.if-way-eq0.false))
+        (omega (arith, count, c.if-way-lt-MOST_CHILDREN.true)) (absent_of t id absent))
 
 pub returns-then-way-lt-MOST_CHILDREN-clause-faults : goal.returns-then-way-lt-MOST_CHILDREN-clause-faults
 returns-then-way-lt-MOST_CHILDREN-clause-faults g c = λ map t at stands absent.
@@ -102,12 +125,17 @@ returns-then-way-lt-MOST_CHILDREN-clause-faults g c = λ map t at stands absent.
     let asks = c.in_ok-way.ensures.asks in
     let tree = tree_same D old mid t (asks.map.pages_stay map.honest) stands in
     let fork = root_fork D old root t at stands in
-    let level = c.in_ok-way.ensures.level map.honest (record { level = t.level; links = links_of t.row }) fork in
-    let count = c.in_ok-way.ensures.count map.honest (record { level = t.level; links = links_of t.row }) fork in
-    c.add_below.ensures.faults (asks.map.sound.0 map) t.row (grow_root D mid t root way.level id at level tree (omega (arith, count, c.if-way-eq0.false)) (omega (arith, count, c.if-way-lt-MOST_CHILDREN.true)) (absent_of t id absent))
+    let level = c.in_ok-way.ensures.level map.honest (record { level = t.level; links = links_of t.row }) fork
+        in
+    let count = c.in_ok-way.ensures.count map.honest (record { level = t.level; links = links_of t.row }) fork
+        in
+    c.add_below.ensures.faults (asks.map.sound.0 map) t.row
+        (grow_root D mid t root way.level id at level tree (omega (arith, count, c.if-way-eq0.false))
+        (omega (arith, count, c.if-way-lt-MOST_CHILDREN.true)) (absent_of t id absent))
 
 pub returns-clause-changes : goal.returns-clause-changes
-returns-clause-changes g c = asks_and_changes c.args.cache.now c.step.new.cache c.add_deeper.new.cache c.add_deeper.result c.in_ok-way.ensures.asks c.add_deeper.ensures.changes
+returns-clause-changes g c = asks_and_changes c.args.cache.now c.step.new.cache c.add_deeper.new.cache
+    c.add_deeper.result c.in_ok-way.ensures.asks c.add_deeper.ensures.changes
 
 pub returns-clause-added : goal.returns-clause-added
 returns-clause-added g c = λ map t at stands absent.
@@ -118,10 +146,14 @@ returns-clause-added g c = λ map t at stands absent.
     let asks = c.in_ok-way.ensures.asks in
     let same = asks.map.pages_stay map.honest in
     let fork = root_fork D old c.args.root t at stands in
-    let level = c.in_ok-way.ensures.level map.honest (record { level = t.level; links = links_of t.row }) fork in
-    let count = c.in_ok-way.ensures.count map.honest (record { level = t.level; links = links_of t.row }) fork in
+    let level = c.in_ok-way.ensures.level map.honest (record { level = t.level; links = links_of t.row }) fork
+        in
+    let count = c.in_ok-way.ensures.count map.honest (record { level = t.level; links = links_of t.row }) fork
+        in
     on_ok c.add_deeper.result (sets_from D old mid new t c.args.object.now.0 c.args.object.now.1 same)
-    (c.add_deeper.ensures.added (asks.map.sound.0 map) t at (record { stands = tree_same D old mid t same stands; level_is = level; full = omega (arith, count, c.if-way-lt-MOST_CHILDREN.false) }) absent)
+    (c.add_deeper.ensures.added (asks.map.sound.0 map) t at
+        (record { stands = tree_same D old mid t same stands; level_is = level; full = omega
+        (arith, count, c.if-way-lt-MOST_CHILDREN.false) }) absent)
 
 pub returns-clause-sound : goal.returns-clause-sound
 returns-clause-sound g c = λ map t at stands absent.
@@ -130,9 +162,13 @@ returns-clause-sound g c = λ map t at stands absent.
     let mid = pages c.step.new.cache in
     let asks = c.in_ok-way.ensures.asks in
     let fork = root_fork D old c.args.root t at stands in
-    let level = c.in_ok-way.ensures.level map.honest (record { level = t.level; links = links_of t.row }) fork in
-    let count = c.in_ok-way.ensures.count map.honest (record { level = t.level; links = links_of t.row }) fork in
-    c.add_deeper.ensures.sound (asks.map.sound.0 map) t at (record { stands = tree_same D old mid t (asks.map.pages_stay map.honest) stands; level_is = level; full = omega (arith, count, c.if-way-lt-MOST_CHILDREN.false) }) absent
+    let level = c.in_ok-way.ensures.level map.honest (record { level = t.level; links = links_of t.row }) fork
+        in
+    let count = c.in_ok-way.ensures.count map.honest (record { level = t.level; links = links_of t.row }) fork
+        in
+    c.add_deeper.ensures.sound (asks.map.sound.0 map) t at
+        (record { stands = tree_same D old mid t (asks.map.pages_stay map.honest) stands; level_is = level;
+        full = omega (arith, count, c.if-way-lt-MOST_CHILDREN.false) }) absent
 
 pub returns-clause-faults : goal.returns-clause-faults
 returns-clause-faults g c = λ map t at stands absent.
@@ -141,6 +177,10 @@ returns-clause-faults g c = λ map t at stands absent.
     let mid = pages c.step.new.cache in
     let asks = c.in_ok-way.ensures.asks in
     let fork = root_fork D old c.args.root t at stands in
-    let level = c.in_ok-way.ensures.level map.honest (record { level = t.level; links = links_of t.row }) fork in
-    let count = c.in_ok-way.ensures.count map.honest (record { level = t.level; links = links_of t.row }) fork in
-    c.add_deeper.ensures.faults (asks.map.sound.0 map) t at (record { stands = tree_same D old mid t (asks.map.pages_stay map.honest) stands; level_is = level; full = omega (arith, count, c.if-way-lt-MOST_CHILDREN.false) }) absent
+    let level = c.in_ok-way.ensures.level map.honest (record { level = t.level; links = links_of t.row }) fork
+        in
+    let count = c.in_ok-way.ensures.count map.honest (record { level = t.level; links = links_of t.row }) fork
+        in
+    c.add_deeper.ensures.faults (asks.map.sound.0 map) t at
+        (record { stands = tree_same D old mid t (asks.map.pages_stay map.honest) stands; level_is = level;
+        full = omega (arith, count, c.if-way-lt-MOST_CHILDREN.false) }) absent

@@ -11,11 +11,14 @@ pub returns-clause-grown : goal.returns-clause-grown
 returns-clause-grown g c = λ map row may.
     let old = pages c.args.cache.now in
     let live = node_there g.row.D old c.args.page 0 row may.stands.node in
-    on_ok c.push.result (leaf_grows g.row.D old (pages c.push.new.cache) c.args.page 0 c.args.edge row c.args.object.now.0 c.args.object.now.1 refl may (c.push.ensures.others map.honest live))
+    on_ok c.push.result (leaf_grows g.row.D old (pages c.push.new.cache) c.args.page 0 c.args.edge row
+        c.args.object.now.0 c.args.object.now.1 refl may (c.push.ensures.others map.honest live))
     (c.push.ensures.written map.honest (objects_in row) (may.stands.node.leaf refl) (may.room.leaf refl))
 
 pub returns-clause-sound : goal.returns-clause-sound
-returns-clause-sound g c = λ map row may. c.push.ensures.sound map (node_there g.row.D (pages c.args.cache.now) c.args.page 0 row may.stands.node)
+returns-clause-sound g c = λ map row may. c.push.ensures.sound map
+    (node_there g.row.D (pages c.args.cache.now) c.args.page 0 row may.stands.node)
 
 pub returns-clause-faults : goal.returns-clause-faults
-returns-clause-faults g c = λ map row may. c.push.ensures.faults map.honest (node_there g.row.D (pages c.args.cache.now) c.args.page 0 row may.stands.node)
+returns-clause-faults g c = λ map row may. c.push.ensures.faults map.honest
+    (node_there g.row.D (pages c.args.cache.now) c.args.page 0 row may.stands.node)

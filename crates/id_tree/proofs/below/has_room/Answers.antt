@@ -21,7 +21,8 @@ returns-then-level-eq0-clause-room g c = λ h row node yes.
     let count = c.in_ok-count.ensures.count h there.0 there.1 in
     let long = leaf_counted g.row.D old c.args.number c.args.level row there.0 node low there.1 in
     let less = less_than c.in_ok-count.count c.objects_that_fit.result yes in
-    record { leaf = λ is. omega (arith, less, count, long, c.objects_that_fit.ensures); fork = λ high. absurd (omega (arith, high, low)) }
+    record { leaf = λ is. omega (arith, less, count, long, c.objects_that_fit.ensures); fork = λ high. absurd
+        (omega (arith, high, low)) }
 
 pub returns-then-level-eq0-clause-full : goal.returns-then-level-eq0-clause-full
 returns-then-level-eq0-clause-full g c = λ h row node no.
@@ -31,7 +32,8 @@ returns-then-level-eq0-clause-full g c = λ h row node no.
     let count = c.in_ok-count.ensures.count h there.0 there.1 in
     let long = leaf_counted g.row.D old c.args.number c.args.level row there.0 node low there.1 in
     let least = not_less c.in_ok-count.count c.objects_that_fit.result no in
-    record { leaf = λ is. omega (arith, least, count, long, c.objects_that_fit.ensures); fork = λ high. absurd (omega (arith, high, low)) }
+    record { leaf = λ is. omega (arith, least, count, long, c.objects_that_fit.ensures); fork = λ high. absurd
+        (omega (arith, high, low)) }
 
 pub returns-clause-room : goal.returns-clause-room
 returns-clause-room g c = λ h row node yes.

@@ -13,7 +13,8 @@ pub returns-in_default-clause-there : goal.returns-in_default-clause-there
 returns-in_default-clause-there g c = λ h row s some.
     let old = pages c.args.cache.now in
     let high = c.requires.high in
-    let route = c.in_ok-way.ensures.child h (record { level = c.args.level; links = links_of row }) (s.node.fork high) (keys_ascend g.row.D old c.args.page c.args.level c.args.edge row high s) in
+    let route = c.in_ok-way.ensures.child h (record { level = c.args.level; links = links_of row })
+        (s.node.fork high) (keys_ascend g.row.D old c.args.page c.args.level c.args.edge row high s) in
     let none = no_route c.args.id (links_of row) (sym c.in_default.is ∙ route) in
     absurd (omega (arith, none, some))
 
@@ -23,11 +24,17 @@ returns-in_err-room-clause-there g c = λ h row s some.
     let old = pages c.args.cache.now in
     let high = c.requires.high in
     let asks = c.in_ok-way.ensures.asks in
-    let route = c.in_ok-way.ensures.child h (record { level = c.args.level; links = links_of row }) (s.node.fork high) (keys_ascend D old c.args.page c.args.level c.args.edge row high s) in
-    let way = way_of D old c.args.page c.args.level c.args.edge row c.args.id c.in-Some.child high s (sym c.in-Some.is ∙ route) in
-    let node = (child_stands D old c.args.page c.args.level c.args.edge c.args.id c.in-Some.child row high s way).node in
-    at_error c.from_residual-in_err-room.result c.in_err-room.field-0.0 IsOfDevice c.from_residual-in_err-room.ensures.1
-    (c.in_err-room.ensures.there (asks.gate.honest.0 h) way.below (node_stays D old (pages c.step.new.cache) c.in-Some.child (c.args.level - 1) way.below (asks.map.pages_stay h c.in-Some.child) node))
+    let route = c.in_ok-way.ensures.child h (record { level = c.args.level; links = links_of row })
+        (s.node.fork high) (keys_ascend D old c.args.page c.args.level c.args.edge row high s) in
+    let way = way_of D old c.args.page c.args.level c.args.edge row c.args.id c.in-Some.child high s
+        (sym c.in-Some.is ∙ route) in
+    let node = (child_stands D old c.args.page c.args.level c.args.edge c.args.id c.in-Some.child row high s
+        way).node in
+    at_error c.from_residual-in_err-room.result c.in_err-room.field-0.0 IsOfDevice
+        c.from_residual-in_err-room.ensures.1
+    (c.in_err-room.ensures.there (asks.gate.honest.0 h) way.below
+        (node_stays D old (pages c.step.new.cache) c.in-Some.child (c.args.level - 1) way.below
+        (asks.map.pages_stay h c.in-Some.child) node))
 
 pub returns-clause-found : goal.returns-clause-found
 returns-clause-found g c = λ h row s.
@@ -37,16 +44,22 @@ returns-clause-found g c = λ h row s.
     let asks = c.in_ok-way.ensures.asks in
     let fork = s.node.fork high in
     let ascend = keys_ascend D old c.args.page c.args.level c.args.edge row high s in
-    let route = c.in_ok-way.ensures.child h (record { level = c.args.level; links = links_of row }) fork ascend in
-    let place = c.in_ok-way.ensures.place h (record { level = c.args.level; links = links_of row }) fork ascend in
+    let route = c.in_ok-way.ensures.child h (record { level = c.args.level; links = links_of row }) fork
+        ascend in
+    let place = c.in_ok-way.ensures.place h (record { level = c.args.level; links = links_of row }) fork
+        ascend in
     let count = c.in_ok-way.ensures.count h (record { level = c.args.level; links = links_of row }) fork in
-    let way = way_of D old c.args.page c.args.level c.args.edge row c.args.id c.in-Some.child high s (sym c.in-Some.is ∙ route) in
-    let below = (child_stands D old c.args.page c.args.level c.args.edge c.args.id c.in-Some.child row high s way).node in
-    let node = node_stays D old (pages c.step.new.cache) c.in-Some.child (c.args.level - 1) way.below (asks.map.pages_stay h c.in-Some.child) below in
+    let way = way_of D old c.args.page c.args.level c.args.edge row c.args.id c.in-Some.child high s
+        (sym c.in-Some.is ∙ route) in
+    let below = (child_stands D old c.args.page c.args.level c.args.edge c.args.id c.in-Some.child row high s
+        way).node in
+    let node = node_stays D old (pages c.step.new.cache) c.in-Some.child (c.args.level - 1) way.below
+        (asks.map.pages_stay h c.in-Some.child) below in
     record {
       way = way;
       place_is = place;
-      last_is = c.is_last.ensures ∙ last_here D old c.args.page c.args.level c.args.edge c.args.id c.in-Some.child row high s way c.in_ok-way.way.place c.in_ok-way.way.count place count;
+      last_is = c.is_last.ensures ∙ last_here D old c.args.page c.args.level c.args.edge c.args.id
+          c.in-Some.child row high s way c.in_ok-way.way.place c.in_ok-way.way.count place count;
       has_room = c.in_ok-room.ensures.room (asks.gate.honest.0 h) way.below node;
       is_full = c.in_ok-room.ensures.full (asks.gate.honest.0 h) way.below node;
     }

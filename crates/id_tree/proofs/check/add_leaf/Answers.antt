@@ -1,5 +1,6 @@
 -- The leaf has enough objects, and all of them were appended.
-use Rattle.std.proofs.Common.{◌≡◌, ◌∙◌, ◌<◌, ◌≤◌, List, Option, Some, None, IsSome, length, refl, rules, arith}
+use Rattle.std.proofs.Common.{◌≡◌, ◌∙◌, ◌<◌, ◌≤◌, List, Option, Some, None, IsSome, length, refl, rules}
+use Rattle.std.proofs.Common.{arith}
 use Rattle.bucket_page.specs.Layout.{Entry}
 use Rattle.node_page.proofs.NodeLemmas.{on_ok}
 use Rattle.id_page.specs.Leaf.{leaf_at}
@@ -27,7 +28,8 @@ returns-then-not-is_leaf-clause-stands g c = λ objects is may.
 pub returns-then-not-are_enough-clause-stands : goal.returns-then-not-are_enough-clause-stands
 returns-then-not-are_enough-clause-stands g c = λ objects is may.
     let count = c.count_at.ensures.of_leaf g.row.D objects is in
-    let yes = c.are_enough.ensures.accepts (omega (arith, count, may.some)) (λ off. let many = may.large off in omega (arith, count, many, c.least_in_leaf.ensures)) in
+    let yes = c.are_enough.ensures.accepts (omega (arith, count, may.some))
+        (λ off. let many = may.large off in omega (arith, count, many, c.least_in_leaf.ensures)) in
     absurd (cc)
 
 pub returns-clause-found : goal.returns-clause-found
@@ -40,9 +42,11 @@ returns-clause-found g c =
       objects = leaf.0;
       is = leaf.1;
       some = omega (arith, some, count);
-      large = λ off. let many = c.are_enough.ensures.large yes off in omega (arith, many, count, c.least_in_leaf.ensures);
+      large = λ off. let many = c.are_enough.ensures.large yes off in omega
+          (arith, many, count, c.least_in_leaf.ensures);
       adds = adds;
     }) (c.add_objects.ensures.found leaf.0 leaf.1)
 
 pub returns-clause-stands : goal.returns-clause-stands
-returns-clause-stands g c = λ objects is may. c.add_objects.ensures.stands objects is may.from may.upto may.single
+returns-clause-stands g c = λ objects is may. c.add_objects.ensures.stands objects is may.from may.upto
+    may.single

@@ -9,7 +9,8 @@ use Rattle.id_tree.proofs.check.is_fork_of.Goals as goal
 
 pub returns-then-not-has_fork_head-clause-accepts : goal.returns-then-not-has_fork_head-clause-accepts
 returns-then-not-has_fork_head-clause-accepts g c = λ links is some large.
-    let yes = c.has_fork_head.ensures.1 (fork_spells g.row.D c.args.page.now (record { level = c.args.level; links = links }) is).head in
+    let yes = c.has_fork_head.ensures.1 (fork_spells g.row.D c.args.page.now
+        (record { level = c.args.level; links = links }) is).head in
     absurd (cc)
 
 pub returns-clause-fork : goal.returns-clause-fork
@@ -23,12 +24,16 @@ returns-clause-fork g c = λ yes.
     let some = c.are_enough.ensures.some yes in
     record {
       links = links;
-      is = fork_spelled g.row.D page content (record { head = head; level_is = sym c.level_at-height.ensures.value ∙ c.if-height-level.false; links_are = refl });
+      is = fork_spelled g.row.D page content (record
+          { head = head; level_is = sym c.level_at-height.ensures.value
+          ∙ c.if-height-level.false; links_are = refl });
       some = omega (arith, some, long, c.count_at.ensures.value);
-      large = λ off. let large = c.are_enough.ensures.large yes off in omega (arith, large, long, c.count_at.ensures.value);
+      large = λ off. let large = c.are_enough.ensures.large yes off in omega
+          (arith, large, long, c.count_at.ensures.value);
     }
 
 pub returns-clause-accepts : goal.returns-clause-accepts
 returns-clause-accepts g c = λ links is some large.
     let count = c.count_at.ensures.of_fork g.row.D (record { level = c.args.level; links = links }) is in
-    c.are_enough.ensures.accepts (omega (arith, count, some)) (λ off. let many = large off in omega (arith, count, many))
+    c.are_enough.ensures.accepts (omega (arith, count, some))
+        (λ off. let many = large off in omega (arith, count, many))

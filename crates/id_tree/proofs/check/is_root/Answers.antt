@@ -16,7 +16,8 @@ pub returns-then-level-eq1-clause-root : goal.returns-then-level-eq1-clause-root
 returns-then-level-eq1-clause-root g c = λ yes.
     let page = c.args.page.now in
     let count = number_at 2 2 page in
-    let content : ForkContent = record { level = number_at 1 4 page; links = first_places (link_at page) count } in
+    let content : ForkContent = record { level = number_at 1 4 page; links = first_places (link_at page) count
+        } in
     let head = c.has_fork_head.ensures.0 c.if-not-has_fork_head.false in
     record {
       links = first_places (link_at page) count;
@@ -31,7 +32,8 @@ pub returns-clause-root : goal.returns-clause-root
 returns-clause-root g c = λ yes.
     let page = c.args.page.now in
     let count = number_at 2 2 page in
-    let content : ForkContent = record { level = number_at 1 4 page; links = first_places (link_at page) count } in
+    let content : ForkContent = record { level = number_at 1 4 page; links = first_places (link_at page) count
+        } in
     let head = c.has_fork_head.ensures.0 c.if-not-has_fork_head.false in
     record {
       links = first_places (link_at page) count;

@@ -8,5 +8,6 @@ pub returns-then-id-top-clause-known : goal.returns-then-id-top-clause-known
 returns-then-id-top-clause-known g c = λ new low upto.
     ⊎_elim
     (λ (small : c.args.top < most_identifier). absurd (omega (arith, upto small, c.if-id-top.true)))
-    (λ (large : most_identifier ≤ c.args.top). absurd (omega (arith, large, c.if-id-top.true, c.ranges.id.fits)))
+    (λ (large : most_identifier ≤ c.args.top). absurd
+        (omega (arith, large, c.if-id-top.true, c.ranges.id.fits)))
     (cases_lt c.args.top most_identifier)

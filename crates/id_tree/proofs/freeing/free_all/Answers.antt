@@ -14,14 +14,19 @@ use Rattle.id_tree.proofs.freeing.free_all.Goals as goal
 
 pub returns-in_err-way-clause-changes : goal.returns-in_err-way-clause-changes
 returns-in_err-way-clause-changes g c =
-    asks_and_gives_up c.args.cache.now c.args.cache.now c.step.new.cache c.in_err-way.field-0.0 c.from_residual.result c.from_residual.ensures.1 (no_call_asks c.args.cache.now) c.in_err-way.ensures.asks
+    asks_and_gives_up c.args.cache.now c.args.cache.now c.step.new.cache c.in_err-way.field-0.0
+        c.from_residual.result c.from_residual.ensures.1 (no_call_asks c.args.cache.now)
+        c.in_err-way.ensures.asks
 
 pub returns-in_err-way-clause-faults : goal.returns-in_err-way-clause-faults
 returns-in_err-way-clause-faults g c = λ map t at stands.
-    at_error c.from_residual.result c.in_err-way.field-0.0 IsOfDevice c.from_residual.ensures.1 (c.in_err-way.ensures.there map.honest (record { level = t.level; links = links_of t.row }) (root_fork g.row.D (pages c.args.cache.now) c.args.root t at stands))
+    at_error c.from_residual.result c.in_err-way.field-0.0 IsOfDevice c.from_residual.ensures.1
+        (c.in_err-way.ensures.there map.honest (record { level = t.level; links = links_of t.row })
+        (root_fork g.row.D (pages c.args.cache.now) c.args.root t at stands))
 
 pub returns-clause-changes : goal.returns-clause-changes
-returns-clause-changes g c = asks_and_changes c.args.cache.now c.step.new.cache c.free_node.new.cache c.free_node.result c.in_ok-way.ensures.asks c.free_node.ensures.changes
+returns-clause-changes g c = asks_and_changes c.args.cache.now c.step.new.cache c.free_node.new.cache
+    c.free_node.result c.in_ok-way.ensures.asks c.free_node.ensures.changes
 
 pub returns-clause-freed : goal.returns-clause-freed
 returns-clause-freed g c = λ map t at stands.
@@ -31,9 +36,12 @@ returns-clause-freed g c = λ map t at stands.
     let new = pages c.free_node.new.cache in
     let asks = c.in_ok-way.ensures.asks in
     let same = asks.map.pages_stay map.honest in
-    let level = c.in_ok-way.ensures.level map.honest (record { level = t.level; links = links_of t.row }) (root_fork D old c.args.root t at stands) in
-    (on_ok c.free_node.result (λ moves. moves_from old mid new (part_of t) no_page same (subst (λ (p : ℕ). Moves mid new (part_at p t.row) no_page) (sym at) moves))
-    (c.free_node.ensures.freed (asks.map.sound.0 map) _ t.row (root_node D old mid t c.args.root c.in_ok-way.way.level at level same stands)))
+    let level = c.in_ok-way.ensures.level map.honest (record { level = t.level; links = links_of t.row })
+        (root_fork D old c.args.root t at stands) in
+    (on_ok c.free_node.result (λ moves. moves_from old mid new (part_of t) no_page same
+        (subst (λ (p : ℕ). Moves mid new (part_at p t.row) no_page) (sym at) moves))
+    (c.free_node.ensures.freed (asks.map.sound.0 map) _ t.row
+        (root_node D old mid t c.args.root c.in_ok-way.way.level at level same stands)))
 
 pub returns-clause-sound : goal.returns-clause-sound
 returns-clause-sound g c = λ map t at stands.
@@ -41,8 +49,11 @@ returns-clause-sound g c = λ map t at stands.
     let old = pages c.args.cache.now in
     let mid = pages c.step.new.cache in
     let asks = c.in_ok-way.ensures.asks in
-    let level = c.in_ok-way.ensures.level map.honest (record { level = t.level; links = links_of t.row }) (root_fork D old c.args.root t at stands) in
-    c.free_node.ensures.sound (asks.map.sound.0 map) _ t.row (root_node D old mid t c.args.root c.in_ok-way.way.level at level (asks.map.pages_stay map.honest) stands)
+    let level = c.in_ok-way.ensures.level map.honest (record { level = t.level; links = links_of t.row })
+        (root_fork D old c.args.root t at stands) in
+    c.free_node.ensures.sound (asks.map.sound.0 map) _ t.row
+        (root_node D old mid t c.args.root c.in_ok-way.way.level at level (asks.map.pages_stay map.honest)
+        stands)
 
 pub returns-clause-faults : goal.returns-clause-faults
 returns-clause-faults g c = λ map t at stands.
@@ -50,5 +61,8 @@ returns-clause-faults g c = λ map t at stands.
     let old = pages c.args.cache.now in
     let mid = pages c.step.new.cache in
     let asks = c.in_ok-way.ensures.asks in
-    let level = c.in_ok-way.ensures.level map.honest (record { level = t.level; links = links_of t.row }) (root_fork D old c.args.root t at stands) in
-    (c.free_node.ensures.faults (asks.map.sound.0 map) _ t.row (root_node D old mid t c.args.root c.in_ok-way.way.level at level (asks.map.pages_stay map.honest) stands))
+    let level = c.in_ok-way.ensures.level map.honest (record { level = t.level; links = links_of t.row })
+        (root_fork D old c.args.root t at stands) in
+    (c.free_node.ensures.faults (asks.map.sound.0 map) _ t.row
+        (root_node D old mid t c.args.root c.in_ok-way.way.level at level (asks.map.pages_stay map.honest)
+        stands))

@@ -26,4 +26,6 @@ returns-clause-given g c = λ map live.
 pub returns-clause-sound : goal.returns-clause-sound
 returns-clause-sound g c = λ map live.
     let given = c.in_ok-number.ensures.given map in
-    c.put.ensures.sound (c.give_page.ensures.sound map) (still_live (pages c.args.cache.now) (pages c.give_page.new.cache) c.in_ok-number.number c.args.page c.args.second.now given live)
+    c.put.ensures.sound (c.give_page.ensures.sound map)
+        (still_live (pages c.args.cache.now) (pages c.give_page.new.cache) c.in_ok-number.number c.args.page
+        c.args.second.now given live)

@@ -9,10 +9,13 @@ returns g c = λ content is level.
     let count = count_of_fork g.row.D c.args.page.now content is in
     record {
       many = many;
-      key_is = λ other. sym (c.key_at.ensures.of_fork g.row.D content other is (omega (arith, count, c.requires.full, c.children_kept-many.ensures.some)));
-      upto = c.fork_upto.ensures.upto g.row.D content is ∙ ap (λ l. Some (record { level = l; links = take many content.links })) level;
+      key_is = λ other. sym (c.key_at.ensures.of_fork g.row.D content other is
+          (omega (arith, count, c.requires.full, c.children_kept-many.ensures.some)));
+      upto = c.fork_upto.ensures.upto g.row.D content is
+          ∙ ap (λ l. Some (record { level = l; links = take many content.links })) level;
       beyond = c.fork_beyond.ensures.beyond content is;
       large = c.children_kept-many.ensures.large;
       some = omega (arith, count, c.requires.full, c.children_kept-many.ensures.some);
-      rest = λ off. let rest = c.children_kept-many.ensures.rest off in omega (arith, count, c.requires.full, rest);
+      rest = λ off. let rest = c.children_kept-many.ensures.rest off in omega
+          (arith, count, c.requires.full, rest);
     }

@@ -12,7 +12,8 @@ returns g c = λ objects is single.
     let count = count_of_leaf g.row.D c.args.page.now objects is in
     let size = sizes g.row.D in
     let both = both_lengths key objects in
-    let under = c.key_with-key.ensures.parts objects is single (omega (arith, size.some, kept.large)) (omega (arith, count, c.requires.full, kept.some)) in
+    let under = c.key_with-key.ensures.parts objects is single (omega (arith, size.some, kept.large))
+        (omega (arith, count, c.requires.full, kept.some)) in
     record {
       under = c.leaf_under.ensures objects is;
       from = c.leaf_from.ensures objects is;

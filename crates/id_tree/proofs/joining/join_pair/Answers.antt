@@ -14,8 +14,10 @@ returns-in_err-fit-clause-faults g c = λ map edge row may.
     let p = c.args.pair.now in
     at_error c.from_residual.result c.in_err-fit.field-0.0 IsOfDevice c.from_residual.ensures.1
     (c.in_err-fit.ensures.there map.honest may.pair.at.one may.pair.at.two
-    (one_node D old c.args.page c.args.level edge row c.args.id p.fork p.left p.first p.second p.key p.last may)
-    (two_node D old c.args.page c.args.level edge row c.args.id p.fork p.left p.first p.second p.key p.last may))
+    (one_node D old c.args.page c.args.level edge row c.args.id p.fork p.left p.first p.second p.key p.last
+        may)
+    (two_node D old c.args.page c.args.level edge row c.args.id p.fork p.left p.first p.second p.key p.last
+        may))
 
 pub returns-then-fit-clause-made : goal.returns-then-fit-clause-made
 returns-then-fit-clause-made g c = λ map edge row may.
@@ -28,13 +30,16 @@ returns-then-fit-clause-made g c = λ map edge row may.
     let asks = c.in_ok-fit.ensures.asks in
     let same = asks.map.pages_stay map.honest in
     let p = c.args.pair.now in
-    let joins = join_same D old mid page level edge row id p.fork p.left p.first p.second p.key p.last same may in
+    let joins = join_same D old mid page level edge row id p.fork p.left p.first p.second p.key p.last same
+        may in
     let new = pages c.make_one.new.cache in
     let fit = c.in_ok-fit.ensures.fit map.honest may.pair.at.one may.pair.at.two
     (one_node D old page level edge row id p.fork p.left p.first p.second p.key p.last may)
     (two_node D old page level edge row id p.fork p.left p.first p.second p.key p.last may) c.if-fit.true in
-    if_ok c.make_one.result (λ r. MakesSpare D mid new page level edge row id r.0 r.1) (λ r. MakesSpare D old new page level edge row id r.0 r.1)
-    (λ r made. spare_from D old mid new page level edge row id r.0 r.1 same made) (c.make_one.ensures.made (asks.map.sound.0 map) c.args.id edge row joins fit)
+    if_ok c.make_one.result (λ r. MakesSpare D mid new page level edge row id r.0 r.1)
+        (λ r. MakesSpare D old new page level edge row id r.0 r.1)
+    (λ r made. spare_from D old mid new page level edge row id r.0 r.1 same made)
+        (c.make_one.ensures.made (asks.map.sound.0 map) c.args.id edge row joins fit)
 
 pub returns-then-fit-clause-sound : goal.returns-then-fit-clause-sound
 returns-then-fit-clause-sound g c = λ map edge row may.
@@ -47,7 +52,8 @@ returns-then-fit-clause-sound g c = λ map edge row may.
     let asks = c.in_ok-fit.ensures.asks in
     let same = asks.map.pages_stay map.honest in
     let p = c.args.pair.now in
-    let joins = join_same D old mid page level edge row id p.fork p.left p.first p.second p.key p.last same may in
+    let joins = join_same D old mid page level edge row id p.fork p.left p.first p.second p.key p.last same
+        may in
     c.make_one.ensures.sound (asks.map.sound.0 map) c.args.id edge row joins
 
 pub returns-then-fit-clause-faults : goal.returns-then-fit-clause-faults
@@ -61,7 +67,8 @@ returns-then-fit-clause-faults g c = λ map edge row may.
     let asks = c.in_ok-fit.ensures.asks in
     let same = asks.map.pages_stay map.honest in
     let p = c.args.pair.now in
-    let joins = join_same D old mid page level edge row id p.fork p.left p.first p.second p.key p.last same may in
+    let joins = join_same D old mid page level edge row id p.fork p.left p.first p.second p.key p.last same
+        may in
     let fit = c.in_ok-fit.ensures.fit map.honest may.pair.at.one may.pair.at.two
     (one_node D old page level edge row id p.fork p.left p.first p.second p.key p.last may)
     (two_node D old page level edge row id p.fork p.left p.first p.second p.key p.last may) c.if-fit.true in
@@ -78,13 +85,16 @@ returns-clause-made g c = λ map edge row may.
     let asks = c.in_ok-fit.ensures.asks in
     let same = asks.map.pages_stay map.honest in
     let p = c.args.pair.now in
-    let joins = join_same D old mid page level edge row id p.fork p.left p.first p.second p.key p.last same may in
+    let joins = join_same D old mid page level edge row id p.fork p.left p.first p.second p.key p.last same
+        may in
     let new = pages c.share.new.cache in
     let many = c.in_ok-fit.ensures.many map.honest may.pair.at.one may.pair.at.two
     (one_node D old page level edge row id p.fork p.left p.first p.second p.key p.last may)
     (two_node D old page level edge row id p.fork p.left p.first p.second p.key p.last may) c.if-fit.false in
-    if_ok c.share.result (λ r. MakesSpare D mid new page level edge row id r.0 r.1) (λ r. MakesSpare D old new page level edge row id r.0 r.1)
-    (λ r made. spare_from D old mid new page level edge row id r.0 r.1 same made) (c.share.ensures.made (asks.map.sound.0 map) edge row joins many)
+    if_ok c.share.result (λ r. MakesSpare D mid new page level edge row id r.0 r.1)
+        (λ r. MakesSpare D old new page level edge row id r.0 r.1)
+    (λ r made. spare_from D old mid new page level edge row id r.0 r.1 same made)
+        (c.share.ensures.made (asks.map.sound.0 map) edge row joins many)
 
 pub returns-clause-sound : goal.returns-clause-sound
 returns-clause-sound g c = λ map edge row may.
@@ -97,7 +107,8 @@ returns-clause-sound g c = λ map edge row may.
     let asks = c.in_ok-fit.ensures.asks in
     let same = asks.map.pages_stay map.honest in
     let p = c.args.pair.now in
-    let joins = join_same D old mid page level edge row id p.fork p.left p.first p.second p.key p.last same may in
+    let joins = join_same D old mid page level edge row id p.fork p.left p.first p.second p.key p.last same
+        may in
     c.share.ensures.sound (asks.map.sound.0 map) edge row joins
 
 pub returns-clause-faults : goal.returns-clause-faults
@@ -111,7 +122,8 @@ returns-clause-faults g c = λ map edge row may.
     let asks = c.in_ok-fit.ensures.asks in
     let same = asks.map.pages_stay map.honest in
     let p = c.args.pair.now in
-    let joins = join_same D old mid page level edge row id p.fork p.left p.first p.second p.key p.last same may in
+    let joins = join_same D old mid page level edge row id p.fork p.left p.first p.second p.key p.last same
+        may in
     let many = c.in_ok-fit.ensures.many map.honest may.pair.at.one may.pair.at.two
     (one_node D old page level edge row id p.fork p.left p.first p.second p.key p.last may)
     (two_node D old page level edge row id p.fork p.left p.first p.second p.key p.last may) c.if-fit.false in

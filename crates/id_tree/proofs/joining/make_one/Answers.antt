@@ -28,7 +28,8 @@ returns-in_err-put_joined-clause-sound g c = λ map id edge row may.
     let asks = c.in_ok-all.ensures.asks in
     let same = asks.map.pages_stay map.honest in
     let p = c.args.pair.now in
-    let joins = join_same D old mid page level edge row id p.fork p.left p.first p.second p.key p.last same may in
+    let joins = join_same D old mid page level edge row id p.fork p.left p.first p.second p.key p.last same
+        may in
     let apart = join_apart D mid page level edge row id p.fork p.left p.first p.second p.key p.last joins in
     c.put_joined.ensures.sound (asks.map.sound.0 map) apart
 
@@ -42,9 +43,11 @@ returns-in_err-put_joined-clause-faults g c = λ map id edge row may fit.
     let asks = c.in_ok-all.ensures.asks in
     let same = asks.map.pages_stay map.honest in
     let p = c.args.pair.now in
-    let joins = join_same D old mid page level edge row id p.fork p.left p.first p.second p.key p.last same may in
+    let joins = join_same D old mid page level edge row id p.fork p.left p.first p.second p.key p.last same
+        may in
     let apart = join_apart D mid page level edge row id p.fork p.left p.first p.second p.key p.last joins in
-    at_error c.from_residual-in_err-put_joined.result c.in_err-put_joined.field-0.0 IsOfDevice c.from_residual-in_err-put_joined.ensures.1
+    at_error c.from_residual-in_err-put_joined.result c.in_err-put_joined.field-0.0 IsOfDevice
+        c.from_residual-in_err-put_joined.ensures.1
     (c.in_err-put_joined.ensures.faults (asks.map.sound.0 map) apart)
 
 pub returns-clause-made : goal.returns-clause-made
@@ -57,14 +60,17 @@ returns-clause-made g c = λ map id edge row may fit.
     let asks = c.in_ok-all.ensures.asks in
     let same = asks.map.pages_stay map.honest in
     let p = c.args.pair.now in
-    let joins = join_same D old mid page level edge row id p.fork p.left p.first p.second p.key p.last same may in
+    let joins = join_same D old mid page level edge row id p.fork p.left p.first p.second p.key p.last same
+        may in
     let apart = join_apart D mid page level edge row id p.fork p.left p.first p.second p.key p.last joins in
     let new = pages c.put_joined.new.cache in
     let spells = c.in_ok-all.ensures.all map.honest may.pair.at.one may.pair.at.two
     (one_node D old c.args.page c.args.level edge row id p.fork p.left p.first p.second p.key p.last may)
-    (two_node D old c.args.page c.args.level edge row id p.fork p.left p.first p.second p.key p.last may) fit in
+    (two_node D old c.args.page c.args.level edge row id p.fork p.left p.first p.second p.key p.last may) fit
+        in
     spare_from D old mid new page level edge row id p.first p.last same
-    (joined_spare D mid page level edge row id p.fork p.left p.first p.second p.key p.last joins new c.in_ok-all.all spells (c.in_ok-put_joined.ensures.joined (asks.map.sound.0 map) apart))
+    (joined_spare D mid page level edge row id p.fork p.left p.first p.second p.key p.last joins new
+        c.in_ok-all.all spells (c.in_ok-put_joined.ensures.joined (asks.map.sound.0 map) apart))
 
 pub returns-clause-sound : goal.returns-clause-sound
 returns-clause-sound g c = λ map id edge row may.
@@ -76,6 +82,7 @@ returns-clause-sound g c = λ map id edge row may.
     let asks = c.in_ok-all.ensures.asks in
     let same = asks.map.pages_stay map.honest in
     let p = c.args.pair.now in
-    let joins = join_same D old mid page level edge row id p.fork p.left p.first p.second p.key p.last same may in
+    let joins = join_same D old mid page level edge row id p.fork p.left p.first p.second p.key p.last same
+        may in
     let apart = join_apart D mid page level edge row id p.fork p.left p.first p.second p.key p.last joins in
     c.put_joined.ensures.sound (asks.map.sound.0 map) apart

@@ -3,7 +3,8 @@ use Rattle.std.proofs.Common.{arith, false}
 use Rattle.page_cache.specs.Cache.{pages}
 use Rattle.page_file.specs.Fault.{IsOfDevice}
 use Rattle.node_page.proofs.NodeLemmas.{at_error}
-use Rattle.id_tree.proofs.JoinLemmas.{join_apart, join_neighbours, join_same, shared_left, shared_right, spare_from}
+use Rattle.id_tree.proofs.JoinLemmas.{join_apart, join_neighbours, join_same, shared_left, shared_right}
+use Rattle.id_tree.proofs.JoinLemmas.{spare_from}
 use Rattle.id_tree.proofs.joining.share.Goals as goal
 
 pub returns-in_err-cut-clause-sound : goal.returns-in_err-cut-clause-sound
@@ -15,7 +16,9 @@ returns-in_err-cut-clause-faults g c = λ map edge row may many.
     let old = pages c.args.cache.now in
     let p = c.args.pair.now in
     at_error c.from_residual.result c.in_err-cut.field-0.0 IsOfDevice c.from_residual.ensures.1
-    (c.in_err-cut.ensures.there map.honest p.last may.pair.at.one may.pair.at.two (join_neighbours D old c.args.page c.args.level edge row c.args.id p.fork p.left p.first p.second p.key p.last may) many)
+    (c.in_err-cut.ensures.there map.honest p.last may.pair.at.one may.pair.at.two
+        (join_neighbours D old c.args.page c.args.level edge row c.args.id p.fork p.left p.first p.second
+        p.key p.last may) many)
 
 pub returns-in_err-put_shares-clause-sound : goal.returns-in_err-put_shares-clause-sound
 returns-in_err-put_shares-clause-sound g c = λ map edge row may.
@@ -27,8 +30,10 @@ returns-in_err-put_shares-clause-sound g c = λ map edge row may.
     let asks = c.in_ok-cut.ensures.asks in
     let same = asks.map.pages_stay map.honest in
     let p = c.args.pair.now in
-    let joins = join_same D old mid page level edge row c.args.id p.fork p.left p.first p.second p.key p.last same may in
-    let apart = join_apart D mid page level edge row c.args.id p.fork p.left p.first p.second p.key p.last joins in
+    let joins = join_same D old mid page level edge row c.args.id p.fork p.left p.first p.second p.key p.last
+        same may in
+    let apart = join_apart D mid page level edge row c.args.id p.fork p.left p.first p.second p.key p.last
+        joins in
     c.put_shares.ensures.sound (asks.map.sound.0 map) apart
 
 pub returns-in_err-put_shares-clause-faults : goal.returns-in_err-put_shares-clause-faults
@@ -41,9 +46,12 @@ returns-in_err-put_shares-clause-faults g c = λ map edge row may many.
     let asks = c.in_ok-cut.ensures.asks in
     let same = asks.map.pages_stay map.honest in
     let p = c.args.pair.now in
-    let joins = join_same D old mid page level edge row c.args.id p.fork p.left p.first p.second p.key p.last same may in
-    let apart = join_apart D mid page level edge row c.args.id p.fork p.left p.first p.second p.key p.last joins in
-    at_error c.from_residual-in_err-put_shares.result c.in_err-put_shares.field-0.0 IsOfDevice c.from_residual-in_err-put_shares.ensures.1
+    let joins = join_same D old mid page level edge row c.args.id p.fork p.left p.first p.second p.key p.last
+        same may in
+    let apart = join_apart D mid page level edge row c.args.id p.fork p.left p.first p.second p.key p.last
+        joins in
+    at_error c.from_residual-in_err-put_shares.result c.in_err-put_shares.field-0.0 IsOfDevice
+        c.from_residual-in_err-put_shares.ensures.1
     (c.in_err-put_shares.ensures.faults (asks.map.sound.0 map) apart)
 
 pub returns-then-id-cut-clause-made : goal.returns-then-id-cut-clause-made
@@ -56,14 +64,21 @@ returns-then-id-cut-clause-made g c = λ map edge row may many.
     let asks = c.in_ok-cut.ensures.asks in
     let same = asks.map.pages_stay map.honest in
     let p = c.args.pair.now in
-    let joins = join_same D old mid page level edge row c.args.id p.fork p.left p.first p.second p.key p.last same may in
-    let apart = join_apart D mid page level edge row c.args.id p.fork p.left p.first p.second p.key p.last joins in
+    let joins = join_same D old mid page level edge row c.args.id p.fork p.left p.first p.second p.key p.last
+        same may in
+    let apart = join_apart D mid page level edge row c.args.id p.fork p.left p.first p.second p.key p.last
+        joins in
     let new = pages c.put_shares.new.cache in
     let cut = c.in_ok-cut.cut in
-    let cuts = c.in_ok-cut.ensures.cuts map.honest p.last may.pair.at.one may.pair.at.two (join_neighbours D old c.args.page c.args.level edge row c.args.id p.fork p.left p.first p.second p.key p.last may) many in
-    let balanced = c.in_ok-cut.ensures.balanced map.honest p.last may.pair.at.one may.pair.at.two (join_neighbours D old c.args.page c.args.level edge row c.args.id p.fork p.left p.first p.second p.key p.last may) many in
+    let cuts = c.in_ok-cut.ensures.cuts map.honest p.last may.pair.at.one may.pair.at.two
+        (join_neighbours D old c.args.page c.args.level edge row c.args.id p.fork p.left p.first p.second
+        p.key p.last may) many in
+    let balanced = c.in_ok-cut.ensures.balanced map.honest p.last may.pair.at.one may.pair.at.two
+        (join_neighbours D old c.args.page c.args.level edge row c.args.id p.fork p.left p.first p.second
+        p.key p.last may) many in
     spare_from D old mid new page level edge row c.args.id p.first false same
-    (shared_left D mid page level edge row c.args.id p.fork p.left p.first p.second p.key p.last joins new cut.key cut.first cut.second cuts balanced
+    (shared_left D mid page level edge row c.args.id p.fork p.left p.first p.second p.key p.last joins new
+        cut.key cut.first cut.second cuts balanced
     (c.in_ok-put_shares.ensures.shared (asks.map.sound.0 map) apart) c.if-id-cut.true)
 
 pub returns-then-id-cut-clause-sound : goal.returns-then-id-cut-clause-sound
@@ -76,8 +91,10 @@ returns-then-id-cut-clause-sound g c = λ map edge row may.
     let asks = c.in_ok-cut.ensures.asks in
     let same = asks.map.pages_stay map.honest in
     let p = c.args.pair.now in
-    let joins = join_same D old mid page level edge row c.args.id p.fork p.left p.first p.second p.key p.last same may in
-    let apart = join_apart D mid page level edge row c.args.id p.fork p.left p.first p.second p.key p.last joins in
+    let joins = join_same D old mid page level edge row c.args.id p.fork p.left p.first p.second p.key p.last
+        same may in
+    let apart = join_apart D mid page level edge row c.args.id p.fork p.left p.first p.second p.key p.last
+        joins in
     c.put_shares.ensures.sound (asks.map.sound.0 map) apart
 
 pub returns-clause-made : goal.returns-clause-made
@@ -90,14 +107,21 @@ returns-clause-made g c = λ map edge row may many.
     let asks = c.in_ok-cut.ensures.asks in
     let same = asks.map.pages_stay map.honest in
     let p = c.args.pair.now in
-    let joins = join_same D old mid page level edge row c.args.id p.fork p.left p.first p.second p.key p.last same may in
-    let apart = join_apart D mid page level edge row c.args.id p.fork p.left p.first p.second p.key p.last joins in
+    let joins = join_same D old mid page level edge row c.args.id p.fork p.left p.first p.second p.key p.last
+        same may in
+    let apart = join_apart D mid page level edge row c.args.id p.fork p.left p.first p.second p.key p.last
+        joins in
     let new = pages c.put_shares.new.cache in
     let cut = c.in_ok-cut.cut in
-    let cuts = c.in_ok-cut.ensures.cuts map.honest p.last may.pair.at.one may.pair.at.two (join_neighbours D old c.args.page c.args.level edge row c.args.id p.fork p.left p.first p.second p.key p.last may) many in
-    let balanced = c.in_ok-cut.ensures.balanced map.honest p.last may.pair.at.one may.pair.at.two (join_neighbours D old c.args.page c.args.level edge row c.args.id p.fork p.left p.first p.second p.key p.last may) many in
+    let cuts = c.in_ok-cut.ensures.cuts map.honest p.last may.pair.at.one may.pair.at.two
+        (join_neighbours D old c.args.page c.args.level edge row c.args.id p.fork p.left p.first p.second
+        p.key p.last may) many in
+    let balanced = c.in_ok-cut.ensures.balanced map.honest p.last may.pair.at.one may.pair.at.two
+        (join_neighbours D old c.args.page c.args.level edge row c.args.id p.fork p.left p.first p.second
+        p.key p.last may) many in
     spare_from D old mid new page level edge row c.args.id p.second p.last same
-    (shared_right D mid page level edge row c.args.id p.fork p.left p.first p.second p.key p.last joins new cut.key cut.first cut.second cuts balanced
+    (shared_right D mid page level edge row c.args.id p.fork p.left p.first p.second p.key p.last joins new
+        cut.key cut.first cut.second cuts balanced
     (c.in_ok-put_shares.ensures.shared (asks.map.sound.0 map) apart) (omega (arith, c.if-id-cut.false)))
 
 pub returns-clause-sound : goal.returns-clause-sound
@@ -110,6 +134,8 @@ returns-clause-sound g c = λ map edge row may.
     let asks = c.in_ok-cut.ensures.asks in
     let same = asks.map.pages_stay map.honest in
     let p = c.args.pair.now in
-    let joins = join_same D old mid page level edge row c.args.id p.fork p.left p.first p.second p.key p.last same may in
-    let apart = join_apart D mid page level edge row c.args.id p.fork p.left p.first p.second p.key p.last joins in
+    let joins = join_same D old mid page level edge row c.args.id p.fork p.left p.first p.second p.key p.last
+        same may in
+    let apart = join_apart D mid page level edge row c.args.id p.fork p.left p.first p.second p.key p.last
+        joins in
     c.put_shares.ensures.sound (asks.map.sound.0 map) apart

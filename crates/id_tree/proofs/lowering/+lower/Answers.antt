@@ -2,22 +2,27 @@
 use Rattle.std.proofs.Common.{◌≡◌, ℕ, ◌<◌, ◌≤◌, ◌-◌, ◌∙◌, None, length, subst, sym, true, refl, arith}
 use Rattle.page_file.specs.Fault.{IsOfDevice}
 use Rattle.page_cache.specs.Cache.{pages}
-use Rattle.page_cache.specs.Calls.{asks_and_gives_up, asks_changes, changes_and_refuses, changes_in_turn, fault_in, no_call_asks}
+use Rattle.page_cache.specs.Calls.{asks_and_gives_up, asks_changes, changes_and_refuses, changes_in_turn}
+use Rattle.page_cache.specs.Calls.{fault_in, no_call_asks}
 use Rattle.node_page.proofs.NodeLemmas.{at_error, on_ok}
 use Rattle.id_tree.specs.Joining.{Lifts, MayFree}
 use Rattle.id_tree.specs.Tree.{links_of}
-use Rattle.id_tree.proofs.RemoveLemmas.{lower_same, lowers_from, lowers_more, lowers_none, may_free_child, may_lower_child, named_child, only_child}
+use Rattle.id_tree.proofs.RemoveLemmas.{lower_same, lowers_from, lowers_more, lowers_none, may_free_child}
+use Rattle.id_tree.proofs.RemoveLemmas.{may_lower_child, named_child, only_child}
 use Rattle.id_tree.proofs.SeekLemmas.{keys_ascend, no_route}
 use Rattle.id_tree.proofs.lowering.+lower.Goals as goal
 
 pub returns-then-level-le1-clause-lowered : goal.returns-then-level-le1-clause-lowered
 returns-then-level-le1-clause-lowered g t c = λ map row may.
     let m = pages c.args.cache.now in
-    lowers_none g.row.D m m c.args.root c.args.level row (λ n. refl) may (λ two. absurd (omega (arith, two, c.if-level-le1.true)))
+    lowers_none g.row.D m m c.args.root c.args.level row (λ n. refl) may
+        (λ two. absurd (omega (arith, two, c.if-level-le1.true)))
 
 pub returns-in_err-way-clause-changes : goal.returns-in_err-way-clause-changes
 returns-in_err-way-clause-changes g t c =
-    asks_and_gives_up c.args.cache.now c.args.cache.now c.step.new.cache c.in_err-way.field-0.0 c.from_residual.result c.from_residual.ensures.1 (no_call_asks c.args.cache.now) c.in_err-way.ensures.asks
+    asks_and_gives_up c.args.cache.now c.args.cache.now c.step.new.cache c.in_err-way.field-0.0
+        c.from_residual.result c.from_residual.ensures.1 (no_call_asks c.args.cache.now)
+        c.in_err-way.ensures.asks
 
 pub returns-in_err-way-clause-sound : goal.returns-in_err-way-clause-sound
 returns-in_err-way-clause-sound g t c = λ map row may. c.in_err-way.ensures.asks.map.sound.0 map
@@ -25,10 +30,12 @@ returns-in_err-way-clause-sound g t c = λ map row may. c.in_err-way.ensures.ask
 pub returns-in_err-way-clause-faults : goal.returns-in_err-way-clause-faults
 returns-in_err-way-clause-faults g t c = λ map row may.
     at_error c.from_residual.result c.in_err-way.field-0.0 IsOfDevice c.from_residual.ensures.1
-    (c.in_err-way.ensures.there map.honest (record { level = c.args.level; links = links_of row }) (may.stands.node.fork may.high))
+    (c.in_err-way.ensures.there map.honest (record { level = c.args.level; links = links_of row })
+        (may.stands.node.fork may.high))
 
 pub returns-then-way-ne1-clause-changes : goal.returns-then-way-ne1-clause-changes
-returns-then-way-ne1-clause-changes g t c = asks_changes c.args.cache.now c.step.new.cache None c.in_ok-way.ensures.asks
+returns-then-way-ne1-clause-changes g t c = asks_changes c.args.cache.now c.step.new.cache None
+    c.in_ok-way.ensures.asks
 
 pub returns-then-way-ne1-clause-sound : goal.returns-then-way-ne1-clause-sound
 returns-then-way-ne1-clause-sound g t c = λ map row may. c.in_ok-way.ensures.asks.map.sound.0 map
@@ -46,7 +53,8 @@ returns-then-way-ne1-clause-lowered g t c = λ map row may.
     let map1 = asks.map.sound.0 map in
     let fork = may.stands.node.fork may.high in
     let count = c.in_ok-way.ensures.count map.honest (record { level = level; links = links_of row }) fork in
-    lowers_none D old mid root level row same may (λ up. two_or_more (length (links_of row)) may.some (λ is. c.if-way-ne1.true (count ∙ is)))
+    lowers_none D old mid root level row same may (λ up. two_or_more (length (links_of row)) may.some
+        (λ is. c.if-way-ne1.true (count ∙ is)))
   where
     two_or_more : (n : ℕ) → 0 < n → ¬ (n ≡ 1) → 2 ≤ n
     two_or_more n some other = omega arith
@@ -65,14 +73,17 @@ returns-in_default-clause-faults g t c = λ map row may.
     let fork = may.stands.node.fork may.high in
     let count = c.in_ok-way.ensures.count map.honest (record { level = level; links = links_of row }) fork in
     let ascend = keys_ascend D old root level true row may.high may.stands in
-    let named = c.in_ok-way.ensures.child map.honest (record { level = level; links = links_of row }) fork ascend in
+    let named = c.in_ok-way.ensures.child map.honest (record { level = level; links = links_of row }) fork
+        ascend in
     let none = no_route 0 (links_of row) (sym c.in_default.is ∙ named) in
     absurd (omega (arith, none, may.some))
 
 pub returns-in_err-lift-clause-changes : goal.returns-in_err-lift-clause-changes
 returns-in_err-lift-clause-changes g t c =
-    changes_and_refuses c.args.cache.now c.step.new.cache c.lift.new.cache c.in_err-lift.field-0.0 c.from_residual-in_err-lift.result c.from_residual-in_err-lift.ensures.1
-    (asks_changes c.args.cache.now c.step.new.cache None c.in_ok-way.ensures.asks) c.in_err-lift.ensures.changes
+    changes_and_refuses c.args.cache.now c.step.new.cache c.lift.new.cache c.in_err-lift.field-0.0
+        c.from_residual-in_err-lift.result c.from_residual-in_err-lift.ensures.1
+    (asks_changes c.args.cache.now c.step.new.cache None c.in_ok-way.ensures.asks)
+        c.in_err-lift.ensures.changes
 
 pub returns-in_err-lift-clause-sound : goal.returns-in_err-lift-clause-sound
 returns-in_err-lift-clause-sound g t c = λ map row may.
@@ -88,11 +99,15 @@ returns-in_err-lift-clause-sound g t c = λ map row may.
     let fork = may.stands.node.fork may.high in
     let count = c.in_ok-way.ensures.count map.honest (record { level = level; links = links_of row }) fork in
     let ascend = keys_ascend D old root level true row may.high may.stands in
-    let named = c.in_ok-way.ensures.child map.honest (record { level = level; links = links_of row }) fork ascend in
-    let one = only_child D old level row may.high may.stands.below (omega (arith, count, c.if-way-ne1.false)) in
-    let is = named_child D old root level row c.in_ok-way.way.child c.in-Some.child may one named c.in-Some.is in
+    let named = c.in_ok-way.ensures.child map.honest (record { level = level; links = links_of row }) fork
+        ascend in
+    let one = only_child D old level row may.high may.stands.below (omega (arith, count, c.if-way-ne1.false))
+        in
+    let is = named_child D old root level row c.in_ok-way.way.child c.in-Some.child may one named c.in-Some.is
+        in
     let may1 = lower_same D old mid root level row same may in
-    let free : MayFree mid root c.in-Some.child = subst (MayFree mid root) (sym is) (may_free_child D mid root level row may1 one) in
+    let free : MayFree mid root c.in-Some.child = subst (MayFree mid root) (sym is)
+        (may_free_child D mid root level row may1 one) in
     c.lift.ensures.sound map1 free
 
 pub returns-in_err-lift-clause-faults : goal.returns-in_err-lift-clause-faults
@@ -109,17 +124,24 @@ returns-in_err-lift-clause-faults g t c = λ map row may.
     let fork = may.stands.node.fork may.high in
     let count = c.in_ok-way.ensures.count map.honest (record { level = level; links = links_of row }) fork in
     let ascend = keys_ascend D old root level true row may.high may.stands in
-    let named = c.in_ok-way.ensures.child map.honest (record { level = level; links = links_of row }) fork ascend in
-    let one = only_child D old level row may.high may.stands.below (omega (arith, count, c.if-way-ne1.false)) in
-    let is = named_child D old root level row c.in_ok-way.way.child c.in-Some.child may one named c.in-Some.is in
+    let named = c.in_ok-way.ensures.child map.honest (record { level = level; links = links_of row }) fork
+        ascend in
+    let one = only_child D old level row may.high may.stands.below (omega (arith, count, c.if-way-ne1.false))
+        in
+    let is = named_child D old root level row c.in_ok-way.way.child c.in-Some.child may one named c.in-Some.is
+        in
     let may1 = lower_same D old mid root level row same may in
-    let free : MayFree mid root c.in-Some.child = subst (MayFree mid root) (sym is) (may_free_child D mid root level row may1 one) in
-    at_error c.from_residual-in_err-lift.result c.in_err-lift.field-0.0 IsOfDevice c.from_residual-in_err-lift.ensures.1 (c.in_err-lift.ensures.faults map1 free)
+    let free : MayFree mid root c.in-Some.child = subst (MayFree mid root) (sym is)
+        (may_free_child D mid root level row may1 one) in
+    at_error c.from_residual-in_err-lift.result c.in_err-lift.field-0.0 IsOfDevice
+        c.from_residual-in_err-lift.ensures.1 (c.in_err-lift.ensures.faults map1 free)
 
 pub returns-clause-changes : goal.returns-clause-changes
 returns-clause-changes g t c =
     changes_in_turn c.args.cache.now c.lift.new.cache c.lower.new.cache (fault_in c.lower.result)
-    (changes_in_turn c.args.cache.now c.step.new.cache c.lift.new.cache None (asks_changes c.args.cache.now c.step.new.cache None c.in_ok-way.ensures.asks) c.in_ok-lift.ensures.changes)
+    (changes_in_turn c.args.cache.now c.step.new.cache c.lift.new.cache None
+        (asks_changes c.args.cache.now c.step.new.cache None c.in_ok-way.ensures.asks)
+        c.in_ok-lift.ensures.changes)
     c.lower.ensures.changes
 
 pub returns-clause-lowered : goal.returns-clause-lowered
@@ -136,16 +158,23 @@ returns-clause-lowered g t c = λ map row may.
     let fork = may.stands.node.fork may.high in
     let count = c.in_ok-way.ensures.count map.honest (record { level = level; links = links_of row }) fork in
     let ascend = keys_ascend D old root level true row may.high may.stands in
-    let named = c.in_ok-way.ensures.child map.honest (record { level = level; links = links_of row }) fork ascend in
-    let one = only_child D old level row may.high may.stands.below (omega (arith, count, c.if-way-ne1.false)) in
-    let is = named_child D old root level row c.in_ok-way.way.child c.in-Some.child may one named c.in-Some.is in
+    let named = c.in_ok-way.ensures.child map.honest (record { level = level; links = links_of row }) fork
+        ascend in
+    let one = only_child D old level row may.high may.stands.below (omega (arith, count, c.if-way-ne1.false))
+        in
+    let is = named_child D old root level row c.in_ok-way.way.child c.in-Some.child may one named c.in-Some.is
+        in
     let may1 = lower_same D old mid root level row same may in
-    let free : MayFree mid root c.in-Some.child = subst (MayFree mid root) (sym is) (may_free_child D mid root level row may1 one) in
+    let free : MayFree mid root c.in-Some.child = subst (MayFree mid root) (sym is)
+        (may_free_child D mid root level row may1 one) in
     let lifts = subst (Lifts mid (pages c.lift.new.cache) root) is (c.in_ok-lift.ensures.lifted map1 free) in
     let map2 = c.lift.ensures.sound map1 free in
-    let below = may_lower_child D mid root level row may1 one (pages c.lift.new.cache) lifts.bytes lifts.was lifts.puts two in
+    let below = may_lower_child D mid root level row may1 one (pages c.lift.new.cache) lifts.bytes lifts.was
+        lifts.puts two in
     let new = pages c.lower.new.cache in
-    on_ok c.lower.result (λ w. lowers_from D old mid new root level row same (lowers_more D mid root level row may1 one (pages c.lift.new.cache) lifts.bytes lifts.was lifts.puts two new w)) (c.lower.ensures.lowered map2 one.below below)
+    on_ok c.lower.result (λ w. lowers_from D old mid new root level row same
+        (lowers_more D mid root level row may1 one (pages c.lift.new.cache) lifts.bytes lifts.was lifts.puts
+        two new w)) (c.lower.ensures.lowered map2 one.below below)
 
 pub returns-clause-sound : goal.returns-clause-sound
 returns-clause-sound g t c = λ map row may.
@@ -161,14 +190,19 @@ returns-clause-sound g t c = λ map row may.
     let fork = may.stands.node.fork may.high in
     let count = c.in_ok-way.ensures.count map.honest (record { level = level; links = links_of row }) fork in
     let ascend = keys_ascend D old root level true row may.high may.stands in
-    let named = c.in_ok-way.ensures.child map.honest (record { level = level; links = links_of row }) fork ascend in
-    let one = only_child D old level row may.high may.stands.below (omega (arith, count, c.if-way-ne1.false)) in
-    let is = named_child D old root level row c.in_ok-way.way.child c.in-Some.child may one named c.in-Some.is in
+    let named = c.in_ok-way.ensures.child map.honest (record { level = level; links = links_of row }) fork
+        ascend in
+    let one = only_child D old level row may.high may.stands.below (omega (arith, count, c.if-way-ne1.false))
+        in
+    let is = named_child D old root level row c.in_ok-way.way.child c.in-Some.child may one named c.in-Some.is
+        in
     let may1 = lower_same D old mid root level row same may in
-    let free : MayFree mid root c.in-Some.child = subst (MayFree mid root) (sym is) (may_free_child D mid root level row may1 one) in
+    let free : MayFree mid root c.in-Some.child = subst (MayFree mid root) (sym is)
+        (may_free_child D mid root level row may1 one) in
     let lifts = subst (Lifts mid (pages c.lift.new.cache) root) is (c.in_ok-lift.ensures.lifted map1 free) in
     let map2 = c.lift.ensures.sound map1 free in
-    let below = may_lower_child D mid root level row may1 one (pages c.lift.new.cache) lifts.bytes lifts.was lifts.puts two in
+    let below = may_lower_child D mid root level row may1 one (pages c.lift.new.cache) lifts.bytes lifts.was
+        lifts.puts two in
     c.lower.ensures.sound map2 one.below below
 
 pub returns-clause-faults : goal.returns-clause-faults
@@ -185,12 +219,17 @@ returns-clause-faults g t c = λ map row may.
     let fork = may.stands.node.fork may.high in
     let count = c.in_ok-way.ensures.count map.honest (record { level = level; links = links_of row }) fork in
     let ascend = keys_ascend D old root level true row may.high may.stands in
-    let named = c.in_ok-way.ensures.child map.honest (record { level = level; links = links_of row }) fork ascend in
-    let one = only_child D old level row may.high may.stands.below (omega (arith, count, c.if-way-ne1.false)) in
-    let is = named_child D old root level row c.in_ok-way.way.child c.in-Some.child may one named c.in-Some.is in
+    let named = c.in_ok-way.ensures.child map.honest (record { level = level; links = links_of row }) fork
+        ascend in
+    let one = only_child D old level row may.high may.stands.below (omega (arith, count, c.if-way-ne1.false))
+        in
+    let is = named_child D old root level row c.in_ok-way.way.child c.in-Some.child may one named c.in-Some.is
+        in
     let may1 = lower_same D old mid root level row same may in
-    let free : MayFree mid root c.in-Some.child = subst (MayFree mid root) (sym is) (may_free_child D mid root level row may1 one) in
+    let free : MayFree mid root c.in-Some.child = subst (MayFree mid root) (sym is)
+        (may_free_child D mid root level row may1 one) in
     let lifts = subst (Lifts mid (pages c.lift.new.cache) root) is (c.in_ok-lift.ensures.lifted map1 free) in
     let map2 = c.lift.ensures.sound map1 free in
-    let below = may_lower_child D mid root level row may1 one (pages c.lift.new.cache) lifts.bytes lifts.was lifts.puts two in
+    let below = may_lower_child D mid root level row may1 one (pages c.lift.new.cache) lifts.bytes lifts.was
+        lifts.puts two in
     c.lower.ensures.faults map2 one.below below

@@ -7,7 +7,8 @@ use Rattle.id_tree.proofs.lowering.lift.Goals as goal
 
 pub returns-in_err-bytes-clause-faults : goal.returns-in_err-bytes-clause-faults
 returns-in_err-bytes-clause-faults g c = λ map may.
-    at_error c.from_residual.result c.in_err-bytes.field-0.0 IsOfDevice c.from_residual.ensures.1 (c.in_err-bytes.ensures.there map.honest may.second_live)
+    at_error c.from_residual.result c.in_err-bytes.field-0.0 IsOfDevice c.from_residual.ensures.1
+        (c.in_err-bytes.ensures.there map.honest may.second_live)
 
 pub returns-clause-lifted : goal.returns-clause-lifted
 returns-clause-lifted g c = λ map may.
@@ -20,14 +21,19 @@ returns-clause-lifted g c = λ map may.
       bytes = c.in_ok-bytes.bytes;
       was = c.in_ok-bytes.ensures.bytes map.honest may.second_live;
       puts = puts_from old mid new c.args.root c.args.child c.in_ok-bytes.bytes same puts;
-    }) (c.put_and_free.ensures.done (asks.map.sound.0 map) (free_same old mid c.args.root c.args.child same may))
+    }) (c.put_and_free.ensures.done (asks.map.sound.0 map)
+        (free_same old mid c.args.root c.args.child same may))
 
 pub returns-clause-sound : goal.returns-clause-sound
 returns-clause-sound g c = λ map may.
     let asks = c.in_ok-bytes.ensures.asks in
-    c.put_and_free.ensures.sound (asks.map.sound.0 map) (free_same (pages c.args.cache.now) (pages c.copy_page.new.cache) c.args.root c.args.child (asks.map.pages_stay map.honest) may)
+    c.put_and_free.ensures.sound (asks.map.sound.0 map)
+        (free_same (pages c.args.cache.now) (pages c.copy_page.new.cache) c.args.root c.args.child
+        (asks.map.pages_stay map.honest) may)
 
 pub returns-clause-faults : goal.returns-clause-faults
 returns-clause-faults g c = λ map may.
     let asks = c.in_ok-bytes.ensures.asks in
-    c.put_and_free.ensures.faults (asks.map.sound.0 map) (free_same (pages c.args.cache.now) (pages c.copy_page.new.cache) c.args.root c.args.child (asks.map.pages_stay map.honest) may)
+    c.put_and_free.ensures.faults (asks.map.sound.0 map)
+        (free_same (pages c.args.cache.now) (pages c.copy_page.new.cache) c.args.root c.args.child
+        (asks.map.pages_stay map.honest) may)

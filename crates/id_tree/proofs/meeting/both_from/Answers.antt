@@ -10,5 +10,7 @@ returns g c = λ xs ys one two room.
     let key = c.args.key in
     let sum = from-append key xs ys in
     let long = length-append (from_key key xs) (from_key key ys) in
-    let first = c.append_from.ensures.appended [] xs c.start_leaf.ensures.empty one (omega (arith, room, ap length sum, long)) in
-    c.append_from-2.ensures.appended (from_key key xs) ys first two (omega (arith, room, ap length sum, long)) ∙ ap (λ (zs : List Entry). Some zs) (sym sum)
+    let first = c.append_from.ensures.appended [] xs c.start_leaf.ensures.empty one
+        (omega (arith, room, ap length sum, long)) in
+    c.append_from-2.ensures.appended (from_key key xs) ys first two (omega (arith, room, ap length sum, long))
+        ∙ ap (λ (zs : List Entry). Some zs) (sym sum)

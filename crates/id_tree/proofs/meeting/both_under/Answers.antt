@@ -10,5 +10,7 @@ returns g c = λ xs ys one two room.
     let key = c.args.key in
     let sum = under-append key xs ys in
     let long = length-append (under_key key xs) (under_key key ys) in
-    let first = c.append_under.ensures.appended [] xs c.start_leaf.ensures.empty one (omega (arith, room, ap length sum, long)) in
-    c.append_under-2.ensures.appended (under_key key xs) ys first two (omega (arith, room, ap length sum, long)) ∙ ap (λ (zs : List Entry). Some zs) (sym sum)
+    let first = c.append_under.ensures.appended [] xs c.start_leaf.ensures.empty one
+        (omega (arith, room, ap length sum, long)) in
+    c.append_under-2.ensures.appended (under_key key xs) ys first two
+        (omega (arith, room, ap length sum, long)) ∙ ap (λ (zs : List Entry). Some zs) (sym sum)

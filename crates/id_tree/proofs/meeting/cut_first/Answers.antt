@@ -10,4 +10,6 @@ returns-clause-key g c = λ content other is.
 
 pub returns-clause-second : goal.returns-clause-second
 returns-clause-second g c = λ content more is two.
-    c.append_links.ensures.appended g.row.D (record { level = c.args.level; links = drop c.args.many content.links }) more (c.fork_beyond-second.ensures.beyond content is) two
+    c.append_links.ensures.appended g.row.D (record
+        { level = c.args.level; links = drop c.args.many content.links }) more
+        (c.fork_beyond-second.ensures.beyond content is) two

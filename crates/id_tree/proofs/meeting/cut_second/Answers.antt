@@ -11,4 +11,5 @@ returns-clause-key g c = λ more other is.
 
 pub returns-clause-first : goal.returns-clause-first
 returns-clause-first g c = λ content more is two.
-    c.append_links.ensures.appended g.row.D content (with_links more (take c.args.many more.links)) is (c.fork_upto-upto.ensures.upto g.row.D more two)
+    c.append_links.ensures.appended g.row.D content (with_links more (take c.args.many more.links)) is
+        (c.fork_upto-upto.ensures.upto g.row.D more two)

@@ -11,14 +11,18 @@ use Rattle.id_tree.proofs.meeting.fit_together.Goals as goal
 pub returns-in_err-one-clause-there : goal.returns-in_err-one-clause-there
 returns-in_err-one-clause-there g c = λ h one two node_one node_two.
     at_error c.from_residual.result c.in_err-one.field-0.0 IsOfDevice c.from_residual.ensures.1
-    (c.in_err-one.ensures.there h (node_there g.row.D (pages c.args.cache.now) c.args.first c.args.level one node_one))
+    (c.in_err-one.ensures.there h (node_there g.row.D (pages c.args.cache.now) c.args.first c.args.level one
+        node_one))
 
 pub returns-in_err-two-clause-there : goal.returns-in_err-two-clause-there
 returns-in_err-two-clause-there g c = λ h one two node_one node_two.
     let asks = c.in_ok-one.ensures.asks in
     let live = node_there g.row.D (pages c.args.cache.now) c.args.second c.args.level two node_two in
-    at_error c.from_residual-in_err-two.result c.in_err-two.field-0.0 IsOfDevice c.from_residual-in_err-two.ensures.1
-    (c.in_err-two.ensures.there (asks.gate.honest.0 h) (live_same (pages c.args.cache.now) (pages c.count_in.new.cache) c.args.second (asks.map.pages_stay h) live))
+    at_error c.from_residual-in_err-two.result c.in_err-two.field-0.0 IsOfDevice
+        c.from_residual-in_err-two.ensures.1
+    (c.in_err-two.ensures.there (asks.gate.honest.0 h)
+        (live_same (pages c.args.cache.now) (pages c.count_in.new.cache) c.args.second (asks.map.pages_stay h)
+        live))
 
 pub returns-then-level-eq0-clause-fit : goal.returns-then-level-eq0-clause-fit
 returns-then-level-eq0-clause-fit g c = λ h one two node_one node_two yes.
@@ -32,11 +36,13 @@ returns-then-level-eq0-clause-fit g c = λ h one two node_one node_two yes.
     let a = there_bytes D old first level one node_one in
     let b = there_bytes D old second level two node_two in
     let count_one = c.in_ok-one.ensures.count h a.0 a.1 in
-    let count_two = c.in_ok-two.ensures.count (asks.gate.honest.0 h) b.0 (asks.map.pages_stay h second ∙ b.1) in
+    let count_two = c.in_ok-two.ensures.count (asks.gate.honest.0 h) b.0 (asks.map.pages_stay h second ∙ b.1)
+        in
     let long_one = leaf_counted D old first level one a.0 node_one low a.1 in
     let long_two = leaf_counted D old second level two b.0 node_two low b.1 in
     let f = c.fit_in.ensures.fit yes in
-    record { leaf = λ is. omega (arith, f, count_one, count_two, long_one, long_two, c.objects_that_fit.ensures); fork = λ high. absurd (omega (arith, high, low)) }
+    record { leaf = λ is. omega (arith, f, count_one, count_two, long_one, long_two,
+        c.objects_that_fit.ensures); fork = λ high. absurd (omega (arith, high, low)) }
 
 pub returns-then-level-eq0-clause-many : goal.returns-then-level-eq0-clause-many
 returns-then-level-eq0-clause-many g c = λ h one two node_one node_two no.
@@ -50,11 +56,13 @@ returns-then-level-eq0-clause-many g c = λ h one two node_one node_two no.
     let a = there_bytes D old first level one node_one in
     let b = there_bytes D old second level two node_two in
     let count_one = c.in_ok-one.ensures.count h a.0 a.1 in
-    let count_two = c.in_ok-two.ensures.count (asks.gate.honest.0 h) b.0 (asks.map.pages_stay h second ∙ b.1) in
+    let count_two = c.in_ok-two.ensures.count (asks.gate.honest.0 h) b.0 (asks.map.pages_stay h second ∙ b.1)
+        in
     let long_one = leaf_counted D old first level one a.0 node_one low a.1 in
     let long_two = leaf_counted D old second level two b.0 node_two low b.1 in
     let f = c.fit_in.ensures.many no in
-    record { leaf = λ is. omega (arith, f, count_one, count_two, long_one, long_two, c.objects_that_fit.ensures); fork = λ high. absurd (omega (arith, high, low)) }
+    record { leaf = λ is. omega (arith, f, count_one, count_two, long_one, long_two,
+        c.objects_that_fit.ensures); fork = λ high. absurd (omega (arith, high, low)) }
 
 pub returns-clause-fit : goal.returns-clause-fit
 returns-clause-fit g c = λ h one two node_one node_two yes.
@@ -68,11 +76,13 @@ returns-clause-fit g c = λ h one two node_one node_two yes.
     let a = there_bytes D old first level one node_one in
     let b = there_bytes D old second level two node_two in
     let count_one = c.in_ok-one.ensures.count h a.0 a.1 in
-    let count_two = c.in_ok-two.ensures.count (asks.gate.honest.0 h) b.0 (asks.map.pages_stay h second ∙ b.1) in
+    let count_two = c.in_ok-two.ensures.count (asks.gate.honest.0 h) b.0 (asks.map.pages_stay h second ∙ b.1)
+        in
     let long_one = fork_counted D old first level one a.0 node_one up a.1 in
     let long_two = fork_counted D old second level two b.0 node_two up b.1 in
     let f = c.fit_in-2.ensures.fit yes in
-    record { leaf = λ is. absurd (omega (arith, is, up)); fork = λ high. omega (arith, f, count_one, count_two, long_one, long_two) }
+    record { leaf = λ is. absurd (omega (arith, is, up)); fork = λ high. omega
+        (arith, f, count_one, count_two, long_one, long_two) }
 
 pub returns-clause-many : goal.returns-clause-many
 returns-clause-many g c = λ h one two node_one node_two no.
@@ -86,8 +96,10 @@ returns-clause-many g c = λ h one two node_one node_two no.
     let a = there_bytes D old first level one node_one in
     let b = there_bytes D old second level two node_two in
     let count_one = c.in_ok-one.ensures.count h a.0 a.1 in
-    let count_two = c.in_ok-two.ensures.count (asks.gate.honest.0 h) b.0 (asks.map.pages_stay h second ∙ b.1) in
+    let count_two = c.in_ok-two.ensures.count (asks.gate.honest.0 h) b.0 (asks.map.pages_stay h second ∙ b.1)
+        in
     let long_one = fork_counted D old first level one a.0 node_one up a.1 in
     let long_two = fork_counted D old second level two b.0 node_two up b.1 in
     let f = c.fit_in-2.ensures.many no in
-    record { leaf = λ is. absurd (omega (arith, is, up)); fork = λ high. omega (arith, f, count_one, count_two, long_one, long_two) }
+    record { leaf = λ is. absurd (omega (arith, is, up)); fork = λ high. omega
+        (arith, f, count_one, count_two, long_one, long_two) }

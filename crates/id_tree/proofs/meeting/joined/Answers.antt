@@ -16,14 +16,18 @@ use Rattle.id_tree.proofs.meeting.joined.Goals as goal
 pub returns-in_err-one-clause-there : goal.returns-in_err-one-clause-there
 returns-in_err-one-clause-there g c = λ h one two node_one node_two fit.
     at_error c.from_residual.result c.in_err-one.field-0.0 IsOfDevice c.from_residual.ensures.1
-    (c.in_err-one.ensures.there h (node_there g.row.D (pages c.args.cache.now) c.args.first c.args.level one node_one))
+    (c.in_err-one.ensures.there h (node_there g.row.D (pages c.args.cache.now) c.args.first c.args.level one
+        node_one))
 
 pub returns-in_err-two-clause-there : goal.returns-in_err-two-clause-there
 returns-in_err-two-clause-there g c = λ h one two node_one node_two fit.
     let asks = c.in_ok-one.ensures.asks in
     let live = node_there g.row.D (pages c.args.cache.now) c.args.second c.args.level two node_two in
-    at_error c.from_residual-in_err-two.result c.in_err-two.field-0.0 IsOfDevice c.from_residual-in_err-two.ensures.1
-    (c.in_err-two.ensures.there (asks.gate.honest.0 h) (live_same (pages c.args.cache.now) (pages c.copy_page.new.cache) c.args.second (asks.map.pages_stay h) live))
+    at_error c.from_residual-in_err-two.result c.in_err-two.field-0.0 IsOfDevice
+        c.from_residual-in_err-two.ensures.1
+    (c.in_err-two.ensures.there (asks.gate.honest.0 h)
+        (live_same (pages c.args.cache.now) (pages c.copy_page.new.cache) c.args.second
+        (asks.map.pages_stay h) live))
 
 pub returns-then-not-fit_in-clause-there : goal.returns-then-not-fit_in-clause-there
 returns-then-not-fit_in-clause-there g c = λ h one two node_one node_two fit.
@@ -35,13 +39,17 @@ returns-then-not-fit_in-clause-there g c = λ h one two node_one node_two fit.
     let asks = c.in_ok-one.ensures.asks in
     let same = asks.map.pages_stay h in
     let there_one = c.in_ok-one.ensures.bytes h (node_there D old first level one node_one) in
-    let there_two = sym (same second) ∙ c.in_ok-two.ensures.bytes (asks.gate.honest.0 h) (live_same old (pages c.copy_page.new.cache) second same (node_there D old second level two node_two)) in
+    let there_two = sym (same second) ∙ c.in_ok-two.ensures.bytes (asks.gate.honest.0 h)
+        (live_same old (pages c.copy_page.new.cache) second same (node_there D old second level two node_two))
+        in
     let low = c.if-level-eq0.true in
     let one_is = leaf_bytes D (old first) c.in_ok-one.one (objects_in one) there_one (node_one.leaf low) in
     let two_is = leaf_bytes D (old second) c.in_ok-two.two (objects_in two) there_two (node_two.leaf low) in
     let few = fit.leaf low in
     let many = c.fit_in.ensures.many c.if-not-fit_in.true in
-    absurd (omega (arith, few, many, c.count_at.ensures.value, c.count_at-then-level-eq0.ensures.value, count_of_leaf D c.in_ok-one.one (objects_in one) one_is, count_of_leaf D c.in_ok-two.two (objects_in two) two_is, c.objects_that_fit.ensures))
+    absurd (omega (arith, few, many, c.count_at.ensures.value, c.count_at-then-level-eq0.ensures.value,
+        count_of_leaf D c.in_ok-one.one (objects_in one) one_is, count_of_leaf D c.in_ok-two.two
+        (objects_in two) two_is, c.objects_that_fit.ensures))
 
 pub returns-then-level-eq0-clause-all : goal.returns-then-level-eq0-clause-all
 returns-then-level-eq0-clause-all g c = λ h one two node_one node_two fit.
@@ -53,12 +61,15 @@ returns-then-level-eq0-clause-all g c = λ h one two node_one node_two fit.
     let asks = c.in_ok-one.ensures.asks in
     let same = asks.map.pages_stay h in
     let there_one = c.in_ok-one.ensures.bytes h (node_there D old first level one node_one) in
-    let there_two = sym (same second) ∙ c.in_ok-two.ensures.bytes (asks.gate.honest.0 h) (live_same old (pages c.copy_page.new.cache) second same (node_there D old second level two node_two)) in
+    let there_two = sym (same second) ∙ c.in_ok-two.ensures.bytes (asks.gate.honest.0 h)
+        (live_same old (pages c.copy_page.new.cache) second same (node_there D old second level two node_two))
+        in
     let low = c.if-level-eq0.true in
     let one_is = leaf_bytes D (old first) c.in_ok-one.one (objects_in one) there_one (node_one.leaf low) in
     let two_is = leaf_bytes D (old second) c.in_ok-two.two (objects_in two) there_two (node_two.leaf low) in
     record {
-      leaf = λ is. c.joined_leaf.ensures (objects_in one) (objects_in two) one_is two_is ∙ ap (λ (xs : List Entry). Some xs) (sym (objects-met c.args.key one two));
+      leaf = λ is. c.joined_leaf.ensures (objects_in one) (objects_in two) one_is two_is
+          ∙ ap (λ (xs : List Entry). Some xs) (sym (objects-met c.args.key one two));
       fork = λ high. absurd (omega (arith, high, low));
     }
 
@@ -72,7 +83,9 @@ returns-then-not-fit_in-2-clause-there g c = λ h one two node_one node_two fit.
     let asks = c.in_ok-one.ensures.asks in
     let same = asks.map.pages_stay h in
     let there_one = c.in_ok-one.ensures.bytes h (node_there D old first level one node_one) in
-    let there_two = sym (same second) ∙ c.in_ok-two.ensures.bytes (asks.gate.honest.0 h) (live_same old (pages c.copy_page.new.cache) second same (node_there D old second level two node_two)) in
+    let there_two = sym (same second) ∙ c.in_ok-two.ensures.bytes (asks.gate.honest.0 h)
+        (live_same old (pages c.copy_page.new.cache) second same (node_there D old second level two node_two))
+        in
     let up : 0 < level = omega (arith, c.if-level-eq0.false) in
     let a : ForkContent = record { level = level; links = links_of one } in
     let b : ForkContent = record { level = level; links = links_of two } in
@@ -80,7 +93,8 @@ returns-then-not-fit_in-2-clause-there g c = λ h one two node_one node_two fit.
     let two_is = fork_bytes D (old second) c.in_ok-two.two b there_two (node_two.fork up) in
     let few = fit.fork up in
     let many = c.fit_in-2.ensures.many c.if-not-fit_in-2.true in
-    absurd (omega (arith, few, many, c.count_at-2.ensures.value, c.count_at-3.ensures.value, count_of_fork D c.in_ok-one.one a one_is, count_of_fork D c.in_ok-two.two b two_is))
+    absurd (omega (arith, few, many, c.count_at-2.ensures.value, c.count_at-3.ensures.value, count_of_fork D
+        c.in_ok-one.one a one_is, count_of_fork D c.in_ok-two.two b two_is))
 
 pub returns-clause-all : goal.returns-clause-all
 returns-clause-all g c = λ h one two node_one node_two fit.
@@ -92,7 +106,9 @@ returns-clause-all g c = λ h one two node_one node_two fit.
     let asks = c.in_ok-one.ensures.asks in
     let same = asks.map.pages_stay h in
     let there_one = c.in_ok-one.ensures.bytes h (node_there D old first level one node_one) in
-    let there_two = sym (same second) ∙ c.in_ok-two.ensures.bytes (asks.gate.honest.0 h) (live_same old (pages c.copy_page.new.cache) second same (node_there D old second level two node_two)) in
+    let there_two = sym (same second) ∙ c.in_ok-two.ensures.bytes (asks.gate.honest.0 h)
+        (live_same old (pages c.copy_page.new.cache) second same (node_there D old second level two node_two))
+        in
     let up : 0 < level = omega (arith, c.if-level-eq0.false) in
     let a : ForkContent = record { level = level; links = links_of one } in
     let b : ForkContent = record { level = level; links = links_of two } in
@@ -100,5 +116,7 @@ returns-clause-all g c = λ h one two node_one node_two fit.
     let two_is = fork_bytes D (old second) c.in_ok-two.two b there_two (node_two.fork up) in
     record {
       leaf = λ is. absurd (omega (arith, is, up));
-      fork = λ high. c.joined_fork.ensures D a b one_is two_is ∙ ap (λ (ls : List Link). Some (record { level = level; links = ls })) (sym (links-met c.args.key one two));
+      fork = λ high. c.joined_fork.ensures D a b one_is two_is
+          ∙ ap (λ (ls : List Link). Some (record { level = level; links = ls }))
+          (sym (links-met c.args.key one two));
     }

@@ -19,14 +19,18 @@ use Rattle.id_tree.proofs.meeting.shared.Goals as goal
 pub returns-in_err-one-clause-there : goal.returns-in_err-one-clause-there
 returns-in_err-one-clause-there g c = λ h edge one two n many.
     at_error c.from_residual.result c.in_err-one.field-0.0 IsOfDevice c.from_residual.ensures.1
-    (c.in_err-one.ensures.there h (node_there g.row.D (pages c.args.cache.now) c.args.first c.args.level one n.one_stands.node))
+    (c.in_err-one.ensures.there h (node_there g.row.D (pages c.args.cache.now) c.args.first c.args.level one
+        n.one_stands.node))
 
 pub returns-in_err-two-clause-there : goal.returns-in_err-two-clause-there
 returns-in_err-two-clause-there g c = λ h edge one two n many.
     let asks = c.in_ok-one.ensures.asks in
     let live = node_there g.row.D (pages c.args.cache.now) c.args.second c.args.level two n.two_stands.node in
-    at_error c.from_residual-in_err-two.result c.in_err-two.field-0.0 IsOfDevice c.from_residual-in_err-two.ensures.1
-    (c.in_err-two.ensures.there (asks.gate.honest.0 h) (live_same (pages c.args.cache.now) (pages c.copy_page.new.cache) c.args.second (asks.map.pages_stay h) live))
+    at_error c.from_residual-in_err-two.result c.in_err-two.field-0.0 IsOfDevice
+        c.from_residual-in_err-two.ensures.1
+    (c.in_err-two.ensures.there (asks.gate.honest.0 h)
+        (live_same (pages c.args.cache.now) (pages c.copy_page.new.cache) c.args.second
+        (asks.map.pages_stay h) live))
 
 pub returns-then-not-are_many-clause-there : goal.returns-then-not-are_many-clause-there
 returns-then-not-are_many-clause-there g c = λ h edge one two n many.
@@ -39,15 +43,23 @@ returns-then-not-are_many-clause-there g c = λ h edge one two n many.
     let asks = c.in_ok-one.ensures.asks in
     let same = asks.map.pages_stay h in
     let there_one = c.in_ok-one.ensures.bytes h (node_there D old first level one n.one_stands.node) in
-    let there_two = sym (same second) ∙ c.in_ok-two.ensures.bytes (asks.gate.honest.0 h) (live_same old (pages c.copy_page.new.cache) second same (node_there D old second level two n.two_stands.node)) in
+    let there_two = sym (same second) ∙ c.in_ok-two.ensures.bytes (asks.gate.honest.0 h)
+        (live_same old (pages c.copy_page.new.cache) second same
+        (node_there D old second level two n.two_stands.node)) in
     let low = c.if-level-eq0.true in
-    let one_is = leaf_bytes D (old first) c.in_ok-one.one (objects_in one) there_one (n.one_stands.node.leaf low) in
-    let two_is = leaf_bytes D (old second) c.in_ok-two.two (objects_in two) there_two (n.two_stands.node.leaf low) in
+    let one_is = leaf_bytes D (old first) c.in_ok-one.one (objects_in one) there_one
+        (n.one_stands.node.leaf low) in
+    let two_is = leaf_bytes D (old second) c.in_ok-two.two (objects_in two) there_two
+        (n.two_stands.node.leaf low) in
     let some = many.leaf low in
     let few_one = (leaf_spells D c.in_ok-one.one (objects_in one) one_is).head.few in
     let few_two = (leaf_spells D c.in_ok-two.two (objects_in two) two_is).head.few in
-    let yes = c.are_many.ensures.accepts (omega (arith, few_one, c.count_at.ensures.value, c.objects_that_fit.ensures)) (omega (arith, few_two, c.count_at-then-level-eq0.ensures.value, c.objects_that_fit.ensures))
-    (omega (arith, some, c.count_at.ensures.value, c.count_at-then-level-eq0.ensures.value, count_of_leaf D c.in_ok-one.one (objects_in one) one_is, count_of_leaf D c.in_ok-two.two (objects_in two) two_is, c.objects_that_fit.ensures)) in
+    let yes = c.are_many.ensures.accepts (omega (arith, few_one, c.count_at.ensures.value,
+        c.objects_that_fit.ensures)) (omega (arith, few_two, c.count_at-then-level-eq0.ensures.value,
+        c.objects_that_fit.ensures))
+    (omega (arith, some, c.count_at.ensures.value, c.count_at-then-level-eq0.ensures.value, count_of_leaf D
+        c.in_ok-one.one (objects_in one) one_is, count_of_leaf D c.in_ok-two.two (objects_in two) two_is,
+        c.objects_that_fit.ensures)) in
     absurd (cc)
 
 pub returns-then-level-eq0-clause-cuts : goal.returns-then-level-eq0-clause-cuts
@@ -61,15 +73,20 @@ returns-then-level-eq0-clause-cuts g c = λ h edge one two n many.
     let asks = c.in_ok-one.ensures.asks in
     let same = asks.map.pages_stay h in
     let there_one = c.in_ok-one.ensures.bytes h (node_there D old first level one n.one_stands.node) in
-    let there_two = sym (same second) ∙ c.in_ok-two.ensures.bytes (asks.gate.honest.0 h) (live_same old (pages c.copy_page.new.cache) second same (node_there D old second level two n.two_stands.node)) in
+    let there_two = sym (same second) ∙ c.in_ok-two.ensures.bytes (asks.gate.honest.0 h)
+        (live_same old (pages c.copy_page.new.cache) second same
+        (node_there D old second level two n.two_stands.node)) in
     let low = c.if-level-eq0.true in
-    let one_is = leaf_bytes D (old first) c.in_ok-one.one (objects_in one) there_one (n.one_stands.node.leaf low) in
-    let two_is = leaf_bytes D (old second) c.in_ok-two.two (objects_in two) there_two (n.two_stands.node.leaf low) in
+    let one_is = leaf_bytes D (old first) c.in_ok-one.one (objects_in one) there_one
+        (n.one_stands.node.leaf low) in
+    let two_is = leaf_bytes D (old second) c.in_ok-two.two (objects_in two) there_two
+        (n.two_stands.node.leaf low) in
     let r = c.shared_leaf.result in
     let stands = met_stands D old level edge first second key one two n in
     cut_of_leaf D old level edge (met key one two) r.key r.first r.second low stands
     (subst (λ xs. CutsLeaf D edge xs r.key r.first r.second) (sym (objects-met key one two))
-    (c.shared_leaf.ensures.cuts edge (objects_in one) (objects_in two) one_is two_is n.single n.lesser n.from))
+    (c.shared_leaf.ensures.cuts edge (objects_in one) (objects_in two) one_is two_is n.single n.lesser
+        n.from))
 
 pub returns-then-level-eq0-clause-balanced : goal.returns-then-level-eq0-clause-balanced
 returns-then-level-eq0-clause-balanced g c = λ h edge one two n many.
@@ -82,12 +99,18 @@ returns-then-level-eq0-clause-balanced g c = λ h edge one two n many.
     let asks = c.in_ok-one.ensures.asks in
     let same = asks.map.pages_stay h in
     let there_one = c.in_ok-one.ensures.bytes h (node_there D old first level one n.one_stands.node) in
-    let there_two = sym (same second) ∙ c.in_ok-two.ensures.bytes (asks.gate.honest.0 h) (live_same old (pages c.copy_page.new.cache) second same (node_there D old second level two n.two_stands.node)) in
+    let there_two = sym (same second) ∙ c.in_ok-two.ensures.bytes (asks.gate.honest.0 h)
+        (live_same old (pages c.copy_page.new.cache) second same
+        (node_there D old second level two n.two_stands.node)) in
     let low = c.if-level-eq0.true in
-    let one_is = leaf_bytes D (old first) c.in_ok-one.one (objects_in one) there_one (n.one_stands.node.leaf low) in
-    let two_is = leaf_bytes D (old second) c.in_ok-two.two (objects_in two) there_two (n.two_stands.node.leaf low) in
+    let one_is = leaf_bytes D (old first) c.in_ok-one.one (objects_in one) there_one
+        (n.one_stands.node.leaf low) in
+    let two_is = leaf_bytes D (old second) c.in_ok-two.two (objects_in two) there_two
+        (n.two_stands.node.leaf low) in
     let r = c.shared_leaf.result in
-    subst (λ l. IsBalanced D l r.first r.second) (sym low) (c.shared_leaf.ensures.balanced (objects_in one) (objects_in two) one_is two_is n.single n.lesser n.from)
+    subst (λ l. IsBalanced D l r.first r.second) (sym low)
+        (c.shared_leaf.ensures.balanced (objects_in one) (objects_in two) one_is two_is n.single n.lesser
+        n.from)
 
 pub returns-then-not-are_many-2-clause-there : goal.returns-then-not-are_many-2-clause-there
 returns-then-not-are_many-2-clause-there g c = λ h edge one two n many.
@@ -100,7 +123,9 @@ returns-then-not-are_many-2-clause-there g c = λ h edge one two n many.
     let asks = c.in_ok-one.ensures.asks in
     let same = asks.map.pages_stay h in
     let there_one = c.in_ok-one.ensures.bytes h (node_there D old first level one n.one_stands.node) in
-    let there_two = sym (same second) ∙ c.in_ok-two.ensures.bytes (asks.gate.honest.0 h) (live_same old (pages c.copy_page.new.cache) second same (node_there D old second level two n.two_stands.node)) in
+    let there_two = sym (same second) ∙ c.in_ok-two.ensures.bytes (asks.gate.honest.0 h)
+        (live_same old (pages c.copy_page.new.cache) second same
+        (node_there D old second level two n.two_stands.node)) in
     let up : 0 < level = omega (arith, c.if-level-eq0.false) in
     let a : ForkContent = record { level = level; links = links_of one } in
     let b : ForkContent = record { level = level; links = links_of two } in
@@ -109,8 +134,10 @@ returns-then-not-are_many-2-clause-there g c = λ h edge one two n many.
     let some = many.fork up in
     let few_one = (fork_spells D c.in_ok-one.one a one_is).head.few in
     let few_two = (fork_spells D c.in_ok-two.two b two_is).head.few in
-    let yes = c.are_many-2.ensures.accepts (omega (arith, few_one, c.count_at-2.ensures.value)) (omega (arith, few_two, c.count_at-3.ensures.value))
-    (omega (arith, some, c.count_at-2.ensures.value, c.count_at-3.ensures.value, count_of_fork D c.in_ok-one.one a one_is, count_of_fork D c.in_ok-two.two b two_is)) in
+    let yes = c.are_many-2.ensures.accepts (omega (arith, few_one, c.count_at-2.ensures.value))
+        (omega (arith, few_two, c.count_at-3.ensures.value))
+    (omega (arith, some, c.count_at-2.ensures.value, c.count_at-3.ensures.value, count_of_fork D
+        c.in_ok-one.one a one_is, count_of_fork D c.in_ok-two.two b two_is)) in
     absurd (cc)
 
 pub returns-clause-cuts : goal.returns-clause-cuts
@@ -124,16 +151,21 @@ returns-clause-cuts g c = λ h edge one two n many.
     let asks = c.in_ok-one.ensures.asks in
     let same = asks.map.pages_stay h in
     let there_one = c.in_ok-one.ensures.bytes h (node_there D old first level one n.one_stands.node) in
-    let there_two = sym (same second) ∙ c.in_ok-two.ensures.bytes (asks.gate.honest.0 h) (live_same old (pages c.copy_page.new.cache) second same (node_there D old second level two n.two_stands.node)) in
+    let there_two = sym (same second) ∙ c.in_ok-two.ensures.bytes (asks.gate.honest.0 h)
+        (live_same old (pages c.copy_page.new.cache) second same
+        (node_there D old second level two n.two_stands.node)) in
     let up : 0 < level = omega (arith, c.if-level-eq0.false) in
     let a : ForkContent = record { level = level; links = links_of one } in
     let b : ForkContent = record { level = level; links = links_of two } in
     let one_is = fork_bytes D (old first) c.in_ok-one.one a there_one (n.one_stands.node.fork up) in
     let two_is = fork_bytes D (old second) c.in_ok-two.two b there_two (n.two_stands.node.fork up) in
     let r = c.shared_fork.result in
-    fork_cut D old level edge (met key one two) r.key r.first r.second up (met_stands D old level edge first second key one two n)
-    (met_parted D old level edge first second key one two n) (met_filled D old level edge first second key one two n)
-    (subst (λ ls. CutsFork D level edge ls r.key r.first r.second) (sym (links-met key one two)) (c.shared_fork.ensures.cuts edge a b one_is refl two_is refl))
+    fork_cut D old level edge (met key one two) r.key r.first r.second up
+        (met_stands D old level edge first second key one two n)
+    (met_parted D old level edge first second key one two n)
+        (met_filled D old level edge first second key one two n)
+    (subst (λ ls. CutsFork D level edge ls r.key r.first r.second) (sym (links-met key one two))
+        (c.shared_fork.ensures.cuts edge a b one_is refl two_is refl))
 
 pub returns-clause-balanced : goal.returns-clause-balanced
 returns-clause-balanced g c = λ h edge one two n many.
@@ -146,7 +178,9 @@ returns-clause-balanced g c = λ h edge one two n many.
     let asks = c.in_ok-one.ensures.asks in
     let same = asks.map.pages_stay h in
     let there_one = c.in_ok-one.ensures.bytes h (node_there D old first level one n.one_stands.node) in
-    let there_two = sym (same second) ∙ c.in_ok-two.ensures.bytes (asks.gate.honest.0 h) (live_same old (pages c.copy_page.new.cache) second same (node_there D old second level two n.two_stands.node)) in
+    let there_two = sym (same second) ∙ c.in_ok-two.ensures.bytes (asks.gate.honest.0 h)
+        (live_same old (pages c.copy_page.new.cache) second same
+        (node_there D old second level two n.two_stands.node)) in
     let up : 0 < level = omega (arith, c.if-level-eq0.false) in
     let a : ForkContent = record { level = level; links = links_of one } in
     let b : ForkContent = record { level = level; links = links_of two } in

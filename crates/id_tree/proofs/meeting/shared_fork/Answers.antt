@@ -1,5 +1,6 @@
 -- The cut is before a child of the first fork, or of the second one.
-use Rattle.std.proofs.Common.{◌≡◌, ◌∙◌, ◌<◌, ◌+◌, ◌-◌, ◌/◌, ◌++◌, List, Some, drop, take, length, ap, arith, length-append, length-drop}
+use Rattle.std.proofs.Common.{◌≡◌, ◌∙◌, ◌<◌, ◌+◌, ◌-◌, ◌/◌, ◌++◌, List, Some, drop, take, length, ap, arith}
+use Rattle.std.proofs.Common.{length-append, length-drop}
 use Rattle.std.proofs.lemmas.List.{length-take-le}
 use Rattle.id_page.specs.Fork.{ForkContent, Link, with_links}
 use Rattle.id_page.proofs.ForkReading.{count_of_fork}
@@ -20,10 +21,16 @@ returns-then-many-count-clause-cuts g c = λ edge content d one level_is two d_l
     let count = c.count_at-count.ensures.value in
     let other_count = c.count_at.ensures.value in
     let m = (c.count_at-count.result + c.count_at.result) / 2 in
-    fork_first D level edge content.links ys c.cut_first.result.key m c.cut_first.result.first c.cut_first.result.second
-    (omega (arith, a, b, same, c.requires.many)) (omega (arith, count, other_count, c.requires.few_one, c.requires.few_two)) (omega (arith, count, other_count, c.requires.many)) (omega (arith, a, b, same, count, other_count, c.requires.many)) (omega (arith, a, count, c.if-many-count.true))
+    fork_first D level edge content.links ys c.cut_first.result.key m c.cut_first.result.first
+        c.cut_first.result.second
+    (omega (arith, a, b, same, c.requires.many)) (omega
+        (arith, count, other_count, c.requires.few_one, c.requires.few_two))
+        (omega (arith, count, other_count, c.requires.many))
+        (omega (arith, a, b, same, count, other_count, c.requires.many))
+        (omega (arith, a, count, c.if-many-count.true))
     (λ other. c.cut_first.ensures.key content other one)
-    (c.cut_first.ensures.first content one ∙ ap (λ l. Some (record { level = l; links = take m content.links })) level_is)
+    (c.cut_first.ensures.first content one ∙ ap (λ l. Some
+        (record { level = l; links = take m content.links })) level_is)
     (c.cut_first.ensures.second content (with_links d ys) one behind)
 
 pub returns-then-many-count-clause-balanced : goal.returns-then-many-count-clause-balanced
@@ -41,9 +48,12 @@ returns-then-many-count-clause-balanced g c = λ content d one two.
     let front = length-take-le m content.links (omega (arith, a, count, c.if-many-count.true)) in
     let back = length-drop m content.links in
     let sum = length-append (drop m content.links) ys in
-    fork_balanced D level c.cut_first.result.first c.cut_first.result.second (with_links content (take m content.links)) (record { level = level; links = drop m content.links ++ ys }) c.requires.high
+    fork_balanced D level c.cut_first.result.first c.cut_first.result.second
+        (with_links content (take m content.links))
+        (record { level = level; links = drop m content.links ++ ys }) c.requires.high
     (c.cut_first.ensures.first content one) (c.cut_first.ensures.second content (with_links d ys) one behind)
-    (omega (arith, front, count, other_count, c.requires.many)) (omega (arith, sum, back, same, a, b, count, other_count, c.requires.many, c.if-many-count.true))
+    (omega (arith, front, count, other_count, c.requires.many))
+        (omega (arith, sum, back, same, a, b, count, other_count, c.requires.many, c.if-many-count.true))
 
 pub returns-clause-cuts : goal.returns-clause-cuts
 returns-clause-cuts g c = λ edge content d one level_is two d_level.
@@ -58,10 +68,16 @@ returns-clause-cuts g c = λ edge content d one level_is two d_level.
     let other_count = c.count_at.ensures.value in
     let m = (c.count_at-count.result + c.count_at.result) / 2 in
     let n = m - c.count_at-count.result in
-    fork_second D level edge content.links ys c.cut_second.result.key m c.cut_second.result.first c.cut_second.result.second
-    (omega (arith, a, b, same, c.requires.many)) (omega (arith, count, other_count, c.requires.few_one, c.requires.few_two)) (omega (arith, count, other_count, c.requires.many)) (omega (arith, a, b, same, count, other_count, c.requires.many)) n (omega (arith, a, count, c.if-many-count.false))
+    fork_second D level edge content.links ys c.cut_second.result.key m c.cut_second.result.first
+        c.cut_second.result.second
+    (omega (arith, a, b, same, c.requires.many)) (omega
+        (arith, count, other_count, c.requires.few_one, c.requires.few_two))
+        (omega (arith, count, other_count, c.requires.many))
+        (omega (arith, a, b, same, count, other_count, c.requires.many)) n
+        (omega (arith, a, count, c.if-many-count.false))
     (λ other. c.cut_second.ensures.key (with_links d ys) other behind)
-    (c.cut_second.ensures.first content (with_links d ys) one behind ∙ ap (λ l. Some (record { level = l; links = content.links ++ take n ys })) level_is)
+    (c.cut_second.ensures.first content (with_links d ys) one behind
+        ∙ ap (λ l. Some (record { level = l; links = content.links ++ take n ys })) level_is)
     (c.cut_second.ensures.second (with_links d ys) behind)
 
 pub returns-clause-balanced : goal.returns-clause-balanced
@@ -77,9 +93,14 @@ returns-clause-balanced g c = λ content d one two.
     let other_count = c.count_at.ensures.value in
     let m = (c.count_at-count.result + c.count_at.result) / 2 in
     let n = m - c.count_at-count.result in
-    let front = length-take-le n ys (omega (arith, a, b, same, count, other_count, c.requires.many, c.if-many-count.false)) in
+    let front = length-take-le n ys (omega (arith, a, b, same, count, other_count, c.requires.many,
+        c.if-many-count.false)) in
     let back = length-drop n ys in
     let sum = length-append content.links (take n ys) in
-    fork_balanced D level c.cut_second.result.first c.cut_second.result.second (with_links content (content.links ++ take n ys)) (record { level = level; links = drop n ys }) c.requires.high
-    (c.cut_second.ensures.first content (with_links d ys) one behind) (c.cut_second.ensures.second (with_links d ys) behind)
-    (omega (arith, sum, front, a, count, other_count, c.requires.many, c.if-many-count.false)) (omega (arith, back, same, a, b, count, other_count, c.requires.many, c.if-many-count.false))
+    fork_balanced D level c.cut_second.result.first c.cut_second.result.second
+        (with_links content (content.links ++ take n ys)) (record { level = level; links = drop n ys })
+        c.requires.high
+    (c.cut_second.ensures.first content (with_links d ys) one behind)
+        (c.cut_second.ensures.second (with_links d ys) behind)
+    (omega (arith, sum, front, a, count, other_count, c.requires.many, c.if-many-count.false))
+        (omega (arith, back, same, a, b, count, other_count, c.requires.many, c.if-many-count.false))

@@ -6,4 +6,5 @@ use Rattle.id_tree.proofs.moving.set_where_there.Goals as goal
 pub returns-then-count_at-objects_that_fit : goal.returns-then-count_at-objects_that_fit
 returns-then-count_at-objects_that_fit g c = λ objects is within.
     let spells = leaf_spells g.row.D c.args.page.now objects is in
-    absurd (omega (arith, spells.head.few, c.count_at.ensures.value, c.objects_that_fit.ensures, c.if-count_at-objects_that_fit.true))
+    absurd (omega (arith, spells.head.few, c.count_at.ensures.value, c.objects_that_fit.ensures,
+        c.if-count_at-objects_that_fit.true))

@@ -14,5 +14,7 @@ returns-clause-taken g c = λ h objects other there within.
     let old = c.args.cache.now in
     let n = c.args.number in
     let was = bytes_of_leaf D (pages old n) objects there in
-    ok_of c.edit.result (c.edit.ensures.edited h was.0 (a_live_page_is_given old n was.0 was.1)) (λ answer did.
-    ap (leaf_in D) (did.2 (there_of_leaf D (pages old n) objects there)) ∙ ap (leaf_at D) (sym did.3.leaves) ∙ did.3.met objects other (ap (leaf_at D) did.3.shows ∙ was.2) within)
+    ok_of c.edit.result (c.edit.ensures.edited h was.0 (a_live_page_is_given old n was.0 was.1))
+        (λ answer did.
+    ap (leaf_in D) (did.2 (there_of_leaf D (pages old n) objects there)) ∙ ap (leaf_at D) (sym did.3.leaves)
+        ∙ did.3.met objects other (ap (leaf_at D) did.3.shows ∙ was.2) within)

@@ -7,34 +7,46 @@ use Rattle.id_page.specs.Fork.{ForkContent, Link}
 use Rattle.id_page.proofs.ForkReading.{count_of_fork, fork_spells, some_link}
 use Rattle.id_tree.specs.Tree.{links_of}
 use Rattle.id_tree.proofs.NodeLemmas.{fork_bytes, node_there}
-use Rattle.id_tree.proofs.PairLemmas.{first_link, is_pair, pair_in, pair_last, pair_long, place_under, second_link}
+use Rattle.id_tree.proofs.PairLemmas.{first_link, is_pair, pair_in, pair_last, pair_long, place_under}
+use Rattle.id_tree.proofs.PairLemmas.{second_link}
 use Rattle.id_tree.proofs.pairs.look_pair.Goals as goal
 
 pub returns-in_err-fork-clause-there : goal.returns-in_err-fork-clause-there
 returns-in_err-fork-clause-there g c = λ h level id child row may.
     at_error c.from_residual.result c.in_err-fork.field-0.0 IsOfDevice c.from_residual.ensures.1
-    (c.in_err-fork.ensures.there h (node_there g.row.D (pages c.args.cache.now) c.args.page level row may.stands.node))
+    (c.in_err-fork.ensures.there h (node_there g.row.D (pages c.args.cache.now) c.args.page level row
+        may.stands.node))
 
 pub returns-then-count-gt-MOST_CHILDREN-clause-there : goal.returns-then-count-gt-MOST_CHILDREN-clause-there
 returns-then-count-gt-MOST_CHILDREN-clause-there g c = λ h level id child row may.
     let old = pages c.args.cache.now in
     let content : ForkContent = record { level = level; links = links_of row } in
-    let is = fork_bytes g.row.D (old c.args.page) c.in_ok-fork.fork content (c.in_ok-fork.ensures.bytes h (node_there g.row.D old c.args.page level row may.stands.node)) (may.stands.node.fork may.high) in
-    absurd (omega (arith, (fork_spells g.row.D c.in_ok-fork.fork content is).head.few, c.count_at-count.ensures.value, c.if-count-gt-MOST_CHILDREN.true))
+    let is = fork_bytes g.row.D (old c.args.page) c.in_ok-fork.fork content
+        (c.in_ok-fork.ensures.bytes h (node_there g.row.D old c.args.page level row may.stands.node))
+        (may.stands.node.fork may.high) in
+    absurd (omega (arith, (fork_spells g.row.D c.in_ok-fork.fork content is).head.few,
+        c.count_at-count.ensures.value, c.if-count-gt-MOST_CHILDREN.true))
 
 pub returns-then-count-lt2-clause-there : goal.returns-then-count-lt2-clause-there
 returns-then-count-lt2-clause-there g c = λ h level id child row may.
     let old = pages c.args.cache.now in
     let content : ForkContent = record { level = level; links = links_of row } in
-    let is = fork_bytes g.row.D (old c.args.page) c.in_ok-fork.fork content (c.in_ok-fork.ensures.bytes h (node_there g.row.D old c.args.page level row may.stands.node)) (may.stands.node.fork may.high) in
-    absurd (omega (arith, count_of_fork g.row.D c.in_ok-fork.fork content is, may.wide, c.count_at-count.ensures.value, c.if-count-lt2.true))
+    let is = fork_bytes g.row.D (old c.args.page) c.in_ok-fork.fork content
+        (c.in_ok-fork.ensures.bytes h (node_there g.row.D old c.args.page level row may.stands.node))
+        (may.stands.node.fork may.high) in
+    absurd (omega (arith, count_of_fork g.row.D c.in_ok-fork.fork content is, may.wide,
+        c.count_at-count.ensures.value, c.if-count-lt2.true))
 
 pub returns-then-place-count-clause-there : goal.returns-then-place-count-clause-there
 returns-then-place-count-clause-there g c = λ h level id child row may.
     let old = pages c.args.cache.now in
     let content : ForkContent = record { level = level; links = links_of row } in
-    let is = fork_bytes g.row.D (old c.args.page) c.in_ok-fork.fork content (c.in_ok-fork.ensures.bytes h (node_there g.row.D old c.args.page level row may.stands.node)) (may.stands.node.fork may.high) in
-    absurd (omega (arith, count_of_fork g.row.D c.in_ok-fork.fork content is, place_under g.row.D old c.args.page level c.args.edge row id child c.args.place may, c.count_at-count.ensures.value, c.if-place-count.true))
+    let is = fork_bytes g.row.D (old c.args.page) c.in_ok-fork.fork content
+        (c.in_ok-fork.ensures.bytes h (node_there g.row.D old c.args.page level row may.stands.node))
+        (may.stands.node.fork may.high) in
+    absurd (omega (arith, count_of_fork g.row.D c.in_ok-fork.fork content is, place_under g.row.D old
+        c.args.page level c.args.edge row id child c.args.place may, c.count_at-count.ensures.value,
+        c.if-place-count.true))
 
 pub returns-clause-pair : goal.returns-clause-pair
 returns-clause-pair g c = λ h level id child row may.
@@ -44,14 +56,25 @@ returns-clause-pair g c = λ h level id child row may.
     let fork = c.in_ok-fork.fork in
     let left = c.left_of-left.result in
     let content : ForkContent = record { level = level; links = links_of row } in
-    let is = fork_bytes D (old c.args.page) fork content (c.in_ok-fork.ensures.bytes h (node_there D old c.args.page level row may.stands.node)) (may.stands.node.fork may.high) in
-    let pair = pair_in D old c.args.page level edge row id child c.args.place left may c.left_of-left.ensures.first c.left_of-left.ensures.later in
-    let long = pair_long D old c.args.page level edge row id pair.first pair.second may.high may.stands pair.at in
-    let first = first_link D old c.args.page level edge row id pair.first pair.second may.high may.stands pair.at left some_link pair.left_is in
-    let second = second_link D old c.args.page level edge row id pair.first pair.second may.high may.stands pair.at left some_link pair.left_is in
+    let is = fork_bytes D (old c.args.page) fork content
+        (c.in_ok-fork.ensures.bytes h (node_there D old c.args.page level row may.stands.node))
+        (may.stands.node.fork may.high) in
+    let pair = pair_in D old c.args.page level edge row id child c.args.place left may
+        c.left_of-left.ensures.first c.left_of-left.ensures.later in
+    let long = pair_long D old c.args.page level edge row id pair.first pair.second may.high may.stands
+        pair.at in
+    let first = first_link D old c.args.page level edge row id pair.first pair.second may.high may.stands
+        pair.at left some_link pair.left_is in
+    let second = second_link D old c.args.page level edge row id pair.first pair.second may.high may.stands
+        pair.at left some_link pair.left_is in
     let count = c.count_at-count.ensures.value ∙ count_of_fork D fork content is in
-    is_pair D level edge row id fork left c.page_at-first.result c.page_at-second.result c.key_at-key.result c.is_last-last.result pair is
-    (c.page_at-first.ensures.of_fork D content some_link is (omega (arith, long, pair.left_is)) ∙ ap (λ (l : Link). l.1) first)
-    (c.page_at-second.ensures.of_fork D content some_link is (omega (arith, long, pair.left_is)) ∙ ap (λ (l : Link). l.1) second)
-    (c.key_at-key.ensures.of_fork D content some_link is (omega (arith, long, pair.left_is)) ∙ ap (λ (l : Link). l.0) second)
-    (c.is_last-last.ensures ∙ pair_last D old c.args.page level edge row id pair.first pair.second may.high may.stands pair.at left c.count_at-count.result pair.left_is count)
+    is_pair D level edge row id fork left c.page_at-first.result c.page_at-second.result c.key_at-key.result
+        c.is_last-last.result pair is
+    (c.page_at-first.ensures.of_fork D content some_link is (omega (arith, long, pair.left_is))
+        ∙ ap (λ (l : Link). l.1) first)
+    (c.page_at-second.ensures.of_fork D content some_link is (omega (arith, long, pair.left_is))
+        ∙ ap (λ (l : Link). l.1) second)
+    (c.key_at-key.ensures.of_fork D content some_link is (omega (arith, long, pair.left_is))
+        ∙ ap (λ (l : Link). l.0) second)
+    (c.is_last-last.ensures ∙ pair_last D old c.args.page level edge row id pair.first pair.second may.high
+        may.stands pair.at left c.count_at-count.result pair.left_is count)

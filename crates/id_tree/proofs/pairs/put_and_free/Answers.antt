@@ -22,9 +22,11 @@ returns-clause-done g c = λ map may.
 pub returns-clause-sound : goal.returns-clause-sound
 returns-clause-sound g c = λ map may.
     c.free.ensures.sound (c.put.ensures.sound map may.first_live)
-    (subst IsSome (sym (c.put.ensures.others map.honest may.first_live c.args.second (λ is. may.apart (sym is)))) may.second_live)
+    (subst IsSome (sym (c.put.ensures.others map.honest may.first_live c.args.second
+        (λ is. may.apart (sym is)))) may.second_live)
 
 pub returns-clause-faults : goal.returns-clause-faults
 returns-clause-faults g c = λ map may.
     c.free.ensures.faults (c.put.ensures.sound map may.first_live)
-    (subst IsSome (sym (c.put.ensures.others map.honest may.first_live c.args.second (λ is. may.apart (sym is)))) may.second_live) (differs c.args.second may.low)
+    (subst IsSome (sym (c.put.ensures.others map.honest may.first_live c.args.second
+        (λ is. may.apart (sym is)))) may.second_live) (differs c.args.second may.low)

@@ -20,11 +20,13 @@ returns-clause-done g c = λ map may.
 pub returns-clause-sound : goal.returns-clause-sound
 returns-clause-sound g c = λ map may.
     c.put-2.ensures.sound (c.put.ensures.sound map may.first_live)
-    (subst IsSome (sym (c.put.ensures.others map.honest may.first_live c.args.second (λ is. may.apart (sym is)))) may.second_live)
+    (subst IsSome (sym (c.put.ensures.others map.honest may.first_live c.args.second
+        (λ is. may.apart (sym is)))) may.second_live)
 
 pub returns-clause-faults : goal.returns-clause-faults
 returns-clause-faults g c = λ map may.
     let map1 = c.put.ensures.sound map may.first_live in
-    let live = subst IsSome (sym (c.put.ensures.others map.honest may.first_live c.args.second (λ is. may.apart (sym is)))) may.second_live in
+    let live = subst IsSome (sym (c.put.ensures.others map.honest may.first_live c.args.second
+        (λ is. may.apart (sym is)))) may.second_live in
     let out = a_live_page_was_given_out c.put.new.self c.args.second live in
     c.put-2.ensures.faults map1.honest out.0 out.1

@@ -21,7 +21,8 @@ returns-clause-joined g c = λ map apart.
 pub returns-clause-sound : goal.returns-clause-sound
 returns-clause-sound g c = λ map apart.
     let done = c.in_ok-put_and_free.ensures.done map apart.both in
-    c.put.ensures.sound (c.put_and_free.ensures.sound map apart.both) (subst IsSome (sym (done.others c.args.page apart.not_first apart.not_second)) apart.live)
+    c.put.ensures.sound (c.put_and_free.ensures.sound map apart.both)
+        (subst IsSome (sym (done.others c.args.page apart.not_first apart.not_second)) apart.live)
 
 pub returns-clause-faults : goal.returns-clause-faults
 returns-clause-faults g c = λ map apart.

@@ -15,13 +15,15 @@ returns-clause-shared g c = λ map apart.
       mid = pages c.put_both.new.cache;
       puts = done;
       rest = c.put.ensures.others map1.honest live;
-      named = λ content other is within. ap (fork_in g.row.D) there ∙ c.with_key_at-named.ensures g.row.D content other is within;
+      named = λ content other is within. ap (fork_in g.row.D) there
+          ∙ c.with_key_at-named.ensures g.row.D content other is within;
     }) (c.put.ensures.written map1.honest live)
 
 pub returns-clause-sound : goal.returns-clause-sound
 returns-clause-sound g c = λ map apart.
     let done = c.in_ok-put_both.ensures.done map apart.both in
-    c.put.ensures.sound (c.put_both.ensures.sound map apart.both) (subst IsSome (sym (done.others c.args.page apart.not_first apart.not_second)) apart.live)
+    c.put.ensures.sound (c.put_both.ensures.sound map apart.both)
+        (subst IsSome (sym (done.others c.args.page apart.not_first apart.not_second)) apart.live)
 
 pub returns-clause-faults : goal.returns-clause-faults
 returns-clause-faults g c = λ map apart.

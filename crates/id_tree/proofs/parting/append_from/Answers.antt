@@ -1,5 +1,6 @@
 -- Each object that is from the key on comes behind those before it.
-use Rattle.std.proofs.Common.{◌∙◌, ◌<◌, ◌≤◌, ◌++◌, ◌∷◌, [], List, Some, length, get_or, take, sym, ap, arith, append_assoc, length-append}
+use Rattle.std.proofs.Common.{◌∙◌, ◌<◌, ◌≤◌, ◌++◌, ◌∷◌, [], List, Some, length, get_or, take, sym, ap, arith}
+use Rattle.std.proofs.Common.{append_assoc, length-append}
 use Rattle.std.proofs.lemmas.List.{take_all}
 use Rattle.bucket_page.specs.Layout.{Entry}
 use Rattle.id_page.specs.Leaf.{leaf_at}
@@ -12,7 +13,8 @@ pub loop-place-preserved : goal.loop-place-preserved
 loop-place-preserved g c = λ objects more is there room.
     let place = c.loop-place.place in
     let key = c.args.key in
-    let within : place < length more = omega (arith, c.loop-place-test.true, c.count_at-place-end.ensures.of_leaf g.row.D more there) in
+    let within : place < length more = omega (arith, c.loop-place-test.true,
+        c.count_at-place-end.ensures.of_leaf g.row.D more there) in
     let before = c.loop-place.invariant objects more is there room in
     let read = c.id_at.ensures.of_leaf more some_object there within in
     let so_far = from_key key (take place more) in
@@ -21,16 +23,23 @@ loop-place-preserved g c = λ objects more is there room.
           let less : key ≤ (get_or more place some_object).0 = omega (arith, read, w.if-id_at-key) in
           let fits = from_room key place more within less in
           ap (leaf_at g.row.D) w.page-is
-          ∙ w.push_from.ensures.pushed (objects ++ so_far) more some_object before there within (omega (arith, room, fits, length-append objects so_far))
-          ∙ ap (λ (xs : List Entry). Some xs) (append_assoc objects so_far (get_or more place some_object ∷ []) ∙ ap (λ (xs : List Entry). objects ++ xs) (sym (from_next key place more within less)))
+          ∙ w.push_from.ensures.pushed (objects ++ so_far) more some_object before there within
+              (omega (arith, room, fits, length-append objects so_far))
+          ∙ ap (λ (xs : List Entry). Some xs) (append_assoc objects so_far
+              (get_or more place some_object ∷ [])
+              ∙ ap (λ (xs : List Entry). objects ++ xs) (sym (from_next key place more within less)))
       | else-id_at-key w ↦
           ap (leaf_at g.row.D) w.page-is ∙ before
-          ∙ ap (λ (xs : List Entry). Some (objects ++ xs)) (sym (from_skip key place more within (omega (arith, read, w.if-id_at-key))))
+          ∙ ap (λ (xs : List Entry). Some (objects ++ xs))
+              (sym (from_skip key place more within (omega (arith, read, w.if-id_at-key))))
     ]
 
 pub returns : goal.returns
 returns g c = record {
   appended = λ objects more is there room.
-      let all : length more ≤ c.loop-place.place = omega (arith, c.loop-place-test.false, c.count_at-place-end.ensures.of_leaf g.row.D more there) in
-      c.loop-place.invariant objects more is there room ∙ ap (λ (xs : List Entry). Some (objects ++ from_key c.args.key xs)) (take_all c.loop-place.place more all);
+      let all : length more ≤ c.loop-place.place = omega
+          (arith, c.loop-place-test.false, c.count_at-place-end.ensures.of_leaf g.row.D more there) in
+      c.loop-place.invariant objects more is there room
+          ∙ ap (λ (xs : List Entry). Some (objects ++ from_key c.args.key xs))
+          (take_all c.loop-place.place more all);
 }

@@ -6,5 +6,7 @@ use Rattle.id_tree.specs.Halving.{from_key}
 use Rattle.id_tree.proofs.parting.append_from.Given as goal
 
 abbrev pub invariant-loop-place : goal.invariant-loop-place
-invariant-loop-place g l = (objects more : List Entry) → leaf_at g.row.D l.fn.page ≡ Some objects → leaf_at g.row.D l.other ≡ Some more
-    → length objects + length (from_key l.key more) ≤ most_objects g.row.D → leaf_at g.row.D l.page ≡ Some (objects ++ from_key l.key (take l.place more))
+invariant-loop-place g l = (objects more : List Entry) → leaf_at g.row.D l.fn.page ≡ Some objects
+    → leaf_at g.row.D l.other ≡ Some more
+    → length objects + length (from_key l.key more) ≤ most_objects g.row.D
+        → leaf_at g.row.D l.page ≡ Some (objects ++ from_key l.key (take l.place more))

@@ -13,15 +13,19 @@ loop-place-preserved g c =
     let key = c.args.key in
     record {
       counted = λ objects is.
-          let within : place < length objects = omega (arith, c.loop-place-test.true, c.count_at-place-end.ensures.of_leaf g.row.D objects is) in
+          let within : place < length objects = omega
+              (arith, c.loop-place-test.true, c.count_at-place-end.ensures.of_leaf g.row.D objects is) in
           let before = c.loop-place.invariant.counted objects is in
           let read = c.id_at.ensures.of_leaf objects some_object is within in
           elim c.if-id_at-key.branch [
             | then-id_at-key w ↦
-                let more = ap length (under_next key place objects within (omega (arith, read, w.if-id_at-key))) in
-                omega (arith, before, more, w.count-is, length-append (under_key key (take place objects)) (get_or objects place some_object ∷ []))
+                let more = ap length (under_next key place objects within
+                    (omega (arith, read, w.if-id_at-key))) in
+                omega (arith, before, more, w.count-is, length-append (under_key key (take place objects))
+                    (get_or objects place some_object ∷ []))
             | else-id_at-key w ↦
-                let same = ap length (under_skip key place objects within (omega (arith, read, w.if-id_at-key))) in
+                let same = ap length (under_skip key place objects within
+                    (omega (arith, read, w.if-id_at-key))) in
                 omega (arith, before, same, w.count-is)
           ];
       few = elim c.if-id_at-key.branch [
@@ -32,5 +36,7 @@ loop-place-preserved g c =
 
 pub returns-clause-count : goal.returns-clause-count
 returns-clause-count g c = λ objects is.
-    let all : length objects ≤ c.loop-place.place = omega (arith, c.loop-place-test.false, c.count_at-place-end.ensures.of_leaf g.row.D objects is) in
-    c.loop-place.invariant.counted objects is ∙ ap (λ (xs : List Entry). length (under_key c.args.key xs)) (take_all c.loop-place.place objects all)
+    let all : length objects ≤ c.loop-place.place = omega
+        (arith, c.loop-place-test.false, c.count_at-place-end.ensures.of_leaf g.row.D objects is) in
+    c.loop-place.invariant.counted objects is ∙ ap (λ (xs : List Entry). length (under_key c.args.key xs))
+        (take_all c.loop-place.place objects all)

@@ -7,6 +7,7 @@ use Rattle.id_tree.proofs.parting.count_under.Given as goal
 
 abbrev pub invariant-loop-place : goal.invariant-loop-place
 invariant-loop-place g l = record {
-  counted : (objects : List Entry) → leaf_at g.row.D l.page ≡ Some objects → l.count ≡ length (under_key l.key (take l.place objects));
+  counted : (objects : List Entry) → leaf_at g.row.D l.page ≡ Some objects
+      → l.count ≡ length (under_key l.key (take l.place objects));
   few : l.count ≤ l.place;
 }

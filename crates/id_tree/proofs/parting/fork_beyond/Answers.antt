@@ -3,4 +3,5 @@ use Rattle.std.proofs.Common.{[]}
 use Rattle.id_tree.proofs.parting.fork_beyond.Goals as goal
 
 pub returns-clause-beyond : goal.returns-clause-beyond
-returns-clause-beyond g c = λ content is. c.append_links.ensures.appended g.row.D (record { level = c.args.level; links = [] }) content c.start_fork.ensures.empty is
+returns-clause-beyond g c = λ content is. c.append_links.ensures.appended g.row.D
+    (record { level = c.args.level; links = [] }) content c.start_fork.ensures.empty is

@@ -8,4 +8,5 @@ pub returns : goal.returns
 returns g c = λ objects is.
     let count = count_of_leaf g.row.D c.args.page.now objects is in
     let both = both_lengths c.args.key objects in
-    c.append_from.ensures.appended [] objects c.start_leaf.ensures.empty is (omega (arith, count, both, c.requires.few))
+    c.append_from.ensures.appended [] objects c.start_leaf.ensures.empty is
+        (omega (arith, count, both, c.requires.few))

@@ -2,14 +2,16 @@
 use Rattle.std.proofs.Common.{◌<◌, ◌-◌, ℕ, None, subst, sym, arith}
 use Rattle.page_file.specs.Fault.{IsOfDevice}
 use Rattle.page_cache.specs.Cache.{pages}
-use Rattle.page_cache.specs.Calls.{asks_and_changes, asks_and_gives_up, asks_changes, asks_in_turn, changes_and_refuses, changes_in_turn, fault_in, no_call_asks}
+use Rattle.page_cache.specs.Calls.{asks_and_changes, asks_and_gives_up, asks_changes, asks_in_turn}
+use Rattle.page_cache.specs.Calls.{changes_and_refuses, changes_in_turn, fault_in, no_call_asks}
 use Rattle.node_page.proofs.NodeLemmas.{at_error, on_ok}
 use Rattle.id_tree.specs.Joining.{MayShrink}
 use Rattle.id_tree.specs.Steps.{Becomes}
 use Rattle.id_tree.specs.Steps.Step.{drops}
 use Rattle.id_tree.proofs.AddLemmas.{becomes_from}
 use Rattle.id_tree.proofs.NodeLemmas.{node_stays}
-use Rattle.id_tree.proofs.RemoveLemmas.{has_below, has_made, may_meet, may_shrink_below, may_shrink_made, shrink_same, shrinks_after, shrinks_beneath}
+use Rattle.id_tree.proofs.RemoveLemmas.{has_below, has_made, may_meet, may_shrink_below, may_shrink_made}
+use Rattle.id_tree.proofs.RemoveLemmas.{shrink_same, shrinks_after, shrinks_beneath}
 use Rattle.id_tree.proofs.WayLemmas.{child_stands}
 use Rattle.id_tree.proofs.removing.+remove_below.Goals as goal
 
@@ -17,20 +19,26 @@ pub returns-then-level-eq0-clause-removed : goal.returns-then-level-eq0-clause-r
 returns-then-level-eq0-clause-removed g t c = λ map row may there.
     let low = c.if-level-eq0.true in
     let old = pages c.args.cache.now in
-    on_ok c.take_in.result (λ b. subst (λ (l : ℕ). Becomes g.row.D old (pages c.take_in.new.cache) c.args.page l c.args.edge row c.args.id drops) (sym low) b)
-    (c.take_in.ensures.removed map row (subst (λ (l : ℕ). MayShrink g.row.D old c.args.page l c.args.edge row) low may) there)
+    on_ok c.take_in.result (λ b. subst (λ (l : ℕ). Becomes g.row.D old (pages c.take_in.new.cache) c.args.page
+        l c.args.edge row c.args.id drops) (sym low) b)
+    (c.take_in.ensures.removed map row (subst (λ (l : ℕ). MayShrink g.row.D old c.args.page l c.args.edge row)
+        low may) there)
 
 pub returns-then-level-eq0-clause-sound : goal.returns-then-level-eq0-clause-sound
 returns-then-level-eq0-clause-sound g t c = λ map row may.
-    c.take_in.ensures.sound map row (subst (λ (l : ℕ). MayShrink g.row.D (pages c.args.cache.now) c.args.page l c.args.edge row) c.if-level-eq0.true may)
+    c.take_in.ensures.sound map row (subst (λ (l : ℕ). MayShrink g.row.D (pages c.args.cache.now) c.args.page
+        l c.args.edge row) c.if-level-eq0.true may)
 
 pub returns-then-level-eq0-clause-faults : goal.returns-then-level-eq0-clause-faults
 returns-then-level-eq0-clause-faults g t c = λ map row may there.
-    c.take_in.ensures.faults map row (subst (λ (l : ℕ). MayShrink g.row.D (pages c.args.cache.now) c.args.page l c.args.edge row) c.if-level-eq0.true may) there
+    c.take_in.ensures.faults map row (subst (λ (l : ℕ). MayShrink g.row.D (pages c.args.cache.now) c.args.page
+        l c.args.edge row) c.if-level-eq0.true may) there
 
 pub returns-in_err-below-clause-changes : goal.returns-in_err-below-clause-changes
 returns-in_err-below-clause-changes g t c =
-    asks_and_gives_up c.args.cache.now c.args.cache.now c.look_below.new.cache c.in_err-below.field-0.0 c.from_residual.result c.from_residual.ensures.1 (no_call_asks c.args.cache.now) c.in_err-below.ensures.asks
+    asks_and_gives_up c.args.cache.now c.args.cache.now c.look_below.new.cache c.in_err-below.field-0.0
+        c.from_residual.result c.from_residual.ensures.1 (no_call_asks c.args.cache.now)
+        c.in_err-below.ensures.asks
 
 pub returns-in_err-below-clause-sound : goal.returns-in_err-below-clause-sound
 returns-in_err-below-clause-sound g t c = λ map row may. c.in_err-below.ensures.asks.map.sound.0 map
@@ -44,10 +52,13 @@ returns-in_err-below-clause-faults g t c = λ map row may there.
 
 pub returns-in_err-ample-clause-changes : goal.returns-in_err-ample-clause-changes
 returns-in_err-ample-clause-changes g t c =
-    asks_and_gives_up c.args.cache.now c.look_below.new.cache c.is_ample.new.cache c.in_err-ample.field-0.0 c.from_residual-in_err-ample.result c.from_residual-in_err-ample.ensures.1 c.in_ok-below.ensures.asks c.in_err-ample.ensures.asks
+    asks_and_gives_up c.args.cache.now c.look_below.new.cache c.is_ample.new.cache c.in_err-ample.field-0.0
+        c.from_residual-in_err-ample.result c.from_residual-in_err-ample.ensures.1 c.in_ok-below.ensures.asks
+        c.in_err-ample.ensures.asks
 
 pub returns-in_err-ample-clause-sound : goal.returns-in_err-ample-clause-sound
-returns-in_err-ample-clause-sound g t c = λ map row may. c.in_err-ample.ensures.asks.map.sound.0 (c.in_ok-below.ensures.asks.map.sound.0 map)
+returns-in_err-ample-clause-sound g t c = λ map row may. c.in_err-ample.ensures.asks.map.sound.0
+    (c.in_ok-below.ensures.asks.map.sound.0 map)
 
 pub returns-in_err-ample-clause-faults : goal.returns-in_err-ample-clause-faults
 returns-in_err-ample-clause-faults g t c = λ map row may there.
@@ -62,14 +73,18 @@ returns-in_err-ample-clause-faults g t c = λ map row may there.
     let looked = pages c.look_below.new.cache in
     let before = c.in_ok-below.ensures.asks in
     let beneath = c.in_ok-below.ensures.found map.honest row may.stands in
-    let node = node_stays D old looked b.child (level - 1) beneath.way.below (before.map.pages_stay map.honest b.child) (child_stands D old page level edge id b.child row high may.stands beneath.way).node in
-    at_error c.from_residual-in_err-ample.result c.in_err-ample.field-0.0 IsOfDevice c.from_residual-in_err-ample.ensures.1
+    let node = node_stays D old looked b.child (level - 1) beneath.way.below
+        (before.map.pages_stay map.honest b.child)
+        (child_stands D old page level edge id b.child row high may.stands beneath.way).node in
+    at_error c.from_residual-in_err-ample.result c.in_err-ample.field-0.0 IsOfDevice
+        c.from_residual-in_err-ample.ensures.1
     (c.in_err-ample.ensures.there (before.gate.honest.0 map.honest) beneath.way.below node)
 
 pub returns-then-ample-clause-changes : goal.returns-then-ample-clause-changes
 returns-then-ample-clause-changes g t c =
     asks_and_changes c.args.cache.now c.is_ample.new.cache c.remove_below.new.cache c.remove_below.result
-    (asks_in_turn c.args.cache.now c.look_below.new.cache c.is_ample.new.cache None c.in_ok-below.ensures.asks c.in_ok-ample.ensures.asks)
+    (asks_in_turn c.args.cache.now c.look_below.new.cache c.is_ample.new.cache None c.in_ok-below.ensures.asks
+        c.in_ok-ample.ensures.asks)
     c.remove_below.ensures.changes
 
 pub returns-then-ample-clause-removed : goal.returns-then-ample-clause-removed
@@ -85,17 +100,24 @@ returns-then-ample-clause-removed g t c = λ map row may there.
     let looked = pages c.look_below.new.cache in
     let before = c.in_ok-below.ensures.asks in
     let beneath = c.in_ok-below.ensures.found map.honest row may.stands in
-    let node = node_stays D old looked b.child (level - 1) beneath.way.below (before.map.pages_stay map.honest b.child) (child_stands D old page level edge id b.child row high may.stands beneath.way).node in
+    let node = node_stays D old looked b.child (level - 1) beneath.way.below
+        (before.map.pages_stay map.honest b.child)
+        (child_stands D old page level edge id b.child row high may.stands beneath.way).node in
     let mid = pages c.is_ample.new.cache in
-    let asks = asks_in_turn c.args.cache.now c.look_below.new.cache c.is_ample.new.cache None before c.in_ok-ample.ensures.asks in
+    let asks = asks_in_turn c.args.cache.now c.look_below.new.cache c.is_ample.new.cache None before
+        c.in_ok-ample.ensures.asks in
     let same = asks.map.pages_stay map.honest in
     let map1 = asks.map.sound.0 map in
     let may1 = shrink_same D old mid page level edge row same may in
-    let spare = c.in_ok-ample.ensures.ample (before.gate.honest.0 map.honest) b.last beneath.way.below node c.if-ample.true in
-    let below = may_shrink_below D mid page level edge row id b.child b.last high may1.stands may1.single beneath.way beneath.last_is spare in
+    let spare = c.in_ok-ample.ensures.ample (before.gate.honest.0 map.honest) b.last beneath.way.below node
+        c.if-ample.true in
+    let below = may_shrink_below D mid page level edge row id b.child b.last high may1.stands may1.single
+        beneath.way beneath.last_is spare in
     let inside = has_below D old page level edge row id b.child high may.stands beneath.way there in
     let new = pages c.remove_below.new.cache in
-    on_ok c.remove_below.result (λ done. becomes_from D old mid new page level edge row id drops same (shrinks_beneath D mid new page level edge row id b.child b.last high may1 beneath.way beneath.last_is done))
+    on_ok c.remove_below.result (λ done. becomes_from D old mid new page level edge row id drops same
+        (shrinks_beneath D mid new page level edge row id b.child b.last high may1 beneath.way beneath.last_is
+        done))
     (c.remove_below.ensures.removed map1 beneath.way.below below inside)
 
 pub returns-then-ample-clause-sound : goal.returns-then-ample-clause-sound
@@ -111,14 +133,19 @@ returns-then-ample-clause-sound g t c = λ map row may.
     let looked = pages c.look_below.new.cache in
     let before = c.in_ok-below.ensures.asks in
     let beneath = c.in_ok-below.ensures.found map.honest row may.stands in
-    let node = node_stays D old looked b.child (level - 1) beneath.way.below (before.map.pages_stay map.honest b.child) (child_stands D old page level edge id b.child row high may.stands beneath.way).node in
+    let node = node_stays D old looked b.child (level - 1) beneath.way.below
+        (before.map.pages_stay map.honest b.child)
+        (child_stands D old page level edge id b.child row high may.stands beneath.way).node in
     let mid = pages c.is_ample.new.cache in
-    let asks = asks_in_turn c.args.cache.now c.look_below.new.cache c.is_ample.new.cache None before c.in_ok-ample.ensures.asks in
+    let asks = asks_in_turn c.args.cache.now c.look_below.new.cache c.is_ample.new.cache None before
+        c.in_ok-ample.ensures.asks in
     let same = asks.map.pages_stay map.honest in
     let map1 = asks.map.sound.0 map in
     let may1 = shrink_same D old mid page level edge row same may in
-    let spare = c.in_ok-ample.ensures.ample (before.gate.honest.0 map.honest) b.last beneath.way.below node c.if-ample.true in
-    let below = may_shrink_below D mid page level edge row id b.child b.last high may1.stands may1.single beneath.way beneath.last_is spare in
+    let spare = c.in_ok-ample.ensures.ample (before.gate.honest.0 map.honest) b.last beneath.way.below node
+        c.if-ample.true in
+    let below = may_shrink_below D mid page level edge row id b.child b.last high may1.stands may1.single
+        beneath.way beneath.last_is spare in
     c.remove_below.ensures.sound map1 beneath.way.below below
 
 pub returns-then-ample-clause-faults : goal.returns-then-ample-clause-faults
@@ -134,21 +161,29 @@ returns-then-ample-clause-faults g t c = λ map row may there.
     let looked = pages c.look_below.new.cache in
     let before = c.in_ok-below.ensures.asks in
     let beneath = c.in_ok-below.ensures.found map.honest row may.stands in
-    let node = node_stays D old looked b.child (level - 1) beneath.way.below (before.map.pages_stay map.honest b.child) (child_stands D old page level edge id b.child row high may.stands beneath.way).node in
+    let node = node_stays D old looked b.child (level - 1) beneath.way.below
+        (before.map.pages_stay map.honest b.child)
+        (child_stands D old page level edge id b.child row high may.stands beneath.way).node in
     let mid = pages c.is_ample.new.cache in
-    let asks = asks_in_turn c.args.cache.now c.look_below.new.cache c.is_ample.new.cache None before c.in_ok-ample.ensures.asks in
+    let asks = asks_in_turn c.args.cache.now c.look_below.new.cache c.is_ample.new.cache None before
+        c.in_ok-ample.ensures.asks in
     let same = asks.map.pages_stay map.honest in
     let map1 = asks.map.sound.0 map in
     let may1 = shrink_same D old mid page level edge row same may in
-    let spare = c.in_ok-ample.ensures.ample (before.gate.honest.0 map.honest) b.last beneath.way.below node c.if-ample.true in
-    let below = may_shrink_below D mid page level edge row id b.child b.last high may1.stands may1.single beneath.way beneath.last_is spare in
+    let spare = c.in_ok-ample.ensures.ample (before.gate.honest.0 map.honest) b.last beneath.way.below node
+        c.if-ample.true in
+    let below = may_shrink_below D mid page level edge row id b.child b.last high may1.stands may1.single
+        beneath.way beneath.last_is spare in
     let inside = has_below D old page level edge row id b.child high may.stands beneath.way there in
     c.remove_below.ensures.faults map1 beneath.way.below below inside
 
 pub returns-in_err-child-clause-changes : goal.returns-in_err-child-clause-changes
 returns-in_err-child-clause-changes g t c =
-    changes_and_refuses c.args.cache.now c.is_ample.new.cache c.join.new.cache c.in_err-child.field-0.0 c.from_residual-in_err-child.result c.from_residual-in_err-child.ensures.1
-    (asks_changes c.args.cache.now c.is_ample.new.cache None (asks_in_turn c.args.cache.now c.look_below.new.cache c.is_ample.new.cache None c.in_ok-below.ensures.asks c.in_ok-ample.ensures.asks))
+    changes_and_refuses c.args.cache.now c.is_ample.new.cache c.join.new.cache c.in_err-child.field-0.0
+        c.from_residual-in_err-child.result c.from_residual-in_err-child.ensures.1
+    (asks_changes c.args.cache.now c.is_ample.new.cache None
+        (asks_in_turn c.args.cache.now c.look_below.new.cache c.is_ample.new.cache None
+        c.in_ok-below.ensures.asks c.in_ok-ample.ensures.asks))
     c.in_err-child.ensures.changes
 
 pub returns-in_err-child-clause-sound : goal.returns-in_err-child-clause-sound
@@ -165,11 +200,13 @@ returns-in_err-child-clause-sound g t c = λ map row may.
     let before = c.in_ok-below.ensures.asks in
     let beneath = c.in_ok-below.ensures.found map.honest row may.stands in
     let mid = pages c.is_ample.new.cache in
-    let asks = asks_in_turn c.args.cache.now c.look_below.new.cache c.is_ample.new.cache None before c.in_ok-ample.ensures.asks in
+    let asks = asks_in_turn c.args.cache.now c.look_below.new.cache c.is_ample.new.cache None before
+        c.in_ok-ample.ensures.asks in
     let same = asks.map.pages_stay map.honest in
     let map1 = asks.map.sound.0 map in
     let may1 = shrink_same D old mid page level edge row same may in
-    c.join.ensures.sound map1 b.child row (may_meet D mid page level edge row id b.child b.place b.last b.room high may1 beneath)
+    c.join.ensures.sound map1 b.child row (may_meet D mid page level edge row id b.child b.place b.last b.room
+        high may1 beneath)
 
 pub returns-in_err-child-clause-faults : goal.returns-in_err-child-clause-faults
 returns-in_err-child-clause-faults g t c = λ map row may there.
@@ -185,18 +222,24 @@ returns-in_err-child-clause-faults g t c = λ map row may there.
     let before = c.in_ok-below.ensures.asks in
     let beneath = c.in_ok-below.ensures.found map.honest row may.stands in
     let mid = pages c.is_ample.new.cache in
-    let asks = asks_in_turn c.args.cache.now c.look_below.new.cache c.is_ample.new.cache None before c.in_ok-ample.ensures.asks in
+    let asks = asks_in_turn c.args.cache.now c.look_below.new.cache c.is_ample.new.cache None before
+        c.in_ok-ample.ensures.asks in
     let same = asks.map.pages_stay map.honest in
     let map1 = asks.map.sound.0 map in
     let may1 = shrink_same D old mid page level edge row same may in
-    at_error c.from_residual-in_err-child.result c.in_err-child.field-0.0 IsOfDevice c.from_residual-in_err-child.ensures.1
-    (c.in_err-child.ensures.faults map1 b.child row (may_meet D mid page level edge row id b.child b.place b.last b.room high may1 beneath))
+    at_error c.from_residual-in_err-child.result c.in_err-child.field-0.0 IsOfDevice
+        c.from_residual-in_err-child.ensures.1
+    (c.in_err-child.ensures.faults map1 b.child row
+        (may_meet D mid page level edge row id b.child b.place b.last b.room high may1 beneath))
 
 pub returns-clause-changes : goal.returns-clause-changes
 returns-clause-changes g t c =
-    changes_in_turn c.args.cache.now c.join.new.cache c.remove_below-2.new.cache (fault_in c.remove_below-2.result)
+    changes_in_turn c.args.cache.now c.join.new.cache c.remove_below-2.new.cache
+        (fault_in c.remove_below-2.result)
     (changes_in_turn c.args.cache.now c.is_ample.new.cache c.join.new.cache None
-    (asks_changes c.args.cache.now c.is_ample.new.cache None (asks_in_turn c.args.cache.now c.look_below.new.cache c.is_ample.new.cache None c.in_ok-below.ensures.asks c.in_ok-ample.ensures.asks))
+    (asks_changes c.args.cache.now c.is_ample.new.cache None
+        (asks_in_turn c.args.cache.now c.look_below.new.cache c.is_ample.new.cache None
+        c.in_ok-below.ensures.asks c.in_ok-ample.ensures.asks))
     c.in_ok-child.ensures.changes)
     c.remove_below-2.ensures.changes
 
@@ -214,7 +257,8 @@ returns-clause-removed g t c = λ map row may there.
     let before = c.in_ok-below.ensures.asks in
     let beneath = c.in_ok-below.ensures.found map.honest row may.stands in
     let mid = pages c.is_ample.new.cache in
-    let asks = asks_in_turn c.args.cache.now c.look_below.new.cache c.is_ample.new.cache None before c.in_ok-ample.ensures.asks in
+    let asks = asks_in_turn c.args.cache.now c.look_below.new.cache c.is_ample.new.cache None before
+        c.in_ok-ample.ensures.asks in
     let same = asks.map.pages_stay map.honest in
     let map1 = asks.map.sound.0 map in
     let may1 = shrink_same D old mid page level edge row same may in
@@ -226,8 +270,10 @@ returns-clause-removed g t c = λ map row may there.
     let cut = pages c.join.new.cache in
     let below = may_shrink_made D mid cut page level edge row id child last high may1 made in
     let new = pages c.remove_below-2.new.cache in
-    on_ok c.remove_below-2.result (λ done. becomes_from D old mid new page level edge row id drops same (shrinks_after D mid cut new page level edge row id child last high may1 made done))
-    (c.remove_below-2.ensures.removed map2 made.way.below below (has_made D mid cut page level edge row id child last high made there))
+    on_ok c.remove_below-2.result (λ done. becomes_from D old mid new page level edge row id drops same
+        (shrinks_after D mid cut new page level edge row id child last high may1 made done))
+    (c.remove_below-2.ensures.removed map2 made.way.below below
+        (has_made D mid cut page level edge row id child last high made there))
 
 pub returns-clause-sound : goal.returns-clause-sound
 returns-clause-sound g t c = λ map row may.
@@ -243,7 +289,8 @@ returns-clause-sound g t c = λ map row may.
     let before = c.in_ok-below.ensures.asks in
     let beneath = c.in_ok-below.ensures.found map.honest row may.stands in
     let mid = pages c.is_ample.new.cache in
-    let asks = asks_in_turn c.args.cache.now c.look_below.new.cache c.is_ample.new.cache None before c.in_ok-ample.ensures.asks in
+    let asks = asks_in_turn c.args.cache.now c.look_below.new.cache c.is_ample.new.cache None before
+        c.in_ok-ample.ensures.asks in
     let same = asks.map.pages_stay map.honest in
     let map1 = asks.map.sound.0 map in
     let may1 = shrink_same D old mid page level edge row same may in
@@ -270,7 +317,8 @@ returns-clause-faults g t c = λ map row may there.
     let before = c.in_ok-below.ensures.asks in
     let beneath = c.in_ok-below.ensures.found map.honest row may.stands in
     let mid = pages c.is_ample.new.cache in
-    let asks = asks_in_turn c.args.cache.now c.look_below.new.cache c.is_ample.new.cache None before c.in_ok-ample.ensures.asks in
+    let asks = asks_in_turn c.args.cache.now c.look_below.new.cache c.is_ample.new.cache None before
+        c.in_ok-ample.ensures.asks in
     let same = asks.map.pages_stay map.honest in
     let map1 = asks.map.sound.0 map in
     let may1 = shrink_same D old mid page level edge row same may in
@@ -281,4 +329,5 @@ returns-clause-faults g t c = λ map row may there.
     let map2 = c.join.ensures.sound map1 b.child row meet in
     let cut = pages c.join.new.cache in
     let below = may_shrink_made D mid cut page level edge row id child last high may1 made in
-    c.remove_below-2.ensures.faults map2 made.way.below below (has_made D mid cut page level edge row id child last high made there)
+    c.remove_below-2.ensures.faults map2 made.way.below below
+        (has_made D mid cut page level edge row id child last high made there)

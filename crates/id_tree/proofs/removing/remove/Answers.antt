@@ -14,15 +14,19 @@ use Rattle.id_tree.proofs.removing.remove.Goals as goal
 
 pub returns-in_err-way-clause-changes : goal.returns-in_err-way-clause-changes
 returns-in_err-way-clause-changes g c =
-    asks_and_gives_up c.args.cache.now c.args.cache.now c.step.new.cache c.in_err-way.field-0.0 c.from_residual.result c.from_residual.ensures.1 (no_call_asks c.args.cache.now) c.in_err-way.ensures.asks
+    asks_and_gives_up c.args.cache.now c.args.cache.now c.step.new.cache c.in_err-way.field-0.0
+        c.from_residual.result c.from_residual.ensures.1 (no_call_asks c.args.cache.now)
+        c.in_err-way.ensures.asks
 
 pub returns-in_err-way-clause-faults : goal.returns-in_err-way-clause-faults
 returns-in_err-way-clause-faults g c = λ map t at stands there.
     at_error c.from_residual.result c.in_err-way.field-0.0 IsOfDevice c.from_residual.ensures.1
-    (c.in_err-way.ensures.there map.honest (record { level = t.level; links = links_of t.row }) (root_fork g.row.D (pages c.args.cache.now) c.args.root t at stands))
+    (c.in_err-way.ensures.there map.honest (record { level = t.level; links = links_of t.row })
+        (root_fork g.row.D (pages c.args.cache.now) c.args.root t at stands))
 
 pub returns-then-way-gt1-clause-changes : goal.returns-then-way-gt1-clause-changes
-returns-then-way-gt1-clause-changes g c = asks_and_changes c.args.cache.now c.step.new.cache c.remove_among.new.cache c.remove_among.result c.in_ok-way.ensures.asks c.remove_among.ensures.changes
+returns-then-way-gt1-clause-changes g c = asks_and_changes c.args.cache.now c.step.new.cache
+    c.remove_among.new.cache c.remove_among.result c.in_ok-way.ensures.asks c.remove_among.ensures.changes
 
 pub returns-then-way-gt1-clause-removed : goal.returns-then-way-gt1-clause-removed
 returns-then-way-gt1-clause-removed g c = λ map t at stands there.
@@ -39,8 +43,10 @@ returns-then-way-gt1-clause-removed g c = λ map t at stands there.
     let level = c.in_ok-way.ensures.level map.honest content fork in
     let count = c.in_ok-way.ensures.count map.honest content fork in
     let tree = tree_same D old mid t same stands in
-    let among : IsAmong D mid t way.level = record { stands = tree; level_is = level; wide = omega (arith, count, c.if-way-gt1.true) } in
-    on_ok c.remove_among.result (removes_from D old mid (pages c.remove_among.new.cache) t c.args.id same) (c.remove_among.ensures.removed map1 t at among (has_object t c.args.id there))
+    let among : IsAmong D mid t way.level = record
+        { stands = tree; level_is = level; wide = omega (arith, count, c.if-way-gt1.true) } in
+    on_ok c.remove_among.result (removes_from D old mid (pages c.remove_among.new.cache) t c.args.id same)
+        (c.remove_among.ensures.removed map1 t at among (has_object t c.args.id there))
 
 pub returns-then-way-gt1-clause-sound : goal.returns-then-way-gt1-clause-sound
 returns-then-way-gt1-clause-sound g c = λ map t at stands there.
@@ -57,7 +63,8 @@ returns-then-way-gt1-clause-sound g c = λ map t at stands there.
     let level = c.in_ok-way.ensures.level map.honest content fork in
     let count = c.in_ok-way.ensures.count map.honest content fork in
     let tree = tree_same D old mid t same stands in
-    let among : IsAmong D mid t way.level = record { stands = tree; level_is = level; wide = omega (arith, count, c.if-way-gt1.true) } in
+    let among : IsAmong D mid t way.level = record
+        { stands = tree; level_is = level; wide = omega (arith, count, c.if-way-gt1.true) } in
     c.remove_among.ensures.sound map1 t at among (has_object t c.args.id there)
 
 pub returns-then-way-gt1-clause-faults : goal.returns-then-way-gt1-clause-faults
@@ -75,7 +82,8 @@ returns-then-way-gt1-clause-faults g c = λ map t at stands there.
     let level = c.in_ok-way.ensures.level map.honest content fork in
     let count = c.in_ok-way.ensures.count map.honest content fork in
     let tree = tree_same D old mid t same stands in
-    let among : IsAmong D mid t way.level = record { stands = tree; level_is = level; wide = omega (arith, count, c.if-way-gt1.true) } in
+    let among : IsAmong D mid t way.level = record
+        { stands = tree; level_is = level; wide = omega (arith, count, c.if-way-gt1.true) } in
     c.remove_among.ensures.faults map1 t at among (has_object t c.args.id there)
 
 pub returns-then-way-ne1-clause-faults : goal.returns-then-way-ne1-clause-faults
@@ -117,7 +125,8 @@ returns-in_default-clause-faults g c = λ map t at stands there.
     absurd (omega (arith, none, some))
 
 pub returns-clause-changes : goal.returns-clause-changes
-returns-clause-changes g c = asks_and_changes c.args.cache.now c.step.new.cache c.remove_only.new.cache c.remove_only.result c.in_ok-way.ensures.asks c.remove_only.ensures.changes
+returns-clause-changes g c = asks_and_changes c.args.cache.now c.step.new.cache c.remove_only.new.cache
+    c.remove_only.result c.in_ok-way.ensures.asks c.remove_only.ensures.changes
 
 pub returns-clause-removed : goal.returns-clause-removed
 returns-clause-removed g c = λ map t at stands there.
@@ -136,8 +145,10 @@ returns-clause-removed g c = λ map t at stands there.
     let tree = tree_same D old mid t same stands in
     let ascend = keys_ascend D old t.page t.level true t.row stands.high (root_stands D old t stands) in
     let named = c.in_ok-way.ensures.child map.honest content fork ascend in
-    let only = only_leaf D mid t c.args.id way.child c.in-Some.leaf tree (omega (arith, count, c.if-way-gt1.false)) there named c.in-Some.is in
-    on_ok c.remove_only.result (removes_from D old mid (pages c.remove_only.new.cache) t c.args.id same) (c.remove_only.ensures.removed map1 t at only (has_object t c.args.id there))
+    let only = only_leaf D mid t c.args.id way.child c.in-Some.leaf tree
+        (omega (arith, count, c.if-way-gt1.false)) there named c.in-Some.is in
+    on_ok c.remove_only.result (removes_from D old mid (pages c.remove_only.new.cache) t c.args.id same)
+        (c.remove_only.ensures.removed map1 t at only (has_object t c.args.id there))
 
 pub returns-clause-sound : goal.returns-clause-sound
 returns-clause-sound g c = λ map t at stands there.
@@ -156,7 +167,8 @@ returns-clause-sound g c = λ map t at stands there.
     let tree = tree_same D old mid t same stands in
     let ascend = keys_ascend D old t.page t.level true t.row stands.high (root_stands D old t stands) in
     let named = c.in_ok-way.ensures.child map.honest content fork ascend in
-    let only = only_leaf D mid t c.args.id way.child c.in-Some.leaf tree (omega (arith, count, c.if-way-gt1.false)) there named c.in-Some.is in
+    let only = only_leaf D mid t c.args.id way.child c.in-Some.leaf tree
+        (omega (arith, count, c.if-way-gt1.false)) there named c.in-Some.is in
     c.remove_only.ensures.sound map1 t at only (has_object t c.args.id there)
 
 pub returns-clause-faults : goal.returns-clause-faults
@@ -176,5 +188,6 @@ returns-clause-faults g c = λ map t at stands there.
     let tree = tree_same D old mid t same stands in
     let ascend = keys_ascend D old t.page t.level true t.row stands.high (root_stands D old t stands) in
     let named = c.in_ok-way.ensures.child map.honest content fork ascend in
-    let only = only_leaf D mid t c.args.id way.child c.in-Some.leaf tree (omega (arith, count, c.if-way-gt1.false)) there named c.in-Some.is in
+    let only = only_leaf D mid t c.args.id way.child c.in-Some.leaf tree
+        (omega (arith, count, c.if-way-gt1.false)) there named c.in-Some.is in
     c.remove_only.ensures.faults map1 t at only (has_object t c.args.id there)

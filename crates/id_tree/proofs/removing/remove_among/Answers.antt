@@ -8,12 +8,15 @@ use Rattle.id_tree.proofs.removing.remove_among.Goals as goal
 
 pub returns-in_err-remove_below-clause-sound : goal.returns-in_err-remove_below-clause-sound
 returns-in_err-remove_below-clause-sound g c = λ map t at among there.
-    c.remove_below.ensures.sound map t.row (may_shrink_root g.row.D (pages c.args.cache.now) t c.args.root c.args.level c.args.id at among)
+    c.remove_below.ensures.sound map t.row (may_shrink_root g.row.D (pages c.args.cache.now) t c.args.root
+        c.args.level c.args.id at among)
 
 pub returns-in_err-remove_below-clause-faults : goal.returns-in_err-remove_below-clause-faults
 returns-in_err-remove_below-clause-faults g c = λ map t at among there.
     at_error c.from_residual.result c.in_err-remove_below.field-0.0 IsOfDevice c.from_residual.ensures.1
-    (c.in_err-remove_below.ensures.faults map t.row (may_shrink_root g.row.D (pages c.args.cache.now) t c.args.root c.args.level c.args.id at among) there)
+    (c.in_err-remove_below.ensures.faults map t.row
+        (may_shrink_root g.row.D (pages c.args.cache.now) t c.args.root c.args.level c.args.id at among)
+        there)
 
 pub returns-clause-removed : goal.returns-clause-removed
 returns-clause-removed g c = λ map t at among there.
@@ -23,7 +26,8 @@ returns-clause-removed g c = λ map t at among there.
     let may = may_shrink_root D old t c.args.root c.args.level c.args.id at among in
     let b = c.in_ok-remove_below.ensures.removed map t.row may there in
     let map1 = c.remove_below.ensures.sound map t.row may in
-    on_ok c.lower.result (removes_among D old t c.args.root c.args.level c.args.id at among mid b (pages c.lower.new.cache))
+    on_ok c.lower.result (removes_among D old t c.args.root c.args.level c.args.id at among mid b
+        (pages c.lower.new.cache))
     (c.lower.ensures.lowered map1 b.now (may_lower D old t c.args.root c.args.level c.args.id at among mid b))
 
 pub returns-clause-sound : goal.returns-clause-sound
@@ -33,7 +37,8 @@ returns-clause-sound g c = λ map t at among there.
     let mid = pages c.remove_below.new.cache in
     let may = may_shrink_root D old t c.args.root c.args.level c.args.id at among in
     let b = c.in_ok-remove_below.ensures.removed map t.row may there in
-    c.lower.ensures.sound (c.remove_below.ensures.sound map t.row may) b.now (may_lower D old t c.args.root c.args.level c.args.id at among mid b)
+    c.lower.ensures.sound (c.remove_below.ensures.sound map t.row may) b.now
+        (may_lower D old t c.args.root c.args.level c.args.id at among mid b)
 
 pub returns-clause-faults : goal.returns-clause-faults
 returns-clause-faults g c = λ map t at among there.
@@ -42,4 +47,5 @@ returns-clause-faults g c = λ map t at among there.
     let mid = pages c.remove_below.new.cache in
     let may = may_shrink_root D old t c.args.root c.args.level c.args.id at among in
     let b = c.in_ok-remove_below.ensures.removed map t.row may there in
-    c.lower.ensures.faults (c.remove_below.ensures.sound map t.row may) b.now (may_lower D old t c.args.root c.args.level c.args.id at among mid b)
+    c.lower.ensures.faults (c.remove_below.ensures.sound map t.row may) b.now
+        (may_lower D old t c.args.root c.args.level c.args.id at among mid b)

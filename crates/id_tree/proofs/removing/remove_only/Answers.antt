@@ -6,7 +6,8 @@ use Rattle.node_page.proofs.NodeLemmas.{at_error, on_ok}
 use Rattle.id_tree.specs.Tree.{objects_in}
 use Rattle.id_tree.proofs.AddLemmas.{leaf_counted}
 use Rattle.id_tree.proofs.NodeLemmas.{node_there, there_bytes}
-use Rattle.id_tree.proofs.RemoveLemmas.{few_only, has_only, leaf_stands, may_shrink_only, only_same, removes_from, removes_only}
+use Rattle.id_tree.proofs.RemoveLemmas.{few_only, has_only, leaf_stands, may_shrink_only, only_same}
+use Rattle.id_tree.proofs.RemoveLemmas.{removes_from, removes_only}
 use Rattle.id_tree.proofs.removing.remove_only.Goals as goal
 
 pub returns-in_err-count-clause-sound : goal.returns-in_err-count-clause-sound
@@ -17,7 +18,8 @@ returns-in_err-count-clause-faults g c = λ map t at only there.
     let D = g.row.D in
     let old = pages c.args.cache.now in
     at_error c.from_residual.result c.in_err-count.field-0.0 IsOfDevice c.from_residual.ensures.1
-    (c.in_err-count.ensures.there map.honest (node_there D old c.args.leaf 0 only.below (leaf_stands D old t c.args.root c.args.leaf c.args.id at only).node))
+    (c.in_err-count.ensures.there map.honest (node_there D old c.args.leaf 0 only.below
+        (leaf_stands D old t c.args.root c.args.leaf c.args.id at only).node))
 
 pub returns-then-count-gt1-clause-removed : goal.returns-then-count-gt1-clause-removed
 returns-then-count-gt1-clause-removed g c = λ map t at only there.
@@ -38,7 +40,9 @@ returns-then-count-gt1-clause-removed g c = λ map t at only there.
     let many : 1 < length (objects_in only.below) = omega (arith, count, long, c.if-count-gt1.true) in
     let may = may_shrink_only D mid t root leaf id at one many in
     let new = pages c.take_in.new.cache in
-    on_ok c.take_in.result (λ b. removes_from D old mid new t id same (removes_only D mid t root leaf id at one new b)) (c.take_in.ensures.removed map1 only.below may (has_only D mid t root leaf id at one there))
+    on_ok c.take_in.result (λ b. removes_from D old mid new t id same
+        (removes_only D mid t root leaf id at one new b))
+        (c.take_in.ensures.removed map1 only.below may (has_only D mid t root leaf id at one there))
 
 pub returns-then-count-gt1-clause-sound : goal.returns-then-count-gt1-clause-sound
 returns-then-count-gt1-clause-sound g c = λ map t at only there.
@@ -98,14 +102,19 @@ returns-clause-removed g c = λ map t at only there.
     let long = leaf_counted D old leaf 0 only.below bytes.0 node refl bytes.1 in
     let few : length (objects_in only.below) ≤ 1 = omega (arith, count, long, c.if-count-gt1.false) in
     let new = pages c.remove_last.new.cache in
-    on_ok c.remove_last.result (removes_from D old mid new t id same) (c.remove_last.ensures.removed map1 t at one there (few_only D mid t root leaf id at one few))
+    on_ok c.remove_last.result (removes_from D old mid new t id same)
+        (c.remove_last.ensures.removed map1 t at one there (few_only D mid t root leaf id at one few))
 
 pub returns-clause-sound : goal.returns-clause-sound
 returns-clause-sound g c = λ map t at only there.
     let asks = c.in_ok-count.ensures.asks in
-    c.remove_last.ensures.sound (asks.map.sound.0 map) t at (only_same g.row.D (pages c.args.cache.now) (pages c.count_in.new.cache) t c.args.leaf (asks.map.pages_stay map.honest) only)
+    c.remove_last.ensures.sound (asks.map.sound.0 map) t at
+        (only_same g.row.D (pages c.args.cache.now) (pages c.count_in.new.cache) t c.args.leaf
+        (asks.map.pages_stay map.honest) only)
 
 pub returns-clause-faults : goal.returns-clause-faults
 returns-clause-faults g c = λ map t at only there.
     let asks = c.in_ok-count.ensures.asks in
-    c.remove_last.ensures.faults (asks.map.sound.0 map) t at (only_same g.row.D (pages c.args.cache.now) (pages c.count_in.new.cache) t c.args.leaf (asks.map.pages_stay map.honest) only) there
+    c.remove_last.ensures.faults (asks.map.sound.0 map) t at
+        (only_same g.row.D (pages c.args.cache.now) (pages c.count_in.new.cache) t c.args.leaf
+        (asks.map.pages_stay map.honest) only) there

@@ -17,14 +17,16 @@ returns-in_err-found-clause-sound g c = λ map row may. c.in_err-found.ensures.a
 
 pub returns-in_err-found-clause-faults : goal.returns-in_err-found-clause-faults
 returns-in_err-found-clause-faults g c = λ map row may there.
-    at_error c.from_residual.result c.in_err-found.field-0.0 IsOfDevice c.from_residual.ensures.1 (c.in_err-found.ensures.there map.honest (objects_in row) (may.stands.node.leaf refl))
+    at_error c.from_residual.result c.in_err-found.field-0.0 IsOfDevice c.from_residual.ensures.1
+        (c.in_err-found.ensures.there map.honest (objects_in row) (may.stands.node.leaf refl))
 
 pub returns-in_default-clause-sound : goal.returns-in_default-clause-sound
 returns-in_default-clause-sound g c = λ map row may. c.in_ok-found.ensures.asks.map.sound.0 map
 
 pub returns-in_default-clause-faults : goal.returns-in_default-clause-faults
 returns-in_default-clause-faults g c = λ map row may there.
-    absurd (there (subst (IsFoundAt c.args.id (objects_in row)) c.in_default.is (c.in_ok-found.ensures.found map.honest (objects_in row) (may.stands.node.leaf refl))))
+    absurd (there (subst (IsFoundAt c.args.id (objects_in row)) c.in_default.is
+        (c.in_ok-found.ensures.found map.honest (objects_in row) (may.stands.node.leaf refl))))
 
 pub returns-clause-removed : goal.returns-clause-removed
 returns-clause-removed g c = λ map row may there.
@@ -38,20 +40,27 @@ returns-clause-removed g c = λ map row may there.
     let same = asks.map.pages_stay map.honest in
     let honest = asks.gate.honest.0 map.honest in
     let may1 = shrink_same D old mid page 0 c.args.edge row same may in
-    let found = subst (IsFoundAt id (objects_in row)) c.in-Some.is (c.in_ok-found.ensures.found map.honest (objects_in row) (may.stands.node.leaf refl)) in
+    let found = subst (IsFoundAt id (objects_in row)) c.in-Some.is
+        (c.in_ok-found.ensures.found map.honest (objects_in row) (may.stands.node.leaf refl)) in
     let live = node_there D mid page 0 row may1.stands.node in
     on_ok c.take_at.result
-    (λ is. becomes_from D old mid new page 0 c.args.edge row id drops same (leaf_shrinks D mid new page c.args.edge row id c.in-Some.object.0 c.in-Some.object.1 may1 found (c.take_at.ensures.others honest live) is))
+    (λ is. becomes_from D old mid new page 0 c.args.edge row id drops same
+        (leaf_shrinks D mid new page c.args.edge row id c.in-Some.object.0 c.in-Some.object.1 may1 found
+        (c.take_at.ensures.others honest live) is))
     (c.take_at.ensures.taken honest (objects_in row) some_object (may1.stands.node.leaf refl) found.within)
 
 pub returns-clause-sound : goal.returns-clause-sound
 returns-clause-sound g c = λ map row may.
     let asks = c.in_ok-found.ensures.asks in
-    let may1 = shrink_same g.row.D (pages c.args.cache.now) (pages c.look.new.cache) c.args.page 0 c.args.edge row (asks.map.pages_stay map.honest) may in
-    c.take_at.ensures.sound (asks.map.sound.0 map) (node_there g.row.D (pages c.look.new.cache) c.args.page 0 row may1.stands.node)
+    let may1 = shrink_same g.row.D (pages c.args.cache.now) (pages c.look.new.cache) c.args.page 0 c.args.edge
+        row (asks.map.pages_stay map.honest) may in
+    c.take_at.ensures.sound (asks.map.sound.0 map)
+        (node_there g.row.D (pages c.look.new.cache) c.args.page 0 row may1.stands.node)
 
 pub returns-clause-faults : goal.returns-clause-faults
 returns-clause-faults g c = λ map row may there.
     let asks = c.in_ok-found.ensures.asks in
-    let may1 = shrink_same g.row.D (pages c.args.cache.now) (pages c.look.new.cache) c.args.page 0 c.args.edge row (asks.map.pages_stay map.honest) may in
-    c.take_at.ensures.faults (asks.gate.honest.0 map.honest) (node_there g.row.D (pages c.look.new.cache) c.args.page 0 row may1.stands.node)
+    let may1 = shrink_same g.row.D (pages c.args.cache.now) (pages c.look.new.cache) c.args.page 0 c.args.edge
+        row (asks.map.pages_stay map.honest) may in
+    c.take_at.ensures.faults (asks.gate.honest.0 map.honest)
+        (node_there g.row.D (pages c.look.new.cache) c.args.page 0 row may1.stands.node)

@@ -4,7 +4,8 @@ use Rattle.id_tree.proofs.CutLemmas.{sizes}
 use Rattle.id_tree.proofs.rooting.leaf_of.Goals as goal
 
 pub push_object-requires : goal.push_object-requires
-push_object-requires g c = let size = sizes g.row.D in (search rules, (c.requires.dims, omega (arith, size.some, size.half, c.start_leaf.ensures.count)))
+push_object-requires g c = let size = sizes g.row.D in
+    (search rules, (c.requires.dims, omega (arith, size.some, size.half, c.start_leaf.ensures.count)))
 
 pub returns : goal.returns
 returns g c = c.push_object.ensures.pushed [] c.start_leaf.ensures.empty

@@ -20,9 +20,12 @@ returns-clause-named g c = λ map live.
       apart = apart;
       others = λ n off other. others n other ∙ given.others n off;
       there = others c.in_ok-number.number apart ∙ given.there;
-      named = ap (fork_in g.row.D) (c.in_ok-put.ensures.written map1.honest there) ∙ c.only_child-fork.ensures;
+      named = ap (fork_in g.row.D) (c.in_ok-put.ensures.written map1.honest there)
+          ∙ c.only_child-fork.ensures;
     }
 
 pub returns-clause-sound : goal.returns-clause-sound
 returns-clause-sound g c = λ map live.
-    c.put.ensures.sound (c.give_page.ensures.sound map) (still_live (pages c.args.cache.now) (pages c.give_page.new.cache) c.in_ok-number.number c.args.root c.args.bytes.now (c.in_ok-number.ensures.given map) live)
+    c.put.ensures.sound (c.give_page.ensures.sound map)
+        (still_live (pages c.args.cache.now) (pages c.give_page.new.cache) c.in_ok-number.number c.args.root
+        c.args.bytes.now (c.in_ok-number.ensures.given map) live)

@@ -7,12 +7,14 @@ use Rattle.id_tree.specs.Rows.{IsFoundBelow, MaySeek}
 use Rattle.id_tree.specs.Tree.{at_edge, links_of}
 use Rattle.id_tree.proofs.ResultLemmas.{if_ok}
 use Rattle.id_tree.proofs.RootLemmas.{root_fork}
-use Rattle.id_tree.proofs.SeekLemmas.{found_below, keys_ascend, may_seek_below, may_seek_root, nowhere, seek_same}
+use Rattle.id_tree.proofs.SeekLemmas.{found_below, keys_ascend, may_seek_below, may_seek_root, nowhere}
+use Rattle.id_tree.proofs.SeekLemmas.{seek_same}
 use Rattle.id_tree.proofs.WayLemmas.{way_of}
 use Rattle.id_tree.proofs.search.find.Goals as goal
 
 pub returns-in-Some-clause-asks : goal.returns-in-Some-clause-asks
-returns-in-Some-clause-asks g c = asks_in_turn c.args.cache.now c.step.new.cache c.seek.new.cache (fault_in c.seek.result) c.in_ok-way.ensures.asks c.seek.ensures.asks
+returns-in-Some-clause-asks g c = asks_in_turn c.args.cache.now c.step.new.cache c.seek.new.cache
+    (fault_in c.seek.result) c.in_ok-way.ensures.asks c.seek.ensures.asks
 
 pub returns-in-Some-clause-found : goal.returns-in-Some-clause-found
 returns-in-Some-clause-found g c = λ h table at stands.
@@ -23,14 +25,22 @@ returns-in-Some-clause-found g c = λ h table at stands.
     let asks = c.in_ok-way.ensures.asks in
     let may = may_seek_root D old root table at stands in
     let fork = root_fork D old root table at stands in
-    let route = c.in_ok-way.ensures.child h (record { level = table.level; links = links_of table.row }) fork (keys_ascend D old root table.level _ table.row stands.high may.stands) in
-    let down : table.level - 1 ≡ c.in_ok-way.way.level - 1 = ap (λ (l : ℕ). l - 1) (sym (c.in_ok-way.ensures.level h (record { level = table.level; links = links_of table.row }) fork)) in
-    let way = way_of D old root table.level _ table.row c.args.id c.in-Some.child stands.high may.stands (sym c.in-Some.is ∙ route) in
-    let below = seek_same D old mid c.in-Some.child (table.level - 1) (at_edge true way.rest) way.below (asks.map.pages_stay h) (may_seek_below D old root table.level _ c.args.id c.in-Some.child table.row stands.high may.stands way may.single) in
-    if_ok c.seek.result (IsFoundBelow c.in-Some.child (table.level - 1) c.args.id way.below) (IsFoundBelow root table.level c.args.id table.row)
+    let route = c.in_ok-way.ensures.child h (record { level = table.level; links = links_of table.row }) fork
+        (keys_ascend D old root table.level _ table.row stands.high may.stands) in
+    let down : table.level - 1 ≡ c.in_ok-way.way.level - 1 = ap (λ (l : ℕ). l - 1)
+        (sym (c.in_ok-way.ensures.level h (record { level = table.level; links = links_of table.row }) fork))
+        in
+    let way = way_of D old root table.level _ table.row c.args.id c.in-Some.child stands.high may.stands
+        (sym c.in-Some.is ∙ route) in
+    let below = seek_same D old mid c.in-Some.child (table.level - 1) (at_edge true way.rest) way.below
+        (asks.map.pages_stay h) (may_seek_below D old root table.level _ c.args.id c.in-Some.child table.row
+        stands.high may.stands way may.single) in
+    if_ok c.seek.result (IsFoundBelow c.in-Some.child (table.level - 1) c.args.id way.below)
+        (IsFoundBelow root table.level c.args.id table.row)
     (found_below D old root table.level _ c.args.id c.in-Some.child table.row stands.high may.stands way)
     (subst (λ (l : ℕ). IfOk c.seek.result (IsFoundBelow c.in-Some.child l c.args.id way.below)) (sym down)
-    (c.seek.ensures.found (asks.gate.honest.0 h) (at_edge true way.rest) way.below (subst (λ (l : ℕ). MaySeek D mid c.in-Some.child l (at_edge true way.rest) way.below) down below)))
+    (c.seek.ensures.found (asks.gate.honest.0 h) (at_edge true way.rest) way.below
+        (subst (λ (l : ℕ). MaySeek D mid c.in-Some.child l (at_edge true way.rest) way.below) down below)))
 
 pub returns-in-Some-clause-stands : goal.returns-in-Some-clause-stands
 returns-in-Some-clause-stands g c = λ h table at stands.
@@ -41,16 +51,25 @@ returns-in-Some-clause-stands g c = λ h table at stands.
     let asks = c.in_ok-way.ensures.asks in
     let may = may_seek_root D old root table at stands in
     let fork = root_fork D old root table at stands in
-    let route = c.in_ok-way.ensures.child h (record { level = table.level; links = links_of table.row }) fork (keys_ascend D old root table.level _ table.row stands.high may.stands) in
-    let down : table.level - 1 ≡ c.in_ok-way.way.level - 1 = ap (λ (l : ℕ). l - 1) (sym (c.in_ok-way.ensures.level h (record { level = table.level; links = links_of table.row }) fork)) in
-    let way = way_of D old root table.level _ table.row c.args.id c.in-Some.child stands.high may.stands (sym c.in-Some.is ∙ route) in
-    let below = seek_same D old mid c.in-Some.child (table.level - 1) (at_edge true way.rest) way.below (asks.map.pages_stay h) (may_seek_below D old root table.level _ c.args.id c.in-Some.child table.row stands.high may.stands way may.single) in
-    c.seek.ensures.stands (asks.gate.honest.0 h) (at_edge true way.rest) way.below (subst (λ (l : ℕ). MaySeek D mid c.in-Some.child l (at_edge true way.rest) way.below) down below)
+    let route = c.in_ok-way.ensures.child h (record { level = table.level; links = links_of table.row }) fork
+        (keys_ascend D old root table.level _ table.row stands.high may.stands) in
+    let down : table.level - 1 ≡ c.in_ok-way.way.level - 1 = ap (λ (l : ℕ). l - 1)
+        (sym (c.in_ok-way.ensures.level h (record { level = table.level; links = links_of table.row }) fork))
+        in
+    let way = way_of D old root table.level _ table.row c.args.id c.in-Some.child stands.high may.stands
+        (sym c.in-Some.is ∙ route) in
+    let below = seek_same D old mid c.in-Some.child (table.level - 1) (at_edge true way.rest) way.below
+        (asks.map.pages_stay h) (may_seek_below D old root table.level _ c.args.id c.in-Some.child table.row
+        stands.high may.stands way may.single) in
+    c.seek.ensures.stands (asks.gate.honest.0 h) (at_edge true way.rest) way.below
+        (subst (λ (l : ℕ). MaySeek D mid c.in-Some.child l (at_edge true way.rest) way.below) down below)
 
 pub returns-in-None-clause-found : goal.returns-in-None-clause-found
 returns-in-None-clause-found g c = λ h table at stands.
     let D = g.row.D in
     let old = pages c.args.cache.now in
     let may = may_seek_root D old c.args.root table at stands in
-    let route = c.in_ok-way.ensures.child h (record { level = table.level; links = links_of table.row }) (root_fork D old c.args.root table at stands) (keys_ascend D old c.args.root table.level _ table.row stands.high may.stands) in
+    let route = c.in_ok-way.ensures.child h (record { level = table.level; links = links_of table.row })
+        (root_fork D old c.args.root table at stands)
+        (keys_ascend D old c.args.root table.level _ table.row stands.high may.stands) in
     nowhere D old table.level c.args.id table.row stands.high stands.below (sym c.in-None.is ∙ route)

@@ -16,7 +16,8 @@ returns-clause-split g c = λ map live_child live_page apart.
       mid = mid;
       given = given;
       others = c.put.ensures.others map1.honest there;
-      named = λ content is. ap (fork_in g.row.D) (c.in_ok-put.ensures.written map1.honest there) ∙ c.with_link-named.ensures g.row.D content is;
+      named = λ content is. ap (fork_in g.row.D) (c.in_ok-put.ensures.written map1.honest there)
+          ∙ c.with_link-named.ensures g.row.D content is;
     }
 
 pub returns-clause-sound : goal.returns-clause-sound
@@ -25,4 +26,5 @@ returns-clause-sound g c = λ map live_child live_page apart.
     let mid = pages c.give_and_put.new.cache in
     let given = c.in_ok-number.ensures.given map live_child in
     let map1 = c.give_and_put.ensures.sound map live_child in
-    c.put.ensures.sound map1 (given_live old mid c.args.child c.in_ok-number.number c.args.page _ _ given live_page apart)
+    c.put.ensures.sound map1 (given_live old mid c.args.child c.in_ok-number.number c.args.page _ _ given
+        live_page apart)

@@ -15,13 +15,15 @@ use Rattle.id_tree.proofs.updating.update.Goals as goal
 
 pub returns-in_default-clause-faults : goal.returns-in_default-clause-faults
 returns-in_default-clause-faults g c = λ map t at stands there.
-    let none = subst (IsFoundBelow c.args.root t.level c.args.id t.row) c.in_default.is (c.in_ok-found.ensures.found map.honest t at stands) in
+    let none = subst (IsFoundBelow c.args.root t.level c.args.id t.row) c.in_default.is
+        (c.in_ok-found.ensures.found map.honest t at stands) in
     absurd (not_missing t c.args.id there none)
 
 pub returns-clause-refused : goal.returns-clause-refused
 returns-clause-refused g c =
     let asks = c.in_ok-found.ensures.asks in
-    on_err c.move_at.result (the_map_is_kept_in_turn c.args.cache.now c.find.new.cache c.move_at.new.cache asks.gate.honest.0 asks.map) c.move_at.ensures.refused
+    on_err c.move_at.result (the_map_is_kept_in_turn c.args.cache.now c.find.new.cache c.move_at.new.cache
+        asks.gate.honest.0 asks.map) c.move_at.ensures.refused
 
 pub returns-clause-updated : goal.returns-clause-updated
 returns-clause-updated g c = λ map t at stands kept is.
@@ -39,14 +41,17 @@ returns-clause-updated g c = λ map t at stands kept is.
     let same = asks.map.pages_stay map.honest in
     let honest = asks.gate.honest.0 map.honest in
     let tree = tree_same D old mid t same stands in
-    let below = subst (IsFoundBelow root t.level id t.row) c.in-Some.is (c.in_ok-found.ensures.found map.honest t at stands) in
+    let below = subst (IsFoundBelow root t.level id t.row) c.in-Some.is
+        (c.in_ok-found.ensures.found map.honest t at stands) in
     let last = last_of D mid t root id leaf place was at tree below in
     let live = node_there D mid leaf 0 below.last last.stands.node in
-    let tag : was.1 ≡ tag_of kept = ap (λ (o : Object). o.1) (kept_is t root id leaf place kept was is below) in
+    let tag : was.1 ≡ tag_of kept = ap (λ (o : Object). o.1) (kept_is t root id leaf place kept was is below)
+        in
     on_ok c.move_at.result (λ there.
     subst (λ (n : ℕ). Sets D old new t id (bounds, n)) tag
     (sets_from D old mid new t id (bounds, was.1) same
-    (sets_put D mid new t root id leaf place was (bounds, was.1) at tree below (c.move_at.ensures.others honest live) there (few_times (last.few id) (stands.single id)))))
+    (sets_put D mid new t root id leaf place was (bounds, was.1) at tree below
+        (c.move_at.ensures.others honest live) there (few_times (last.few id) (stands.single id)))))
     (c.move_at.ensures.written honest (objects_in below.last) (last.stands.node.leaf refl) below.has.within)
   where
     few_times : {a b : ℕ} → a ≤ b → b ≤ 1 → a ≤ 1
@@ -58,9 +63,12 @@ returns-clause-sound g c = λ map t at stands.
     let mid = pages c.find.new.cache in
     let asks = c.in_ok-found.ensures.asks in
     let tree = tree_same D (pages c.args.cache.now) mid t (asks.map.pages_stay map.honest) stands in
-    let below = subst (IsFoundBelow c.args.root t.level c.args.id t.row) c.in-Some.is (c.in_ok-found.ensures.found map.honest t at stands) in
-    let last = last_of D mid t c.args.root c.args.id c.in-Some.leaf c.in-Some.place c.in-Some.kept at tree below in
-    c.move_at.ensures.sound (asks.map.sound.0 map) (node_there D mid c.in-Some.leaf 0 below.last last.stands.node)
+    let below = subst (IsFoundBelow c.args.root t.level c.args.id t.row) c.in-Some.is
+        (c.in_ok-found.ensures.found map.honest t at stands) in
+    let last = last_of D mid t c.args.root c.args.id c.in-Some.leaf c.in-Some.place c.in-Some.kept at tree
+        below in
+    c.move_at.ensures.sound (asks.map.sound.0 map)
+        (node_there D mid c.in-Some.leaf 0 below.last last.stands.node)
 
 pub returns-clause-faults : goal.returns-clause-faults
 returns-clause-faults g c = λ map t at stands there.
@@ -68,6 +76,9 @@ returns-clause-faults g c = λ map t at stands there.
     let mid = pages c.find.new.cache in
     let asks = c.in_ok-found.ensures.asks in
     let tree = tree_same D (pages c.args.cache.now) mid t (asks.map.pages_stay map.honest) stands in
-    let below = subst (IsFoundBelow c.args.root t.level c.args.id t.row) c.in-Some.is (c.in_ok-found.ensures.found map.honest t at stands) in
-    let last = last_of D mid t c.args.root c.args.id c.in-Some.leaf c.in-Some.place c.in-Some.kept at tree below in
-    c.move_at.ensures.faults (asks.gate.honest.0 map.honest) (node_there D mid c.in-Some.leaf 0 below.last last.stands.node)
+    let below = subst (IsFoundBelow c.args.root t.level c.args.id t.row) c.in-Some.is
+        (c.in_ok-found.ensures.found map.honest t at stands) in
+    let last = last_of D mid t c.args.root c.args.id c.in-Some.leaf c.in-Some.place c.in-Some.kept at tree
+        below in
+    c.move_at.ensures.faults (asks.gate.honest.0 map.honest)
+        (node_there D mid c.in-Some.leaf 0 below.last last.stands.node)
