@@ -233,9 +233,9 @@ fn descending_identifiers_are_found(rt: HostRuntime) -> Result<(), Fail> {
 
 #[test]
 fn random_identifiers_fill_their_pages(rt: HostRuntime) -> Result<(), Fail> {
-    let (alike, pages) = round::<2>(rt.alloc(), Order::Random, 12000)?;
-    assert_eq!(rt; alike, 24000);
-    assert!(rt; pages <= 152, "{pages}");
+    let (alike, pages) = round::<2>(rt.alloc(), Order::Random, 8000)?;
+    assert_eq!(rt; alike, 16000);
+    assert!(rt; pages <= 103, "{pages}");
     Ok(())
 }
 
@@ -280,9 +280,9 @@ fn shrink<const D: usize>(
 
 #[test]
 fn a_tenth_that_stays_has_few_pages(rt: HostRuntime) -> Result<(), Fail> {
-    let (alike, pages) = shrink::<2>(rt.alloc(), Order::Random, 12000, 10)?;
-    assert_eq!(rt; alike, 12000);
-    assert!(rt; pages <= 22, "{pages}");
+    let (alike, pages) = shrink::<2>(rt.alloc(), Order::Random, 5000, 10)?;
+    assert_eq!(rt; alike, 5000);
+    assert!(rt; pages <= 10, "{pages}");
     Ok(())
 }
 
@@ -301,9 +301,6 @@ fn what_descends_and_is_clustered_shrinks(rt: HostRuntime) -> Result<(), Fail> {
 fn a_table_of_which_all_went_is_its_root(rt: HostRuntime) -> Result<(), Fail> {
     let (alike, pages) = shrink::<3>(rt.alloc(), Order::Ascending, 39000, 0)?;
     assert_eq!(rt; alike, 39000);
-    assert_eq!(rt; pages, 1);
-    let (alike, pages) = shrink::<2>(rt.alloc(), Order::Random, 6000, 0)?;
-    assert_eq!(rt; alike, 6000);
     assert_eq!(rt; pages, 1);
     Ok(())
 }
