@@ -1,9 +1,7 @@
 //! One layer in memory: its name, its axes, its fanout and the list of its objects.
 
 use box_math::Query;
-use plain_table::{
-    AnyBox, Axes, Dimension, LayerName, RawBox, RawPoint, RawQuery, Refusal,
-};
+use plain_table::{AnyBox, Axes, Dimension, LayerName, RawBox, RawPoint, RawQuery, Refusal};
 use std::alloc::Allocator;
 
 /// A layer in memory.

@@ -47,8 +47,13 @@ returns-in_ok-rows-2-clause-listed g c = λ t sound.
     let located = c.locate-located.ensures.located t name sound (c.in_ok-place.ensures.found t sound) in (
       c.in_ok-place.ensures.named t sound [],
       (
-        omega (arith, located.dims, c.locate-located.ensures.dims.0, c.locate-located.ensures.dims.1,
-            c.if-located-eq2.false),
+        omega (
+          arith,
+          located.dims,
+          c.locate-located.ensures.dims.0,
+          c.locate-located.ensures.dims.1,
+          c.if-located-eq2.false,
+        ),
         c.in_ok-rows-2.ensures.listed t name sound located,
       ),
     )
