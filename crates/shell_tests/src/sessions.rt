@@ -3,7 +3,7 @@
 use crate::fakes::{Short, Slow};
 use crate::stores::{new_store, run_new};
 use block_device::MemoryDevice;
-use command_shell::{RunEnd, run};
+use command_shell::{CountedReader, RunEnd, run};
 use layer_store::Store;
 use refusing::Refusing;
 use std::alloc::Global;
@@ -337,7 +337,7 @@ fn all_rows(alloc: Global) -> Result<Vec<Row>, Fail> {
 
 // Whether the store answers a text so.
 fn answers(alloc: Global, store: &mut Store<MemoryDevice>, text: &[u8], replies: &[u8]) -> bool {
-    let mut input = text;
+    let mut input = CountedReader::over(text);
     let mut output = Vec::new(alloc);
     let end = run(store, &mut input, &mut output);
     end == RunEnd::Finished && output.as_slice() == replies
@@ -459,7 +459,7 @@ fn reply(
     store: &mut Store<MemoryDevice<Heap<'_>>, Heap<'_>>,
     line: &[u8],
 ) -> Vec<u8> {
-    let mut input = line;
+    let mut input = CountedReader::over(line);
     let mut output = Vec::new(alloc);
     run(store, &mut input, &mut output);
     output
