@@ -6,7 +6,6 @@ use Rattle.std.specs.Prelude.{◌↔◌}
 use Rattle.std.specs.List.{flat_map}
 use Rattle.std.proofs.lemmas.List.{get_or_default, length-map}
 use Rattle.std.proofs.lemmas.List.Elements.{All-get_or}
-use Rattle.block_device.specs.Device.{one_more}
 use Rattle.box_math.specs.Bounds.{Within}
 use Rattle.box_math.specs.Objects.{Object, bounds_of, tag_of}
 use Rattle.box_math.specs.Measures.{near_test}
@@ -557,7 +556,7 @@ module _ {B A : Type 0} {m : _} where
 
           pub leaves_joined : near_test dims limit x.bounds y.bounds ≡ true → ahead ≤ 1
               → (next : PageCache B A m) (pairs_next : List (ℕ × ℕ)) → AsksUntil now next None
-              → looks_of next ≡ one_more (looks_of now)
+              → looks_of next ≤ looks_of now + 1
               → (IsHonest now → (c : NodeContent) → node_in dims (pages now y.reference) ≡ Some c
               → c.level ≡ 0 → All (λ (item : Item). Within dims item.bounds y.bounds) c.entries
               → GainsItems dims limit leaf.entries c.entries pairs_now pairs_next)

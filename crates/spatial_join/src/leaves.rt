@@ -1,8 +1,8 @@
 //! The pairs of objects of two leaves whose boxes are near enough.
 
-ghost use Rattle.std.specs.Prelude.{◌≡◌, ◌⊎◌, ◌++◌, ◌<◌, ◌≤◌, ℕ, Some, All, IfErr, OnOk, length};
-ghost use Rattle.block_device.specs.Device.{one_more};
+ghost use Rattle.std.specs.Prelude.{◌≡◌, ◌⊎◌, ◌+◌, ◌++◌, ◌<◌, ◌≤◌, ℕ, Some, All, IfErr, OnOk, length};
 ghost use Rattle.box_math.specs.Bounds.{IsBox, IsDims, Within, on_axis};
+ghost use Rattle.box_math.specs.Measures.{near_test};
 ghost use Rattle.page_file.specs.Fault.{IsDamage, IsOfDevice};
 ghost use Rattle.page_file.specs.declared.fault.Fault.TheVariants as fault;
 ghost use Rattle.page_cache.specs.Cache.{IsHonest, looks_of, pages};
@@ -12,7 +12,7 @@ ghost use Rattle.tree_node.specs.Nodes.{NodeContent, item_of, items_of};
 ghost use Rattle.node_page.specs.Columns.{cell};
 ghost use Rattle.node_page.specs.Standing.{node_in};
 ghost use Rattle.node_page.specs.Views.{content_in};
-ghost use Rattle.spatial_join.specs.Masks.{HaveBoxes};
+ghost use Rattle.spatial_join.specs.Masks.{HaveBoxes, Tells};
 ghost use Rattle.spatial_join.specs.Pairs.{GainsItems, pairs_of};
 
 use crate::columns::next_place;
@@ -26,7 +26,7 @@ use std::alloc::Allocator;
 
 /// Appends the pairs of an object of a leaf, whose boxes stand in the columns, and of one of the leaf at the
 /// page whose boxes are in the reach of each other, in one look. Where the boxes of the other leaf lie in the
-/// given one, those of the first that are not in its reach are passed over.
+/// given one, those of the first that are not in its reach are passed over; where none is, the page is left.
 pub(crate) fn add_leaf_pairs<const D: usize, B: BlockDevice, A: Allocator + Copy, H: Allocator>(
     cache: &mut PageCache<B, A>,
     left: &Node<D>,
@@ -49,22 +49,26 @@ pub(crate) fn add_leaf_pairs<const D: usize, B: BlockDevice, A: Allocator + Copy
         → c.level ≡ 0 → All (λ item. Within D item.bounds bounds.now) c.entries
         → OnOk result (GainsItems D reach.limit (items_of left.now.entries.items) c.entries
         pairs.old.items pairs.new.items) }
-    ensures looks { OnOk result (looks_of cache.new ≡ one_more (looks_of cache.old)) }
+    ensures looks { OnOk result (looks_of cache.new ≤ looks_of cache.old + 1) }
     ensures there { IsHonest cache.old → (c : NodeContent) → node_in D (pages cache.old page) ≡ Some c
         → c.level ≡ 0 → IfErr result IsOfDevice }
     ensures faults { IsHonest cache.old → IfErr result (λ f. IsOfDevice f ⊎ (f ≡ fault.Damaged page)) }
     ensures other_faults { IfErr result (λ f. IsOfDevice f ⊎ IsDamage f) }
 {
+    let near = reach.mask(lows, highs, left, bounds);
+    if near == 0 {
+        return Ok(());
+    }
     let right = view_node::<D, B, A>(cache, page, 0)?;
-    push_near(left, lows, highs, &right, bounds, reach, pairs)?;
+    push_near(left, near, &right, bounds, reach, pairs)?;
     Ok(())
 }
 
-// Appends those pairs of an object of a node and of one of the right leaf, whose boxes lie in the given one.
+// Appends those pairs of an object of a node and of one of the right leaf, whose boxes lie in the given one,
+// where the mask names the objects in the reach of that box.
 fn push_near<const D: usize, H: Allocator>(
     left: &Node<D>,
-    lows: &[[i32; 100]; D],
-    highs: &[[i32; 100]; D],
+    near: u128,
     right: &NodeView<D>,
     bounds: &BBox<D>,
     reach: Reach,
@@ -72,11 +76,7 @@ fn push_near<const D: usize, H: Allocator>(
 ) -> Result<(), Fault>
     requires dims { IsDims D }
     requires few { length left.now.entries.items ≤ 100 }
-    requires boxes { HaveBoxes D (items_of left.now.entries.items) }
-    requires lows { (axis place : ℕ) → axis < D → place < length left.now.entries.items
-        → cell lows.now axis place ≡ on_axis (box_at (items_of left.now.entries.items) place).low axis }
-    requires highs { (axis place : ℕ) → axis < D → place < length left.now.entries.items
-        → cell highs.now axis place ≡ on_axis (box_at (items_of left.now.entries.items) place).high axis }
+    requires near { Tells (near_test D reach.limit bounds.now) near (items_of left.now.entries.items) }
     requires right_few { length (content_in right.now).entries ≤ 100 }
     requires right_boxes { All (λ item. IsBox D item.bounds) (content_in right.now).entries }
     ensures pairs { All (λ item. Within D item.bounds bounds.now) (content_in right.now).entries
@@ -84,7 +84,6 @@ fn push_near<const D: usize, H: Allocator>(
         pairs.old.items pairs.new.items) }
     ensures memory { IfErr result (λ f. f ≡ fault.Memory) }
 {
-    let near = reach.mask(lows, highs, left, bounds);
     let mut from = 0;
     'object: while let Some(place) = next_place(near, from) {
         from = place + 1;

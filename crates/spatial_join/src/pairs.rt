@@ -1,6 +1,6 @@
 //! The descent into the pairs of nodes whose boxes are near enough.
 
-ghost use Rattle.std.specs.Prelude.{◌≡◌, ◌⊎◌, ◌↔◌, ◌+◌, ◌*◌, ◌^◌, ◌<◌, ◌≤◌, ◌++◌, ℕ, IfErr, OnOk, length};
+ghost use Rattle.std.specs.Prelude.{◌≡◌, ◌≢◌, ◌⊎◌, ◌↔◌, ◌+◌, ◌*◌, ◌^◌, ◌<◌, ◌≤◌, ◌++◌, ℕ, IfErr, OnOk, length};
 ghost use Rattle.std.specs.Prelude.{map};
 ghost use Rattle.box_math.specs.Bounds.{IsDims};
 ghost use Rattle.box_math.specs.Measures.{near_test};
@@ -59,6 +59,9 @@ pub(crate) fn add_pairs<const D: usize, B: BlockDevice, A: Allocator + Copy, H: 
     let (lows, highs) = columns_of(right);
     for entry in left.entries.as_slice() {
         let mask = reach.mask(&lows, &highs, right, &entry.bounds);
+        if mask == 0 {
+            continue;
+        }
         if left.level == 0 {
             push_pairs(entry, right, reach, mask, pairs)?;
         } else {
@@ -69,7 +72,8 @@ pub(crate) fn add_pairs<const D: usize, B: BlockDevice, A: Allocator + Copy, H: 
 }
 
 // Appends the pairs of objects below an entry of a node of that level and below those of the right node that
-// the mask names, whose boxes are in its reach. The node below the entry is opened once for all of them.
+// the mask names, of which there is one and whose boxes are in its reach. The node below the entry is opened
+// once for all of them.
 #[cycle(descent)]
 fn add_pairs_of_entry<const D: usize, B: BlockDevice, A: Allocator + Copy, H: Allocator>(
     cache: &mut PageCache<B, A>,
@@ -84,6 +88,7 @@ fn add_pairs_of_entry<const D: usize, B: BlockDevice, A: Allocator + Copy, H: Al
     requires above { 0 < level }
     requires right_above { 0 < right.now.level }
     requires page { entry.now.reference < 2 ^ 32 }
+    requires some { mask ≢ 0 }
     requires right_pages { HasPages (content_of right.now) }
     requires few { length right.now.entries.items ≤ 100 }
     requires mask { Tells (near_test D reach.limit (item_of entry.now).bounds) mask
@@ -106,9 +111,6 @@ fn add_pairs_of_entry<const D: usize, B: BlockDevice, A: Allocator + Copy, H: Al
         ⊎ ComesBelow D (given cache.old) (content_of right.now) n) }
     ensures other_faults { IfErr result (λ f. IsOfDevice f ⊎ IsDamage f) }
 {
-    if mask == 0 {
-        return Ok(());
-    }
     let below = Root {
         page: entry.reference as u32,
         level: level - 1,

@@ -1,13 +1,16 @@
 -- The goals of `add_leaf_pairs` that are proved by hand.
-use Rattle.std.proofs.Common.{All, List, ap, rules, subst, sym}
+use Rattle.std.proofs.Common.{All, List, ap, arith, rules, subst, sym}
 use Rattle.box_math.specs.Bounds.{Within}
 use Rattle.page_cache.specs.Cache.{pages}
+use Rattle.page_cache.specs.Calls.{no_call_asks}
 use Rattle.tree_node.specs.Nodes.{Item, items_of}
 use Rattle.node_page.specs.Standing.{PageMap}
 use Rattle.node_page.specs.Views.{content_in}
 use Rattle.node_page.proofs.StandingLemmas.{page_of_node, same_content}
 use Rattle.spatial_join.specs.Pairs.{GainsItems}
 use Rattle.spatial_join.proofs.DescentLemmas.{asks_and_runs_out}
+use Rattle.spatial_join.proofs.LeafJoin.{all_joined, joining_begins}
+use Rattle.spatial_join.proofs.MaskLemmas.{none_set}
 use Rattle.spatial_join.proofs.leaves.add_leaf_pairs.Goals as goal
 
 pub returns-in_err-push_near-clause-asks : goal.returns-in_err-push_near-clause-asks
@@ -28,3 +31,17 @@ returns-clause-pairs g c = λ h content there level all.
     (items_of c.args.left.now.entries.items) others c.args.pairs.now.items c.push_near.new.pairs.items) same
     (c.in_ok-push_near.ensures.pairs
     (subst (All (λ (item : Item). Within g.row.D item.bounds c.args.bounds.now)) (sym same) all))
+
+-- ---- none of the objects is near
+
+pub returns-then-near-eq0-clause-pairs : goal.returns-then-near-eq0-clause-pairs
+returns-then-near-eq0-clause-pairs g c = λ h content there level all.
+    let items = items_of c.args.left.now.entries.items in
+    let pairs = c.args.pairs.now.items in
+    all_joined g.row.D c.args.reach.limit items content.entries c.args.bounds.now pairs pairs
+    c.mask-near.result c.mask-near.ensures 0
+    (joining_begins g.row.D c.args.reach.limit items content.entries c.args.bounds.now pairs)
+    (omega arith) (none_set c.mask-near.result c.if-near-eq0.true) all
+
+pub returns-then-near-eq0-clause-asks : goal.returns-then-near-eq0-clause-asks
+returns-then-near-eq0-clause-asks g c = no_call_asks c.args.cache.now

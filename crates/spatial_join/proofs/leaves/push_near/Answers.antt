@@ -20,13 +20,13 @@ object-preserved g c =
     let others = (content_in c.args.right.now).entries in
     let set = c.in-Some.ensures.set.2 in
     let within =
-    place_within c.deref.result.now c.args.left.now.entries.items c.in-Some.place c.mask-near.result
-    c.mask-near.ensures set c.deref.ensures.0 in
+    place_within c.deref.result.now c.args.left.now.entries.items c.in-Some.place c.args.near
+    c.requires.near set c.deref.ensures.0 in
     let named =
     entry_named c.deref.result.now c.args.left.now.entries.items c.in-Some.place
     c.index-deref-place.result c.deref.ensures.0 within c.index-deref-place.is in (
       next_joined g.row.D c.args.reach.limit items others c.args.bounds.now c.args.pairs.now.items
-          c.object.pairs.items c.mask-near.result c.mask-near.ensures c.object.from c.object.invariant.0
+          c.object.pairs.items c.args.near c.requires.near c.object.from c.object.invariant.0
           c.in-Some.place c.in-Some.ensures.set.0 set c.in-Some.ensures.first
           (item_of c.index-deref-place.result) named c.push_pairs_with.new.pairs.items
           c.in_ok-push_pairs_with.ensures.pairs,
@@ -37,6 +37,6 @@ pub returns-clause-pairs : goal.returns-clause-pairs
 returns-clause-pairs g c =
     all_joined g.row.D c.args.reach.limit (items_of c.args.left.now.entries.items)
     (content_in c.args.right.now).entries c.args.bounds.now c.args.pairs.now.items
-    c.object.pairs.items c.mask-near.result c.mask-near.ensures c.object.from c.object.invariant.0
+    c.object.pairs.items c.args.near c.requires.near c.object.from c.object.invariant.0
     (omega (arith, c.object.invariant.1, length-map c.args.left.now.entries.items item_of))
     c.in_default.ensures.none

@@ -77,7 +77,7 @@ add_pairs-add_pairs_of_entry-requires g t c κs within =
                       above,
                       (
                         both_above c.args.left.now.level c.args.right.now.level c.requires.leaves above,
-                        (fits, (c.requires.right_pages, (c.requires.few, told))),
+                        (fits, (c.if-mask-eq0.false, (c.requires.right_pages, (c.requires.few, told)))),
                       ),
                     ),
                   ),
@@ -134,6 +134,19 @@ add_pairs-loop-entry-preserved g t c =
           (λ h s r first second. w.in_ok-add_pairs_of_entry.ensures.looks h s r first second))
     ]
 
+pub add_pairs-loop-entry-preserved-then-mask-eq0 : goal.add_pairs-loop-entry-preserved-then-mask-eq0
+add_pairs-loop-entry-preserved-then-mask-eq0 g t c =
+    let x = item_of c.entry-item.result in
+    entry_added c.loop-entry.entry-index c.loop-entry.invariant x _
+    (λ s same. entry_here s c.as_slice-entry-items.result.now c.args.left.now.entries.items
+    c.loop-entry.entry-index c.entry-item.result same c.as_slice-entry-items.ensures.value
+    (omega (arith, c.loop-entry-test.true)) c.entry-item.is)
+    c.loop-entry.cache c.loop-entry.pairs.items (no_call_asks c.loop-entry.cache)
+    (λ h s r first second e e'. nothing_near c.args.reach.limit c.loop-entry.cache c.args.left.now.level x
+    (content_of c.args.right.now) c.loop-entry.pairs.items c.mask-mask.result c.mask-mask.ensures
+    (none_set c.mask-mask.result c.if-mask-eq0.true) h s r first second e e')
+    (λ h s r first second. omega arith)
+
 pub add_pairs-returns-clause-asks : goal.add_pairs-returns-clause-asks
 add_pairs-returns-clause-asks g t c = c.loop-entry.invariant.asks
 
@@ -148,12 +161,6 @@ add_pairs-returns-clause-looks g t c =
     λ h s r first second. all_looked c.loop-entry.entry-index c.loop-entry.invariant h s r first second
 
 -- ---- the entries of the right node beside one of the left
-
-pub add_pairs_of_entry-returns-then-mask-eq0-clause-pairs : goal.add_pairs_of_entry-returns-then-mask-eq0-clause-pairs
-add_pairs_of_entry-returns-then-mask-eq0-clause-pairs g t c = λ h s r first second e e'.
-    nothing_near c.args.reach.limit c.args.cache.now c.args.level (item_of c.args.entry.now)
-    (content_of c.args.right.now) c.args.pairs.now.items c.args.mask c.requires.mask
-    (none_set c.args.mask c.if-mask-eq0.true) h s r first second e e'
 
 pub add_pairs_of_entry-other-init : goal.add_pairs_of_entry-other-init
 add_pairs_of_entry-other-init g t c =
@@ -405,11 +412,8 @@ add_pairs_of_entry-returns-clause-pairs g t c = λ h s r first second e e'.
 pub add_pairs_of_entry-returns-clause-looks : goal.add_pairs_of_entry-returns-clause-looks
 add_pairs_of_entry-returns-clause-looks g t c = λ h s r first second.
     end_looked c.other.from c.args.mask c.other.invariant.0 c.requires.mask
-    (some_before w128 c.args.mask c.other.from c.ranges.mask.fits c.if-mask-eq0.false
+    (some_before w128 c.args.mask c.other.from c.ranges.mask.fits c.requires.some
     c.in_default.ensures.none) h s r first second
-
-pub add_pairs_of_entry-returns-then-mask-eq0-clause-asks : goal.add_pairs_of_entry-returns-then-mask-eq0-clause-asks
-add_pairs_of_entry-returns-then-mask-eq0-clause-asks g k c = no_call_asks c.args.cache.now
 
 -- ---- the page that is damaged
 
