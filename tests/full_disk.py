@@ -28,6 +28,7 @@ DEVICE = "fail 17 Device"
 FAILED = "fail 19 StoreFailed"
 FILLER = 192 * 1024
 LAYERS = "create a 2 16\ncreate b 3 4\n"
+WRITES = "write,pwrite64"  # a block is written at an offset
 
 
 class Wrong(Exception):
@@ -371,7 +372,7 @@ def refusing(program, folder, room, calls, number):
     """A trial in which such a call of this number is refused, or each from it on."""
     when = f"{calls}:error=ENOSPC:when={number}" + random.choice(["", "+"])
     words = ["strace", "-f", "-o", "/dev/null", "-e", f"trace={calls}", "-e", f"inject={when}"]
-    if calls == "write":
+    if calls == WRITES:
         words += ["-P", os.path.join(folder, "store"), "-P", os.path.join(folder, "store-journal")]
     trial = Trial(program, folder, room, Hindrance(words))
     return trial, trial.run(lambda: None)
@@ -382,7 +383,7 @@ KINDS = {
     "limit": lambda *places, n: with_bound(*places, 20480 + 2731 * n, True),
     "signal": lambda *places, n: with_bound(*places, 20480 + 2731 * n, False),
     "below": lambda *places, n: below(*places, 24576 + 3777 * n),
-    "write": lambda *places, n: refusing(*places, "write", 1 + n * 3),
+    "write": lambda *places, n: refusing(*places, WRITES, 1 + n * 3),
     "sync": lambda *places, n: refusing(*places, "fsync,fdatasync", 1 + n),
 }
 

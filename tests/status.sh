@@ -259,6 +259,51 @@ for made in "$program" "$program.by-rattle"; do
         ends 0 '' "$made" --read-only store <<<'layers' >/dev/null
         chmod 600 store
     fi
+    # a strict run ends at the first refused line, says which it is, and closes nothing but what was closed before
+    ends 0 '' "$made" --strict --create script <<<$'create a 2 4\ninsert a 1 0 0 1 1' >replies
+    "$made" script <<<'dump' >before
+    printf '%s\n' '# a script' 'create b 2 4' 'load b 2' '1 0 0 1 1' '2 0 0 1 1' '' 'insert a 1 2 2 3 3' 'drop a' >asked
+    ends 3 'rstore: line 7: insert a 1 2 2 3 3: fail 9 Duplicate' "$made" --strict script <asked >replies
+    printf '%s\n' ok ok 'fail 9 Duplicate' >wanted
+    cmp -s replies wanted || wrong "a strict run wrote: $(cat replies)"
+    [ ! -e script-journal ] || wrong "a strict run that stopped left its journal"
+    "$made" script <<<'dump' >replies
+    cmp -s replies before || wrong "a strict run that stopped left: $(cat replies)"
+    ends 0 '' "$made" script <asked >replies
+    ends 3 'rstore: line 3: x: fail 24 BadLine' "$made" --strict script <<<$'drop b\nreopen\nx\ndrop a' >replies
+    "$made" script <<<'layers' >replies
+    [ "$(cat replies)" = "$(printf 'ok 0')" ] || wrong "a strict run that had reopened left: $(cat replies)"
+    ends 3 'rstore: line 1: load?b 2: fail 24 BadLine' "$made" --strict <<<$'load\tb 2\nx\ny' >replies
+    ends 1 "$failed" "$made" --strict <<<'x' >/dev/full
+    ends 1 "$failed" "$made" --strict script <<<'create c 2 4' >/dev/full
+    ends 0 '' "$made" --strict --read-only script <<<'layers' >replies
+    [ "$(cat replies)" = 'ok 0' ] || wrong "a strict run whose output failed left: $(cat replies)"
+    ends 3 'rstore: line 1: create c 2 4: fail 17 Device' "$made" --strict --read-only script <<<'create c 2 4' >replies
+    for words in '--strict --stats script' '--strict --draw a script' '--strict --import a script' '--strict --strict'; do
+        # shellcheck disable=SC2086
+        ends 2 '*' "$made" $words </dev/null >replies
+    done
+    # objects are imported, all of them or none: a bad row opens no file, and one that is there undoes those before it
+    printf '%s\n' 'id,minx,miny,maxx,maxy,tag' '7,-1.26,2,3.01,4,5' '8,0,0,1,1,' >rows
+    printf '%s\n' 'id,x,y' '1,5,5' '2,5,x' >bad
+    printf '%s\n' '{"type":"Feature","properties":{"id":9,"kind":3},"geometry":{"type":"Point","coordinates":[7,8]}}' >lines
+    printf '%s\n' 'id,x,y' '4,1,1' '8,2,2' >twice
+    ends 1 'rstore: line 3, column y: "x" is no number' "$made" --create --import b:8 boxes <bad >replies
+    [ ! -e boxes ] || wrong "a file was made for rows of which one is bad"
+    ends 0 '' "$made" --create --import b:8 --scale 10 boxes <rows >replies
+    ends 0 '' "$made" --import b --geojson --columns id,kind boxes <lines >>replies
+    "$made" boxes <<<'dump' >before
+    ends 1 'rstore: line 3, column y: "x" is no number' "$made" --import b boxes <bad >>replies
+    ends 1 'rstore: object 8: fail 9 Duplicate' "$made" --import b boxes <twice >>replies
+    ends 1 'rstore: object 1: fail 8 WrongDims' "$made" --import b --columns ,1,2,3 boxes <<<'1,2,3' >>replies
+    ends 2 '*' "$made" --import b --read-only boxes <rows >>replies
+    [ ! -s replies ] || wrong "an import wrote: $(cat replies)"
+    [ ! -e boxes-journal ] || wrong "an import that gave up left its journal"
+    printf '%s\n' 'ok 4' 'create b 2 8' 'insert b 7 -13 20 31 40 tag 5' 'insert b 8 0 0 10 10' \
+        'insert b 9 7 8 7 8 tag 3' >wanted
+    cmp -s before wanted || wrong "objects were imported as: $(cat before)"
+    "$made" boxes <<<'dump' >replies
+    cmp -s replies wanted || wrong "an import that gave up left: $(cat replies)"
     printf '\0' | dd of=store bs=1 seek=8 conv=notrunc status=none
     line='rstore: fail 20 NotClosed'
     refused _ _ store "$made" store

@@ -26,7 +26,7 @@ use page_file::Fault;
 use std::alloc::Allocator;
 use tree_node::see_boxes;
 
-/// Makes a tree packed from these objects, in pages that were not live: its nodes have at most `m_max`
+/// Makes a tree packed from these objects, in pages that were not live: its nodes have at most `fanout`
 /// entries, and no objects make an empty leaf. The gate has to be open. The objects are left in some order.
 ///
 /// It lets at most one page more become live than there are objects, also where it is refused.
@@ -38,22 +38,22 @@ pub fn load<const D: usize, B: BlockDevice, A: Allocator + Copy, H: Allocator + 
     alloc: H,
     cache: &mut PageCache<B, A>,
     objects: &mut [Entry<D>],
-    m_max: u8,
+    fanout: u8,
 ) -> Result<Root, Fault>
     requires dims { IsDims D }
     requires open { gate_of cache.old ≡ Open }
-    requires sized { (4 ≤ m_max) × (m_max ≤ 100) }
+    requires sized { (4 ≤ fanout) × (fanout ≤ 100) }
     ensures changes { Changes cache.old cache.new result }
     ensures sound { IsPageMap cache.old → IsPageMap cache.new }
     ensures loaded { IsPageMap cache.old
         → IfOk result (λ root.
-        Loads D m_max (pages cache.old) (pages cache.new) (items_of objects.old) root) }
+        Loads D fanout (pages cache.old) (pages cache.new) (items_of objects.old) root) }
     ensures all { IsPermutation objects.old objects.new }
     ensures grows { Grows (length objects.old + 1) cache.old cache.new }
     ensures faults { IsPageMap cache.old → IfErr result (IsNoDamage cache.new) }
 {
     see_boxes(objects);
-    pack(alloc, cache, objects, 0, m_max)
+    pack(alloc, cache, objects, 0, fanout)
 }
 
 // Packs the entries of a level, which are left in some order.
@@ -62,11 +62,11 @@ fn pack<const D: usize, B: BlockDevice, A: Allocator + Copy, H: Allocator + Copy
     cache: &mut PageCache<B, A>,
     entries: &mut [Entry<D>],
     level: u8,
-    m_max: u8,
+    fanout: u8,
 ) -> Result<Root, Fault>
     requires dims { IsDims D }
     requires open { gate_of cache.old ≡ Open }
-    requires sized { (4 ≤ m_max) × (m_max ≤ 100) }
+    requires sized { (4 ≤ fanout) × (fanout ≤ 100) }
     requires some { 0 < level → 1 ≤ length entries.old }
     requires refers { All (λ item. IsOfLevel level item.reference item.tag) (items_of entries.old) }
     requires fits { length entries.old * 2 ^ level < 2 ^ 64 }
@@ -74,17 +74,17 @@ fn pack<const D: usize, B: BlockDevice, A: Allocator + Copy, H: Allocator + Copy
     ensures sound { IsPageMap cache.old → IsPageMap cache.new }
     ensures packed { IsPageMap cache.old → (bs : List Branch)
         → WaitFor D level (pages cache.old) (items_of entries.old) bs
-        → IfOk result (λ root. PackedAt D m_max level (pages cache.old) (pages cache.new) bs root) }
+        → IfOk result (λ root. PackedAt D fanout level (pages cache.old) (pages cache.new) bs root) }
     ensures all { IsPermutation entries.old entries.new }
     ensures grows { Grows (length entries.old + 1) cache.old cache.new }
     ensures faults { IsPageMap cache.old → IfErr result (IsNoDamage cache.new) }
 {
-    if entries.len() <= usize::from(m_max) {
+    if entries.len() <= usize::from(fanout) {
         let page = write_new(cache, entries, level)?;
         return Ok(Root { page, level });
     }
-    let mut parents = pack_level(alloc, cache, entries, level, m_max)?;
-    pack(alloc, cache, parents.as_mut_slice(), level + 1, m_max)
+    let mut parents = pack_level(alloc, cache, entries, level, fanout)?;
+    pack(alloc, cache, parents.as_mut_slice(), level + 1, fanout)
 }
 
 // Puts the entries of a level into order and writes its nodes, and answers an entry for each node.
@@ -93,12 +93,12 @@ fn pack_level<const D: usize, B: BlockDevice, A: Allocator + Copy, H: Allocator 
     cache: &mut PageCache<B, A>,
     entries: &mut [Entry<D>],
     level: u8,
-    m_max: u8,
+    fanout: u8,
 ) -> Result<Vec<Entry<D>, H>, Fault>
     requires dims { IsDims D }
     requires open { gate_of cache.old ≡ Open }
-    requires sized { (4 ≤ m_max) × (m_max ≤ 100) }
-    requires above { m_max < length entries.old }
+    requires sized { (4 ≤ fanout) × (fanout ≤ 100) }
+    requires above { fanout < length entries.old }
     requires refers { All (λ item. IsOfLevel level item.reference item.tag) (items_of entries.old) }
     ensures changes { Changes cache.old cache.new result }
     ensures sound { IsPageMap cache.old → IsPageMap cache.new }
@@ -108,13 +108,13 @@ fn pack_level<const D: usize, B: BlockDevice, A: Allocator + Copy, H: Allocator 
         (items_of parents.items)) }
     ensures packed { IsPageMap cache.old → (bs : List Branch)
         → WaitFor D level (pages cache.old) (items_of entries.old) bs
-        → IfOk result (λ parents. LevelPacked D m_max level (pages cache.old) (pages cache.new) bs
+        → IfOk result (λ parents. LevelPacked D fanout level (pages cache.old) (pages cache.new) bs
         (items_of parents.items)) }
     ensures all { IsPermutation entries.old entries.new }
     ensures grows { Grows (length entries.old / 2) cache.old cache.new }
     ensures faults { IsPageMap cache.old → IfErr result (IsNoDamage cache.new) }
 {
-    let sizes = tile(alloc, entries, m_max)?;
+    let sizes = tile(alloc, entries, fanout)?;
     let parents = room_for(alloc, sizes.len())?;
     write_level(cache, entries, sizes.as_slice(), level, parents)
 }

@@ -13,7 +13,7 @@ use node_page::Entry;
 use page_file::Fault;
 use std::alloc::Allocator;
 
-/// Puts the entries into the order in which the nodes of a packed tree take them, each at most `m_max`, and
+/// Puts the entries into the order in which the nodes of a packed tree take them, each at most `fanout`, and
 /// answers how many each node takes: one number for a list of one node, none for no entries. Entries of one
 /// centre and one reference go by position, so there is one such order (docs/RULES.md, "Packed load").
 ///
@@ -21,16 +21,16 @@ use std::alloc::Allocator;
 pub fn tile<const D: usize, A: Allocator + Copy>(
     alloc: A,
     entries: &mut [Entry<D>],
-    m_max: u8,
+    fanout: u8,
 ) -> Result<Vec<usize, A>, Fault>
     requires dims { IsDims D }
-    requires some { 0 < m_max }
-    ensures tiled { IfOk result (λ sizes. IsTiledInto item_of D m_max entries.old entries.new sizes.items) }
+    requires some { 0 < fanout }
+    ensures tiled { IfOk result (λ sizes. IsTiledInto item_of D fanout entries.old entries.new sizes.items) }
     ensures all { IsPermutation entries.old entries.new }
     ensures memory { IfErr result (λ f. f ≡ fault.Memory) }
 {
     let mut sizes = Vec::new(alloc);
-    tile_on(alloc, entries, 0, usize::from(m_max), &mut sizes)?;
+    tile_on(alloc, entries, 0, usize::from(fanout), &mut sizes)?;
     Ok(sizes)
 }
 
@@ -39,13 +39,13 @@ fn tile_on<const D: usize, A: Allocator + Copy>(
     alloc: A,
     entries: &mut [Entry<D>],
     axis: usize,
-    m_max: usize,
+    fanout: usize,
     sizes: &mut Vec<usize, A>,
 ) -> Result<(), Fault>
     requires dims { IsDims D }
     requires within { axis ≤ D }
-    requires some { 0 < m_max }
-    ensures tiled { OnOk result (AddsRuns item_of D m_max
+    requires some { 0 < fanout }
+    ensures tiled { OnOk result (AddsRuns item_of D fanout
         (D - axis) entries.old entries.new sizes.old.items sizes.new.items) }
     ensures all { IsPermutation entries.old entries.new }
     ensures memory { IfErr result (λ f. f ≡ fault.Memory) }
@@ -55,11 +55,11 @@ fn tile_on<const D: usize, A: Allocator + Copy>(
         sizes.push(count)?;
         return Ok(());
     }
-    if count <= m_max {
+    if count <= fanout {
         return add_one(count, sizes);
     }
     sort_on(alloc, entries, axis)?;
-    let slabs = least_root((D - axis) as u32, count.div_ceil(m_max));
+    let slabs = least_root((D - axis) as u32, count.div_ceil(fanout));
     let mut from = 0;
     'slabs: for slab in 0..slabs {
         let size = even_size(count, slabs, slab);
@@ -67,7 +67,7 @@ fn tile_on<const D: usize, A: Allocator + Copy>(
             alloc,
             &mut entries[from..from + size],
             axis + 1,
-            m_max,
+            fanout,
             sizes,
         )?;
         from += size;

@@ -33,7 +33,7 @@ fn numbers_of(layer: &LayerRecord) -> (u8, u8, u8, u32, u32, u64) {
         layer.fanout,
         layer.level,
         layer.root,
-        layer.directory,
+        layer.ids_root,
         layer.count,
     )
 }

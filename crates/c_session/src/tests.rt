@@ -3,7 +3,7 @@
 use crate::{BAD_NUMBERS, CLOSED, READ_ONLY, Session};
 use block_device::{BlockDevice, MemoryDevice};
 use c_rows::{Layer, Near, Pair, Row};
-use layer_store::{Refusal, create_store, open_store};
+use layer_store::{Refusal, Version, create_store, open_store};
 use std::alloc::Global;
 use std::test::Fail;
 
@@ -17,7 +17,7 @@ const EMPTY: Row = Row {
 
 // A session with a layer `a` of two axes and its objects 1 to 3.
 fn session_with_three(alloc: Global) -> Result<Session<MemoryDevice>, Refusal> {
-    let store = match create_store(alloc, MemoryDevice::new(alloc), 8) {
+    let store = match create_store(alloc, MemoryDevice::new(alloc), 8, Version::Three) {
         Ok(store) => store,
         Err((refusal, _)) => return Err(refusal),
     };
@@ -105,7 +105,7 @@ fn what_was_committed_is_opened(rt: HostRuntime) -> Result<(), Fail> {
         panic!(rt; "no device");
     };
     assert!(rt; device.blocks() > 0);
-    let store = match open_store(alloc, device, 8) {
+    let store = match open_store(alloc, device, 8, Version::Three) {
         Ok(store) => store,
         Err((refusal, _)) => return Err(refusal)?,
     };

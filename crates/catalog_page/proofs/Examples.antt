@@ -25,7 +25,7 @@ layer long =
       fanout = 129;
       level = 130;
       root = 16909060;
-      directory = 84281096;
+      ids_root = 84281096;
       count = 651345242494996240;
     }
 

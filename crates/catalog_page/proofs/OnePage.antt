@@ -41,7 +41,7 @@ number_bytes at a b ba bb e k le lt =
     (λ (h : k < at + 32). number_at-fixes 4 (at + 28) a b ba bb (ap (λ (r : Record). r.root) e) k g
     (omega arith))
     (λ (g : at + 32 ≤ k). ⊎_elim
-    (λ (h : k < at + 36). number_at-fixes 4 (at + 32) a b ba bb (ap (λ (r : Record). r.directory) e) k g
+    (λ (h : k < at + 36). number_at-fixes 4 (at + 32) a b ba bb (ap (λ (r : Record). r.ids_root) e) k g
     (omega arith))
     (λ (g : at + 36 ≤ k). number_at-fixes 8 (at + 36) a b ba bb (ap (λ (r : Record). r.count) e) k g
     (omega arith))

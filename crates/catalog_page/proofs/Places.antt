@@ -20,8 +20,8 @@ bytes_at-same n at a b same =
 -- ---- records
 
 same_record : (name name' : List ℕ)
-    (dims dims' fanout fanout' level level' root root' directory directory' count count' : ℕ)
-    → name ≡ name' → dims ≡ dims' → fanout ≡ fanout' → level ≡ level' → root ≡ root' → directory ≡ directory'
+    (dims dims' fanout fanout' level level' root root' ids_root ids_root' count count' : ℕ)
+    → name ≡ name' → dims ≡ dims' → fanout ≡ fanout' → level ≡ level' → root ≡ root' → ids_root ≡ ids_root'
     → count ≡ count'
     → ◌≡◌ {A = Record}
     (record {
@@ -30,7 +30,7 @@ same_record : (name name' : List ℕ)
       fanout = fanout;
       level = level;
       root = root;
-      directory = directory;
+      ids_root = ids_root;
       count = count;
     })
     (record {
@@ -39,10 +39,10 @@ same_record : (name name' : List ℕ)
       fanout = fanout';
       level = level';
       root = root';
-      directory = directory';
+      ids_root = ids_root';
       count = count';
     })
-same_record name name' dims dims' fanout fanout' level level' root root' directory directory' count count' n
+same_record name name' dims dims' fanout fanout' level level' root root' ids_root ids_root' count count' n
     d f l r t c = cc
 
 -- a record is that of its name and its numbers
@@ -53,9 +53,9 @@ unfolding record_from
 record_is at page layer name numbers =
     same_record (bytes_at (number_at 1 at page) (at + 1) page) layer.name (number_at 1 (at + 25) page)
     layer.dims (number_at 1 (at + 26) page) layer.fanout (number_at 1 (at + 27) page) layer.level
-    (number_at 4 (at + 28) page) layer.root (number_at 4 (at + 32) page) layer.directory
+    (number_at 4 (at + 28) page) layer.root (number_at 4 (at + 32) page) layer.ids_root
     (number_at 8 (at + 36) page) layer.count
-    name numbers.dims_is numbers.fanout_is numbers.level_is numbers.root_is numbers.directory_is
+    name numbers.dims_is numbers.fanout_is numbers.level_is numbers.root_is numbers.ids_root_is
     numbers.count_is
 
 pub name-record_from : (at : ℕ) (page : List ℕ)
@@ -75,7 +75,7 @@ has_numbers at page =
       fanout_is = refl;
       level_is = refl;
       root_is = refl;
-      directory_is = refl;
+      ids_root_is = refl;
       count_is = refl;
     }
 
@@ -98,7 +98,7 @@ record_same at a b same =
       fanout_is = number 1 (at + 26) (omega arith) (omega arith) ∙ numbers.fanout_is;
       level_is = number 1 (at + 27) (omega arith) (omega arith) ∙ numbers.level_is;
       root_is = number 4 (at + 28) (omega arith) (omega arith) ∙ numbers.root_is;
-      directory_is = number 4 (at + 32) (omega arith) (omega arith) ∙ numbers.directory_is;
+      ids_root_is = number 4 (at + 32) (omega arith) (omega arith) ∙ numbers.ids_root_is;
       count_is = number 8 (at + 36) (omega arith) (omega arith) ∙ numbers.count_is;
     })
 
@@ -173,7 +173,7 @@ record_fits at page bytes named =
     let fanout = number_at-lt 1 (at + 26) page bytes in
     let level = number_at-lt 1 (at + 27) page bytes in
     let root = number_at-lt 4 (at + 28) page bytes in
-    let directory = number_at-lt 4 (at + 32) page bytes in
+    let ids_root = number_at-lt 4 (at + 32) page bytes in
     let count = number_at-lt 8 (at + 36) page bytes in
     record {
       named = named;
@@ -187,6 +187,6 @@ record_fits at page bytes named =
       fanout_fits = omega (arith, numbers.fanout_is);
       level_fits = omega (arith, numbers.level_is);
       root_fits = omega (arith, numbers.root_is);
-      directory_fits = omega (arith, numbers.directory_is);
+      ids_root_fits = omega (arith, numbers.ids_root_is);
       count_fits = omega (arith, numbers.count_is);
     }

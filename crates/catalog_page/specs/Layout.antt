@@ -16,7 +16,7 @@ pub record Record : Type 0 where
   pub fanout : ℕ
   pub level : ℕ
   pub root : ℕ
-  pub directory : ℕ
+  pub ids_root : ℕ
   pub count : ℕ
 
 -- the record that a `LayerRecord` is
@@ -27,7 +27,7 @@ record_of layer = record {
   fanout = layer.fanout;
   level = layer.level;
   root = layer.root;
-  directory = layer.directory;
+  ids_root = layer.ids_root;
   count = layer.count;
 }
 
@@ -48,7 +48,7 @@ pub record IsRecord (layer : Record) : Type 0 where
   pub fanout_fits : layer.fanout < 2 ^ 8
   pub level_fits : layer.level < 2 ^ 8
   pub root_fits : layer.root < 2 ^ 32
-  pub directory_fits : layer.directory < 2 ^ 32
+  pub ids_root_fits : layer.ids_root < 2 ^ 32
   pub count_fits : layer.count < 2 ^ 64
 
 -- a list of layers that a page can spell
@@ -74,7 +74,7 @@ record_from at page = record {
   fanout = number_at 1 (at + 26) page;
   level = number_at 1 (at + 27) page;
   root = number_at 4 (at + 28) page;
-  directory = number_at 4 (at + 32) page;
+  ids_root = number_at 4 (at + 32) page;
   count = number_at 8 (at + 36) page;
 }
 
@@ -84,7 +84,7 @@ pub record HasNumbers (at : ℕ) (layer : Record) (page : List ℕ) : Type 0 whe
   pub fanout_is : number_at 1 (at + 26) page ≡ layer.fanout
   pub level_is : number_at 1 (at + 27) page ≡ layer.level
   pub root_is : number_at 4 (at + 28) page ≡ layer.root
-  pub directory_is : number_at 4 (at + 32) page ≡ layer.directory
+  pub ids_root_is : number_at 4 (at + 32) page ≡ layer.ids_root
   pub count_is : number_at 8 (at + 36) page ≡ layer.count
 
 -- the record in a place

@@ -16,8 +16,8 @@ pub struct LayerRecord {
     pub level: u8,
     /// The page of the root of its tree.
     pub root: u32,
-    /// The page of the directory of its identifier table.
-    pub directory: u32,
+    /// The first page of its identifier table.
+    pub ids_root: u32,
     /// How many objects it has.
     pub count: u64,
 }

@@ -31,7 +31,7 @@ pub(crate) fn read_record(page: &[u8; 4096], place: usize) -> Option<LayerRecord
             fanout: read_u8(page, at + 26),
             level: read_u8(page, at + 27),
             root: read_u32(page, at + 28),
-            directory: read_u32(page, at + 32),
+            ids_root: read_u32(page, at + 32),
             count: read_u64(page, at + 36),
         }),
         None => None,
@@ -61,7 +61,7 @@ fn write_numbers(page: &mut [u8; 4096], at: usize, layer: &LayerRecord)
         fanout,
         level,
         root,
-        directory,
+        ids_root,
         count,
         ..
     } = layer;
@@ -69,6 +69,6 @@ fn write_numbers(page: &mut [u8; 4096], at: usize, layer: &LayerRecord)
     write_u8(page, at + 26, fanout);
     write_u8(page, at + 27, level);
     write_u32(page, at + 28, root);
-    write_u32(page, at + 32, directory);
+    write_u32(page, at + 32, ids_root);
     write_u64(page, at + 36, count);
 }

@@ -1,13 +1,20 @@
 -- A store that was made or opened, or was refused.
-use Rattle.std.proofs.Common.{◌≡◌, ◌∙◌, ◌==◌, ◌⊎◌, ap, ℕ, List, Option, Result, Ok, Err, inl, inr, refl, sym}
+use Rattle.std.proofs.Common.{◌≡◌, ◌∙◌, ◌==◌, ◌⊎◌, ◌≤◌, ap, ℕ, List, Option, Result, Ok, Err, inl, inr, refl, sym}
 use Rattle.std.proofs.Common.{subst, arith}
+use Rattle.std.specs.Io.KnownBytes.{Keeps}
 use Rattle.block_device.specs.Device.{Blocks, LeavesOnly, Recovery}
 use Rattle.block_device.specs.Moments.{leaves_then, leaves_weaker}
+use Rattle.block_device.specs.declared.device.BlockDevice as device
 use Rattle.live_layers.specs.Image.{IsRefusedOrImageOf}
 use Rattle.plain_table.specs.Table.{Table}
 use Rattle.store_law.specs.Sessions.{SessionState}
 use Rattle.command_shell.specs.Runs.{LeavesTablesOf, with_last}
+use Rattle.command_shell.specs.Strict.{TellsOutcome}
+use Rattle.command_shell.specs.declared.session.LinesEnd.{LinesEnd}
+use Rattle.command_shell.specs.declared.strict.Outcome.{Outcome}
+use Rattle.command_shell.specs.declared.strict.Outcome.TheVariants.{WentWell, StoppedAtLine, Failed, Unclosed}
 use Rattle.command_line.specs.Serving.{HasAnswered, HasNotBegun, HasServed, IsRefusedStart}
+use Rattle.command_line.specs.Strict.{HasAnsweredStrictly, HasServedStrictly, status_of_outcome}
 use Rattle.command_line.specs.declared.program.Served.{Served}
 
 -- one or the other
@@ -109,3 +116,68 @@ begun_or_answered shown moment left_since recovery may_leave faults P Q t device
     written written' left (inr served) none =
     inr (has_answered shown moment left_since recovery may_leave faults Q t device unread unread' written
     written' left served none)
+
+-- the same of a strict run
+pub served_strictly_since_making : {D : Type 0} (m : device.Ghosts D) (P Q : Blocks → Type 0) (t : Table)
+    (device made : D) (unread unread' written written' said said' : Option (List ℕ)) (left : Served D)
+    → LeavesOnly m.moment m.left_since m.recovery device made P → ((c : Blocks) → Q c → P c)
+    → m.faults made ≡ m.faults device
+    → HasServedStrictly m Q t made unread unread' written written' said said' left
+    → HasServedStrictly m P t device unread unread' written written' said said' left
+served_strictly_since_making m P Q t device made unread unread' written written' said said' left making weaker
+    same h =
+    let opening =
+    leaves_then m.moment m.left_since m.recovery device made h.opened P making
+    (leaves_weaker m.moment m.left_since m.recovery made h.opened Q P weaker h.opening) in record {
+      opened = h.opened;
+      opening = opening;
+      old = h.old;
+      new = h.new;
+      begins = h.begins;
+      stops = h.stops;
+      counted = h.counted ∙ same;
+      ends = h.ends;
+      runs = h.runs;
+      is_left = h.is_left;
+      since = h.since;
+      whole = whole_run m.moment m.left_since m.recovery device h.opened left.device h.new P opening h.since;
+    }
+
+pub begun_or_answered_strictly : {D R W : Type 0} (m : device.Ghosts D) (P Q : Blocks → Type 0) (t : Table)
+    (device : D) (r r' : R) (w w' : W) (unread unread' written written' said said' : Option (List ℕ))
+    (left : Served D)
+    → IsRefusedStart m.moment m.left_since m.recovery P device r r' w w' left
+    ⊎ HasServedStrictly m Q t device unread unread' written written' said said' left
+    → HasNotBegun r r' w w' left.status
+    ⊎ HasAnsweredStrictly t unread unread' written written' said said' left.status
+begun_or_answered_strictly m P Q t device r r' w w' unread unread' written written' said said' left
+    (inl refused) =
+    inl (record { failed = refused.failed; unread = refused.unread; unwritten = refused.unwritten })
+begun_or_answered_strictly m P Q t device r r' w w' unread unread' written written' said said' left
+    (inr h) =
+    inr (record { old = h.old; new = h.new; begins = h.begins; ends = h.ends; runs = h.runs })
+
+-- where the last flush is known but with status 1, it is with status 0
+pub flushed_so : (status : ℕ) (F : Type 0) → (status ≡ 1) ⊎ F → status ≡ 0 → F
+flushed_so status F (inl one) zero = absurd (omega (arith, one, zero))
+flushed_so status F (inr f) zero = f
+
+pub flushed_by : (outcome : Outcome) (status : ℕ) (F : Type 0) → status ≡ status_of_outcome outcome
+    → (outcome ≡ Failed) ⊎ F → (status ≡ 1) ⊎ F
+flushed_by outcome status F is (inl failed) = inl (is ∙ ap status_of_outcome failed)
+flushed_by outcome status F is (inr f) = inr f
+
+-- and nothing was said
+pub quiet_so : (end : LinesEnd) (outcome : Outcome) (status : ℕ) (said said' : Option (List ℕ))
+    → status ≡ status_of_outcome outcome → TellsOutcome end outcome said said' → status ≡ 0
+    → Keeps said said'
+quiet_so end WentWell status said said' is told zero = told.1
+quiet_so end StoppedAtLine status said said' is told zero = absurd (omega (arith, is, zero))
+quiet_so end Failed status said said' is told zero = absurd (omega (arith, is, zero))
+quiet_so end Unclosed status said said' is told zero = absurd (omega (arith, is, zero))
+
+pub status_is_small : (outcome : Outcome) (status : ℕ) → status ≡ status_of_outcome outcome → status ≤ 3
+status_is_small WentWell status is = omega (arith, is)
+status_is_small StoppedAtLine status is = omega (arith, is)
+status_is_small Failed status is = omega (arith, is)
+status_is_small Unclosed status is = omega (arith, is)

@@ -1,9 +1,9 @@
 -- What words ask for, on worked examples.
 use Rattle.std.proofs.Common.{◌≡◌, List, [], ◌∷◌, Option, Some, None, codes, refl}
-use Rattle.clap.specs.Words.{Text, fault_of, matches_of, one_of}
+use Rattle.clap.specs.Words.{Text, fault_of, first_of, matches_of, one_of}
 use Rattle.clap.specs.declared.error.kind.ErrorKind.TheVariants as kind
 use Rattle.clap.proofs.OnLiterals.{clap_on_literals}
-use Rattle.command_line.specs.Words.{file_in, program}
+use Rattle.command_line.specs.Words.{file_in, program, target_in}
 
 -- the texts that stand for the cached pages, and for whether a file is to be made
 abbrev pages_in : List Text → Option Text
@@ -57,3 +57,14 @@ refusals : (fault_of program (said (codes "--cache" ∷ codes "7" ∷ [])) ≡ k
     × (fault_of program (said (codes "--version" ∷ [])) ≡ kind.DisplayVersion ∷ [])
 unfolding clap_on_literals
 refusals = (refl, refl, refl, refl, refl, refl)
+
+-- an import, with a fanout and a scale
+abbrev imported : List Text
+imported = said (codes "--import" ∷ codes "roads:50" ∷ codes "--scale=10" ∷ codes "map.rst" ∷ [])
+
+import_is_read : (fault_of program imported ≡ []) × (file_in imported ≡ Some (codes "map.rst"))
+    × (target_in imported ≡ Some (codes "roads:50"))
+    × (first_of (codes "scale") (matches_of program imported) ≡ Some (codes "10"))
+    × (first_of (codes "columns") (matches_of program imported) ≡ None)
+unfolding clap_on_literals
+import_is_read = (refl, refl, refl, refl, refl)

@@ -2,7 +2,7 @@
 use Rattle.std.proofs.Common.{◌≡◌, ◌≢◌, ◌∙◌, ◌<◌, ◌≤◌, ◌^◌, ap, ℕ, Bool, true, false, List, Option, Some}
 use Rattle.std.proofs.Common.{None, Result, Ok, Err, refl, sym, subst, arith, codes}
 use Rattle.std.proofs.lemmas.Bool.Decides.{nat_tests}
-use Rattle.std.specs.Prelude.{is_some, option_map}
+use Rattle.std.specs.Prelude.{◌||◌, is_some, option_map}
 use Rattle.std.specs.Str.Parse.{ParsesUnsigned}
 use Rattle.clap.specs.Values.{bool_text}
 use Rattle.clap.specs.Words.{ReadsOne, Text}
@@ -50,3 +50,13 @@ fault_is_small _ = omega arith
 pub is_some-mapped : {X Y : Type 0} (f : X → Y) (o : Option X) → is_some (option_map f o) ≡ is_some o
 is_some-mapped f None = refl
 is_some-mapped f (Some x) = refl
+
+-- a word is said where a text was found for it
+pub said_so : {X Y : Type 0} (f : X → Y) (o : Option X) (found : Option Y) → option_map f o ≡ found
+    → is_some o ≡ is_some found
+said_so f o found is = sym (is_some-mapped f o) ∙ ap is_some is
+
+-- one of several words is said
+pub any_so : (a b c d p q r s flag : Bool) → a ≡ p → b ≡ q → c ≡ r → d ≡ s
+    → (a || (b || (c || (d || flag)))) ≡ (p || (q || (r || (s || flag))))
+any_so a b c d p q r s flag e f g h = cc

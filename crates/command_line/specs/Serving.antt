@@ -130,14 +130,6 @@ pub record HasRead {B R W : Type 0} (m : reader.Ghosts B) (blocks : B) (r r' : R
   pub checked : m.honest blocks
       → HasNotBegun r r' w w' status ⊎ HasAnsweredOnceChecked unread unread' written written' status
 
--- A reader was opened, of which `opens` tells, and with this status it was done what is done over it; or its
--- opening was refused, and nothing has begun.
-abbrev pub OpensAndReads : {B R W : Type 0} → reader.Ghosts B → (Result B OpenError → Type 0) → R → R → W → W
-    → Option (List ℕ) → Option (List ℕ) → Option (List ℕ) → Option (List ℕ) → ℕ → Type 0
-OpensAndReads {B} m opens r r' w w' unread unread' written written' status =
-    ((e : OpenError) × opens (Err e) × HasNotBegun r r' w w' status)
-    ⊎ ((blocks : B) × opens (Ok blocks) × HasRead m blocks r r' w w' unread unread' written written' status)
-
 -- Something was to be shown of a file, and no line to be read. The words do not go together; or the file's
 -- opening was refused; or a reader was opened, of which `opens` tells, and the status is that of a run that
 -- went well or failed.
@@ -170,13 +162,3 @@ pub record HasServedOn {D R W : Type 0} (m : device.Ghosts D) (create : Bool) (d
       ⊎ ChecksToClose (left.status == 0) (m.shown left.device) unread unread' written written'
   pub refused : create ≡ false → m.honest device → (f : Fault) → OpeningRefuses (m.shown device) f →
       IsRefusedOpening m.shown m.moment m.left_since m.recovery m.may_leave device r r' w w' left
-
--- A file was opened, of which `opens` tells, and with this status there is left what was done on it; or its
--- opening was refused, and nothing has begun.
-abbrev pub OpensAndServes : {D R W : Type 0} → device.Ghosts D → (Result D OpenError → Type 0) → Bool → R → R
-    → W → W
-    → Option (List ℕ) → Option (List ℕ) → Option (List ℕ) → Option (List ℕ) → ℕ → Type 0
-OpensAndServes {D} m opens create r r' w w' unread unread' written written' status =
-    ((e : OpenError) × opens (Err e) × HasNotBegun r r' w w' status)
-    ⊎ ((device : D) × (left : Served D) × opens (Ok device) × (left.status ≡ status)
-    × HasServedOn m create device r r' w w' unread unread' written written' left)

@@ -2,7 +2,7 @@
 -- as options and values is told by `clap`: `fault_of` is why it refuses them, and empty where it takes them;
 -- `matches_of` is what it finds in those.
 use Rattle.std.specs.Prelude.{◌≡◌, ◌≤◌, ◌||◌, ℕ, Bool, List, [], ◌∷◌, Option, Some, codes, is_some, pos}
-use Rattle.std.specs.Prelude.{true}
+use Rattle.std.specs.Prelude.{false, true}
 use Rattle.std.specs.Str.Parse.{IsNumeral, digits_value, without_leading_plus}
 use Rattle.clap.specs.Simple.{on_top}
 use Rattle.clap.specs.Values.{bool_text}
@@ -35,9 +35,17 @@ create_rule = flag_rule (codes "create")
 abbrev pub read_only_rule : Rule
 read_only_rule = flag_rule (codes "read-only")
 
+-- `--strict`
+abbrev pub strict_rule : Rule
+strict_rule = flag_rule (codes "strict")
+
+-- a word of this name with a value
+abbrev pub valued_rule : Text → Rule
+valued_rule name = record (new_rule name) { long = Some name; value_names = 1 }
+
 -- `--draw LAYER`
 abbrev pub draw_rule : Rule
-draw_rule = record (new_rule (codes "draw")) { long = Some (codes "draw"); value_names = 1 }
+draw_rule = valued_rule (codes "draw")
 
 -- `--stats`, and `--json`
 abbrev pub stats_rule : Rule
@@ -46,6 +54,17 @@ stats_rule = flag_rule (codes "stats")
 abbrev pub json_rule : Rule
 json_rule = flag_rule (codes "json")
 
+-- the words by which something is shown
+abbrev pub show_rules : App → App
+show_rules words = with_rule (with_rule (with_rule words draw_rule) stats_rule) json_rule
+
+-- the words of an import: `--import LAYER`, `--columns LIST`, `--scale N`, `--axes N` and `--geojson`
+abbrev pub import_rules : App → App
+import_rules words =
+    with_rule (with_rule (with_rule (with_rule (with_rule words
+    (valued_rule (codes "import"))) (valued_rule (codes "columns"))) (valued_rule (codes "scale")))
+    (valued_rule (codes "axes"))) (flag_rule (codes "geojson"))
+
 -- `FILE`
 abbrev pub file_rule : Rule
 file_rule = record (new_rule (codes "file")) { value_names = 1 }
@@ -53,9 +72,9 @@ file_rule = record (new_rule (codes "file")) { value_names = 1 }
 -- the program, which tells its version too
 abbrev pub program : App
 program =
-    with_rule (with_rule (with_rule (with_rule (with_rule (with_rule (with_rule
+    with_rule (import_rules (show_rules (with_rule (with_rule (with_rule (with_rule
     (on_top (λ s. record s { has_version = true }) (new_app (codes "rstore")))
-    cache_rule) create_rule) read_only_rule) draw_rule) stats_rule) json_rule) file_rule
+    cache_rule) create_rule) read_only_rule) strict_rule))) file_rule
 
 -- the file that words name, if they name one
 abbrev pub file_in : List Text → Option Text
@@ -76,6 +95,10 @@ abbrev pub IsFlag : Text → List Text → Bool → Type 0
 IsFlag name words said =
     (flag : Bool) → one_of name (matches_of program words) ≡ Some (bool_text flag) → said ≡ flag
 
+-- whether they ask for the first line that is refused to end the run
+abbrev pub AsksToBeStrict : List Text → Bool → Type 0
+AsksToBeStrict words strict = IsFlag (codes "strict") words strict
+
 -- whether something of the file is to be shown: a layer is to be drawn, or statistics are to be told
 pub record AsksToShow (words : List Text) (show : Bool) : Type 0 where
   pub stats : Bool
@@ -83,6 +106,26 @@ pub record AsksToShow (words : List Text) (show : Bool) : Type 0 where
   pub stats_is : IsFlag (codes "stats") words stats
   pub json_is : IsFlag (codes "json") words json
   pub show_is : show ≡ (is_some (first_of (codes "draw") (matches_of program words)) || (stats || json))
+
+-- whether a word of this name is said, which has a value
+abbrev pub is_said : Text → List Text → Bool
+is_said name words = is_some (first_of name (matches_of program words))
+
+-- whether one of the words of an import is said
+pub record AsksToImport (words : List Text) (import : Bool) : Type 0 where
+  pub geojson : Bool
+  pub geojson_is : IsFlag (codes "geojson") words geojson
+  pub import_is : import ≡ (is_said (codes "import") words || (is_said (codes "columns") words
+      || (is_said (codes "scale") words || (is_said (codes "axes") words || geojson))))
+
+-- nothing is to be shown, and nothing imported: lines are to be answered
+pub record AsksForLines (words : List Text) : Type 0 where
+  pub shows_none : AsksToShow words false
+  pub imports_none : AsksToImport words false
+
+-- the word that says which layer objects are to be put into, if there is one
+abbrev pub target_in : List Text → Option Text
+target_in words = first_of (codes "import") (matches_of program words)
 
 -- a text is this decimal number
 pub record IsNumber (text : Text) (n : ℕ) : Type 0 where

@@ -1,13 +1,16 @@
 //! A run of the program over a file that is only read.
 ghost use Rattle.std.specs.Io.KnownBytes.{Keeps};
-ghost use Rattle.std.specs.Prelude.{◌≡◌, ◌≤◌, true};
+ghost use Rattle.std.specs.Prelude.{◌≡◌, ◌≤◌, ◌⊎◌, true};
 ghost use Rattle.layer_store.specs.Starting.{is_cache};
-ghost use Rattle.command_line.specs.Serving.{HasRead, OpensAndReads};
+ghost use Rattle.command_line.specs.Serving.{HasRead};
+ghost use Rattle.command_line.specs.Strict.{OpensAndReads, ReadsAs};
 
 use crate::program::{FAILED, status_of, tell_unopened};
+use crate::strict::settle_reader;
+use crate::words::Options;
 use command_shell::{CountedRead, FlushedWrite, run_and_close, tell_refusal};
 use file_device::OpenError;
-use layer_store::{Refusal, open_store};
+use layer_store::{Refusal, Version, open_store};
 use read_only_device::{BlockReader, ReadOnlyDevice};
 use std::alloc::{Allocator, Global};
 use std::io::Write;
@@ -22,28 +25,51 @@ pub(crate) fn read_path<
 >(
     alloc: Global,
     path: &str,
-    cache: u32,
+    options: &Options<'_>,
     read_at: P,
     input: &mut I,
     output: &mut W,
     errors: &mut E,
 ) -> u8
     requires reads { P.IsAlwaysCallable read_at }
-    requires cache { is_cache cache ≡ true }
-    ensures status { result ≤ 1 }
+    ensures status { (result ≤ 1) ⊎ ((result ≤ 3) × (options.now.strict ≡ true)) }
     ensures quiet { result ≡ 0 → Keeps (E.contents errors.old) (E.contents errors.new) }
     ensures flushed { result ≡ 0 → W.is_flushed output.new }
-    ensures served { OpensAndReads B.BlockReader (P.post read_at path.entry)
+    ensures served { OpensAndReads options.now.strict B.BlockReader (P.post read_at path.entry)
         input.old input.new output.old output.new (I.remaining input.old) (I.remaining input.new)
-        (W.contents output.old) (W.contents output.new) result }
+        (W.contents output.old) (W.contents output.new) (E.contents errors.old) (E.contents errors.new)
+        result }
 {
     match read_at(path) {
-        Ok(blocks) => serve_reader(alloc, &blocks, cache, input, output, errors),
+        Ok(blocks) => serve_blocks(alloc, &blocks, options, input, output, errors),
         Err(error) => {
             tell_unopened(error, errors);
             FAILED
         }
     }
+}
+
+// Serves over the store that a reader has, strictly or not.
+fn serve_blocks<B: BlockReader, I: CountedRead, W: FlushedWrite, E: Write>(
+    alloc: Global,
+    blocks: &B,
+    options: &Options<'_>,
+    input: &mut I,
+    output: &mut W,
+    errors: &mut E,
+) -> u8
+    ensures status { (result ≤ 1) ⊎ ((result ≤ 3) × (options.now.strict ≡ true)) }
+    ensures quiet { result ≡ 0 → Keeps (E.contents errors.old) (E.contents errors.new) }
+    ensures flushed { result ≡ 0 → W.is_flushed output.new }
+    ensures served { ReadsAs options.now.strict B.BlockReader blocks.now
+        input.old input.new output.old output.new (I.remaining input.old) (I.remaining input.new)
+        (W.contents output.old) (W.contents output.new) (E.contents errors.old) (E.contents errors.new)
+        result }
+{
+    if options.strict {
+        return settle_reader(alloc, blocks, options.cache, input, output, errors);
+    }
+    serve_reader(alloc, blocks, options.cache, input, output, errors)
 }
 
 /// Opens the store that a reader has, and answers the commands of the input over it. **No block is written:
@@ -68,7 +94,7 @@ pub fn serve_reader<B: BlockReader, A: Allocator + Copy, I: CountedRead, W: Flus
         input.old input.new output.old output.new (I.remaining input.old) (I.remaining input.new)
         (W.contents output.old) (W.contents output.new) result }
 {
-    match open_store(alloc, ReadOnlyDevice::over(blocks), cache) {
+    match open_store(alloc, ReadOnlyDevice::over(blocks), cache, Version::Three) {
         Ok(store) => status_of(run_and_close(store, input, output, errors).went_well),
         Err((refusal, _)) => {
             tell_unread(refusal, errors);

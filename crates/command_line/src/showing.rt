@@ -1,5 +1,5 @@
-//! A run of the program that shows something of a file, and reads no line: a layer's tree as a picture, or what
-//! one tunes the layers by.
+//! A run of the program that shows something of a file, and reads no line: a layer's tree as a picture, or
+//! what one tunes the layers by.
 ghost use Rattle.std.specs.Io.KnownBytes.{Keeps};
 ghost use Rattle.std.specs.Prelude.{◌≡◌, ◌≤◌, IfNone, IfSome};
 ghost use Rattle.command_line.specs.Serving.{OpensAndShows};
@@ -10,7 +10,9 @@ use crate::words::Options;
 use block_device::BlockDevice;
 use command_shell::{FlushedWrite, tell_refusal};
 use file_device::OpenError;
-use layer_store::{AnyBox, LayerInfo, LayerOutline, RawBox, RawQuery, Refusal, Store, open_store};
+use layer_store::{
+    AnyBox, LayerInfo, LayerOutline, RawBox, RawQuery, Refusal, Store, Version, open_store,
+};
 use read_only_device::{BlockReader, ReadOnlyDevice};
 use std::alloc::{AllocError, Global};
 use std::io::{Read, Write};
@@ -50,10 +52,10 @@ impl From<io::Error> for Unshown {
     }
 }
 
-/// Shows what the words ask for of the file that they name, which is opened to be only read and is borrowed by
-/// what has no call that writes. The status is 2 where they name none, or do not go together, and then nothing
-/// is written to `output`; 1 where the file can't be opened, what is asked for is refused, or it can't be
-/// written; and else 0, and then the last that was done to `output` was a flush that answered Ok.
+/// Shows what the words ask for of the file that they name, which is opened to be only read and is borrowed
+/// by what has no call that writes. The status is 2 where they name none, or do not go together, and then
+/// nothing is written to `output`; 1 where the file can't be opened, what is asked for is refused, or it
+/// can't be written; and else 0, and then the last that was done to `output` was a flush that answered Ok.
 pub(crate) fn show_asked<
     B: BlockReader + Drop,
     P: FnOnce(&str) -> Result<B, OpenError>,
@@ -89,13 +91,14 @@ fn tell_misuse<E: Write>(errors: &mut E) -> u8
     ensures { result ≡ 2 }
 {
     let _ = errors.write_all(
-        b"rstore: --draw LAYER or --stats is for a FILE that is there, and --json for --stats\n",
+        b"rstore: --draw LAYER or --stats is for a FILE that is there, --json for --stats, and --strict for \
+neither\n",
     );
     MISUSED
 }
 
-// Shows what is asked for of the store that a reader has. No block is written: the reader is borrowed, and has
-// no call that writes.
+// Shows what is asked for of the store that a reader has. No block is written: the reader is borrowed, and
+// has no call that writes.
 fn show_reader<B: BlockReader, W: FlushedWrite, E: Write>(
     alloc: Global,
     blocks: &B,
@@ -107,7 +110,12 @@ fn show_reader<B: BlockReader, W: FlushedWrite, E: Write>(
     ensures quiet { result ≡ 0 → Keeps (E.contents errors.old) (E.contents errors.new) }
     ensures flushed { result ≡ 0 → W.is_flushed output.new }
 {
-    match open_store(alloc, ReadOnlyDevice::over(blocks), options.cache) {
+    match open_store(
+        alloc,
+        ReadOnlyDevice::over(blocks),
+        options.cache,
+        Version::Three,
+    ) {
         Ok(store) => {
             let mut store = store;
             let shown = show_store(alloc, &mut store, options, output);

@@ -8,12 +8,14 @@ use Rattle.store_law.specs.States.{Request}
 use Rattle.store_law.specs.States.Request.{BadCommand, Asks}
 use Rattle.plain_table.specs.Step.{Answer}
 use Rattle.plain_table.specs.Step.Answer.{Refused}
+use Rattle.plain_table.specs.declared.refusal.Refusal.{Refusal}
 use Rattle.plain_table.specs.declared.refusal.Refusal.TheVariants as refusal
 use Rattle.command_shell.specs.Answering.{AnswersLine, Replies}
 use Rattle.command_shell.specs.TextCommands.{AsksAlone, load_request}
 use Rattle.command_shell.specs.Meanings.{Meaning}
 use Rattle.command_shell.specs.Meanings.Meaning.{Means, Bad, Blank}
 use Rattle.command_shell.specs.Serving.{WroteAs}
+use Rattle.command_shell.specs.Strict.{TellsCalls, TellsRefusal}
 use Rattle.command_shell.specs.Texts.{answer_text, reply_answer}
 use Rattle.command_shell.specs.Writing.{Writes}
 use Rattle.command_shell.specs.declared.replies.Reply.{Reply}
@@ -54,27 +56,28 @@ wrote_reply r a b (Err e) h =
 
 -- a reply was written
 pub written : {A E : Type 0} (m : Meaning) (So : List Request → List Answer → Type 0)
-    (w w' : Option (List ℕ)) (r : Reply A) (result : Result (Unit {0}) E)
+    (w w' : Option (List ℕ)) (r : Reply A) (result : Result (Option Refusal) E)
     → Replies m So (reply_answer r ∷ []) → Writes w w' result (answer_text (reply_answer r))
-    → AnswersLine m So w w' result
-written m So w w' r result h k =
+    → TellsRefusal result (reply_answer r ∷ []) → AnswersLine m (TellsCalls result So) w w' result
+written m So w w' r result h k tells =
     record {
       requests = h.requests;
       asked = h.asked;
       answers = reply_answer r ∷ [];
-      lawful = h.lawful;
+      lawful = record { lawful = h.lawful; tells = tells };
       written = wrote_reply r w w' result k;
     }
 
 -- there was no reply to write
 pub unwritten : {E : Type 0} (m : Meaning) (So : List Request → List Answer → Type 0) (w : Option (List ℕ))
-    → Replies m So [] → AnswersLine {E = E} m So w w (Ok tt)
+    → Replies m So []
+    → AnswersLine {E = E} {T = Option Refusal} m (TellsCalls {E = E} (Ok None) So) w w (Ok None)
 unwritten m So w h =
     record {
       requests = h.requests;
       asked = h.asked;
       answers = [];
-      lawful = h.lawful;
+      lawful = record { lawful = h.lawful; tells = tt };
       written = appends_none w;
     }
 

@@ -7,7 +7,9 @@ pub mod WriteLemmas
 pub mod ReadLemmas
 pub mod GatherLemmas
 pub mod SessionLemmas
+pub mod StrictLemmas
 pub mod RunLemmas
+pub mod CloseLemmas
 pub mod AnswerLemmas
 pub mod LoadLemmas
 pub mod Examples

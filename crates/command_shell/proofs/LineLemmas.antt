@@ -1,14 +1,17 @@
 -- Where the first newline stands, and how the bytes of a buffer move.
-use Rattle.std.proofs.Common.{◌≡◌, ℕ, suc, add-suc, true, ◌+◌, ◌-◌, ◌<◌, ◌≤◌, ◌==◌, List, [], ◌∷◌, ◌++◌}
+use Rattle.std.proofs.Common.{◌≡◌, ℕ, suc, add-suc, ltb, true, false, ◌+◌, ◌-◌, ◌<◌, ◌≤◌, ◌==◌, List, [], ◌∷◌, ◌++◌}
 use Rattle.std.proofs.Common.{length, take, drop, get_or, Option, Some, None, MatchOption, Result, Ok, Err}
 use Rattle.std.proofs.Common.{OnErr, is_err, refl, sym, ap, ◌∙◌, arith}
 use Rattle.std.proofs.lemmas.Bool.Decides.{nat_tests}
 use Rattle.std.proofs.lemmas.List.{take-append-drop, drop-take, drop-drop, get_or-take, take-append-le}
-use Rattle.std.proofs.lemmas.List.{length-take-le, length-drop}
+use Rattle.std.proofs.lemmas.List.{length-take-le, length-drop, take_all}
 use Rattle.std.proofs.Math.Seq.{take-append-add, take-add, drop-cons}
 use Rattle.memchr.specs.Find.{IsFirstByte, is_byte}
 use Rattle.command_shell.specs.Lines.{newline, IsOneLine}
+use Rattle.command_shell.specs.Meanings.{longest_line}
 use Rattle.command_shell.specs.Reading.{BeginsLine}
+use Rattle.command_shell.specs.Strict.{IsFrontOf, told_bytes}
+use Rattle.command_shell.specs.declared.refused.LineFront.{LineFront}
 
 -- a newline at no index is no newline
 one_line_by_index : (xs : List ℕ) → ((k : ℕ) → k < length xs → get_or xs k 0 ≡ newline → ⊥) → IsOneLine xs
@@ -59,6 +62,21 @@ pub drop_span : (s e n : ℕ) (xs : List ℕ) → s + n ≤ e
     → take (e - (s + n)) (drop (s + n) xs) ≡ drop n (take (e - s) (drop s xs))
 drop_span s e n xs h = let m : e - s ≡ n + (e - (s + n)) = omega arith in
     rw (m, drop-take n (e - (s + n)) (drop s xs), drop-drop) refl
+
+-- how a line begins that has more than is told, and one that has not
+pub front_cut : (line : List ℕ) (front : LineFront) → length line ≤ longest_line → 60 < length line
+    → front.bytes.items ≡ take 60 line → front.is_cut ≡ true → IsFrontOf front line
+front_cut line front short long bytes cut =
+    let no_more : ltb longest_line (length line) ≡ false = grind (arith, nat_tests) in
+    let more : ltb told_bytes (length line) ≡ true = grind (arith, nat_tests) in
+    (bytes ∙ (rw no_more refl), cut ∙ sym more)
+
+pub front_whole : (line : List ℕ) (front : LineFront) → length line ≤ 60
+    → front.bytes.items ≡ line → front.is_cut ≡ false → IsFrontOf front line
+front_whole line front short bytes cut =
+    let no_more : ltb longest_line (length line) ≡ false = grind (arith, nat_tests) in
+    let none : ltb told_bytes (length line) ≡ false = grind (arith, nat_tests) in
+    (bytes ∙ (rw no_more (sym (take_all told_bytes line short))), cut ∙ sym none)
 
 -- what was read stands after what was there
 pub filled : (buffer new post : List ℕ) (s e n : ℕ) → s ≡ 0 → e ≤ length buffer → n ≤ length new

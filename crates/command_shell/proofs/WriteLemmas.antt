@@ -1,14 +1,17 @@
 -- One write after another.
 use Rattle.std.proofs.Common.{◌≡◌, ℕ, ◌+◌, ◌<◌, List, ◌∷◌, ◌++◌, length, take, drop, suc, get_or, flat_map}
 use Rattle.std.proofs.Common.{map, Option, Some, None, Result, Ok, Err, sym, ap, ap₂, ◌∙◌, append_assoc}
-use Rattle.std.proofs.Common.{length-append, arith}
+use Rattle.std.proofs.Common.{codes, length-append, arith}
+use Rattle.std.specs.Prelude.{decimal}
 use Rattle.std.specs.Io.KnownBytes.{Appends}
 use Rattle.std.proofs.lemmas.List.{length-map, take-append-le, take-append-drop, take_all}
 use Rattle.std.proofs.lemmas.List.Concat.{flat_map-append}
 use Rattle.std.proofs.lemmas.List.Folds.{flat_map-map}
 use Rattle.std.proofs.Math.Seq.{take-append-add, take-add, drop-cons}
-use Rattle.command_shell.specs.Texts.{count_text}
+use Rattle.command_shell.specs.Strict.{told_front, told_stop}
+use Rattle.command_shell.specs.Texts.{count_text, refusal_text}
 use Rattle.command_shell.specs.Writing.{AppendsFront, AppendsSome, Writes}
+use Rattle.command_shell.specs.declared.refused.Stop.{Stop}
 
 pub appends_more : (a b c : Option (List ℕ)) (x y : List ℕ) → Appends a b x → Appends b c y
     → Appends a c (x ++ y)
@@ -42,6 +45,20 @@ pub some_written : {E T : Type 0} (a b : Option (List ℕ)) (r : Result T E) (te
     → Writes a b r text → AppendsSome a b text
 some_written a b (Ok v) text h = (length text, rw (take_all (length text) text (omega arith)) h)
 some_written a b (Err e) text h = (h.0, h.2)
+
+-- the line of a stop, put together
+pub stop_text : (it : Stop) (word number colon front all : List ℕ)
+    → word ≡ codes "rstore: line " → number ≡ word ++ decimal it.line → colon ≡ number ++ codes ": " → front ≡ colon ++ told_front it.refused.front
+    → all ≡ front ++ codes ": " → all ++ refusal_text it.refused.refusal ≡ told_stop it
+stop_text it word number colon front all a b c d e =
+    let n = decimal it.line in
+    let f = told_front it.refused.front in
+    let r = refusal_text it.refused.refusal in
+    let w = codes "rstore: line " in
+    let s = codes ": " in
+    let all_is : all ≡ (((w ++ n) ++ s) ++ f) ++ s =
+    e ∙ ap (λ t. t ++ s) (d ∙ ap (λ t. t ++ f) (c ∙ ap (λ t. t ++ s) (b ∙ ap (λ t. t ++ n) a))) in
+    ap (λ t. t ++ r) all_is
 
 -- a piece of what is left
 pub taken_more : (xs : List ℕ) (i n : ℕ) → take i xs ++ take n (drop i xs) ≡ take (i + n) xs

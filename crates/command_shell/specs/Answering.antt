@@ -38,8 +38,8 @@ SaysChecked {m = m} line old new answers =
     → IsAliveWithSome new × (IsSettled old → BeginsWithSome new (m.moment (device_in new)))
 
 -- the same, and the answers were written
-pub record AnswersLine {E : Type 0} (m : Meaning) (So : List Request → List Answer → Type 0)
-    (before after : Option (List ℕ)) (result : Result (Unit {0}) E) : Type 0 where
+pub record AnswersLine {E T : Type 0} (m : Meaning) (So : List Request → List Answer → Type 0)
+    (before after : Option (List ℕ)) (result : Result T E) : Type 0 where
   pub requests : List Request
   pub asked : AsksAlone m requests
   pub answers : List Answer
@@ -54,8 +54,8 @@ pub record RepliesLast (line : List ℕ) (So : Request → Answer → Type 0) (a
 
 -- what the last line of a text asks was answered, so that `So` holds of requests and answers, and these were
 -- written
-pub record AnswersLast {E : Type 0} (line : List ℕ) (So : List Request → List Answer → Type 0)
-    (before after : Option (List ℕ)) (result : Result (Unit {0}) E) : Type 0 where
+pub record AnswersLast {E T : Type 0} (line : List ℕ) (So : List Request → List Answer → Type 0)
+    (before after : Option (List ℕ)) (result : Result T E) : Type 0 where
   pub requests : List Request
   pub asked : AreCommands true (line ∷ []) requests
   pub answers : List Answer

@@ -14,3 +14,4 @@ pub mod TextCommands
 pub mod Serving
 pub mod TextAnswers
 pub mod Runs
+pub mod Strict

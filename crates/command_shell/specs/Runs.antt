@@ -11,20 +11,22 @@ use Rattle.plain_table.specs.Step.{Answer}
 use Rattle.plain_table.specs.Table.{Table}
 use Rattle.plain_table.specs.declared.refusal.Refusal.{Refusal}
 use Rattle.command_shell.specs.TextCommands.{IsUnfinished}
-use Rattle.command_shell.specs.Serving.{IsSession, RunState, ServesBy}
+use Rattle.command_shell.specs.Serving.{IsSession, RunState, ServesBy, of_any_text}
 use Rattle.command_shell.specs.Texts.{told_fault, told_refusal}
 use Rattle.command_shell.specs.Writing.{AppendsSome}
 use Rattle.command_shell.specs.declared.session.RunEnd.{RunEnd}
 use Rattle.command_shell.specs.declared.session.RunEnd.TheVariants.{Finished, ReadFault, WriteFault}
+use Rattle.command_shell.specs.declared.session.Stepped.{Stepped}
+use Rattle.command_shell.specs.declared.session.Stepped.TheVariants.{On, Last, End}
 
 -- all commands that were read to their last newline are answered
-abbrev pub AnswersAllLines : (List Request → List Answer → Type 0) → Option (List ℕ) → Option (List ℕ)
+abbrev pub AnswersAllLines : (List ℕ → List Request → List Answer → Type 0) → Option (List ℕ) → Option (List ℕ)
     → Option (List ℕ) → Option (List ℕ) → List ℕ → Type 0
 AnswersAllLines So input input' output output' pending = (left : List ℕ) × IsUnfinished left
     × ServesBy So false true input input' output output' pending left
 
 -- the last answer was written in part
-abbrev pub BreaksOffAnswer : (List Request → List Answer → Type 0) → Option (List ℕ) → Option (List ℕ)
+abbrev pub BreaksOffAnswer : (List ℕ → List Request → List Answer → Type 0) → Option (List ℕ) → Option (List ℕ)
     → Option (List ℕ) → Option (List ℕ) → List ℕ → Type 0
 BreaksOffAnswer So input input' output output' pending = (ended : Bool) × (left : List ℕ)
     × ServesBy So ended false input input' output output' pending left
@@ -32,8 +34,8 @@ BreaksOffAnswer So input input' output output' pending = (ended : Bool) × (left
 -- A run that begins with pending bytes. Finished: all that there was is read, and all its commands are
 -- answered. ReadFault: the same of all commands that were read to their last newline. WriteFault: the last
 -- answer is written in part; or all commands that were read to their last newline are answered. `So` holds of
--- requests and answers.
-abbrev pub RunsFrom : (List Request → List Answer → Type 0) → RunEnd → Option (List ℕ) → Option (List ℕ)
+-- the text, its requests and their answers.
+abbrev pub RunsFrom : (List ℕ → List Request → List Answer → Type 0) → RunEnd → Option (List ℕ) → Option (List ℕ)
     → Option (List ℕ) → Option (List ℕ) → List ℕ → Type 0
 RunsFrom So Finished input input' output output' pending =
     ServesBy So true true input input' output output' pending []
@@ -46,7 +48,7 @@ RunsFrom So WriteFault input input' output output' pending =
 -- a run that begins with nothing pending
 abbrev pub RunsBy : (List Request → List Answer → Type 0) → RunEnd → Option (List ℕ) → Option (List ℕ)
     → Option (List ℕ) → Option (List ℕ) → Type 0
-RunsBy So end input input' output output' = RunsFrom So end input input' output output' []
+RunsBy So end input input' output output' = RunsFrom (of_any_text So) end input input' output output' []
 
 -- the same, whose commands are answered by a lawful session
 abbrev pub Runs : RunEnd → RunState → RunState → Type 0
@@ -118,10 +120,17 @@ TellsEnd true old new = Keeps old new
 TellsEnd false old new = AppendsSome old new told_fault
     ⊎ ((r : Refusal) × AppendsSome old new (told_refusal r))
 
--- one step of a run: a command further, or the end
-abbrev pub StepsTo : (List Request → List Answer → Type 0) → Option RunEnd → Option (List ℕ)
+-- one step of a run: a command further, the last one of the text, or the end
+abbrev pub StepsTo : (List ℕ → List Request → List Answer → Type 0) → Stepped → Option (List ℕ)
     → Option (List ℕ) → Option (List ℕ) → Option (List ℕ) → List ℕ → List ℕ → Type 0
-StepsTo So None input input' output output' pending left =
+StepsTo So (On lines refused) input input' output output' pending left =
     ServesBy So false true input input' output output' pending left
-StepsTo So (Some end) input input' output output' pending left =
+StepsTo So (Last refused) input input' output output' pending left =
+    ServesBy So true true input input' output output' pending []
+StepsTo So (End end) input input' output output' pending left =
     RunsFrom So end input input' output output' pending
+
+-- what holds where the run goes on
+abbrev pub IfOn : Stepped → Type 0 → Type 0
+IfOn (On lines refused) P = P
+IfOn step P = Unit {0}

@@ -40,18 +40,23 @@ pub record RunState : Type 0 where
 abbrev pub run_state : SessionState → Option (List ℕ) → Option (List ℕ) → RunState
 run_state session unread written = record { session = session; unread = unread; written = written }
 
--- A text was taken, its commands were answered, so that `So` holds of requests and answers, and the answers
--- were written. `ended` says whether the text is all that there was, `whole` whether the last answer was
--- written wholly. `input` is what the reader had and has, `output` what the writer was given.
-pub record ServesBy (So : List Request → List Answer → Type 0) (ended whole : Bool)
+-- A text was taken, its commands were answered, so that `So` holds of the text, its requests and their
+-- answers, and the answers were written. `ended` says whether the text is all that there was, `whole` whether
+-- the last answer was written wholly. `input` is what the reader had and has, `output` what the writer was
+-- given.
+pub record ServesBy (So : List ℕ → List Request → List Answer → Type 0) (ended whole : Bool)
     (input input' output output' : Option (List ℕ)) (pending left : List ℕ) : Type 0 where
   pub text : List ℕ
   pub requests : List Request
   pub answers : List Answer
   pub reads : Reads ended input input' pending left text
   pub asked : AreCommands ended (lines_of text) requests
-  pub lawful : So requests answers
+  pub lawful : So text requests answers
   pub written : Wrote whole output output' answers
+
+-- so it is of requests and answers, whatever the text
+abbrev pub of_any_text : (List Request → List Answer → Type 0) → List ℕ → List Request → List Answer → Type 0
+of_any_text So text = So
 
 -- the requests were so answered by a lawful session
 abbrev pub IsSession : SessionState → SessionState → List Request → List Answer → Type 0
@@ -60,5 +65,5 @@ IsSession old new requests answers = Session old requests answers new
 -- a text was taken, its commands were answered by a lawful session, and the answers were written
 abbrev pub Serves : Bool → Bool → RunState → RunState → List ℕ → List ℕ → Type 0
 Serves ended whole before after pending left =
-    ServesBy (IsSession before.session after.session) ended whole before.unread after.unread before.written
+    ServesBy (of_any_text (IsSession before.session after.session)) ended whole before.unread after.unread before.written
     after.written pending left

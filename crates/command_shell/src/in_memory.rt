@@ -6,7 +6,7 @@ ghost use Rattle.command_shell.specs.TextAnswers.{AnswersText};
 use crate::counted::CountedReader;
 use crate::session::{RunEnd, run};
 use block_device::MemoryDevice;
-use layer_store::create_store;
+use layer_store::{Version, create_store};
 use std::alloc::Global;
 
 // How many pages the cache of the store may hold.
@@ -20,7 +20,7 @@ const CACHE: u32 = 64;
 pub fn answers_to(alloc: Global, text: &[u8]) -> Option<Vec<u8>>
     ensures { IfSome result (λ replies. AnswersText text.now replies.items) }
 {
-    let Ok(mut store) = create_store(alloc, MemoryDevice::new(alloc), CACHE) else {
+    let Ok(mut store) = create_store(alloc, MemoryDevice::new(alloc), CACHE, Version::Three) else {
         return None;
     };
     let mut input = CountedReader::over(text);

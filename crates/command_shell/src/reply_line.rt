@@ -1,9 +1,10 @@
 //! One line of a reply, built before it is written.
 #![tactic(auto, using(crate::proofs::WriteLemmas::writing))]
 
-ghost use Rattle.std.specs.Prelude.{◌≡◌, ◌+◌, ◌*◌, ◌≤◌, ◌++◌, ◌∷◌, [], length, decimal};
+ghost use Rattle.std.specs.Prelude.{◌≡◌, ◌+◌, ◌*◌, ◌≤◌, ◌++◌, ◌∷◌, [], length, decimal, map};
 ghost use Rattle.plain_table.specs.Boxes.{shown_bounds};
 ghost use Rattle.command_shell.specs.Lines.{newline};
+ghost use Rattle.command_shell.specs.Strict.{told_byte};
 ghost use Rattle.command_shell.specs.Texts.{space, coordinate_text, coordinates_text, bounds_text, tag_text};
 ghost use Rattle.command_shell.specs.Writing.{Writes};
 
@@ -134,6 +135,23 @@ impl ReplyLine {
         self.push(itoa::Buffer::new().format(coordinate).as_bytes());
     }
 
+    /// Appends bytes as they are told: a question mark in the place of each that can't be printed.
+    pub fn push_told(&mut self, bytes: &[u8])
+        requires { length self.old + length bytes.now ≤ CAPACITY }
+        ensures { self.new ≡ self.old ++ map told_byte bytes.now }
+    {
+        for byte in bytes {
+            self.push(&[printable(*byte)]);
+        }
+    }
+
+    /// Writes the line so far, without a newline.
+    pub fn write_part<W: Write>(self, writer: &mut W) -> io::Result<()>
+        ensures { Writes (W.contents writer.old) (W.contents writer.new) result self }
+    {
+        put(writer, &self.text)
+    }
+
     /// Writes the line and its newline.
     pub fn write<W: Write>(mut self, writer: &mut W) -> io::Result<()>
         requires { length self ≤ 143 }
@@ -142,6 +160,13 @@ impl ReplyLine {
         self.push(b"\n");
         put(writer, &self.text)
     }
+}
+
+// A byte as it is told.
+fn printable(byte: u8) -> u8
+    ensures { result ≡ told_byte byte }
+{
+    if byte < 32 || byte > 126 { b'?' } else { byte }
 }
 
 /// Writes all bytes. As `write_all`, but what a fault leaves is known.

@@ -1,7 +1,7 @@
 //! The session of a reader's lines with a store, and how it ends.
 
-ghost use Rattle.std.specs.Prelude.{◌≡◌, ◌<◌, ◌≤◌, ◌++◌, ◌∷◌, [], ℕ, false, List, Option, Some, None};
-ghost use Rattle.std.specs.Prelude.{MatchResult, OnErr, IfNone, IfSome, if◌then◌else◌};
+ghost use Rattle.std.specs.Prelude.{◌≡◌, ◌<◌, ◌≤◌, ◌++◌, ◌∷◌, [], ℕ, false, List, Option, None};
+ghost use Rattle.std.specs.Prelude.{MatchResult, OnErr, IfSome};
 ghost use Rattle.std.specs.Io.KnownBytes.{Keeps};
 ghost use Rattle.plain_table.specs.Answers.{done_answer, object_answer, boxes_answer, count_answer};
 ghost use Rattle.plain_table.specs.Answers.{distances_answer};
@@ -11,6 +11,7 @@ ghost use Rattle.plain_table.specs.declared.refusal.Refusal.TheVariants as refus
 ghost use Rattle.live_layers.specs.Image.{IsRefusedOrImageOf};
 ghost use Rattle.store_law.specs.Sessions.{Takes};
 ghost use Rattle.layer_store.specs.Calls.{Calls, IsAsked};
+ghost use Rattle.layer_store.specs.Checked.{LawfulOnceChecked};
 ghost use Rattle.layer_store.specs.Representation.{Represents, StandsAs, StopsLeave, device_in};
 ghost use Rattle.command_shell.specs.Answering.{AnswersLast, AnswersLine, IsPlain, Replies, RepliesLast};
 ghost use Rattle.command_shell.specs.Answering.{SaysChecked, reply_answers};
@@ -21,16 +22,20 @@ ghost use Rattle.command_shell.specs.Meanings.{meaning_of};
 ghost use Rattle.command_shell.specs.Meanings.Meaning.{Loads};
 ghost use Rattle.command_shell.specs.Pending.{AreCounted, pending, work_left};
 ghost use Rattle.command_shell.specs.Reading.{BeginsLine, IsReadersFault, Reads, ReadsTo};
-ghost use Rattle.command_shell.specs.Runs.{Runs, RunsBy, RunsOnceChecked, StepsTo};
+ghost use Rattle.command_shell.specs.Runs.{IfOn, Runs, RunsOnceChecked, StepsTo};
 ghost use Rattle.command_shell.specs.Said.{said};
-ghost use Rattle.command_shell.specs.Serving.{run_state};
+ghost use Rattle.command_shell.specs.Serving.{IsSession, run_state};
+ghost use Rattle.command_shell.specs.Strict.{Follows, IsFrontOf, IsRefusalIn, MakesStep, RunsAs};
+ghost use Rattle.command_shell.specs.Strict.{RunsStrictly, TellsCalls, TellsRefusal, step_of, stop_at};
 ghost use Rattle.command_shell.specs.TextCommands.{load_request};
-ghost use Rattle.command_shell.specs.Texts.{reply_answer};
+ghost use Rattle.command_shell.specs.Texts.{answer_text, reply_answer};
+ghost use Rattle.command_shell.specs.Writing.{Writes};
 
 use crate::counted::CountedRead;
 use crate::lines::{Found, LineReader};
 use crate::loading::{Gathered, Gathering, gather};
 use crate::parse::{Line, parse_line};
+use crate::refused::{LineFront, RefusedLine, Stop};
 use crate::replies::{Reply, write_reply};
 use arrayvec::ArrayVec;
 use block_device::BlockDevice;
@@ -52,6 +57,26 @@ pub enum RunEnd {
     /// in part, and no line after it was answered; or each command that was read to its last newline was
     /// answered.
     WriteFault,
+}
+
+/// How a run ended that may stop at a refused line.
+#[derive(Drop)]
+pub enum LinesEnd {
+    /// It stopped at none.
+    Ran(RunEnd),
+    /// It stopped at this line.
+    Stopped(Stop),
+}
+
+/// What a step of a run came to. A line that was refused is told; of a load, its first one.
+#[derive(Drop)]
+pub enum Stepped {
+    /// So many lines were taken and answered, and the run goes on.
+    On(u64, Option<RefusedLine>),
+    /// The last lines of the text were.
+    Last(Option<RefusedLine>),
+    /// The run ends, since nothing is left, or reading or writing failed.
+    End(RunEnd),
 }
 
 /// Answers the commands of a reader's lines, each before the next line is looked for, until the text ends or
@@ -84,28 +109,86 @@ pub fn run<D: BlockDevice, A: Allocator + Copy, R: CountedRead, W: Write>(
     ensures honest { D.honest (device_in store.old) → D.honest (device_in store.new) }
     ensures blamed { result ≡ RunEnd.ReadFault → IsReadersFault (R.is_failing input.new) (R.calls input.new) }
 {
-    answer_lines(store, input, output)
+    match answer_lines(store, false, input, output) {
+        LinesEnd::Ran(end) => end,
+        LinesEnd::Stopped(_) => unreachable!(),
+    }
 }
 
-// The same: the commands of the text that was read were made of the store in turn.
-fn answer_lines<D: BlockDevice, A: Allocator + Copy, R: CountedRead, W: Write>(
+/// The same, up to the first line that is refused.
+///
+/// **Where it stopped, the last command that was read is the first one that was refused, its reply is written
+/// as all before it, and [`Stop`] tells the number of its line and how that begins; and what follows it was
+/// not read as a line. Where it did not, none was refused, but perhaps one whose reply was written in part.**
+pub fn run_strictly<D: BlockDevice, A: Allocator + Copy, R: CountedRead, W: Write>(
     store: &mut Store<D, A>,
     input: &mut R,
     output: &mut W,
-) -> RunEnd
-    ensures runs { RunsBy (Calls store.old store.new) result
+) -> LinesEnd
+    ensures session { Takes Represents store.old store.new (λ s s'. RunsStrictly (IsSession s s') result
+        (R.remaining input.old) (R.remaining input.new) (W.contents output.old) (W.contents output.new)
+        × StopsLeave store.old store.new (IsRefusedOrImageOf s'.stops.so_far)) }
+    ensures checked { D.honest (device_in store.old) →
+        RunsStrictly (LawfulOnceChecked (StandsAs store.new)) result
         (R.remaining input.old) (R.remaining input.new) (W.contents output.old) (W.contents output.new) }
-    ensures blamed { result ≡ RunEnd.ReadFault → IsReadersFault (R.is_failing input.new) (R.calls input.new) }
+    ensures honest { D.honest (device_in store.old) → D.honest (device_in store.new) }
+    ensures blamed { result ≡ LinesEnd.Ran RunEnd.ReadFault →
+        IsReadersFault (R.is_failing input.new) (R.calls input.new) }
+{
+    answer_lines(store, true, input, output)
+}
+
+// The same, strictly or not: the commands of the text that was read were made of the store in turn.
+fn answer_lines<D: BlockDevice, A: Allocator + Copy, R: CountedRead, W: Write>(
+    store: &mut Store<D, A>,
+    strict: bool,
+    input: &mut R,
+    output: &mut W,
+) -> LinesEnd
+    ensures runs { RunsAs strict (Calls store.old store.new) result
+        (R.remaining input.old) (R.remaining input.new) (W.contents output.old) (W.contents output.new) }
+    ensures blamed { result ≡ LinesEnd.Ran RunEnd.ReadFault →
+        IsReadersFault (R.is_failing input.new) (R.calls input.new) }
 {
     let mut lines = LineReader::new();
+    let mut taken = 0;
     loop {
         let line = lines.line();
         if hand_on(line, output).is_err() {
-            return RunEnd::WriteFault;
+            return LinesEnd::Ran(RunEnd::WriteFault);
         }
-        if let Some(end) = step(store, &mut lines, line, input, output) {
-            return end;
+        match follow(strict, taken, step(store, &mut lines, line, input, output)) {
+            Ok(more) => taken = more,
+            Err(end) => return end,
         }
+    }
+}
+
+// What follows of a step after so many lines: how many there are then, or how the run ends.
+fn follow(strict: bool, taken: u64, step: Stepped) -> Result<u64, LinesEnd>
+    ensures { Follows strict taken step result }
+{
+    match step {
+        Stepped::On(lines, None) => Ok(taken.saturating_add(lines)),
+        Stepped::On(lines, Some(refused)) => {
+            if strict {
+                return Err(LinesEnd::Stopped(stop_at(taken, refused)));
+            }
+            Ok(taken.saturating_add(lines))
+        }
+        Stepped::Last(Some(refused)) if strict => Err(LinesEnd::Stopped(stop_at(taken, refused))),
+        Stepped::Last(_) => Err(LinesEnd::Ran(RunEnd::Finished)),
+        Stepped::End(end) => Err(LinesEnd::Ran(end)),
+    }
+}
+
+// The stop at a refused line after so many.
+fn stop_at(taken: u64, refused: RefusedLine) -> Stop
+    ensures { result ≡ stop_at taken refused }
+{
+    Stop {
+        line: taken.saturating_add(1),
+        refused,
     }
 }
 
@@ -128,27 +211,34 @@ fn step<D: BlockDevice, A: Allocator + Copy, R: CountedRead, W: Write>(
     line: Option<usize>,
     input: &mut R,
     output: &mut W,
-) -> Option<RunEnd>
+) -> Stepped
     requires { IfSome line (BeginsLine (pending lines.old)) }
-    ensures steps { StepsTo (Calls store.old store.new) result
+    ensures steps { StepsTo (MakesStep (Calls store.old store.new) result) result
         (R.remaining input.old) (R.remaining input.new) (W.contents output.old) (W.contents output.new)
         (pending lines.old) (pending lines.new) }
-    ensures fewer { IfNone result (work_left lines.new < work_left lines.old) }
+    ensures fewer { IfOn result (work_left lines.new < work_left lines.old) }
     ensures counted { AreCounted lines.old (R.calls input.old) → AreCounted lines.new (R.calls input.new) }
-    ensures blamed { AreCounted lines.old (R.calls input.old) → result ≡ Some RunEnd.ReadFault
+    ensures blamed { AreCounted lines.old (R.calls input.old) → result ≡ Stepped.End RunEnd.ReadFault
         → IsReadersFault (R.is_failing input.new) (R.calls input.new) }
 {
     match lines.find(line, input) {
         Ok(Found::Line(len)) => step_line(store, lines, len, input, output),
         Ok(Found::Last(len)) => {
+            let front = LineFront::of(lines.front(len));
             let written = answer_last(store, parse_line(lines.front(len)), output);
             lines.take(len);
-            end_after(written, true)
+            step_of(written, front, 1, true)
         }
-        Ok(Found::TooLong) => end_after(answer(store, Line::Bad, output), false),
-        Ok(Found::LastTooLong) => end_after(answer(store, Line::Bad, output), true),
-        Ok(Found::End) => Some(RunEnd::Finished),
-        Err(_) => Some(RunEnd::ReadFault),
+        Ok(Found::TooLong) => {
+            let written = answer(store, Line::Bad, output);
+            step_of(written, LineFront::of_too_long(), 1, false)
+        }
+        Ok(Found::LastTooLong) => {
+            let written = answer(store, Line::Bad, output);
+            step_of(written, LineFront::of_too_long(), 1, true)
+        }
+        Ok(Found::End) => Stepped::End(RunEnd::Finished),
+        Err(_) => Stepped::End(RunEnd::ReadFault),
     }
 }
 
@@ -159,58 +249,60 @@ fn step_line<D: BlockDevice, A: Allocator + Copy, R: CountedRead, W: Write>(
     len: usize,
     input: &mut R,
     output: &mut W,
-) -> Option<RunEnd>
+) -> Stepped
     requires { BeginsLine (pending lines.old) len }
     ensures steps { (before : Option (List ℕ)) (unread : List ℕ) →
         ReadsTo before (R.remaining input.old) (λ more. unread ++ more ≡ pending lines.old) →
-        StepsTo (Calls store.old store.new) result
+        StepsTo (MakesStep (Calls store.old store.new) result) result
         before (R.remaining input.new) (W.contents output.old) (W.contents output.new)
         unread (pending lines.new) }
-    ensures fewer { IfNone result (work_left lines.new < work_left lines.old) }
+    ensures fewer { IfOn result (work_left lines.new < work_left lines.old) }
     ensures counted { AreCounted lines.old (R.calls input.old) → AreCounted lines.new (R.calls input.new) }
-    ensures blamed { AreCounted lines.old (R.calls input.old) → result ≡ Some RunEnd.ReadFault
+    ensures blamed { AreCounted lines.old (R.calls input.old) → result ≡ Stepped.End RunEnd.ReadFault
         → IsReadersFault (R.is_failing input.new) (R.calls input.new) }
 {
+    let front = LineFront::of(lines.front(len));
     let line = parse_line(lines.front(len));
     if let Line::Load { layer, count } = line {
         let gathered = Gathered::new(store.alloc(), layer);
         lines.take(len + 1);
-        return load(store, lines, gathered, count, input, output);
+        return load(store, lines, front, gathered, count, input, output);
     }
     let written = answer(store, line, output);
     lines.take(len + 1);
-    end_after(written, false)
+    step_of(written, front, 1, false)
 }
 
-// Answers a load whose first line was taken: takes its entry lines, makes the call of the store and writes
-// the reply.
+// Answers a load whose first line was taken and begins so: takes its entry lines, makes the call of the store
+// and writes the reply.
 fn load<D: BlockDevice, A: Allocator + Copy, R: CountedRead, W: Write>(
     store: &mut Store<D, A>,
     lines: &mut LineReader,
+    front: LineFront,
     gathered: Gathered<A>,
     count: u64,
     input: &mut R,
     output: &mut W,
-) -> Option<RunEnd>
+) -> Stepped
     ensures steps { (before : Option (List ℕ)) (unread first layer : List ℕ) → IsOneLine first →
-        meaning_of first ≡ Loads layer count → IsGathered gathered layer [] →
+        IsFrontOf front first → meaning_of first ≡ Loads layer count → IsGathered gathered layer [] →
         Reads false before (R.remaining input.old) unread (pending lines.old) (first ++ newline ∷ []) →
-        StepsTo (Calls store.old store.new) result
+        StepsTo (MakesStep (Calls store.old store.new) result) result
         before (R.remaining input.new) (W.contents output.old) (W.contents output.new)
         unread (pending lines.new) }
-    ensures fewer { IfNone result (work_left lines.new ≤ work_left lines.old) }
+    ensures fewer { IfOn result (work_left lines.new ≤ work_left lines.old) }
     ensures counted { AreCounted lines.old (R.calls input.old) → AreCounted lines.new (R.calls input.new) }
-    ensures blamed { AreCounted lines.old (R.calls input.old) → result ≡ Some RunEnd.ReadFault
+    ensures blamed { AreCounted lines.old (R.calls input.old) → result ≡ Stepped.End RunEnd.ReadFault
         → IsReadersFault (R.is_failing input.new) (R.calls input.new) }
 {
     let mut gathered = gathered;
     match gather(&mut gathered, count, lines, input, output) {
         Gathering::Full(ended) => {
-            let reply = load_reply(store, &gathered);
-            end_after(write_reply(&reply, output), ended)
+            let written = give(&load_reply(store, &gathered), output);
+            step_of(written, front, count.saturating_add(1), ended)
         }
-        Gathering::Short => end_after(write_reply(&bad_reply::<A>(), output), true),
-        Gathering::Broken(end) => Some(end),
+        Gathering::Short => step_of(give(&bad_reply::<A>(), output), front, count, true),
+        Gathering::Broken(end) => Stepped::End(end),
     }
 }
 
@@ -244,13 +336,14 @@ fn answer_last<D: BlockDevice, A: Allocator + Copy, W: Write>(
     store: &mut Store<D, A>,
     line: Line<'_>,
     output: &mut W,
-) -> io::Result<()>
+) -> io::Result<Option<Refusal>>
     ensures { (text : List ℕ) → said line.entry ≡ meaning_of text →
-        AnswersLast text (Calls store.old store.new) (W.contents output.old) (W.contents output.new) result }
+        AnswersLast text (TellsCalls result (Calls store.old store.new))
+        (W.contents output.old) (W.contents output.new) result }
 {
     if let Line::Load { layer, count } = line {
         let reply = last_load_reply(store, layer, count);
-        return write_reply(&reply, output);
+        return give(&reply, output);
     }
     answer(store, line, output)
 }
@@ -271,31 +364,69 @@ fn last_load_reply<D: BlockDevice, A: Allocator + Copy>(
     load_reply(store, &gathered)
 }
 
-// How the run ends after an answer, if it does. The text may have ended after the line.
-fn end_after(written: io::Result<()>, ended: bool) -> Option<RunEnd>
-    ensures { MatchResult written
-        (λ _. result ≡ (if ended then Some RunEnd.Finished else None))
-        (λ _. result ≡ Some RunEnd.WriteFault) }
+// The step that an answer to so many lines is, of which the first begins so. The text may have ended after
+// them.
+fn step_of(
+    written: io::Result<Option<Refusal>>,
+    front: LineFront,
+    lines: u64,
+    ended: bool,
+) -> Stepped
+    ensures { MatchResult written (λ refusal. result ≡ step_of ended lines front refusal)
+        (λ _. result ≡ Stepped.End RunEnd.WriteFault) }
 {
     match written {
-        Ok(()) => { if ended { Some(RunEnd::Finished) } else { None } }
-        Err(_) => Some(RunEnd::WriteFault),
+        Ok(refusal) => {
+            let refused = match refusal {
+                None => None,
+                Some(refusal) => Some(RefusedLine { refusal, front }),
+            };
+            if ended {
+                Stepped::Last(refused)
+            } else {
+                Stepped::On(lines, refused)
+            }
+        }
+        Err(_) => Stepped::End(RunEnd::WriteFault),
     }
 }
 
-// Answers a line: makes the call of the store that it asks for, and writes the reply, if it has one.
+// Answers a line: makes the call of the store that it asks for, and writes the reply, if it has one. It tells
+// the refusal that the reply is, if it is one.
 fn answer<D: BlockDevice, A: Allocator + Copy, W: Write>(
     store: &mut Store<D, A>,
     line: Line<'_>,
     output: &mut W,
-) -> io::Result<()>
+) -> io::Result<Option<Refusal>>
     requires { IsPlain (said line) }
-    ensures { AnswersLine (said line.entry) (Calls store.old store.new)
+    ensures { AnswersLine (said line.entry) (TellsCalls result (Calls store.old store.new))
         (W.contents output.old) (W.contents output.new) result }
 {
     match reply_to(store, line) {
-        None => Ok(()),
-        Some(reply) => write_reply(&reply, output),
+        None => Ok(None),
+        Some(reply) => give(&reply, output),
+    }
+}
+
+// Writes a reply, and tells the refusal that it is, if it is one.
+fn give<A: Allocator, W: Write>(reply: &Reply<A>, output: &mut W) -> io::Result<Option<Refusal>>
+    ensures written { Writes (W.contents output.old) (W.contents output.new) result
+        (answer_text (reply_answer reply.now)) }
+    ensures tells { TellsRefusal result (reply_answer reply.now ∷ []) }
+{
+    match write_reply(reply, output) {
+        Ok(()) => Ok(refusal_in(reply)),
+        Err(error) => Err(error),
+    }
+}
+
+// The refusal that a reply is, if it is one.
+fn refusal_in<A: Allocator>(reply: &Reply<A>) -> Option<Refusal>
+    ensures { IsRefusalIn result (reply_answer reply.now) }
+{
+    match reply {
+        Reply::Refused(refusal) => Some(*refusal),
+        _ => None,
     }
 }
 

@@ -6,7 +6,7 @@ use Rattle.box_math.specs.Objects.{Object}
 use Rattle.page_file.specs.Fault.{IsOfDevice}
 use Rattle.page_file.specs.declared.fault.Fault.{Fault}
 use Rattle.page_file.specs.declared.fault.Fault.TheVariants.{Damaged}
-use Rattle.page_cache.specs.Calls.{AsksUntil}
+use Rattle.page_cache.specs.Calls.{Asks, AsksUntil}
 use Rattle.page_cache.specs.declared.cache.PageCache.{PageCache}
 use Rattle.tree_node.specs.declared.node.Root.{Root}
 use Rattle.tree_node.specs.Nodes.{Item}
@@ -56,17 +56,11 @@ took_out dims most m m1 root t elsewhere id removed held0 held items can none do
       (subst (λ l. HasTaken dims most m m1 l id removed t.row held0 held items) (sym can.at.level) done);
 }
 
--- pages that were only asked for, and then a damaged one
-pub damaged_asks : {D A : Type 0} {m : _} (old new : PageCache D A m) (page : ℕ) → AsksUntil old new None
-    → AsksUntil old new (Some (Damaged page))
-damaged_asks old new page asks = record {
-  gate = asks.gate;
-  map = asks.map;
-  capacity = asks.capacity;
-  looks = asks.looks;
-  touched = asks.touched;
-  faults = asks.faults;
-}
+-- pages that were only asked for, where something is told of an answer
+pub none_asked : {D A : Type 0} {m : _} {T : Type 0} (r : Result T Fault) (old new : PageCache D A m)
+    (Q : T → Type 0) (X : Type 0) → Asks old new r → X → IfOk r (λ x. Q x → AsksUntil old new None × X)
+none_asked (Ok x) old new Q X asks so = λ q. (asks, so)
+none_asked (Err e) old new Q X asks so = tt
 
 -- a refusal is handed on
 pub on_err : {T E : Type 0} (r : Result T E) (X : Type 0) → X → OnErr r X

@@ -4,3 +4,4 @@ pub mod Taken
 pub mod Filled
 pub mod Removed
 pub mod Spelled
+pub mod Steps

@@ -28,13 +28,13 @@ use tree_node::Root;
 pub(crate) fn insert_kept<const D: usize, B: BlockDevice, A: Allocator + Copy>(
     cache: &mut PageCache<B, A>,
     root: Root,
-    m_max: usize,
+    fanout: usize,
     waiting: &mut Waiting<D>,
     kept: &mut Kept<D>,
 ) -> Result<Root, Fault>
     requires dims { IsDims D }
     requires open { gate_of cache.old ≡ Open }
-    requires most { (4 ≤ m_max) × (m_max ≤ 100) }
+    requires most { (4 ≤ fanout) × (fanout ≤ 100) }
     requires root { IsRoot root }
     ensures changes { Changes cache.old cache.new result }
     ensures grows { Grows (most_new_pages * array_vec_len kept.old.orphans) cache.old cache.new }
@@ -43,9 +43,9 @@ pub(crate) fn insert_kept<const D: usize, B: BlockDevice, A: Allocator + Copy>(
     ensures filled { IsPageMap cache.old → (t : Tree) (ws : List Waiter) (elsewhere : ℕ → ℕ)
         → CanFill D (pages cache.old) root t ws elsewhere (held_now kept.old)
         → IfOk result (λ after. IsPageMap cache.new
-        × FillsTo D m_max (pages cache.old) (pages cache.new) t ws elsewhere after) }
+        × FillsTo D fanout (pages cache.old) (pages cache.new) t ws elsewhere after) }
     ensures faults { IsPageMap cache.old → (t : Tree) (ws : List Waiter) (elsewhere : ℕ → ℕ)
-        → CanFill D (pages cache.old) root t ws elsewhere (held_now kept.old) → CanFillShaped D m_max t ws
+        → CanFill D (pages cache.old) root t ws elsewhere (held_now kept.old) → CanFillShaped D fanout t ws
         → IfErr result (IsNoDamage cache.new) }
     ensures sound { IsPageMap cache.old → OnOk result (IsPageMap cache.new) }
     ensures number { IsPageMap cache.old → IfErr result NamesInRange }
@@ -56,7 +56,7 @@ pub(crate) fn insert_kept<const D: usize, B: BlockDevice, A: Allocator + Copy>(
         if orphan.level > now.level {
             return Err(Fault::Damaged(now.page));
         }
-        now = insert_with(cache, now, &orphan.entry, orphan.level, m_max, waiting)?;
+        now = insert_with(cache, now, &orphan.entry, orphan.level, fanout, waiting)?;
     }
     Ok(now)
 }

@@ -6,6 +6,7 @@
 mod children;
 mod fill;
 mod free;
+mod hand;
 mod kept;
 pub mod laws;
 mod leaf;

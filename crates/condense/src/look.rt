@@ -1,16 +1,10 @@
 //! A node above the leaves, looked into for children that may have an object.
 
-ghost use Rattle.std.specs.Prelude.{◌≡◌, ◌⊎◌, ◌<◌, ℕ, IfErr, IfNone, IfOk, IfSome, Some, length};
+ghost use Rattle.std.specs.Prelude.{◌<◌, ℕ, length};
 ghost use Rattle.box_math.specs.Bounds.{IsDims, Within};
-ghost use Rattle.page_file.specs.Fault.{IsDamage, IsOfDevice};
-ghost use Rattle.page_file.specs.declared.fault.Fault.TheVariants as fault;
-ghost use Rattle.page_cache.specs.Cache.{IsHonest, IsLive, given, pages};
-ghost use Rattle.page_cache.specs.Calls.{Asks};
 ghost use Rattle.tree_node.specs.Boxes.{box_at};
-ghost use Rattle.tree_node.specs.Nodes.{NodeContent, content_of};
-ghost use Rattle.node_page.specs.Layout.{IsSpellable};
-ghost use Rattle.node_page.specs.Standing.{node_in};
 ghost use Rattle.node_page.specs.Views.{content_in};
+ghost use Rattle.condense.specs.Steps.{ReadsEnclosing};
 
 use block_device::BlockDevice;
 use box_math::BBox;
@@ -46,23 +40,7 @@ pub(crate) fn read_enclosing<const D: usize, B: BlockDevice, A: Allocator + Copy
     node: &mut Node<D>,
 ) -> Result<Option<usize>, Fault>
     requires { IsDims D }
-    ensures asks { Asks cache.old cache.new result }
-    ensures node { IsHonest cache.old → IsLive cache.old at.page → IfOk result (λ first. IfSome first (λ _.
-        node_in D (pages cache.old at.page) ≡ Some (content_of node.new))) }
-    ensures given_node { IsHonest cache.old → IfOk result (λ first. IfSome first (λ _.
-        node_in D (given cache.old at.page) ≡ Some (content_of node.new))) }
-    ensures level { IfOk result (λ first. IfSome first (λ _. node.new.level ≡ at.level)) }
-    ensures spellable { IfOk result (λ first. IfSome first (λ _. IsSpellable (content_of node.new))) }
-    ensures before { IsHonest cache.old → (c : NodeContent) → node_in D (pages cache.old at.page) ≡ Some c
-        → IfOk result (λ first. IfSome first (λ first. (k : ℕ) → k < first → k < length c.entries
-        → ¬ Within D bounds.now (box_at c.entries k))) }
-    ensures none { IsHonest cache.old → (c : NodeContent) → node_in D (pages cache.old at.page) ≡ Some c
-        → IfOk result (λ first. IfNone first ((k : ℕ) → k < length c.entries
-        → ¬ Within D bounds.now (box_at c.entries k))) }
-    ensures there { IsHonest cache.old → (c : NodeContent) → node_in D (pages cache.old at.page) ≡ Some c
-        → c.level ≡ at.level → IfErr result IsOfDevice }
-    ensures faults { IsHonest cache.old → IfErr result (λ f. IsOfDevice f ⊎ (f ≡ fault.Damaged at.page)) }
-    ensures other_faults { IfErr result (λ f. IsOfDevice f ⊎ IsDamage f) }
+    ensures { ReadsEnclosing at bounds.now cache.old cache.new node.new result }
 {
     let view = view_node::<D, B, A>(cache, at.page, at.level)?;
     let first = first_enclosing(&view, bounds);

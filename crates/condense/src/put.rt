@@ -1,11 +1,10 @@
 //! The child of which an object was taken: it leaves its parent where it has too few entries, else it is
 //! written.
 
-ghost use Rattle.std.specs.Prelude.{◌≡◌, ◌+◌, ◌*◌, ◌-◌, ◌<◌, ◌≤◌, ◌++◌, ℕ, List, IfErr, None, Some};
-ghost use Rattle.std.specs.Prelude.{◌⊎◌, OnOk, map, reverse, true};
+ghost use Rattle.std.specs.Prelude.{◌≡◌, ◌⊎◌, ◌+◌, ◌-◌, ◌<◌, ◌≤◌, ◌++◌, IfErr, None, OnOk, Some, map};
+ghost use Rattle.std.specs.Prelude.{reverse, true};
 ghost use Rattle.arrayvec.specs.ArrayVec.{array_vec_len};
 ghost use Rattle.box_math.specs.Bounds.{IsDims};
-ghost use Rattle.box_math.specs.Objects.{Object};
 ghost use Rattle.page_file.specs.Fault.{IsDamage, IsOfDevice};
 ghost use Rattle.page_file.specs.Pages.{SameBut};
 ghost use Rattle.page_file.specs.declared.gate.Gate.TheVariants.{Open};
@@ -13,16 +12,16 @@ ghost use Rattle.page_cache.specs.Cache.{Grows, IsHonest, IsLive, IsPageMap, gat
 ghost use Rattle.page_cache.specs.Cache.{touched_of};
 ghost use Rattle.page_cache.specs.Calls.{Changes};
 ghost use Rattle.tree_node.specs.Boxes.{least_box};
-ghost use Rattle.tree_node.specs.Nodes.{NodeContent, content_of, item_of};
+ghost use Rattle.tree_node.specs.Nodes.{content_of, item_of};
 ghost use Rattle.tree_node.specs.Shape;
-ghost use Rattle.tree_node.specs.Trees.{Row};
 ghost use Rattle.node_page.specs.Layout.{IsSpellable};
-ghost use Rattle.node_page.specs.Standing.{PageMap, node_in};
-ghost use Rattle.reinsert.specs.Placed.{Held, held_with, set_box};
-ghost use Rattle.condense.specs.Spelled.{KeepsNodes, page_at};
-ghost use Rattle.condense.specs.Taken.{HasTaken, IsCut, IsSettledBelow, TookBelow, held_now, items_without};
+ghost use Rattle.node_page.specs.Standing.{node_in};
+ghost use Rattle.reinsert.specs.Placed.{held_with, set_box};
+ghost use Rattle.condense.specs.Steps.{PutsBack, PutsChild};
+ghost use Rattle.condense.specs.Taken.{IsCut, held_now, items_without};
 
 use crate::children::child_of;
+use crate::hand::InHand;
 use crate::kept::Kept;
 use block_device::BlockDevice;
 use node_page::write_node;
@@ -32,72 +31,49 @@ use std::alloc::Allocator;
 use tree_node::{Node, least};
 
 // The least count of entries of a node below the root: 40 in a hundred of the most (Beckmann et al. 1990).
-fn least_entries(m_max: usize) -> usize
-    requires { (4 ≤ m_max) × (m_max ≤ 100) }
-    ensures value { result ≡ Shape.least_entries m_max }
+fn least_entries(fanout: usize) -> usize
+    requires { (4 ≤ fanout) × (fanout ≤ 100) }
+    ensures value { result ≡ Shape.least_entries fanout }
     ensures few { (2 ≤ result) × (result ≤ 40) }
 {
-    (2 * m_max / 5).max(2)
+    (2 * fanout / 5).max(2)
 }
 
 // Puts a child of this node back, of which the object was taken: one of too few entries leaves, else it is
-// written where it is not settled. `settled` tells whether the page of the child has it as it is, and then
-// whether the node is as it was.
+// written where it is not settled. Then the node is settled where it is as it was.
 pub(crate) fn put_child<const D: usize, B: BlockDevice, A: Allocator + Copy>(
     cache: &mut PageCache<B, A>,
-    node: &mut Node<D>,
+    hand: &mut InHand<D>,
     place: usize,
-    lower: &Node<D>,
-    m_max: usize,
+    lower: &InHand<D>,
+    fanout: usize,
     kept: &mut Kept<D>,
-    settled: &mut bool,
 ) -> Result<(), Fault>
     requires dims { IsDims D }
     requires open { gate_of cache.old ≡ Open }
-    requires most { (4 ≤ m_max) × (m_max ≤ 100) }
-    requires above { 0 < node.old.level }
-    requires within { place < array_vec_len node.old.entries }
-    requires spellable { IsSpellable (content_of node.old) }
-    requires cut { IsCut (node.old.level - 1) (content_of lower.now) }
+    requires most { (4 ≤ fanout) × (fanout ≤ 100) }
+    requires above { 0 < hand.old.node.level }
+    requires within { place < array_vec_len hand.old.node.entries }
+    requires spellable { IsSpellable (content_of hand.old.node) }
+    requires cut { IsCut (hand.old.node.level - 1) (content_of lower.now.node) }
     requires room { array_vec_len kept.old.orphans + 39 ≤ 1560 }
-    ensures changes { Changes cache.old cache.new result }
-    ensures grows { Grows 0 cache.old cache.new }
-    ensures cut { OnOk result (IsCut node.old.level (content_of node.new)) }
-    ensures room { array_vec_len kept.new.orphans ≤ array_vec_len kept.old.orphans + 39 }
-    ensures taken { IsPageMap cache.old → (m : PageMap) (page id : ℕ) (removed : Object) (row : Row)
-        (held : List Held)
-        → TookBelow D m_max m (pages cache.old) page node.old.level id removed row place held
-        (held_now kept.old)
-        (map item_of node.old.entries.items) (map item_of lower.now.entries.items)
-        → IsSettledBelow D (pages cache.old) (map item_of node.old.entries.items) place (content_of lower.now)
-        settled.old
-        → OnOk result (IsPageMap cache.new × HasTaken D m_max m (pages cache.new)
-        node.old.level id removed row held (held_now kept.new) (map item_of node.new.entries.items)) }
-    ensures faults { IsPageMap cache.old → (m : PageMap) (page id : ℕ) (removed : Object) (row : Row)
-        (held : List Held)
-        → TookBelow D m_max m (pages cache.old) page node.old.level id removed row place held
-        (held_now kept.old)
-        (map item_of node.old.entries.items) (map item_of lower.now.entries.items)
-        → IsSettledBelow D (pages cache.old) (map item_of node.old.entries.items) place (content_of lower.now)
-        settled.old
-        → IfErr result IsOfDevice }
-    ensures settled { settled.new ≡ true → OnOk result (content_of node.new ≡ content_of node.old) }
-    ensures sound { IsPageMap cache.old → (c : NodeContent)
-        → node_in D (pages cache.old (page_at (map item_of node.old.entries.items) place)) ≡ Some c
-        → c.level < node.old.level
-        → IsPageMap cache.new × KeepsNodes D node.old.level (pages cache.old) (pages cache.new) }
-    ensures live_faults { IsPageMap cache.old
-        → IsLive cache.old (page_at (map item_of node.old.entries.items) place) → IfErr result IsOfDevice }
-    ensures touched { IsLive cache.old (page_at (map item_of node.old.entries.items) place)
-        → OnOk result ((kept.new.orphans.items ≡ kept.old.orphans.items) ⊎ (touched_of cache.new ≡ true)) }
-    ensures other_faults { IfErr result (λ f. IsOfDevice f ⊎ IsDamage f) }
+    ensures { PutsChild fanout place lower.now.node cache.old cache.new hand.old.node hand.new.node
+        kept.old kept.new lower.now.settled hand.new.settled result }
 {
-    let page = child_of(node, place).page;
-    if lower.entries.len() < least_entries(m_max) {
-        *settled = false;
-        return leave_out(cache, node, place, page, lower, kept);
+    let page = child_of(&hand.node, place).page;
+    if lower.node.entries.len() < least_entries(fanout) {
+        hand.settled = false;
+        return leave_out(cache, &mut hand.node, place, page, &lower.node, kept);
     }
-    write_back(cache, node, place, page, lower, settled)
+    hand.settled = lower.settled;
+    write_back(
+        cache,
+        &mut hand.node,
+        place,
+        page,
+        &lower.node,
+        &mut hand.settled,
+    )
 }
 
 // A child of too few entries leaves: its page is freed, and its entries are kept.
@@ -116,21 +92,13 @@ fn leave_out<const D: usize, B: BlockDevice, A: Allocator + Copy>(
     requires few { array_vec_len lower.now.entries ≤ 39 }
     requires cut { IsCut (node.old.level - 1) (content_of lower.now) }
     requires room { array_vec_len kept.old.orphans + 39 ≤ 1560 }
-    ensures changes { Changes cache.old cache.new result }
-    ensures grows { Grows 0 cache.old cache.new }
-    ensures cut { OnOk result (IsCut node.old.level (content_of node.new)) }
+    ensures back { PutsBack page (items_without (map item_of node.old.entries.items) place)
+        cache.old cache.new node.old node.new result }
     ensures room { array_vec_len kept.new.orphans ≤ array_vec_len kept.old.orphans + 39 }
-    ensures sound { IsPageMap cache.old → IsLive cache.old page → IsPageMap cache.new }
     ensures gone { IsPageMap cache.old → IsLive cache.old page → OnOk result (pages cache.new page ≡ None) }
-    ensures others { IsPageMap cache.old → IsLive cache.old page →
-        SameBut page (pages cache.old) (pages cache.new) }
-    ensures entries { OnOk result (map item_of node.new.entries.items
-        ≡ items_without (map item_of node.old.entries.items) place) }
     ensures held { OnOk result (held_now kept.new ≡ held_now kept.old
         ++ reverse (map (held_with (node.old.level - 1)) lower.now.entries.items)) }
     ensures touched { IsLive cache.old page → OnOk result (touched_of cache.new ≡ true) }
-    ensures faults { IsPageMap cache.old → IsLive cache.old page → IfErr result IsOfDevice }
-    ensures other_faults { IfErr result (λ f. IsOfDevice f ⊎ IsDamage f) }
 {
     cache.free(page)?;
     kept.keep(&lower.entries, lower.level);
@@ -154,20 +122,12 @@ fn write_back<const D: usize, B: BlockDevice, A: Allocator + Copy>(
     requires spellable { IsSpellable (content_of node.old) }
     requires some { 0 < array_vec_len lower.now.entries }
     requires cut { IsCut (node.old.level - 1) (content_of lower.now) }
-    ensures changes { Changes cache.old cache.new result }
-    ensures grows { Grows 0 cache.old cache.new }
-    ensures cut { OnOk result (IsCut node.old.level (content_of node.new)) }
-    ensures sound { IsPageMap cache.old → IsLive cache.old page → IsPageMap cache.new }
+    ensures back { PutsBack page (set_box (map item_of node.old.entries.items) place
+        (least_box D (map item_of lower.now.entries.items))) cache.old cache.new node.old node.new result }
     ensures there { IsPageMap cache.old → IsLive cache.old page
         → (settled.old ≡ true → node_in D (pages cache.old page) ≡ Some (content_of lower.now))
         → OnOk result (node_in D (pages cache.new page) ≡ Some (content_of lower.now)) }
-    ensures others { IsPageMap cache.old → IsLive cache.old page →
-        SameBut page (pages cache.old) (pages cache.new) }
-    ensures entries { OnOk result (map item_of node.new.entries.items ≡ set_box
-        (map item_of node.old.entries.items) place (least_box D (map item_of lower.now.entries.items))) }
     ensures settled { settled.new ≡ true → OnOk result (content_of node.new ≡ content_of node.old) }
-    ensures faults { IsPageMap cache.old → IsLive cache.old page → IfErr result IsOfDevice }
-    ensures other_faults { IfErr result (λ f. IsOfDevice f ⊎ IsDamage f) }
 {
     settle(cache, page, lower, *settled)?;
     let bounds = least(lower.entries.as_slice());

@@ -1,45 +1,41 @@
 //! A lawful removal: the object leaves, what is kept comes back, and the root gives way.
 
-ghost use Rattle.std.specs.Prelude.{◌≡◌, ◌⊎◌, ◌*◌, ◌<◌, ◌≤◌, [], ◌∷◌, ℕ, IfOk, IfErr, true, false, map};
-ghost use Rattle.std.specs.Prelude.{◌^◌};
-ghost use Rattle.std.specs.List.{Contains};
-ghost use Rattle.std.specs.List.Sorted.{IsPermutation};
+ghost use Rattle.std.specs.Prelude.{◌≡◌, ◌⊎◌, ◌*◌, ◌<◌, ◌≤◌, [], ℕ, IfOk, IfErr, true, false, map};
 ghost use Rattle.arrayvec.specs.ArrayVec.{array_vec_len};
 ghost use Rattle.box_math.specs.Bounds.{IsDims};
 ghost use Rattle.box_math.specs.Objects.{Object};
 ghost use Rattle.page_file.specs.Fault.{IsOfDevice};
 ghost use Rattle.page_file.specs.declared.fault.Fault.TheVariants as fault;
 ghost use Rattle.page_file.specs.declared.gate.Gate.TheVariants.{Open};
-ghost use Rattle.page_cache.specs.Cache.{Grows, IsLive, IsPageMap, gate_of, given, pages, touched_of};
+ghost use Rattle.page_cache.specs.Cache.{Grows, IsLive, IsPageMap, gate_of, pages, touched_of};
 ghost use Rattle.page_cache.specs.Calls.{Changes};
 ghost use Rattle.tree_node.specs.Boxes.{RowHasBoxes};
 ghost use Rattle.tree_node.specs.Nodes.{content_of, item_of};
 ghost use Rattle.tree_node.specs.Shape.{HasShape};
-ghost use Rattle.tree_node.specs.Trees.{Tree, objects_in};
-ghost use Rattle.node_page.specs.Checked.{ComesTo};
-ghost use Rattle.node_page.specs.Standing.{PageMap, Stands, node_in};
+ghost use Rattle.tree_node.specs.Trees.{Tree};
+ghost use Rattle.node_page.specs.Standing.{PageMap, node_in};
 ghost use Rattle.node_page.specs.Faults.{IsChangeFault, IsNoDamage, NamesInRange};
-ghost use Rattle.reinsert.specs.Inserted.{IsRootOf, most_new_pages};
-ghost use Rattle.condense.specs.Removed.{CanRemove, IsRefused, IsRoot, RemovesTo, TookOut};
-ghost use Rattle.condense.specs.Removed.{most_removal_pages};
+ghost use Rattle.reinsert.specs.Inserted.{most_new_pages};
+ghost use Rattle.condense.specs.Removed.{IsRoot, RemovesTo, TookOut};
+ghost use Rattle.condense.specs.Steps.{Removes};
 ghost use Rattle.condense.specs.Taken.{IsCut, held_now};
 
 use crate::fill::insert_kept;
+use crate::hand::InHand;
 use crate::kept::Kept;
 use crate::lower::give_way;
 use crate::put::settle;
 use crate::take::take_out;
 use arrayvec::ArrayVec;
 use block_device::BlockDevice;
-use box_math::BBox;
 use page_cache::PageCache;
 use page_file::Fault;
 use reinsert::Waiting;
 use std::alloc::Allocator;
-use tree_node::{Node, Root};
+use tree_node::{Entry, Node, Root};
 
-/// Removes the object of that identifier, box and tag from the tree at that root (docs/RULES.md). The gate
-/// has to be open.
+/// Removes the object of that identifier, which is the entry's reference, box and tag from the tree at that
+/// root (docs/RULES.md). The gate has to be open.
 ///
 /// Where the map is sound and the pages stand for a tree at the root, they stand after `Ok` for a tree that a
 /// lawful removal leads to. Pages outside of these trees stay, those that came in were not live, and those
@@ -58,42 +54,19 @@ pub fn remove<const D: usize, B: BlockDevice, A: Allocator + Copy, H: Allocator 
     alloc: H,
     cache: &mut PageCache<B, A>,
     root: Root,
-    id: u64,
-    bounds: &BBox<D>,
-    tag: u32,
-    m_max: usize,
+    object: &Entry<D>,
+    fanout: usize,
 ) -> Result<Root, Fault>
     requires dims { IsDims D }
     requires open { gate_of cache.old ≡ Open }
-    requires most { (4 ≤ m_max) × (m_max ≤ 100) }
+    requires most { (4 ≤ fanout) × (fanout ≤ 100) }
     requires root { IsRoot root }
-    ensures changes { Changes cache.old cache.new result }
-    ensures grows { Grows most_removal_pages cache.old cache.new }
-    ensures root { IfOk result IsRoot }
-    ensures removed { IsPageMap cache.old → (t : Tree) (elsewhere : ℕ → ℕ)
-        → CanRemove D (pages cache.old) root t elsewhere → IfOk result (λ after. IsPageMap cache.new
-        × RemovesTo D m_max (pages cache.old) (pages cache.new) elsewhere id (bounds.now, tag) t after) }
-    ensures shape { IsPageMap cache.old → (t : Tree) (elsewhere : ℕ → ℕ)
-        → CanRemove D (pages cache.old) root t elsewhere → HasShape D m_max t → RowHasBoxes D t.row
-        → IfOk result (λ after. (new : Tree) → IsRootOf after new → Stands D (pages cache.new) new
-        → HasShape D m_max new
-        × IsPermutation ((id, (bounds.now, tag)) ∷ objects_in new.row) (objects_in t.row)) }
-    ensures absent { IsPageMap cache.old → (t : Tree) (elsewhere : ℕ → ℕ)
-        → CanRemove D (pages cache.old) root t elsewhere →
-        ¬ Contains (objects_in t.row) (id, (bounds.now, tag))
-        → IsRefused root.page cache.old cache.new result }
-    ensures faults { IsPageMap cache.old → (t : Tree) (elsewhere : ℕ → ℕ)
-        → CanRemove D (pages cache.old) root t elsewhere → HasShape D m_max t → RowHasBoxes D t.row
-        → Contains (objects_in t.row) (id, (bounds.now, tag)) →
-        IfErr result (IsNoDamage cache.new) }
-    ensures damage { IsPageMap cache.old → touched_of cache.new ≡ false
-        → IfErr result (λ f. (n : ℕ) → f ≡ fault.Damaged n → ComesTo D (given cache.old) root.page n) }
-    ensures number { IsPageMap cache.old → IfErr result NamesInRange }
-    ensures other_faults { IfErr result IsChangeFault }
+    ensures { Removes D fanout root object.now.reference (object.now.bounds, object.now.tag)
+        cache.old cache.new result }
 {
     let mut waiting = Waiting::make(alloc)?;
     let mut kept = Kept::make(alloc)?;
-    remove_with(cache, root, id, bounds, tag, m_max, &mut waiting, &mut kept)
+    remove_with(cache, root, object, fanout, &mut waiting, &mut kept)
 }
 
 /// Removes an object as `remove` does, and takes no memory but what the cache takes. The `Waiting` and the
@@ -101,95 +74,63 @@ pub fn remove<const D: usize, B: BlockDevice, A: Allocator + Copy, H: Allocator 
 pub fn remove_with<const D: usize, B: BlockDevice, A: Allocator + Copy>(
     cache: &mut PageCache<B, A>,
     root: Root,
-    id: u64,
-    bounds: &BBox<D>,
-    tag: u32,
-    m_max: usize,
+    object: &Entry<D>,
+    fanout: usize,
     waiting: &mut Waiting<D>,
     kept: &mut Kept<D>,
 ) -> Result<Root, Fault>
     requires dims { IsDims D }
     requires open { gate_of cache.old ≡ Open }
-    requires most { (4 ≤ m_max) × (m_max ≤ 100) }
+    requires most { (4 ≤ fanout) × (fanout ≤ 100) }
     requires root { IsRoot root }
-    ensures changes { Changes cache.old cache.new result }
-    ensures grows { Grows most_removal_pages cache.old cache.new }
-    ensures root { IfOk result IsRoot }
-    ensures removed { IsPageMap cache.old → (t : Tree) (elsewhere : ℕ → ℕ)
-        → CanRemove D (pages cache.old) root t elsewhere → IfOk result (λ after. IsPageMap cache.new
-        × RemovesTo D m_max (pages cache.old) (pages cache.new) elsewhere id (bounds.now, tag) t after) }
-    ensures shape { IsPageMap cache.old → (t : Tree) (elsewhere : ℕ → ℕ)
-        → CanRemove D (pages cache.old) root t elsewhere → HasShape D m_max t → RowHasBoxes D t.row
-        → IfOk result (λ after. (new : Tree) → IsRootOf after new → Stands D (pages cache.new) new
-        → HasShape D m_max new
-        × IsPermutation ((id, (bounds.now, tag)) ∷ objects_in new.row) (objects_in t.row)) }
-    ensures absent { IsPageMap cache.old → (t : Tree) (elsewhere : ℕ → ℕ)
-        → CanRemove D (pages cache.old) root t elsewhere →
-        ¬ Contains (objects_in t.row) (id, (bounds.now, tag))
-        → IsRefused root.page cache.old cache.new result }
-    ensures faults { IsPageMap cache.old → (t : Tree) (elsewhere : ℕ → ℕ)
-        → CanRemove D (pages cache.old) root t elsewhere → HasShape D m_max t → RowHasBoxes D t.row
-        → Contains (objects_in t.row) (id, (bounds.now, tag)) →
-        IfErr result (IsNoDamage cache.new) }
-    ensures damage { IsPageMap cache.old → touched_of cache.new ≡ false
-        → IfErr result (λ f. (n : ℕ) → f ≡ fault.Damaged n → ComesTo D (given cache.old) root.page n) }
-    ensures number { IsPageMap cache.old → IfErr result NamesInRange }
-    ensures other_faults { IfErr result IsChangeFault }
+    ensures { Removes D fanout root object.now.reference (object.now.bounds, object.now.tag)
+        cache.old cache.new result }
 {
     kept.begin();
-    let mut settled = false;
-    let mut node = Node {
-        level: 0,
-        entries: ArrayVec::new(),
+    let mut hand = InHand {
+        node: Node {
+            level: 0,
+            entries: ArrayVec::new(),
+        },
+        settled: false,
     };
-    let taken = take_out(
-        cache,
-        root,
-        id,
-        bounds,
-        tag,
-        m_max,
-        kept,
-        &mut settled,
-        &mut node,
-    )?;
+    let taken = take_out(cache, root, object, fanout, kept, &mut hand)?;
     if !taken {
         return Err(Fault::Damaged(root.page));
     }
-    put_root(cache, root, &node, m_max, waiting, kept, settled)
+    put_root(cache, root, &hand, fanout, waiting, kept)
 }
 
 // Writes what the root has become, where it is not settled, inserts what is kept, and lets the root give way.
 fn put_root<const D: usize, B: BlockDevice, A: Allocator + Copy>(
     cache: &mut PageCache<B, A>,
     root: Root,
-    node: &Node<D>,
-    m_max: usize,
+    hand: &InHand<D>,
+    fanout: usize,
     waiting: &mut Waiting<D>,
     kept: &mut Kept<D>,
-    settled: bool,
 ) -> Result<Root, Fault>
     requires dims { IsDims D }
     requires open { gate_of cache.old ≡ Open }
-    requires most { (4 ≤ m_max) × (m_max ≤ 100) }
+    requires most { (4 ≤ fanout) × (fanout ≤ 100) }
     requires root { IsRoot root }
-    requires cut { IsCut root.level (content_of node.now) }
+    requires cut { IsCut root.level (content_of hand.now.node) }
     ensures changes { Changes cache.old cache.new result }
     ensures grows { Grows (most_new_pages * array_vec_len kept.old.orphans) cache.old cache.new }
     ensures root { IfOk result IsRoot }
     ensures removed { IsPageMap cache.old → (m : PageMap) (t : Tree) (elsewhere : ℕ → ℕ) (id : ℕ)
         (removed : Object)
-        → TookOut D m_max m (pages cache.old) root t elsewhere id removed (held_now kept.old)
-        (map item_of node.now.entries.items)
-        → (settled ≡ true → node_in D (pages cache.old root.page) ≡ Some (content_of node.now))
+        → TookOut D fanout m (pages cache.old) root t elsewhere id removed (held_now kept.old)
+        (map item_of hand.now.node.entries.items)
+        → (hand.now.settled ≡ true → node_in D (pages cache.old root.page) ≡ Some (content_of hand.now.node))
         → IfOk result (λ after. IsPageMap cache.new
-        × RemovesTo D m_max m (pages cache.new) elsewhere id removed t after) }
+        × RemovesTo D fanout m (pages cache.new) elsewhere id removed t after) }
     ensures faults { IsPageMap cache.old → (m : PageMap) (t : Tree) (elsewhere : ℕ → ℕ) (id : ℕ)
         (removed : Object)
-        → TookOut D m_max m (pages cache.old) root t elsewhere id removed (held_now kept.old)
-        (map item_of node.now.entries.items)
-        → (settled ≡ true → node_in D (pages cache.old root.page) ≡ Some (content_of node.now))
-        → HasShape D m_max t → RowHasBoxes D t.row
+        → TookOut D fanout m (pages cache.old) root t elsewhere id removed (held_now kept.old)
+        (map item_of hand.now.node.entries.items)
+        → (hand.now.settled ≡ true → node_in D (pages cache.old root.page) ≡ Some (content_of hand.now.node))
+        → HasShape D fanout t → RowHasBoxes D t.row
         → IfErr result (IsNoDamage cache.new) }
     ensures damage { IsPageMap cache.old → IsLive cache.old root.page
         → (kept.old.orphans.items ≡ []) ⊎ (touched_of cache.old ≡ true) → touched_of cache.new ≡ false
@@ -197,11 +138,11 @@ fn put_root<const D: usize, B: BlockDevice, A: Allocator + Copy>(
     ensures number { IsPageMap cache.old → IsLive cache.old root.page → IfErr result NamesInRange }
     ensures other_faults { IfErr result IsChangeFault }
 {
-    if lacks_entries(node) {
+    if lacks_entries(&hand.node) {
         return Err(Fault::Damaged(root.page));
     }
-    settle(cache, root.page, node, settled)?;
-    let filled = insert_kept(cache, root, m_max, waiting, kept)?;
+    settle(cache, root.page, &hand.node, hand.settled)?;
+    let filled = insert_kept(cache, root, fanout, waiting, kept)?;
     give_way::<D, B, A>(cache, filled)
 }
 

@@ -2,7 +2,7 @@
 //! change the store fails; and what is left is opened as the table that was closed last, or refused.
 
 use block_device::{BlockDevice, FuseDevice, FuseMode, MemoryDevice};
-use layer_store::{RawBox, RawPoint, Refusal, Store, create_store, open_store};
+use layer_store::{RawBox, RawPoint, Refusal, Store, Version, create_store, open_store};
 use list_table::ListTable;
 use refusing::Refusing;
 use std::alloc::{AllocError, Global};
@@ -258,7 +258,7 @@ fn close_and_open<'a, D: BlockDevice + Drop>(
         check_unclosed(rt, alloc, device, table, heap);
         return Ok(Ending::Refused);
     }
-    let (refusal, mut store) = match open_store(heap, device, 8) {
+    let (refusal, mut store) = match open_store(heap, device, 8, Version::Three) {
         Ok(store) => (None, store),
         Err((refusal, device)) => {
             heap.relent();
@@ -315,7 +315,7 @@ fn make_and_run<'a, D: BlockDevice + Drop>(
     if device.blocks() != 0 {
         return Err(Refusal::NotAStore);
     }
-    let (refusal, device) = match create_store(heap, device, 8) {
+    let (refusal, device) = match create_store(heap, device, 8, Version::Three) {
         Ok(store) => return run(rt, alloc, store, script, heap, cause),
         Err(refused) => refused,
     };

@@ -3,7 +3,7 @@
 
 use crate::refused::{Ending, Heap, check_failed, put};
 use block_device::{BlockDevice, FuseDevice, FuseMode, MemoryDevice};
-use layer_store::{RawBox, Refusal, Store, create_store};
+use layer_store::{RawBox, Refusal, Store, Version, create_store};
 use list_table::ListTable;
 use refusing::Refusing;
 use std::alloc::Global;
@@ -53,7 +53,7 @@ fn made<'a>(
     heap: &'a Heap,
     table: &mut ListTable<Global>,
 ) -> Result<MemoryDevice<&'a Heap>, Refusal> {
-    let mut store = match create_store(heap, MemoryDevice::new(heap), 8) {
+    let mut store = match create_store(heap, MemoryDevice::new(heap), 8, Version::Two) {
         Ok(store) => store,
         Err((refusal, _)) => return Err(refusal),
     };

@@ -1,9 +1,9 @@
 //! A file in memory that reads and writes in parts, is interrupted, or fails.
 
-use std::cell::Cell;
+use std::cell::{Cell, RefCell};
 use std::fs::{Metadata, OpenFile};
-use std::io;
-use std::io::{Cursor, ErrorKind, Read, Seek, SeekFrom, Write};
+use std::io::{self, ErrorKind};
+use std::os::unix::fs::FileExt;
 
 /// What the next calls of a fake file do.
 #[derive(Drop)]
@@ -51,39 +51,49 @@ impl Temper {
 /// A file whose bytes are in memory.
 #[derive(Drop)]
 pub struct FakeFile<'a> {
-    pub bytes: Cursor<Vec<u8>>,
+    pub bytes: RefCell<Vec<u8>>,
     pub temper: &'a Temper,
 }
 
-impl Read for FakeFile<'_> {
-    fn read(&mut self, buffer: &mut [u8]) -> io::Result<usize> {
+impl FileExt for FakeFile<'_> {
+    fn read_at(&self, buffer: &mut [u8], offset: u64) -> io::Result<usize> {
         self.temper.check()?;
-        let count = buffer.len().min(self.temper.most.get());
-        self.bytes.read(&mut buffer[..count])
+        let Ok(bytes) = self.bytes.try_borrow() else {
+            return Err(io::Error::from(ErrorKind::Other));
+        };
+        let at = bytes.len().min(offset as usize);
+        let count = buffer
+            .len()
+            .min(bytes.len() - at)
+            .min(self.temper.most.get());
+        buffer[..count].copy_from_slice(&bytes[at..at + count]);
+        Ok(count)
     }
-}
 
-impl Write for FakeFile<'_> {
-    fn write(&mut self, bytes: &[u8]) -> io::Result<usize> {
+    fn write_at(&self, from: &[u8], offset: u64) -> io::Result<usize> {
         self.temper.check()?;
-        let count = bytes.len().min(self.temper.most.get());
-        self.bytes.write(&bytes[..count])
-    }
-
-    fn flush(&mut self) -> io::Result<()> {
-        Ok(())
-    }
-}
-
-impl Seek for FakeFile<'_> {
-    fn seek(&mut self, to: SeekFrom) -> io::Result<u64> {
-        self.bytes.seek(to)
+        let count = from.len().min(self.temper.most.get());
+        let Ok(mut bytes) = self.bytes.try_borrow_mut() else {
+            return Err(io::Error::from(ErrorKind::Other));
+        };
+        let at = offset as usize;
+        let Some(end) = at.checked_add(count) else {
+            return Err(io::Error::from(ErrorKind::InvalidInput));
+        };
+        if bytes.len() < end {
+            bytes.resize(end, 0)?;
+        }
+        bytes[at..end].copy_from_slice(&from[..count]);
+        Ok(count)
     }
 }
 
 impl OpenFile for FakeFile<'_> {
     fn metadata(&self) -> io::Result<Metadata> {
-        Ok(Metadata::of_file(self.bytes.get_ref().len() as u64))
+        match self.bytes.try_borrow() {
+            Ok(bytes) => Ok(Metadata::of_file(bytes.len() as u64)),
+            Err(_) => Err(io::Error::from(ErrorKind::Other)),
+        }
     }
 
     fn set_len(&self, _: u64) -> io::Result<()> {

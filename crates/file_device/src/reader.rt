@@ -5,7 +5,7 @@ ghost use Rattle.file_device.specs.File.{IsCount, blocks_of};
 ghost use Rattle.file_device.specs.Pieces.{all_blocks, few};
 
 use crate::SharedFile;
-use crate::device::{BLOCK, MAX_BLOCKS};
+use crate::device::{BLOCK, MOST_BLOCKS};
 use block_device::DeviceError;
 use read_only_device::BlockReader;
 
@@ -34,7 +34,7 @@ impl<F: SharedFile> FileReader<F> {
             return Err(DeviceError::Failed);
         };
         let count = size.div_ceil(BLOCK);
-        if count > MAX_BLOCKS {
+        if count > MOST_BLOCKS {
             return Err(DeviceError::Failed);
         }
         Ok(FileReader {

@@ -1,208 +1,121 @@
--- What a table holds, chain by chain, and where its pages are.
-use Rattle.std.proofs.Common.{◌≡◌, ◌∙◌, ℕ, zero, suc, ◌+◌, ◌<◌, ◌≤◌, Bool, true, false, cond, eqb, ◌||◌}
-use Rattle.std.proofs.Common.{Option, Some, None, IsSome, List, [], ◌∷◌, ◌++◌, length, map, get_or, sum_by}
-use Rattle.std.proofs.Common.{All, refl, sym, ap, subst, ⊎_elim, arith}
-use Rattle.box_math.specs.Objects.{Object}
-use Rattle.bucket_page.specs.Layout.{Entry}
-use Rattle.std.proofs.lemmas.Bool.{cases_eq}
-use Rattle.std.proofs.lemmas.Bool.Decides.{nat_tests}
-use Rattle.std.proofs.lemmas.Cmp.{nat_cmp_total}
-use Rattle.std.proofs.lemmas.List.Elements.{All-head, All-tail}
-use Rattle.std.proofs.lemmas.List.Sums.{sum_by-cons, sum_by-set}
-use Rattle.std.proofs.lemmas.Map.Steps.{length-le_from_distinct_below}
-use Rattle.std.specs.FinMap.{get, get-from_entries}
-use Rattle.std.specs.FinMap.Entries.{find}
-use Rattle.std.specs.List.{IsDistinct, AllByRecursion, flat_map, list_any}
-use Rattle.std.specs.Ordering.{eq_by_cmp, nat_cmp}
+-- What holds of identifier tables of both kinds.
+use Rattle.std.proofs.Common.{◌≡◌, ◌∙◌, ℕ, ◌+◌, ◌*◌, ◌<◌, ◌≤◌, IsSome, length, refl, sym, ap, subst, arith}
+use Rattle.std.proofs.Common.{List, Option, Some}
+use Rattle.block_bytes.specs.Kinds.{directory_kind}
+use Rattle.block_bytes.specs.Numbers.{number_at}
+use Rattle.box_math.specs.Measures.{sum_over}
+use Rattle.page_cache.specs.Cache.{given, pages}
+use Rattle.page_cache.specs.declared.cache.PageCache.{PageCache}
+use Rattle.node_page.specs.Parts.{Moves, Part}
 use Rattle.node_page.specs.Standing.{PageMap}
-use Rattle.id_table.specs.Table.{Bucket, ChainStands, IdTable, IdsStand, IsFilled, kept_in, bucket_in}
-use Rattle.id_table.specs.Table.{chain_at, class_of, entries_in, entries_of, link_at, objects_of}
-use Rattle.id_table.specs.Table.{occurs_in_chain, occurs_in_ids}
+use Rattle.node_page.proofs.PartLemmas.{not_new}
+use Rattle.id_words.specs.Objects.{times_in}
+use Rattle.id_words.proofs.ObjectLemmas.{occurs_here}
+use Rattle.id_chains.proofs.CheckedLemmas.{live_table_is_given}
+use Rattle.id_chains.proofs.CountLemmas.{pages_of_ids as pages_of_chains}
+use Rattle.id_page.specs.Layout.{fork_kind}
+use Rattle.id_page.proofs.ForkReading.{fork_spells}
+use Rattle.id_tree.specs.Tree.{links_of}
+use Rattle.id_tree.proofs.NodeLemmas.{bytes_of_fork}
+use Rattle.id_tree.proofs.FewLemmas.{few_pages}
+use Rattle.id_tree.proofs.GivenLemmas.{live_table}
+use Rattle.id_table.specs.Table.{IdTable, IdsStand, entries_of, occurs_in_ids, page_of}
+use Rattle.id_table.specs.Table.IdTable.{chained, treed}
+use Rattle.id_table.specs.Table.{part_of}
+use Rattle.id_table.proofs.ChainLemmas.{IsOther, chains_are_other, chains_stay, once_in_all_chains, one_of_chains}
+use Rattle.id_table.proofs.TreeLemmas.{one_of_trees, tree_is_other, tree_stays}
 
--- ---- what is found
+-- its first page is one of its pages
+pub begins_in_itself : (t : IdTable) → 0 < occurs_in_ids (page_of t) t
+begins_in_itself (chained t) = let here = occurs_here t.page in omega (arith, here)
+begins_in_itself (treed t) = let here = occurs_here t.page in omega (arith, here)
 
-pub same_key : (q k : ℕ) → eq_by_cmp nat_cmp q k ≡ eqb k q
-same_key q k = grind (arith, nat_tests)
+-- no page is in it twice
+pub ids_once : (dims : ℕ) (pages : PageMap) (t : IdTable) (n : ℕ) → IdsStand dims pages t
+    → occurs_in_ids n t ≤ 1
+ids_once dims pages (chained t) n s = s.once n
+ids_once dims pages (treed t) n s = s.once n
 
-pub found_is : (q : ℕ) (es : List Entry) → find nat_cmp q es ≡ kept_in q es
-found_is q [] = refl
-found_is q (e ∷ es) = ap (λ b. cond b (Some e.1) (find nat_cmp q es)) (same_key q e.0)
-    ∙ ap (λ o. cond (eqb e.0 q) (Some e.1) o) (found_is q es)
+-- it stands in pages that are equal where it stands
+pub ids_stay : (dims : ℕ) (old new : PageMap) (t : IdTable)
+    → ((n : ℕ) → 0 < occurs_in_ids n t → new n ≡ old n) → IdsStand dims old t → IdsStand dims new t
+ids_stay dims old new (chained t) same s = chains_stay dims old new t same s
+ids_stay dims old new (treed t) same s = tree_stays dims old new t same s
 
-pub not_here : (q : ℕ) (xs ys : List Entry) → kept_in q xs ≡ None → kept_in q (xs ++ ys) ≡ kept_in q ys
-not_here q [] ys none = refl
-not_here q (x ∷ xs) ys none = step (eqb x.0 q) (kept_in q xs) (kept_in q (xs ++ ys)) (not_here q xs ys) none
-  where
-    step : (b : Bool) (front all : Option Object) → (front ≡ None → all ≡ kept_in q ys)
-        → cond b (Some x.1) front ≡ None → cond b (Some x.1) all ≡ kept_in q ys
-    step true front all later e = absurd (cc)
-    step false front all later e = later e
+-- each of its pages is there, and none is a node of a tree of boxes
+pub ids_are_other : (dims : ℕ) (pages : PageMap) (t : IdTable) (n : ℕ) → IdsStand dims pages t
+    → 0 < occurs_in_ids n t → IsOther (pages n)
+ids_are_other dims pages (chained t) n s here = chains_are_other dims pages t n s here
+ids_are_other dims pages (treed t) n s here = tree_is_other dims pages t n s here
 
-pub not_behind : (q : ℕ) (xs ys : List Entry) → kept_in q ys ≡ None → kept_in q (xs ++ ys) ≡ kept_in q xs
-not_behind q [] ys none = none
-not_behind q (x ∷ xs) ys none = ap (λ o. cond (eqb x.0 q) (Some x.1) o) (not_behind q xs ys none)
-
-pub elsewhere : (q class : ℕ) (xs : List Entry) → All (λ object. class_of object.0 ≡ class) xs
-    → ¬ (class_of q ≡ class) → kept_in q xs ≡ None
-elsewhere q class [] placed other = refl
-elsewhere q class (x ∷ xs) placed other =
-    let differs : eqb x.0 q ≡ false =
-    apart x.0 q
-    (λ is. other
-    (ap class_of (sym is) ∙ All-head (λ (object : Entry). class_of object.0 ≡ class) x xs placed)) in
-    ap (λ b. cond b (Some x.1) (kept_in q xs)) differs
-    ∙ elsewhere q class xs (All-tail (λ (object : Entry). class_of object.0 ≡ class) x xs placed) other
-  where
-    apart : (a b : ℕ) → ¬ (a ≡ b) → eqb a b ≡ false
-    apart a b h = grind (arith, nat_tests)
-
--- the chains of the remainders from one on
-abbrev pub ArePlaced : ℕ → List (List Bucket) → Type 0
-ArePlaced class [] = Unit {0}
-ArePlaced class (c ∷ cs) = All (λ object. class_of object.0 ≡ class) (entries_in c) × ArePlaced (class + 1) cs
-
-none_before : (q class : ℕ) (cs : List (List Bucket)) → ArePlaced class cs → class_of q < class
-    → kept_in q (flat_map entries_in cs) ≡ None
-none_before q class [] placed before = refl
-none_before q class (c ∷ cs) placed before =
-    not_here q (entries_in c) (flat_map entries_in cs)
-    (elsewhere q class (entries_in c) placed.0 (λ is. omega (arith, is, before)))
-    ∙ none_before q (class + 1) cs placed.1 (omega (arith, before))
-
-found_in_chain : (q class i : ℕ) (cs : List (List Bucket)) → ArePlaced class cs → i < length cs
-    → class_of q ≡ class + i → kept_in q (flat_map entries_in cs) ≡ kept_in q (entries_in (get_or cs i []))
-found_in_chain q class i [] placed within is = absurd (omega (arith, within))
-found_in_chain q class zero (c ∷ cs) placed within is =
-    not_behind q (entries_in c) (flat_map entries_in cs)
-    (none_before q (class + 1) cs placed.1 (omega (arith, is)))
-found_in_chain q class (suc i) (c ∷ cs) placed within is =
-    not_here q (entries_in c) (flat_map entries_in cs)
-    (elsewhere q class (entries_in c) placed.0 (λ same. omega (arith, is, same)))
-    ∙ found_in_chain q (class + 1) i cs placed.1 (omega (arith, within)) (omega (arith, is))
-
-are_placed : (class : ℕ) (cs : List (List Bucket))
-    → ((i : ℕ) → i < length cs → All (λ object. class_of object.0 ≡ class + i) (entries_in (get_or cs i [])))
-    → ArePlaced class cs
-are_placed class [] each = tt
-are_placed class (c ∷ cs) each = (
-  (let here : class + 0 ≡ class = omega arith in
-      subst (λ k. All (λ object. class_of object.0 ≡ k) (entries_in c)) here (each 0 (omega arith))),
-  are_placed (class + 1) cs (λ i lt.
-      let next : class + suc i ≡ (class + 1) + i = omega arith in
-      subst (λ k. All (λ object. class_of object.0 ≡ k) (entries_in (get_or cs i []))) next
-      (each (suc i) (omega (arith, lt)))),
-)
-
--- what a table has for an identifier is what its chain has
-pub found_by_class : (t : IdTable) (q : ℕ) → length t.chains ≡ 1000
-    → ((class : ℕ) → class < 1000 → IsFilled class (chain_at t class))
-    → get (objects_of t) q ≡ kept_in q (entries_in (chain_at t (class_of q)))
-found_by_class t q whole filled =
-    let within : class_of q < 1000 = omega arith in
-    get-from_entries nat_cmp_total (entries_of t) q ∙ found_is q (entries_of t)
-    ∙ found_in_chain q 0 (class_of q) t.chains
-    (are_placed 0 t.chains
-    (λ i lt. let same : i ≡ 0 + i = omega arith in
-    subst (λ k. All (λ object. class_of object.0 ≡ k) (entries_in (get_or t.chains i []))) same
-    (filled i (omega (arith, lt, whole))).placed)) (omega (arith, within, whole)) (omega arith)
-
--- ---- pages
-
-pub occurs_here : (page : ℕ) → ◌≡◌ {A = ℕ} (cond (eqb page page) 1 0) 1
-occurs_here page = grind (arith, nat_tests)
-
-pub not_there : (page n : ℕ) → ¬ (page ≡ n) → ◌≡◌ {A = ℕ} (cond (eqb page n) 1 0) 0
-not_there page n other = grind (arith, nat_tests)
-
--- a page of a chain is one of the table
-pub chain_in_table : (n class : ℕ) (t : IdTable) → class < length t.chains
-    → occurs_in_chain n (chain_at t class) ≤ sum_by (occurs_in_chain n) t.chains
-chain_in_table n class t within = omega (arith, sum_by-set (occurs_in_chain n) t.chains class [] [] within)
-
--- each page of a chain that stands is there
-pub chain_there : (dims : ℕ) (pages : PageMap) (first : ℕ) (bs : List Bucket) (n : ℕ)
-    → ChainStands dims pages first bs → 0 < occurs_in_chain n bs → IsSome (pages n)
-chain_there dims pages first [] n stands here = absurd (omega (arith, here))
-chain_there dims pages first (b ∷ bs) n stands here = ⊎_elim
-    (λ (is : b.page ≡ n). subst (λ k. IsSome (pages k)) is
-    (spelled (pages b.page) (record { next = stands.2; entries = b.entries }) stands.3))
-    (λ (other : ¬ (b.page ≡ n)). chain_there dims pages stands.2 bs n stands.4
-    (let none = not_there b.page n other in omega (arith, here, none)))
-    (cases_eq b.page n)
-  where
-    spelled : (page : Option (List ℕ)) (c : _) → bucket_in dims page ≡ Some c → IsSome page
-    spelled None c e = absurd (cc)
-    spelled (Some bytes) c e = refl
-
--- a page of some chain is one of a chain of the list
-pub in_some_chain : (n : ℕ) (cs : List (List Bucket)) → 0 < sum_by (occurs_in_chain n) cs
-    → (i : ℕ) × (i < length cs) × (0 < occurs_in_chain n (get_or cs i []))
-in_some_chain n [] here = absurd (omega (arith, here))
-in_some_chain n (c ∷ cs) here = ⊎_elim
-    (λ (none : occurs_in_chain n c ≡ 0). let later =
-    in_some_chain n cs (omega (arith, sum_by-cons (occurs_in_chain n) c cs, here, none)) in
-    (suc later.0, omega (arith, later.1), later.2))
-    (λ (some : ¬ (occurs_in_chain n c ≡ 0)). (0, omega arith, omega (arith, some)))
-    (cases_eq (occurs_in_chain n c) 0)
-
--- each page of a table that stands is there
-pub table_there : (dims : ℕ) (pages : PageMap) (t : IdTable) (n : ℕ) → IdsStand dims pages t
+pub ids_there : (dims : ℕ) (pages : PageMap) (t : IdTable) (n : ℕ) → IdsStand dims pages t
     → 0 < occurs_in_ids n t → IsSome (pages n)
-table_there dims pages t n stands here = ⊎_elim
-    (λ (is : t.page ≡ n). subst (λ k. IsSome (pages k)) is
-    (is_some_page (pages t.page) stands.directory stands.there))
-    (λ (other : ¬ (t.page ≡ n)).
-    let none = not_there t.page n other in
-    let chain = in_some_chain n t.chains (omega (arith, here, none)) in
-    let small : chain.0 < 1000 = omega (arith, chain.1, stands.whole) in
-    chain_there dims pages (link_at chain.0 stands.directory) (chain_at t chain.0) n
-    (stands.chains chain.0 small) chain.2)
-    (cases_eq t.page n)
+ids_there dims pages t n s here =
+    let other = ids_are_other dims pages t n s here in there (pages n) other.0 other.1
   where
-    is_some_page : (page : Option (List ℕ)) (bytes : List ℕ) → page ≡ Some bytes → IsSome page
-    is_some_page None bytes e = absurd (cc)
-    is_some_page (Some x) bytes e = refl
+    there : (page : Option (List ℕ)) (bytes : List ℕ) → page ≡ Some bytes → IsSome page
+    there page bytes is = subst IsSome (sym is) refl
 
-apart_from : (p : ℕ) (bs : List Bucket) → occurs_in_chain p bs ≡ 0
-    → AllByRecursion (λ y. eqb p y ≡ false) (map (λ (b : Bucket). b.page) bs)
-apart_from p [] none = tt
-apart_from p (b ∷ bs) none = (differ p b.page (omega (arith, none)), apart_from p bs (omega (arith, none)))
-  where
-    differ : (p k : ℕ) → ◌≡◌ {A = ℕ} (cond (eqb k p) 1 0) 0 → eqb p k ≡ false
-    differ p k h = grind (arith, nat_tests)
+-- one that stands beside a change stands after it, and shares no page with it
+pub ids_beside : (dims : ℕ) (old new : PageMap) (was now : Part) (t : IdTable) → Moves old new was now
+    → IdsStand dims old t → ((n : ℕ) → 0 < occurs_in_ids n t → was n ≡ 0)
+    → IdsStand dims new t × ((n : ℕ) → 0 < occurs_in_ids n t → now n ≡ 0)
+ids_beside dims old new was now t moves stands apart =
+    let none : (n : ℕ) → 0 < occurs_in_ids n t
+    → now n ≡ 0 =
+    λ n here. not_new old new was now n moves (apart n here) (ids_there dims old t n stands here) in
+    (ids_stay dims old new t (λ n here. moves.outside n (apart n here) (none n here)) stands, none)
 
-are_distinct : (bs : List Bucket) → ((n : ℕ) → occurs_in_chain n bs ≤ 1)
-    → IsDistinct eqb (map (λ (b : Bucket). b.page) bs)
-unfolding IsDistinct
-are_distinct [] once = tt
-are_distinct (b ∷ bs) once = (
-  apart_from b.page bs (omega (arith, once b.page, occurs_here b.page)),
-  are_distinct bs (λ n. omega (arith, once n)),
-)
+-- byte 0 of its first page is that of its kind
+abbrev pub first_byte : IdTable → ℕ
+first_byte (chained t) = directory_kind
+first_byte (treed t) = fork_kind
 
-occurs_there : (q : ℕ) (bs : List Bucket) → list_any (eqb q) (map (λ (b : Bucket). b.page) bs) ≡ true
-    → 0 < occurs_in_chain q bs
-occurs_there q [] any = absurd (cc)
-occurs_there q (b ∷ bs) any = ⊎_elim
-    (λ (is : b.page ≡ q). let one : ◌≡◌ {A = ℕ} (cond (eqb b.page q) 1 0) 1 = ap (λ k. cond (eqb k q) 1 0) is
-    ∙ occurs_here q in omega (arith, one))
-    (λ (other : ¬ (b.page ≡ q)). let later =
-    occurs_there q bs (skip q b.page (list_any (eqb q) (map (λ (b : Bucket). b.page) bs)) other any) in
-    omega (arith, later))
-    (cases_eq b.page q)
-  where
-    skip : (q k : ℕ) (rest : Bool) → ¬ (k ≡ q) → (eqb q k || rest) ≡ true → rest ≡ true
-    skip q k rest other e = grind (arith, nat_tests)
+pub begins_so : (dims : ℕ) (m : PageMap) (t : IdTable) → IdsStand dims m t
+    → (bytes : List ℕ) × (m (page_of t) ≡ Some bytes) × (number_at 1 0 bytes ≡ first_byte t)
+begins_so dims m (chained t) s = (s.directory, s.there, s.spelled.kind)
+begins_so dims m (treed t) s =
+    let fork = bytes_of_fork dims (m t.page) (record { level = t.level; links = links_of t.row })
+    (s.root.fork s.high) in
+    (fork.0, fork.1, (fork_spells dims fork.0 (record { level = t.level; links = links_of t.row }) fork.2).head.kind)
 
--- a chain whose pages are below a number, each once, is no longer than that
-pub chain_short : (bs : List Bucket) (next : ℕ) → ((n : ℕ) → occurs_in_chain n bs ≤ 1)
-    → ((n : ℕ) → 0 < occurs_in_chain n bs → n < next) → length bs ≤ next
-chain_short bs next once below =
-    let few =
-    length-le_from_distinct_below (map (λ (b : Bucket). b.page) bs) next (are_distinct bs once)
-    (λ q any. below q (occurs_there q bs any)) in
-    omega (arith, few, length-mapped bs)
-  where
-    length-mapped : (bs : List Bucket) → length (map (λ (b : Bucket). b.page) bs) ≡ length bs
-    length-mapped [] = refl
-    length-mapped (b ∷ bs) = ap suc (length-mapped bs)
+-- so tables of both kinds begin in different pages
+kinds_apart : (page : Option (List ℕ)) (a b : List ℕ) → page ≡ Some a → page ≡ Some b
+    → number_at 1 0 a ≡ directory_kind → number_at 1 0 b ≡ fork_kind → ⊥
+kinds_apart page a b is_a is_b at bt =
+    let same : Some a ≡ Some b = sym is_a ∙ is_b in
+    let bytes : a ≡ b = cc in
+    omega (arith, at, bt, ap (number_at 1 0) bytes)
+
+-- one stands at a page
+pub one_table : (dims : ℕ) (m : PageMap) (s t : IdTable) → page_of s ≡ page_of t → IdsStand dims m s
+    → IdsStand dims m t → s ≡ t
+one_table dims m (chained s) (chained t) at a b = ap chained (one_of_chains dims m s t at a b)
+one_table dims m (chained s) (treed t) at a b =
+    let first = begins_so dims m (chained s) a in
+    let second = begins_so dims m (treed t) b in
+    absurd (kinds_apart (m t.page) first.0 second.0 (ap m (sym at) ∙ first.1) second.1 first.2 second.2)
+one_table dims m (treed s) (chained t) at a b =
+    let first = begins_so dims m (treed s) a in
+    let second = begins_so dims m (chained t) b in
+    absurd (kinds_apart (m t.page) second.0 first.0 second.1 (ap m (sym at) ∙ first.1) second.2 first.2)
+one_table dims m (treed s) (treed t) at a b = ap treed (one_of_trees dims m s t at a b)
+
+-- it has each identifier once
+pub ids_single : (dims : ℕ) (pages : PageMap) (t : IdTable) (q : ℕ) → IdsStand dims pages t
+    → times_in q (entries_of t) ≤ 1
+ids_single dims pages (chained t) q s = once_in_all_chains dims pages t q s
+ids_single dims pages (treed t) q s = s.single q
+
+-- it has a page for each 28 objects, and a thousand and one more at most
+pub pages_of_ids : (dims limit : ℕ) (pages : PageMap) (t : IdTable) → IdsStand dims pages t
+    → 28 * sum_over limit (λ n. occurs_in_ids n t) ≤ length (entries_of t) + 28028
+pages_of_ids dims limit pages (chained t) s = omega (arith, pages_of_chains dims limit pages t s)
+pages_of_ids dims limit pages (treed t) s = omega (arith, few_pages dims limit pages t s)
+
+module _ {B A : Type 0} {m : _} where
+  -- one of live pages stands in those given out
+  pub ids_given : (dims : ℕ) (cache : PageCache B A m) (t : IdTable) → IdsStand dims (pages cache) t
+      → IdsStand dims (given cache) t
+  ids_given dims cache (chained t) s = live_table_is_given dims cache t s
+  ids_given dims cache (treed t) s = live_table dims cache t s

@@ -1,70 +1,87 @@
 //! Many objects added.
 
-ghost use Rattle.std.specs.Prelude.{◌≡◌, ◌⊎◌, ◌+◌, ◌/◌, ℕ, true, false, length, IfErr, OnOk};
-ghost use Rattle.std.specs.List.Sorted.{IsNonDecreasingBy};
+ghost use Rattle.std.specs.Prelude.{◌≡◌, ◌⊎◌, ◌+◌, ◌*◌, ◌%◌, ℕ, length, IfErr, IsPermutation, OnOk};
+ghost use Rattle.std.specs.FinMap as map;
 ghost use Rattle.box_math.specs.Bounds.{IsDims};
 ghost use Rattle.page_file.specs.Fault.{IsDamage};
-ghost use Rattle.page_file.specs.declared.fault.Fault.TheVariants as fault;
 ghost use Rattle.page_file.specs.declared.gate.Gate.TheVariants.{Open};
-ghost use Rattle.page_cache.specs.Cache.{Grows, IsHonest, IsPageMap, gate_of, given, pages, touched_of};
+ghost use Rattle.page_cache.specs.Cache.{Grows, IsPageMap, gate_of, pages};
 ghost use Rattle.page_cache.specs.Calls.{Changes};
 ghost use Rattle.node_page.specs.Faults.{IsNoDamage};
-ghost use Rattle.id_table.specs.Changes.{AreNew, Fills};
-ghost use Rattle.id_table.specs.Table.{IdTable, IdsStand, class_of, objects_of};
-ghost use Rattle.id_table.specs.Tidy.{KeepsTidy};
-ghost use Rattle.id_table.specs.Walks.{BeginsInTable, MayBreakAt};
+ghost use Rattle.std.specs.List.Sorted.{IsNonDecreasingBy};
+ghost use Rattle.id_chains.specs.Table.{class_of};
+ghost use Rattle.id_words.specs.Objects.{AreNew};
+ghost use Rattle.id_table.specs.Changes.{Fills, most_filled_pages};
+ghost use Rattle.id_table.specs.Table.{IdTable, IdsStand, objects_of, page_of};
 
-use crate::adding::add_run;
+use crate::kind::{TableKind, kind_at};
 use block_device::BlockDevice;
 use box_math::BBox;
 use page_cache::PageCache;
 use page_file::Fault;
 use std::alloc::Allocator;
 
-/// Adds objects to the table, none of which has an identifier that is there or that one before it has. No
-/// chain is walked: those of one chain that stand in a row are put into its first page together, as many as
-/// it has room for, and then into a new page before it. So in the order of the remainders by 1000 each page
-/// of objects is written once. The gate has to be open.
+/// Adds objects to the table that begins at a page, none of which has an identifier that is there or that
+/// another of them has. They are left in the order in which the table takes them best. The gate has to be
+/// open.
 ///
-/// It makes at most one page more live for each object, and in that order one for each 100 objects and each
-/// remainder, also where it is refused.
-///
-/// Pages with zeros in all bytes that they do not name stay so, and so is a new one.
-///
-/// With a sound map, where the pages stand for a table at that directory, a refusal is `Memory` or `Device`,
-/// or `NoPages` where each page number is live. On other pages it may be `Damaged` too. On an honest device,
-/// where the map is sound or no page is touched, that comes with the number of the directory's page or of the
-/// first page of a chain in the table as it stood before, or, where the map is not sound, of a page given out
-/// that is not live.
+/// With a sound map, where the pages stand for a table there, a refusal is `Memory` or `Device`, or `NoPages`
+/// where each page number is live; also after a refusal at most `most_filled_pages` of the objects that are
+/// there then more pages are live.
+#[tactic(auto, using(page_cache::specs::Calls::changing))]
 pub fn fill<const D: usize, B: BlockDevice, A: Allocator + Copy>(
     cache: &mut PageCache<B, A>,
-    directory: u32,
-    objects: &[(u64, (BBox<D>, u32))],
+    page: u32,
+    objects: &mut [(u64, (BBox<D>, u32))],
 ) -> Result<(), Fault>
     requires dims { IsDims D }
     requires open { gate_of cache.old ≡ Open }
     ensures changes { Changes cache.old cache.new result }
-    ensures sound { IsPageMap cache.old → (t : IdTable) → t.page ≡ directory → IdsStand D (pages cache.old) t
-        → AreNew (objects_of t) objects.now → IsPageMap cache.new }
-    ensures tidy { IsPageMap cache.old → (t : IdTable) → t.page ≡ directory → IdsStand D (pages cache.old) t
-        → AreNew (objects_of t) objects.now
-        → OnOk result (KeepsTidy D (pages cache.old) (pages cache.new)) }
-    ensures filled { IsPageMap cache.old → (t : IdTable) → t.page ≡ directory → IdsStand D (pages cache.old) t
-        → AreNew (objects_of t) objects.now
-        → OnOk result (Fills D (pages cache.old) (pages cache.new) t objects.now) }
-    ensures grows { Grows (length objects.now) cache.old cache.new }
-    ensures grows_in_order { IsNonDecreasingBy (λ object. class_of object.0) objects.now
-        → Grows (length objects.now / 100 + 1000) cache.old cache.new }
-    ensures faults { IsPageMap cache.old → (t : IdTable) → t.page ≡ directory → IdsStand D (pages cache.old) t
-        → AreNew (objects_of t) objects.now → IfErr result (IsNoDamage cache.new) }
-    ensures damage { IsHonest cache.old → IsPageMap cache.old ⊎ (touched_of cache.new ≡ false)
-        → IfErr result (λ f. (n : ℕ) → f ≡ fault.Damaged n
-        → BeginsInTable D (given cache.old) directory n ⊎ MayBreakAt cache.old n) }
+    ensures same { IsPermutation objects.old objects.new }
+    ensures sound { IsPageMap cache.old → (t : IdTable) → page_of t ≡ page → IdsStand D (pages cache.old) t
+        → AreNew (objects_of t) objects.new → IsPageMap cache.new }
+    ensures filled { IsPageMap cache.old → (t : IdTable) → page_of t ≡ page → IdsStand D (pages cache.old) t
+        → AreNew (objects_of t) objects.new
+        → OnOk result (Fills D (pages cache.old) (pages cache.new) t objects.new) }
+    ensures grows_few { IsPageMap cache.old → (t : IdTable) → page_of t ≡ page →
+        IdsStand D (pages cache.old) t → AreNew (objects_of t) objects.new
+        → Grows (most_filled_pages (map.len (objects_of t) + length objects.new)) cache.old cache.new }
+    ensures grows { Grows (7 * length objects.new) cache.old cache.new }
+    ensures faults { IsPageMap cache.old → (t : IdTable) → page_of t ≡ page → IdsStand D (pages cache.old) t
+        → AreNew (objects_of t) objects.new → IfErr result (IsNoDamage cache.new) }
     ensures other_faults { IfErr result (λ f. IsNoDamage cache.new f ⊎ IsDamage f) }
 {
-    let mut filled = 0;
-    while filled < objects.len() {
-        filled += add_run(cache, directory, &objects[filled..])?;
+    match kind_at::<D, B, A>(cache, page)? {
+        TableKind::Chains => {
+            sort_by_chain(objects);
+            id_chains::fill(cache, page, objects)
+        }
+        TableKind::Tree => {
+            sort_by_identifier(objects);
+            id_tree::fill(cache, page, objects)
+        }
     }
-    Ok(())
+}
+
+// Puts the objects of a chain in a row, so that each of its pages is then written once.
+fn sort_by_chain<const D: usize>(objects: &mut [(u64, (BBox<D>, u32))])
+    ensures same { IsPermutation objects.old objects.new }
+    ensures ordered { IsNonDecreasingBy (λ object. class_of object.0) objects.new }
+{
+    objects.sort_unstable_by_key(
+        |object| -> u64
+            ensures { result ≡ object.entry.now.0 % 1000 }
+        { object.0 % 1000 },
+    );
+}
+
+// Puts the objects in the order of identifiers, so that they leave full leaves.
+fn sort_by_identifier<const D: usize>(objects: &mut [(u64, (BBox<D>, u32))])
+    ensures same { IsPermutation objects.old objects.new }
+{
+    objects.sort_unstable_by_key(
+        |object| -> u64
+            ensures { result ≡ object.entry.now.0 }
+        { object.0 },
+    );
 }

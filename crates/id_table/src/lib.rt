@@ -1,28 +1,14 @@
-//! The identifier table of a layer in pages: the box and the tag of each identifier, by a directory of chains
-//! of buckets (docs/FORMAT.md, "Identifier tables").
-//!
-//! A refusal after which the cache is not touched (`PageCache::is_touched`) leaves the map of pages as it
-//! was.
+//! The identifier table of a layer in pages: the box and the tag of each identifier. It is a tree of pages
+//! (`id_tree`), or in older layers chains of buckets (`id_chains`); byte 0 of its first page tells which
+//! (docs/FORMAT.md, "Identifier tables"). The crates above need not know.
 #![tactic(auto)]
 
-mod adding;
-mod bucket;
-mod check;
-mod directory;
+mod asking;
+mod changing;
 mod filling;
-mod freeing;
-pub mod laws;
-mod making;
-mod places;
-mod removing;
-mod search;
-mod updating;
+mod kind;
 
-pub use adding::add;
-pub use check::{TableFacts, check_table};
+pub use asking::{TableFacts, check_table, get};
+pub use changing::{add, free_all, make, remove, update};
 pub use filling::fill;
-pub use freeing::free_all;
-pub use making::make;
-pub use removing::remove;
-pub use search::get;
-pub use updating::update;
+pub use kind::TableKind;

@@ -12,7 +12,7 @@ mod many;
 use block_bytes::{read_u16, read_u32};
 use block_device::MemoryDevice;
 use box_math::BBox;
-use id_table::{add, fill, free_all, get, make, remove, update};
+use id_chains::{add, fill, free_all, get, make, remove, update};
 use page_file::Fault;
 use std::alloc::Global;
 use std::test::Fail;

@@ -66,8 +66,8 @@ const DAMAGES: [(u32, usize, usize, u64, Option<Refusal>); 45] = [
     (1, 7, 1, 0x72, Some(Refusal::NotAStore)),
     (1, 8, 2, 0, Some(Refusal::WrongVersion)),
     (1, 8, 2, 2, None),
-    (1, 8, 2, 3, Some(Refusal::WrongVersion)),
-    (1, 8, 2, 9, Some(Refusal::WrongVersion)),
+    (1, 8, 2, 3, None),
+    (1, 8, 2, 4, Some(Refusal::WrongVersion)),
     (1, 8, 2, 0x0101, Some(Refusal::WrongVersion)),
     // next, first and count
     (1, 12, 4, 2, Some(Refusal::Damaged(1))),

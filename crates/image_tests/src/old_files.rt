@@ -4,7 +4,7 @@
 use crate::blocks::{block_of, patch, put, set};
 use crate::files::file;
 use block_device::{BlockDevice, MemoryDevice};
-use layer_store::{RawBox, RawQuery, Refusal, Store};
+use layer_store::{RawBox, RawQuery, Refusal, Store, Version, create_store};
 use list_table::ListTable;
 use std::alloc::{AllocError, Global};
 use std::process::Abort;
@@ -133,40 +133,44 @@ fn any_objects(dice: &mut Dice, alloc: Global, count: u32) -> Result<Vec<Object>
     Ok(objects)
 }
 
-// A change of an object, or a question. Some identifiers are of no object.
-fn any_command(dice: &mut Dice) -> Command<'static> {
+// A change of an object of the layer, or a question. Some identifiers are of no object.
+fn any_command(dice: &mut Dice, layer: &'static [u8]) -> Command<'static> {
     let bounds = any_box(dice);
     let id = u64::from(dice.below(20_400));
     match dice.below(8) {
-        0 | 1 => Command::InsertTagged(b"a", id, bounds, dice.below(3)),
-        2 | 3 => Command::Move(b"a", id, bounds),
-        4 | 5 => Command::Delete(b"a", id),
-        6 => Command::Get(b"a", id),
-        _ => Command::Tagged(b"a", RawQuery::Window(bounds), dice.below(3)),
+        0 | 1 => Command::InsertTagged(layer, id, bounds, dice.below(3)),
+        2 | 3 => Command::Move(layer, id, bounds),
+        4 | 5 => Command::Delete(layer, id),
+        6 => Command::Get(layer, id),
+        _ => Command::Tagged(layer, RawQuery::Window(bounds), dice.below(3)),
     }
 }
 
-// Puts a hundred commands to both, which answer the same and stay the same.
+// Puts a hundred commands for each layer to both, which answer the same and stay the same.
 fn put_hundred(
     rt: &impl Abort,
     alloc: Global,
     store: &mut Store<MemoryDevice>,
     table: &mut ListTable<Global>,
     dice: &mut Dice,
+    layers: &[&'static [u8]],
 ) {
-    for _ in 0..100 {
-        let command = any_command(dice);
-        let given = answer(alloc, store, command);
-        assert!(rt; given == listed(alloc, table, command), "{command:?}");
+    for layer in layers {
+        for _ in 0..100 {
+            let command = any_command(dice, layer);
+            let given = answer(alloc, store, command);
+            assert!(rt; given == listed(alloc, table, command), "{command:?}");
+        }
     }
-    assert!(rt; represents(alloc, store, table, &[b"a"], 1));
+    assert!(rt; represents(alloc, store, table, layers, 1));
 }
 
 #[test]
 fn a_great_file_of_format_1_is_changed_beside_the_plain_list(rt: HostRuntime) -> Result<(), Fail> {
     let alloc = rt.alloc();
     let mut dice = Dice { state: 44 };
-    let mut store = new_store(alloc, 64)?;
+    let made = create_store(alloc, MemoryDevice::new(alloc), 64, Version::Two);
+    let mut store = made.map_err(|(refusal, _)| refusal)?;
     let mut table = ListTable::new(alloc);
     let objects = any_objects(&mut dice, alloc, 20_000)?;
     for command in [Command::Create(b"a", 2, 20), Command::Load(b"a", &objects)] {
@@ -180,7 +184,7 @@ fn a_great_file_of_format_1_is_changed_beside_the_plain_list(rt: HostRuntime) ->
     let mut store = opened(alloc, device, 64)?;
     assert!(rt; represents(alloc, &mut store, &mut table, &[b"a"], 1));
     for _ in 0..4 {
-        put_hundred(&rt, alloc, &mut store, &mut table, &mut dice);
+        put_hundred(&rt, alloc, &mut store, &mut table, &mut dice, &[b"a"]);
     }
     // Both kinds stand in one tree, and in the tables of one layer.
     let mut device = device_of(store)?;
@@ -189,8 +193,19 @@ fn a_great_file_of_format_1_is_changed_beside_the_plain_list(rt: HostRuntime) ->
         mixed[0] > 0 && mixed[1] > 0 && mixed[2] > 0 && mixed[3] > 0,
         "{mixed:?}"
     );
+    // A layer that is made now has a tree of identifiers, beside the chains of the older one.
     let mut store = opened(alloc, device, 64)?;
-    put_hundred(&rt, alloc, &mut store, &mut table, &mut dice);
+    let objects = any_objects(&mut dice, alloc, 1000)?;
+    for command in [Command::Create(b"b", 2, 20), Command::Load(b"b", &objects)] {
+        answer(alloc, &mut store, command)?;
+        listed(alloc, &mut table, command)?;
+    }
+    put_hundred(&rt, alloc, &mut store, &mut table, &mut dice, &[b"a", b"b"]);
+    let mut device = device_of(store)?;
+    assert_eq!(rt; block_of(&mut device, 1)?[9], 3);
+    let mut store = opened(alloc, device, 64)?;
+    put_hundred(&rt, alloc, &mut store, &mut table, &mut dice, &[b"a", b"b"]);
+    answer(alloc, &mut store, Command::Check)?;
     Ok(())
 }
 

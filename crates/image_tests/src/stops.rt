@@ -2,7 +2,7 @@
 //! closing was in progress, or is refused; and it is not refused where nothing was changed since a closing.
 
 use block_device::{BlockDevice, FuseDevice, FuseMode, Left, MemoryDevice};
-use layer_store::{RawBox, Refusal, Store, create_store};
+use layer_store::{RawBox, Refusal, Store, Version, create_store};
 use list_table::ListTable;
 use std::alloc::{AllocError, Global};
 use std::process::Abort;
@@ -156,7 +156,7 @@ fn run(alloc: Global, script: &[Command<'_>], passes: u32) -> Remains {
         FuseMode::Onward,
     );
     let mut remains = Remains::nothing(alloc);
-    let mut store = match create_store(alloc, device, 8) {
+    let mut store = match create_store(alloc, device, 8, Version::Three) {
         Ok(store) => store,
         Err((_, device)) => {
             remains.device = device.into_inner();
@@ -284,7 +284,7 @@ fn run_to_the_end(
     passes: u32,
 ) -> Result<(Option<Refusal>, FuseDevice<MemoryDevice>), Refusal> {
     let device = FuseDevice::new(MemoryDevice::new(alloc), u64::from(passes), FuseMode::Once);
-    let mut store = match create_store(alloc, device, 8) {
+    let mut store = match create_store(alloc, device, 8, Version::Three) {
         Ok(store) => store,
         Err((refusal, _)) => return Err(refusal),
     };

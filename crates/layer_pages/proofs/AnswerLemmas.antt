@@ -33,7 +33,7 @@ filter_twice one other (x ∷ xs) =
     ]
 
 pub ranges_answer_objects : RangesAnswerObjects
-ranges_answer_objects dims most pages root directory l objects test asked rows is answer =
+ranges_answer_objects dims most pages root ids_root l objects test asked rows is answer =
     let found = having asked (passing_objects test l.tree.row) in
     let pass : Entry → Bool = λ o. test (bounds_of o.1) && has_tag asked o.1 in
     let twice =
@@ -61,5 +61,5 @@ same_order dims point xs ys same =
     ∙ sym (listed-map z _ ys) ∙ sym (listed-nearest_first z es))
 
 pub nearest_are_objects : NearestAreObjects
-nearest_are_objects dims most pages root directory l objects k point is =
+nearest_are_objects dims most pages root ids_root l objects k point is =
     ap (take k) (same_order dims point (objects_in l.tree.row) (entries objects) is.leaves)

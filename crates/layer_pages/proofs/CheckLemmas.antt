@@ -13,11 +13,10 @@ use Rattle.std.proofs.lemmas.Bool.{cases_eq}
 use Rattle.std.proofs.lemmas.Bool.Decides.{nat_tests}
 use Rattle.std.proofs.lemmas.List.Sorted.{IsPermutation-cons, IsPermutation-sym, IsPermutation-trans}
 use Rattle.std.proofs.lemmas.List.Sorted.{length_permutation}
-use Rattle.block_bytes.specs.Kinds.{directory_kind, node_kind, untagged_node_kind}
+use Rattle.block_bytes.specs.Kinds.{node_kind, untagged_node_kind}
 use Rattle.box_math.specs.Bounds.{IsBox}
 use Rattle.box_math.specs.Objects.{bounds_of}
-use Rattle.bucket_page.specs.Layout.{BucketContent, Entry, IsBucketKind}
-use Rattle.bucket_page.proofs.Reading.{spells as bucket_spells}
+use Rattle.bucket_page.specs.Layout.{Entry}
 use Rattle.page_file.specs.Fault.{IsDamage, faults_after}
 use Rattle.page_file.specs.Layout.{kind_of}
 use Rattle.page_file.specs.declared.fault.Fault.{Fault}
@@ -29,6 +28,7 @@ use Rattle.tree_node.specs.Nodes.{NodeContent}
 use Rattle.tree_node.specs.Trees.{Tree, objects_in, occurs_in}
 use Rattle.tree_node.specs.declared.node.Root.{Root}
 use Rattle.tree_node.proofs.PositionLemmas.{total-append}
+use Rattle.tree_node.proofs.RowLemmas.{occurs_here}
 use Rattle.node_page.specs.Checked.{IsCheckedTree, named_pages}
 use Rattle.node_page.specs.Layout.{IsNodeKind}
 use Rattle.node_page.specs.Standing.{PageMap, Stands, node_in}
@@ -37,60 +37,15 @@ use Rattle.node_page.proofs.PartLemmas.{none_or_some}
 use Rattle.node_page.proofs.Reading.{spells as node_spells}
 use Rattle.node_page.proofs.StandingLemmas.{one_tree_stands, pages_are_there}
 use Rattle.id_table.specs.Checked.{ComesInTable, IsCheckedTable}
-use Rattle.id_table.specs.Table.{Bucket, ChainStands, IdTable, IdsStand, IsDirectory, kept_in, bucket_in}
-use Rattle.id_table.specs.Table.{class_of, entries_in, entries_of, link_at, objects_of, occurs_in_ids}
-use Rattle.id_table.specs.Table.{times_in}
-use Rattle.id_table.proofs.AddLemmas.{none_times}
-use Rattle.id_table.proofs.CheckLemmas.{times-append}
-use Rattle.id_table.proofs.CheckedLemmas.{live_table_is_given, one_chain, table_carried}
-use Rattle.id_table.proofs.FreeLemmas.{stands_same}
-use Rattle.id_table.proofs.TableLemmas.{elsewhere, found_is, occurs_here, table_there}
+use Rattle.id_words.specs.Objects.{kept_in, times_in}
+use Rattle.id_words.proofs.ObjectLemmas.{found_is}
+use Rattle.id_table.specs.Table.{IdTable, IdsStand, entries_of, objects_of, occurs_in_ids}
+use Rattle.id_table.proofs.TableLemmas.{ids_are_other, ids_given, ids_once, ids_single, ids_stay, one_table}
 use Rattle.layer_pages.specs.Checked.{AreOfOneLayer, ComesInLayer, IsCheckedLayer, odd_page}
 use Rattle.layer_pages.specs.Layers.{IsLayerAt, LayerPages, Objects, part_of_layer}
 use Rattle.layer_pages.proofs.ObjectLemmas.{no_objects, one_entry_more, one_order, row_boxes}
 
 -- ---- a table has each identifier once
-
-abbrev IsOfClass : ℕ → Entry → Type 0
-IsOfClass class object = class_of object.0 ≡ class
-
--- in chains of remainders from one on, an identifier is once, and not at all where its remainder lies before
--- them
-once_in_chains : (q class : ℕ) (cs : List (List Bucket))
-    → ((i : ℕ) → i < length cs → All (IsOfClass (class + i)) (entries_in (get_or cs i [])))
-    → ((i : ℕ) → i < length cs → times_in q (entries_in (get_or cs i [])) ≤ 1)
-    → (times_in q (flat_map entries_in cs) ≤ 1)
-    × (class_of q < class → times_in q (flat_map entries_in cs) ≡ 0)
-once_in_chains q class [] placed single = (omega arith, λ before. refl)
-once_in_chains q class (c ∷ cs) placed single =
-    let here : All (IsOfClass class) (entries_in c) =
-    (let same : class + 0 ≡ class = omega arith in
-    subst (λ (k : ℕ). All (IsOfClass k) (entries_in c)) same (placed 0 (omega arith))) in
-    let later = once_in_chains q (class + 1) cs
-    (λ i lt. let next : class + suc i ≡ (class + 1) + i = omega arith in
-    subst (λ (k : ℕ). All (IsOfClass k) (entries_in (get_or cs i []))) next
-    (placed (suc i) (omega (arith, lt))))
-    (λ i lt. single (suc i) (omega (arith, lt))) in
-    let none : ¬ (class_of q ≡ class)
-    → times_in q (entries_in c) ≡ 0 =
-    λ other. none_times q (entries_in c) (elsewhere q class (entries_in c) here other) in
-    let sum = times-append q (entries_in c) (flat_map entries_in cs) in (
-      ⊎_elim
-          (λ (is : class_of q ≡ class). omega
-          (arith, sum, single 0 (omega arith), later.1 (omega (arith, is))))
-          (λ (other : ¬ (class_of q ≡ class)). omega (arith, sum, none other, later.0))
-          (cases_eq (class_of q) class),
-      λ before. omega (arith, sum, none (λ is. omega (arith, is, before)), later.1 (omega (arith, before))),
-    )
-
-once_in_table : (dims : ℕ) (pages : PageMap) (t : IdTable) (q : ℕ) → IdsStand dims pages t
-    → times_in q (entries_of t) ≤ 1
-once_in_table dims pages t q stands =
-    (once_in_chains q 0 t.chains
-    (λ i lt. let same : i ≡ 0 + i = omega arith in
-    subst (λ (k : ℕ). All (IsOfClass k) (entries_in (get_or t.chains i []))) same
-    (stands.filled i (omega (arith, lt, stands.whole))).placed)
-    (λ i lt. (stands.filled i (omega (arith, lt, stands.whole))).single q)).0
 
 none_found : (q : ℕ) (es : List Entry) → times_in q es ≡ 0 → kept_in q es ≡ None
 none_found q [] none = refl
@@ -117,33 +72,7 @@ entries_once (e ∷ es) once =
 
 pub table_entries : (dims : ℕ) (pages : PageMap) (t : IdTable) → IdsStand dims pages t
     → IsPermutation (entries_of t) (entries (objects_of t))
-table_entries dims pages t stands = entries_once (entries_of t) (λ q. once_in_table dims pages t q stands)
-
--- ---- one tree and one table stand
-
-same_lists : {X : Type 0} (xs ys : List X) (d : X) → length xs ≡ length ys
-    → ((k : ℕ) → k < length xs → get_or xs k d ≡ get_or ys k d) → xs ≡ ys
-same_lists [] [] d many same = refl
-same_lists [] (y ∷ ys) d many same = absurd (omega (arith, many))
-same_lists (x ∷ xs) [] d many same = absurd (omega (arith, many))
-same_lists (x ∷ xs) (y ∷ ys) d many same =
-    let first = same 0 (omega arith) in
-    let rest = same_lists xs ys d (omega (arith, many)) (λ k lt. same (suc k) (omega (arith, lt))) in
-    cc
-
-pub one_table : (dims : ℕ) (m : PageMap) (s t : IdTable) → s.page ≡ t.page → IdsStand dims m s
-    → IdsStand dims m t → s ≡ t
-one_table dims m s t at a b =
-    let there : ◌≡◌ {A = Option (List ℕ)} (Some a.directory) (Some b.directory) = sym a.there ∙ ap m at
-    ∙ b.there in
-    let same : ◌≡◌ {A = List ℕ} a.directory b.directory = cc in
-    let chains = same_lists s.chains t.chains [] (a.whole ∙ sym b.whole) (λ class lt.
-    one_chain dims m (link_at class a.directory) (get_or s.chains class []) (get_or t.chains class [])
-    (a.chains class (omega (arith, lt, a.whole)))
-    (subst (λ (d : List ℕ). ChainStands dims m (link_at class d) (get_or t.chains class [])) (sym same)
-    (b.chains class (omega (arith, lt, a.whole))))) in
-    ap (λ (p : ℕ). record { page = p; chains = s.chains }) at
-    ∙ ap (λ (cs : List (List Bucket)). record { page = t.page; chains = cs }) chains
+table_entries dims pages t stands = entries_once (entries_of t) (λ q. ids_single dims pages t q stands)
 
 -- ---- no page of a tree is one of a table
 
@@ -162,19 +91,9 @@ is_node_kind kind = kind == node_kind || kind == untagged_node_kind
 abbrev is_node : List ℕ → Bool
 is_node page = is_node_kind (kind_of page)
 
-abbrev is_other : List ℕ → Bool
-is_other page = not (is_node_kind (kind_of page))
-
 node_is : (kind : ℕ) → IsNodeKind kind → is_node_kind kind ≡ true
 node_is kind (inl is) = grind (arith, nat_tests)
 node_is kind (inr is) = grind (arith, nat_tests)
-
-bucket_is_other : (kind : ℕ) → IsBucketKind kind → not (is_node_kind kind) ≡ true
-bucket_is_other kind (inl is) = grind (arith, nat_tests)
-bucket_is_other kind (inr is) = grind (arith, nat_tests)
-
-directory_is_other : (kind : ℕ) → kind ≡ directory_kind → not (is_node_kind kind) ≡ true
-directory_is_other kind is = grind (arith, nat_tests)
 
 nodes_pass : (dims : ℕ) (page : Option (List ℕ)) (c : NodeContent) → node_in dims page ≡ Some c
     → node_in dims (passing is_node page) ≡ Some c
@@ -184,26 +103,29 @@ nodes_pass dims (Some page) c is =
     (passes is_node (Some page) page refl (node_is (kind_of page) (node_spells dims page c is).head.kind))
     ∙ is
 
-buckets_pass : (dims : ℕ) (page : Option (List ℕ)) (c : BucketContent) → bucket_in dims page ≡ Some c
-    → bucket_in dims (passing is_other page) ≡ Some c
-buckets_pass dims None c is = absurd (cc)
-buckets_pass dims (Some page) c is =
-    ap (bucket_in dims)
-    (passes is_other (Some page) page refl
-    (bucket_is_other (kind_of page) (bucket_spells dims page c is).head.kind)) ∙ is
-
-directories_pass : (dims : ℕ) (page : Option (List ℕ)) (bytes : List ℕ) → page ≡ Some bytes
-    → IsDirectory dims bytes → passing is_other page ≡ Some bytes
-directories_pass dims page bytes is spelled =
-    passes is_other page bytes is (directory_is_other (kind_of bytes) spelled.kind)
-
-not_both : (page : Option (List ℕ)) → IsSome (passing is_node page) → IsSome (passing is_other page) → ⊥
-not_both None node other = absurd (cc)
-not_both (Some page) node other = case (is_node_kind (kind_of page)) node other
+-- a page that passes as a node is one
+is_node_page : (page : Option (List ℕ)) (bytes : List ℕ) → page ≡ Some bytes → IsSome (passing is_node page)
+    → IsNodeKind (kind_of bytes)
+is_node_page page bytes is node = case (is_node_kind (kind_of bytes)) refl
+    (subst (λ (p : Option (List ℕ)). IsSome (passing is_node p)) is node)
   where
-    case : (b : Bool) → IsSome (cond b (Some page) None) → IsSome (cond (not b) (Some page) None) → ⊥
-    case true node other = absurd (cc)
-    case false node other = absurd (cc)
+    of_kind : (kind : ℕ) → is_node_kind kind ≡ true → IsNodeKind kind
+    of_kind kind so = ⊎_elim
+        (λ (is : kind ≡ node_kind). inl is)
+        (λ (other : ¬ (kind ≡ node_kind)). ⊎_elim
+        (λ (old : kind ≡ untagged_node_kind). inr old)
+        (λ (none : ¬ (kind ≡ untagged_node_kind)). absurd (neither kind other none so))
+        (cases_eq kind untagged_node_kind))
+        (cases_eq kind node_kind)
+      where
+        neither : (kind : ℕ) → ¬ (kind ≡ node_kind) → ¬ (kind ≡ untagged_node_kind) → is_node_kind kind ≡ true
+            → ⊥
+        neither kind other none so = grind (arith, nat_tests)
+
+    case : (b : Bool) → is_node_kind (kind_of bytes) ≡ b → IsSome (cond b (Some bytes) None)
+        → IsNodeKind (kind_of bytes)
+    case true so some = of_kind (kind_of bytes) so
+    case false other some = absurd (cc)
 
 tree_apart : (dims : ℕ) (m : PageMap) (t : Tree) (ids : IdTable) (n : ℕ) → Stands dims m t
     → IdsStand dims m ids → 0 < occurs_in n t → 0 < occurs_in_ids n ids → ⊥
@@ -211,17 +133,16 @@ tree_apart dims m t ids n tree table here there =
     let at =
     tree_carried dims m (λ k. passing is_node (m k)) (λ k c is. nodes_pass dims (m k) c is) t.page
     t.level t.row (record { node = tree.root; below = tree.below }) in
-    not_both (m n)
+    let other = ids_are_other dims m ids n table there in
+    other.2
+    (is_node_page (m n) other.0 other.1
     (pages_are_there dims (λ k. passing is_node (m k)) t n
-    (record { root = at.node; below = at.below; distinct = tree.distinct }) here)
-    (table_there dims (λ k. passing is_other (m k)) ids n
-    (table_carried dims m (λ k. passing is_other (m k)) (λ k c is. buckets_pass dims (m k) c is)
-    (λ k page is spelled. directories_pass dims (m k) page is spelled) ids table) there)
+    (record { root = at.node; below = at.below; distinct = tree.distinct }) here))
 
 once_in_both : (dims : ℕ) (m : PageMap) (t : Tree) (ids : IdTable) (n : ℕ) → Stands dims m t
     → IdsStand dims m ids → occurs_in n t + occurs_in_ids n ids ≤ 1
 once_in_both dims m t ids n tree table = ⊎_elim
-    (λ (none : occurs_in n t ≡ 0). omega (arith, none, table.once n))
+    (λ (none : occurs_in n t ≡ 0). omega (arith, none, ids_once dims m ids n table))
     (λ (some : 0 < occurs_in n t). ⊎_elim
     (λ (none : occurs_in_ids n ids ≡ 0). omega (arith, none, tree.distinct n))
     (λ (also : 0 < occurs_in_ids n ids). absurd (tree_apart dims m t ids n tree table some also))
@@ -230,10 +151,10 @@ once_in_both dims m t ids n tree table = ⊎_elim
 
 -- ---- a tree and a table that were checked
 
-module _ (dims most : ℕ) (m : PageMap) (root : Root) (directory : ℕ) (pairs listed : List Entry)
+module _ (dims most : ℕ) (m : PageMap) (root : Root) (ids_root : ℕ) (pairs listed : List Entry)
     (held_pages listed_pages : List ℕ)
     (tree : IsCheckedTree dims most m root.page root.level pairs held_pages)
-    (table : IsCheckedTable dims m directory listed listed_pages) where
+    (table : IsCheckedTable dims m ids_root listed listed_pages) where
   -- their pages together
   both_pages : (n : ℕ)
       → named_pages (held_pages ++ listed_pages) n ≡ part_of_layer
@@ -249,7 +170,7 @@ module _ (dims most : ℕ) (m : PageMap) (root : Root) (directory : ℕ) (pairs 
   -- are a layer where they have the same objects
   pub layer_checked : (count : ℕ) → IsPermutation pairs listed
       → All (λ (object : Entry). IsBox dims (bounds_of object.1)) pairs → length pairs ≡ count
-      → IsCheckedLayer dims most m root directory count (held_pages ++ listed_pages)
+      → IsCheckedLayer dims most m root ids_root count (held_pages ++ listed_pages)
   layer_checked count same boxes many =
       let all = table_entries dims m table.table table.stands in
       let held =
@@ -267,7 +188,7 @@ module _ (dims most : ℕ) (m : PageMap) (root : Root) (directory : ℕ) (pairs 
           };
           boxes = row_boxes dims most tree.tree.row tree.shape.below
               (subst (All (λ (object : Entry). IsBox dims (bounds_of object.1))) tree.pairs_are boxes);
-          directory_is = table.page_is;
+          ids_root_is = table.page_is;
           ids = table.stands;
           leaves =
               subst (λ (os : List Entry). IsPermutation os (entries (objects_of table.table))) tree.pairs_are
@@ -282,14 +203,14 @@ module _ (dims most : ℕ) (m : PageMap) (root : Root) (directory : ℕ) (pairs 
       }
 
   -- where a layer stands there, they are its tree and its table
-  module _ (l : LayerPages) (objects : Objects) (is : IsLayerAt dims most m root directory l objects) where
+  module _ (l : LayerPages) (objects : Objects) (is : IsLayerAt dims most m root ids_root l objects) where
     tree_same : tree.tree ≡ l.tree
     tree_same =
         one_tree_stands dims m tree.tree l.tree (tree.page_is ∙ sym is.tree.page_is) tree.stands
         is.tree.stands
 
     table_same : table.table ≡ l.ids
-    table_same = one_table dims m table.table l.ids (table.page_is ∙ sym is.directory_is) table.stands is.ids
+    table_same = one_table dims m table.table l.ids (table.page_is ∙ sym is.ids_root_is) table.stands is.ids
 
     pub pairs_there : IsPermutation pairs (entries objects)
     pairs_there =
@@ -316,10 +237,10 @@ in_order objects sorted all moved order same =
 
 module _ {B A : Type 0} {m : _} where
   -- a layer of live pages stands in those given out
-  pub layer_given : (dims most : ℕ) (cache : PageCache B A m) (root : Root) (directory : ℕ) (l : LayerPages)
-      (objects : Objects) → IsLayerAt dims most (pages cache) root directory l objects
-      → IsLayerAt dims most (given cache) root directory l objects
-  layer_given dims most cache root directory l objects is =
+  pub layer_given : (dims most : ℕ) (cache : PageCache B A m) (root : Root) (ids_root : ℕ) (l : LayerPages)
+      (objects : Objects) → IsLayerAt dims most (pages cache) root ids_root l objects
+      → IsLayerAt dims most (given cache) root ids_root l objects
+  layer_given dims most cache root ids_root l objects is =
       let at = live_tree_is_given dims cache l.tree l.tree.page l.tree.level refl refl is.tree.stands in
       record {
         tree = record {
@@ -329,8 +250,8 @@ module _ {B A : Type 0} {m : _} where
           shape = is.tree.shape;
         };
         boxes = is.boxes;
-        directory_is = is.directory_is;
-        ids = live_table_is_given dims cache l.ids is.ids;
+        ids_root_is = is.ids_root_is;
+        ids = ids_given dims cache l.ids is.ids;
         leaves = is.leaves;
         table = is.table;
         once = is.once;
@@ -338,54 +259,58 @@ module _ {B A : Type 0} {m : _} where
 
 -- ---- a check, call after call
 
+pub if_err : {T E : Type 0} (r : Result T E) (P Q : E → Type 0) → ((f : E) → P f → Q f) → IfErr r P → IfErr r Q
+if_err (Ok x) P Q weaker h = tt
+if_err (Err e) P Q weaker h = weaker e h
+
 -- a table that was checked in equal pages
-pub table_on : (dims : ℕ) (old new : PageMap) (directory : ℕ) (listed : List Entry) (list : List ℕ)
-    → ((n : ℕ) → new n ≡ old n) → IsCheckedTable dims old directory listed list
-    → IsCheckedTable dims new directory listed list
-table_on dims old new directory listed list same table = record {
+pub table_on : (dims : ℕ) (old new : PageMap) (ids_root : ℕ) (listed : List Entry) (list : List ℕ)
+    → ((n : ℕ) → new n ≡ old n) → IsCheckedTable dims old ids_root listed list
+    → IsCheckedTable dims new ids_root listed list
+table_on dims old new ids_root listed list same table = record {
   table = table.table;
   page_is = table.page_is;
-  stands = stands_same dims old new table.table same table.stands;
+  stands = ids_stay dims old new table.table (λ n p. same n) table.stands;
   pairs_are = table.pairs_are;
   pages_are = table.pages_are;
 }
 
-module _ (dims most : ℕ) (m : PageMap) (root : Root) (directory count : ℕ) (held listed : List Entry)
+module _ (dims most : ℕ) (m : PageMap) (root : Root) (ids_root count : ℕ) (held listed : List Entry)
     (held_pages listed_pages : List ℕ)
     (tree : IsCheckedTree dims most m root.page root.level held held_pages)
-    (table : IsCheckedTable dims m directory listed listed_pages) where
+    (table : IsCheckedTable dims m ids_root listed listed_pages) where
   -- what was joined is a layer
   pub all_checked : {V : Type 0} (r : Result V Fault) (list_of : V → List ℕ)
       → IfOk r (λ v. AreOfOneLayer dims count held listed held_pages listed_pages (list_of v))
-      → IfOk r (λ v. IsCheckedLayer dims most m root directory count (list_of v))
-  all_checked (Ok v) list_of a = subst (IsCheckedLayer dims most m root directory count) (sym a.pages_are)
-      (layer_checked dims most m root directory held listed held_pages listed_pages tree table count a.same
+      → IfOk r (λ v. IsCheckedLayer dims most m root ids_root count (list_of v))
+  all_checked (Ok v) list_of a = subst (IsCheckedLayer dims most m root ids_root count) (sym a.pages_are)
+      (layer_checked dims most m root ids_root held listed held_pages listed_pages tree table count a.same
       a.boxes a.many)
   all_checked (Err f) list_of a = tt
 
 -- what is damaged of a tree and a table that are no layer, is of the layer
-pub comes_oddly : {T : Type 0} (dims : ℕ) (m : PageMap) (root : Root) (directory count : ℕ) (held : List Entry)
+pub comes_oddly : {T : Type 0} (dims : ℕ) (m : PageMap) (root : Root) (ids_root count : ℕ) (held : List Entry)
     (result : Result T Fault)
-    → IfErr result (λ f. (f ≡ fault.Memory) ⊎ (f ≡ fault.Damaged (odd_page directory count held)))
-    → IfErr result (λ f. (n : ℕ) → f ≡ fault.Damaged n → ComesInLayer dims m root directory n)
-comes_oddly dims m root directory count held (Ok x) odd = tt
-comes_oddly dims m root directory count held (Err f) odd = λ n is. ⊎_elim
+    → IfErr result (λ f. (f ≡ fault.Memory) ⊎ (f ≡ fault.Damaged (odd_page ids_root count held)))
+    → IfErr result (λ f. (n : ℕ) → f ≡ fault.Damaged n → ComesInLayer dims m root ids_root n)
+comes_oddly dims m root ids_root count held (Ok x) odd = tt
+comes_oddly dims m root ids_root count held (Err f) odd = λ n is. ⊎_elim
     (λ (memory : f ≡ fault.Memory). absurd (let bad : fault.Memory ≡ fault.Damaged n = sym memory ∙ is in cc))
-    (λ (damaged : f ≡ fault.Damaged (odd_page directory count held)).
-    let same : n ≡ odd_page directory count held =
-    (let both : fault.Damaged n ≡ fault.Damaged (odd_page directory count held) = sym is ∙ damaged in cc) in
+    (λ (damaged : f ≡ fault.Damaged (odd_page ids_root count held)).
+    let same : n ≡ odd_page ids_root count held =
+    (let both : fault.Damaged n ≡ fault.Damaged (odd_page ids_root count held) = sym is ∙ damaged in cc) in
     by_count n (length held == count) same)
     odd
   where
-    by_count : (n : ℕ) (t : Bool) → n ≡ cond t directory 2 → ComesInLayer dims m root directory n
+    by_count : (n : ℕ) (t : Bool) → n ≡ cond t ids_root 2 → ComesInLayer dims m root ids_root n
     by_count n true is = inr (inr (inl is))
     by_count n false is = inl is
 
 -- pages that agree lead to the same
-pub comes_on : (dims : ℕ) (m m' : PageMap) (directory n : ℕ) → ((k : ℕ) → m k ≡ m' k)
-    → ComesInTable dims m directory n → ComesInTable dims m' directory n
-comes_on dims m m' directory n same comes =
-    subst (λ (p : PageMap). ComesInTable dims p directory n) (λ i k. same k i) comes
+pub comes_on : (dims : ℕ) (m m' : PageMap) (ids_root n : ℕ) → ((k : ℕ) → m k ≡ m' k)
+    → ComesInTable dims m ids_root n → ComesInTable dims m' ids_root n
+comes_on dims m m' ids_root n same comes =
+    subst (λ (p : PageMap). ComesInTable dims p ids_root n) (λ i k. same k i) comes
 
 module _ {B A : Type 0} {m : _} where
   -- an answer that wants no page

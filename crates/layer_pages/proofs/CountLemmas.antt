@@ -8,16 +8,16 @@ use Rattle.tree_node.specs.declared.node.Root.{Root}
 use Rattle.node_page.specs.Standing.{PageMap}
 use Rattle.node_page.proofs.CountLemmas.{pages_of_tree, sum_both}
 use Rattle.id_table.specs.Table.{entries_of, objects_of, occurs_in_ids}
-use Rattle.id_table.proofs.CountLemmas.{pages_of_ids}
+use Rattle.id_table.proofs.TableLemmas.{pages_of_ids}
 use Rattle.layer_pages.specs.Layers.{IsLayerAt, LayerPages, Objects, part_of_layer}
 use Rattle.layer_pages.proofs.CheckLemmas.{table_entries}
 
--- Its tree has at most a page more than the layer has objects, and its table a page for each hundred of them
--- and 1,001 more.
-pub pages_of_layer : (dims most limit : ℕ) (pages : PageMap) (root : Root) (directory : ℕ) (l : LayerPages)
-    (objects : Objects) → IsLayerAt dims most pages root directory l objects
-    → 100 * sum_over limit (part_of_layer l) ≤ 101 * length (entries objects) + 100200
-pages_of_layer dims most limit pages root directory l objects is =
+-- Its tree has at most a page more than the layer has objects, and its table a page for each 28 of them and
+-- 1,001 more.
+pub pages_of_layer : (dims most limit : ℕ) (pages : PageMap) (root : Root) (ids_root : ℕ) (l : LayerPages)
+    (objects : Objects) → IsLayerAt dims most pages root ids_root l objects
+    → 28 * sum_over limit (part_of_layer l) ≤ 29 * length (entries objects) + 28056
+pages_of_layer dims most limit pages root ids_root l objects is =
     omega (
       arith,
       sum_both limit (λ n. occurs_in n l.tree) (λ n. occurs_in_ids n l.ids),

@@ -9,11 +9,11 @@ use Rattle.id_table.specs.Table.{part_of}
 use Rattle.layer_pages.specs.Layers.{IsLayerAt, LayerPages, Objects, part_of_layer}
 use Rattle.layer_pages.proofs.LayerLemmas.{layer_moves}
 
-pub layer_freed : (dims most : ℕ) (old mid new : PageMap) (root : Root) (directory : ℕ) (l : LayerPages)
-    (objects : Objects) → IsLayerAt dims most old root directory l objects
+pub layer_freed : (dims most : ℕ) (old mid new : PageMap) (root : Root) (ids_root : ℕ) (l : LayerPages)
+    (objects : Objects) → IsLayerAt dims most old root ids_root l objects
     → Moves old mid (λ n. occurs_in n l.tree) no_page
     → Moves mid new (part_of l.ids) no_page → Moves old new (part_of_layer l) no_page
-layer_freed dims most old mid new root directory l objects is tree ids =
+layer_freed dims most old mid new root ids_root l objects is tree ids =
     moves_same old new (part_of_layer l) (part_of_layer l) (both no_page no_page) no_page (λ n. refl)
     (λ n. refl)
-    (layer_moves dims most old root directory l objects is mid no_page tree new no_page ids)
+    (layer_moves dims most old root ids_root l objects is mid no_page tree new no_page ids)

@@ -9,55 +9,26 @@ use Rattle.tree_node.specs.declared.node.Root.{Root}
 use Rattle.node_page.specs.Parts.{Moves, Part, both, no_page}
 use Rattle.node_page.specs.Standing.{PageMap, Stands}
 use Rattle.node_page.proofs.ChangeLemmas.{trees_beside_stand}
-use Rattle.node_page.proofs.PartLemmas.{moves_beside, moves_in_turn, moves_same, none_or_some, not_new}
-use Rattle.node_page.proofs.PartLemmas.{staying_moves}
+use Rattle.node_page.proofs.PartLemmas.{moves_beside, moves_in_turn, moves_same, none_or_some, staying_moves}
 use Rattle.node_page.proofs.StandingLemmas.{pages_are_there}
-use Rattle.id_table.specs.Table.{IdTable, IdsStand, chain_at, link_at, objects_of, occurs_in_ids, part_of}
-use Rattle.id_table.proofs.ReplaceLemmas.{chain_stays}
-use Rattle.id_table.proofs.TableLemmas.{chain_in_table, occurs_here, table_there}
+use Rattle.id_table.specs.Table.{IdTable, IdsStand, kind_of, objects_of, page_of, part_of}
+use Rattle.id_table.specs.declared.kind.TableKind.{TableKind}
+use Rattle.id_table.proofs.TableLemmas.{ids_beside, ids_there}
 use Rattle.reinsert.specs.Inserted.{IsRootOf}
 use Rattle.layer_pages.specs.Changes.{BecomesLayer}
 use Rattle.layer_pages.specs.Laws.{LayersBesideStand, LayersStandInEqualPages, PagesOfALayerAreThere}
 use Rattle.layer_pages.specs.Layers.{IsLayerAt, LayerPages, Objects, part_of_layer}
 
--- ---- tables
-
--- a table stands in pages that are equal where it stands
-equal_pages_ids : (dims : ℕ) (old new : PageMap) (t : IdTable)
-    → ((n : ℕ) → 0 < occurs_in_ids n t → new n ≡ old n) → IdsStand dims old t → IdsStand dims new t
-equal_pages_ids dims old new t same s = record {
-  directory = s.directory;
-  there = (let here = occurs_here t.page in same t.page (omega (arith, here))) ∙ s.there;
-  low = s.low;
-  spelled = s.spelled;
-  whole = s.whole;
-  chains = λ class within. chain_stays dims old new (link_at class s.directory) (chain_at t class)
-      (λ n here. same n (omega (arith, here, chain_in_table n class t (omega (arith, within, s.whole)))))
-      (s.chains class within);
-  filled = s.filled;
-  once = s.once;
-}
-
--- a table that stands beside a change stands after it, and shares no page with it
-pub ids_beside : (dims : ℕ) (old new : PageMap) (was now : Part) (t : IdTable) → Moves old new was now
-    → IdsStand dims old t → ((n : ℕ) → 0 < occurs_in_ids n t → was n ≡ 0)
-    → IdsStand dims new t × ((n : ℕ) → 0 < occurs_in_ids n t → now n ≡ 0)
-ids_beside dims old new was now t moves stands apart =
-    let none : (n : ℕ) → 0 < occurs_in_ids n t
-    → now n ≡ 0 =
-    λ n here. not_new old new was now n moves (apart n here) (table_there dims old t n stands here) in
-    (equal_pages_ids dims old new t (λ n here. moves.outside n (apart n here) (none n here)) stands, none)
-
 -- ---- layers
 
 pub pages_of_a_layer : PagesOfALayerAreThere
-pages_of_a_layer dims most pages root directory l objects is n here = ⊎_elim
-    (λ (none : occurs_in n l.tree ≡ 0). table_there dims pages l.ids n is.ids (omega (arith, none, here)))
+pages_of_a_layer dims most pages root ids_root l objects is n here = ⊎_elim
+    (λ (none : occurs_in n l.tree ≡ 0). ids_there dims pages l.ids n is.ids (omega (arith, none, here)))
     (λ (some : 0 < occurs_in n l.tree). pages_are_there dims pages l.tree n is.tree.stands some)
     (none_or_some (occurs_in n l.tree))
 
 pub layers_beside : LayersBesideStand
-layers_beside dims most old new was now root directory l objects moves is apart =
+layers_beside dims most old new was now root ids_root l objects moves is apart =
     let tree =
     trees_beside_stand dims old new was now l.tree moves is.tree.stands
     (λ n here. apart n (omega (arith, here))) in
@@ -70,7 +41,7 @@ layers_beside dims most old new was now root directory l objects moves is apart 
           shape = is.tree.shape;
         };
         boxes = is.boxes;
-        directory_is = is.directory_is;
+        ids_root_is = is.ids_root_is;
         ids = ids.0;
         leaves = is.leaves;
         table = is.table;
@@ -83,8 +54,8 @@ layers_beside dims most old new was now root directory l objects moves is apart 
     )
 
 pub layers_in_equal_pages : LayersStandInEqualPages
-layers_in_equal_pages dims most old new root directory l objects same is =
-    (layers_beside dims most old new no_page no_page root directory l objects
+layers_in_equal_pages dims most old new root ids_root l objects same is =
+    (layers_beside dims most old new no_page no_page root ids_root l objects
     (staying_moves old new no_page same (λ n. omega arith) (λ n here. absurd (omega (arith, here)))) is
     (λ n here. omega arith)).0
 
@@ -111,13 +82,13 @@ module _ (old mid new : PageMap) (was now a b : Part) (first : Moves old mid was
 
 -- ---- the tree of a layer is changed, and then its table
 
-module _ (dims most : ℕ) (old : PageMap) (root : Root) (directory : ℕ) (l : LayerPages) (objects : Objects)
-    (is : IsLayerAt dims most old root directory l objects) where
+module _ (dims most : ℕ) (old : PageMap) (root : Root) (ids_root : ℕ) (l : LayerPages) (objects : Objects)
+    (is : IsLayerAt dims most old root ids_root l objects) where
   pub root_of : IsRootOf root l.tree
   root_of = record { page = is.tree.page_is; level = is.tree.level_is }
 
   pub ids_live : (n : ℕ) → 0 < part_of l.ids n → IsSome (old n)
-  ids_live n here = table_there dims old l.ids n is.ids here
+  ids_live n here = ids_there dims old l.ids n is.ids here
 
   module _ (mid : PageMap) (now : Part) (tree : Moves old mid (λ n. occurs_in n l.tree) now) where
     -- the table stands as it did
@@ -136,12 +107,13 @@ module _ (dims most : ℕ) (old : PageMap) (root : Root) (directory : ℕ) (l : 
       (tree : Moves old mid (λ n. occurs_in n l.tree) (λ n. occurs_in n t))
       (table : Moves mid new (part_of l.ids) (part_of ids)) where
     pub layer_changed : (after : Root) (all : Objects) (IsSo : Tree → Type 0) → IsRootOf after t
-        → Stands dims mid t → HasShape dims most t → RowHasBoxes dims t.row → ids.page ≡ l.ids.page
-        → IdsStand dims new ids → objects_of ids ≡ all
+        → Stands dims mid t → HasShape dims most t → RowHasBoxes dims t.row → kind_of ids ≡ kind_of l.ids
+        → page_of ids ≡ page_of l.ids → IdsStand dims new ids → objects_of ids ≡ all
         → IsPermutation (objects_in t.row) (entries all) → IsSo t
-        → BecomesLayer dims most old new (part_of_layer l) after directory all IsSo
-    layer_changed after all IsSo at stands shape boxes page ids_stand objects_are leaves is_so = record {
+        → BecomesLayer dims most old new (part_of_layer l) (kind_of l.ids) after ids_root all IsSo
+    layer_changed after all IsSo at stands shape boxes kind page ids_stand objects_are leaves is_so = record {
       layer = record { tree = t; ids = ids };
+      kind_is = kind;
       stands = record {
         tree = record {
           page_is = at.page;
@@ -153,7 +125,7 @@ module _ (dims most : ℕ) (old : PageMap) (root : Root) (directory : ℕ) (l : 
           shape = shape;
         };
         boxes = boxes;
-        directory_is = page ∙ is.directory_is;
+        ids_root_is = page ∙ is.ids_root_is;
         ids = ids_stand;
         leaves = leaves;
         table = objects_are;

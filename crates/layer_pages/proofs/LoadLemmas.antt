@@ -21,15 +21,18 @@ use Rattle.node_page.proofs.ChangeLemmas.{trees_beside_stand}
 use Rattle.node_page.proofs.PartLemmas.{moves_same, there_not_missing}
 use Rattle.node_page.proofs.RootedLemmas.{loose}
 use Rattle.node_page.proofs.StandingLemmas.{pages_are_there}
-use Rattle.id_table.specs.Changes.{AreNew, Fills, with_all}
-use Rattle.id_table.specs.Table.{objects_of, part_of}
-use Rattle.id_table.proofs.TableLemmas.{occurs_here}
+use Rattle.id_words.specs.Objects.{AreNew, with_all}
+use Rattle.id_table.specs.Changes.{Fills}
+use Rattle.id_table.specs.Table.{entries_of, kind_of, objects_of, part_of}
+use Rattle.id_table.specs.declared.kind.TableKind.{TableKind}
+use Rattle.id_table.proofs.TableLemmas.{ids_beside}
 use Rattle.bulk_load.specs.Loads.{Loads}
 use Rattle.reinsert.proofs.LevelLemmas.{shape_bounds_level}
 use Rattle.layer_pages.specs.Changes.{BecomesLayer, BecomesTable, HasPacked, item_of_object}
 use Rattle.layer_pages.specs.Laws.{NewObjectsAreEntries}
 use Rattle.layer_pages.specs.Layers.{CanBeRoot, IsLayerAt, LayerPages, Objects, part_of_layer}
-use Rattle.layer_pages.proofs.LayerLemmas.{both_change, ids_beside, layers_beside, made_apart}
+use Rattle.tree_node.proofs.RowLemmas.{occurs_here}
+use Rattle.layer_pages.proofs.LayerLemmas.{both_change, layers_beside, made_apart}
 use Rattle.layer_pages.proofs.LayerLemmas.{pages_of_a_layer}
 use Rattle.layer_pages.proofs.ObjectLemmas.{all_are_new, entries_of_all, no_entries, row_boxes}
 
@@ -40,8 +43,8 @@ new_objects_are_entries pairs fresh =
     subst (λ (es : List Entry). IsPermutation (es ++ pairs) (entries (with_all map.empty pairs))) no_entries
     (entries_of_all pairs map.empty fresh)
 
-module _ (dims most : ℕ) (old : PageMap) (root : Root) (directory : ℕ) (l : LayerPages)
-    (is : IsLayerAt dims most old root directory l map.empty) (objects : List Entry) (all : Objects)
+module _ (dims most : ℕ) (old : PageMap) (root : Root) (ids_root : ℕ) (l : LayerPages)
+    (is : IsLayerAt dims most old root ids_root l map.empty) (objects : List Entry) (all : Objects)
     (same : IsPermutation objects (entries all)) where
   both_facts : AreNew (objects_of l.ids) objects × (with_all (objects_of l.ids) objects ≡ all)
   both_facts = all_are_new objects (objects_of l.ids) all
@@ -64,10 +67,11 @@ module _ (dims most : ℕ) (old : PageMap) (root : Root) (directory : ℕ) (l : 
     turned n = omega (arith, is.once n)
 
     pub table_left : (new : PageMap) → Moves mid new (λ n. occurs_in n l.tree) no_page
-        → BecomesTable dims old new (part_of_layer l) directory all
+        → BecomesTable dims old new (part_of_layer l) (kind_of l.ids) ids_root all
     table_left new freed = record {
       table = fills.table;
-      page = fills.page ∙ is.directory_is;
+      kind_is = fills.kind_is;
+      page_is = fills.page_is ∙ is.ids_root_is;
       stands = (ids_beside dims mid new (λ n. occurs_in n l.tree) no_page fills.table freed fills.stands
           (made_apart old mid new (part_of l.ids) (part_of fills.table) (λ n. occurs_in n l.tree) no_page
           fills.moves freed tree_live turned)).0;
@@ -87,20 +91,20 @@ as_they_were : (objects : List Entry) → each object_of (each item_of_object ob
 as_they_were [] = refl
 as_they_were (o ∷ objects) = ap (λ (os : List Entry). o ∷ os) (as_they_were objects)
 
-module _ (dims most before : ℕ) (old mid : PageMap) (root after : Root) (directory : ℕ) (l : LayerPages)
-    (is : IsLayerAt dims before old root directory l map.empty) (objects : List Entry)
+module _ (dims most before : ℕ) (old mid : PageMap) (root after : Root) (ids_root : ℕ) (l : LayerPages)
+    (is : IsLayerAt dims before old root ids_root l map.empty) (objects : List Entry)
     (loads : Loads dims most old mid (each item_of_object objects) after) where
   -- the layer meanwhile
-  pub layer_still : IsLayerAt dims before mid root directory l map.empty
+  pub layer_still : IsLayerAt dims before mid root ids_root l map.empty
   layer_still =
-      (layers_beside dims before old mid no_page (λ n. occurs_in n loads.tree) root directory l map.empty
+      (layers_beside dims before old mid no_page (λ n. occurs_in n loads.tree) root ids_root l map.empty
       loads.moves is (λ n here. refl)).0
 
   module _ (new : PageMap) (all : Objects) (same : IsPermutation objects (entries all))
       (boxes : All (λ (item : Item). IsBox dims item.bounds) (each item_of_object objects))
-      (ids : BecomesTable dims mid new (part_of_layer l) directory all) where
+      (ids : BecomesTable dims mid new (part_of_layer l) (kind_of l.ids) ids_root all) where
     all_live : (n : ℕ) → 0 < part_of_layer l n → IsSome (old n)
-    all_live n here = pages_of_a_layer dims before old root directory l map.empty is n here
+    all_live n here = pages_of_a_layer dims before old root ids_root l map.empty is n here
 
     alone : (n : ℕ) → both no_page (part_of_layer l) n ≤ 1
     alone n = omega (arith, is.once n)
@@ -121,10 +125,11 @@ module _ (dims most before : ℕ) (old mid : PageMap) (root after : Root) (direc
         both_change old mid new no_page (λ n. occurs_in n loads.tree) (part_of_layer l) (part_of ids.table)
         loads.moves ids.moves all_live alone
 
-    pub layer_loaded : BecomesLayer dims most old new (part_of_layer l) after directory all
+    pub layer_loaded : BecomesLayer dims most old new (part_of_layer l) (kind_of l.ids) after ids_root all
         (HasPacked dims most objects)
     layer_loaded = record {
       layer = record { tree = loads.tree; ids = ids.table };
+      kind_is = ids.kind_is;
       stands = record {
         tree = record {
           page_is = loads.page;
@@ -137,7 +142,7 @@ module _ (dims most before : ℕ) (old mid : PageMap) (root after : Root) (direc
           shape = loads.shape;
         };
         boxes = row_boxes dims most loads.tree.row loads.shape.below boxes_held;
-        directory_is = ids.page;
+        ids_root_is = ids.page_is;
         ids = ids.stands;
         leaves =
             IsPermutation-trans (objects_in loads.tree.row) objects (entries all)

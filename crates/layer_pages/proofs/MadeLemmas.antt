@@ -14,7 +14,8 @@ use Rattle.node_page.specs.Standing.{PageMap, Stands, node_in}
 use Rattle.node_page.proofs.ChangeLemmas.{trees_beside_stand}
 use Rattle.node_page.proofs.PartLemmas.{moves_same, one_page_moves}
 use Rattle.id_table.specs.Changes.{Makes, Sets}
-use Rattle.id_table.specs.Table.{IdsStand, objects_of, part_of}
+use Rattle.id_table.specs.Table.{IdsStand, kind_of, objects_of, part_of}
+use Rattle.id_table.specs.declared.kind.TableKind.{TableKind}
 use Rattle.reinsert.specs.Inserted.{CanInsert, InsertsTo}
 use Rattle.reinsert.specs.Kept.{EntryHasShape}
 use Rattle.reinsert.proofs.ObjectLemmas.{insertion_keeps_objects}
@@ -30,9 +31,9 @@ node_there : (dims : ℕ) (page : Option (List ℕ)) (c : NodeContent) → node_
 node_there dims None c e = absurd (cc)
 node_there dims (Some bytes) c e = refl
 
-module _ (dims most : ℕ) (old mid new : PageMap) (page directory : ℕ) (fresh : old page ≡ None)
+module _ (dims most : ℕ) (old mid new : PageMap) (page ids_root : ℕ) (fresh : old page ≡ None)
     (leaf : node_in dims (mid page) ≡ Some (record { level = 0; entries = [] }))
-    (others : SameBut page old mid) (ids : Makes dims mid new directory) where
+    (others : SameBut page old mid) (kind : TableKind) (ids : Makes dims mid new kind ids_root) where
   empty_tree : Tree
   empty_tree = record { page = page; level = 0; row = end }
 
@@ -52,11 +53,12 @@ module _ (dims most : ℕ) (old mid new : PageMap) (page directory : ℕ) (fresh
       both_change old mid new no_page (λ n. occurs_in n empty_tree) no_page (part_of ids.table) leaf_comes
       ids.moves (λ n here. absurd (omega (arith, here))) (λ n. omega arith)
 
-  pub layer_made : BecomesLayer dims most old new no_page (record { page = page; level = 0 }) directory
+  pub layer_made : BecomesLayer dims most old new no_page kind (record { page = page; level = 0 }) ids_root
       map.empty IsEmptyLeaf
   unfolding empty_tree
   layer_made = record {
     layer = record { tree = empty_tree; ids = ids.table };
+    kind_is = ids.kind_is;
     stands = record {
       tree = record {
         page_is = refl;
@@ -72,7 +74,7 @@ module _ (dims most : ℕ) (old mid new : PageMap) (page directory : ℕ) (fresh
         };
       };
       boxes = tt;
-      directory_is = ids.page;
+      ids_root_is = ids.page_is;
       ids = ids.stands;
       leaves = no_objects;
       table = ids.objects;
@@ -94,21 +96,21 @@ tree_alone dims most old new t id kept elsewhere after to =
     moves_same old new (λ n. occurs_in n t + 0) (λ n. occurs_in n t) (λ n. occurs_in n to.new)
     (λ n. occurs_in n to.new) (λ n. omega arith) (λ n. refl) to.moves
 
-module _ (dims most : ℕ) (old : PageMap) (root : Root) (directory : ℕ) (l : LayerPages) (objects : Objects)
-    (is : IsLayerAt dims most old root directory l objects) (id : ℕ) (kept : Object) where
+module _ (dims most : ℕ) (old : PageMap) (root : Root) (ids_root : ℕ) (l : LayerPages) (objects : Objects)
+    (is : IsLayerAt dims most old root ids_root l objects) (id : ℕ) (kept : Object) where
   abbrev pub branch : Branch
   branch = object kept id
 
   pub can_insert : CanInsert dims old root
       (record { bounds = bounds_of kept; reference = id; tag = tag_of kept }) 0 l.tree branch (part_of l.ids)
   can_insert = record {
-    at = root_of dims most old root directory l objects is;
+    at = root_of dims most old root ids_root l objects is;
     stands = is.tree.stands;
     entry = refl;
     entry_stands = (refl, tt);
     fits = omega arith;
     apart = λ n. omega (arith, is.once n);
-    live = ids_live dims most old root directory l objects is;
+    live = ids_live dims most old root ids_root l objects is;
   }
 
   pub entry_has_shape : IsBox dims (bounds_of kept) → EntryHasShape dims most 0 branch
@@ -121,7 +123,7 @@ module _ (dims most : ℕ) (old : PageMap) (root : Root) (directory : ℕ) (l : 
 
     pub ids_meanwhile : IdsStand dims mid l.ids
     ids_meanwhile =
-        ids_still dims most old root directory l objects is mid (λ n. occurs_in n to.new) tree_moves
+        ids_still dims most old root ids_root l objects is mid (λ n. occurs_in n to.new) tree_moves
 
     pub absent_meanwhile : map.contains_key objects id ≡ false
         → map.contains_key (objects_of l.ids) id ≡ false
@@ -129,15 +131,16 @@ module _ (dims most : ℕ) (old : PageMap) (root : Root) (directory : ℕ) (l : 
 
     pub layer_inserted : (new : PageMap) → Sets dims mid new l.ids id kept → 2 ≤ most
         → IsBox dims (bounds_of kept) → map.contains_key objects id ≡ false
-        → BecomesLayer dims most old new (part_of_layer l) after directory (map.insert objects id kept)
+        → BecomesLayer dims most old new (part_of_layer l) (kind_of l.ids) after ids_root
+        (map.insert objects id kept)
         (HasInserted dims most l id kept)
     layer_inserted new ids two box absent =
         let shape =
         insertion_keeps_shape dims most (part_of l.ids) branch 0 l.tree to.new to.insertion two
         (entry_has_shape box) is.boxes is.tree.shape in
-        layer_changed dims most old root directory l objects is mid new to.new ids.table tree_moves ids.moves
+        layer_changed dims most old root ids_root l objects is mid new to.new ids.table tree_moves ids.moves
         after (map.insert objects id kept) (HasInserted dims most l id kept) to.at to.stands shape.0
-        shape.1 ids.page ids.stands
+        shape.1 ids.kind_is ids.page_is ids.stands
         (ids.objects ∙ ap (λ (m : Objects). map.insert m id kept) is.table)
         (more_leaves _ _ objects id kept
         (insertion_keeps_objects dims most (part_of l.ids) branch 0 l.tree to.new to.insertion) is.leaves

@@ -31,7 +31,7 @@ use Rattle.tree_node.specs.Trees.{Row, end, more, object, child, objects_in}
 use Rattle.tree_node.proofs.ObjectLemmas.{equal_sums_permute}
 use Rattle.tree_node.proofs.PositionLemmas.{total-append}
 use Rattle.bulk_load.proofs.RowWords.{total-permutation}
-use Rattle.id_table.specs.Changes.{AreNew, with_all}
+use Rattle.id_words.specs.Objects.{AreNew, with_all}
 use Rattle.layer_pages.specs.Layers.{Objects}
 
 -- ---- no object

@@ -8,7 +8,7 @@ use Rattle.tree_node.specs.Trees.{objects_in, occurs_in}
 use Rattle.tree_node.specs.declared.node.Root.{Root}
 use Rattle.node_page.specs.Standing.{PageMap}
 use Rattle.id_table.specs.Changes.{Removes}
-use Rattle.id_table.specs.Table.{IdsStand, objects_of, part_of}
+use Rattle.id_table.specs.Table.{IdsStand, kind_of, objects_of, part_of}
 use Rattle.condense.specs.Removed.{CanRemove, RemovesTo}
 use Rattle.condense.proofs.ObjectLemmas.{removal_keeps_objects}
 use Rattle.condense.proofs.ShapeLemmas.{removal_keeps_shape}
@@ -19,14 +19,14 @@ use Rattle.layer_pages.proofs.ObjectLemmas.{fewer_leaves, object_known, object_t
 
 -- ---- an object fewer
 
-module _ (dims most : ℕ) (old : PageMap) (root : Root) (directory : ℕ) (l : LayerPages) (objects : Objects)
-    (is : IsLayerAt dims most old root directory l objects) where
+module _ (dims most : ℕ) (old : PageMap) (root : Root) (ids_root : ℕ) (l : LayerPages) (objects : Objects)
+    (is : IsLayerAt dims most old root ids_root l objects) where
   pub can_remove : CanRemove dims old root l.tree (part_of l.ids)
   can_remove = record {
-    at = root_of dims most old root directory l objects is;
+    at = root_of dims most old root ids_root l objects is;
     stands = is.tree.stands;
     apart = is.once;
-    live = ids_live dims most old root directory l objects is;
+    live = ids_live dims most old root ids_root l objects is;
   }
 
   module _ (id : ℕ) (kept : Object) where
@@ -45,19 +45,20 @@ module _ (dims most : ℕ) (old : PageMap) (root : Root) (directory : ℕ) (l : 
     module _ (mid : PageMap) (after : Root)
         (to : RemovesTo dims most old mid (part_of l.ids) id kept l.tree after) where
       pub ids_between : IdsStand dims mid l.ids
-      ids_between = ids_still dims most old root directory l objects is mid (λ n. occurs_in n to.new) to.moves
+      ids_between = ids_still dims most old root ids_root l objects is mid (λ n. occurs_in n to.new) to.moves
 
       pub layer_removed : (new : PageMap) → Removes dims mid new l.ids id → 4 ≤ most
           → map.get objects id ≡ Some kept
-          → BecomesLayer dims most old new (part_of_layer l) after directory (map.remove objects id)
+          → BecomesLayer dims most old new (part_of_layer l) (kind_of l.ids) after ids_root
+          (map.remove objects id)
           (HasRemoved dims most l id kept)
       layer_removed new ids four there =
           let shape =
           removal_keeps_shape dims most (part_of l.ids) id kept l.tree to.new to.removal four is.boxes
           is.tree.shape in
-          layer_changed dims most old root directory l objects is mid new to.new ids.table to.moves ids.moves
+          layer_changed dims most old root ids_root l objects is mid new to.new ids.table to.moves ids.moves
           after (map.remove objects id) (HasRemoved dims most l id kept) to.at to.stands shape.0 shape.1
-          ids.page ids.stands
+          ids.kind_is ids.page_is ids.stands
           (ids.objects ∙ ap (λ (m : Objects). map.remove m id) is.table)
           (fewer_leaves _ _ objects id kept
           (removal_keeps_objects dims most (part_of l.ids) id kept l.tree to.new to.removal) is.leaves

@@ -1,13 +1,15 @@
 -- What the calls on the pages of a layer make of them (our rule, docs/FORMAT.md, "Trees of pages" and
 -- "Identifier tables").
-use Rattle.std.specs.Prelude.{◌≡◌, ℕ, ◌+◌, ◌/◌, List, map}
+use Rattle.std.specs.Prelude.{◌≡◌, ℕ, ◌+◌, List, map}
 use Rattle.box_math.specs.Objects.{Object, bounds_of, tag_of}
 use Rattle.tree_node.specs.Nodes.{Item}
 use Rattle.tree_node.specs.Trees.{Tree, end, object}
 use Rattle.tree_node.specs.declared.node.Root.{Root}
 use Rattle.node_page.specs.Parts.{Moves, Part}
 use Rattle.node_page.specs.Standing.{PageMap}
-use Rattle.id_table.specs.Table.{IdTable, IdsStand, objects_of, part_of}
+use Rattle.id_table.specs.Changes.{most_added_pages, most_filled_pages}
+use Rattle.id_table.specs.Table.{IdTable, IdsStand, kind_of, objects_of, page_of, part_of}
+use Rattle.id_table.specs.declared.kind.TableKind.{TableKind}
 use Rattle.reinsert.specs.Inserted.{most_new_pages}
 use Rattle.reinsert.specs.Insertion.{IsInsertion}
 use Rattle.condense.specs.Removal.{IsRemoval}
@@ -15,12 +17,13 @@ use Rattle.condense.specs.Removed.{most_removal_pages}
 use Rattle.bulk_load.specs.Packed.{IsPacked}
 use Rattle.layer_pages.specs.Layers.{IsLayerAt, LayerPages, Objects, part_of_layer}
 
--- A part of the pages became those of a layer with these objects, at that root and directory, whose tree is
--- so. All other pages stay, and those that came in were not live.
-pub record BecomesLayer (dims most : ℕ) (old new : PageMap) (was : Part) (root : Root) (directory : ℕ)
-    (objects : Objects) (IsSo : Tree → Type 0) : Type 0 where
+-- A part of the pages became those of a layer with these objects, with root and table there, whose table is of
+-- this kind and whose tree is so. All other pages stay, and those that came in were not live.
+pub record BecomesLayer (dims most : ℕ) (old new : PageMap) (was : Part) (kind : TableKind) (root : Root)
+    (ids_root : ℕ) (objects : Objects) (IsSo : Tree → Type 0) : Type 0 where
   pub layer : LayerPages
-  pub stands : IsLayerAt dims most new root directory layer objects
+  pub kind_is : kind_of layer.ids ≡ kind
+  pub stands : IsLayerAt dims most new root ids_root layer objects
   pub tree_is : IsSo layer.tree
   pub moves : Moves old new was (part_of_layer layer)
 
@@ -51,29 +54,26 @@ item_of_object o = record { bounds = bounds_of o.1; reference = o.0; tag = tag_o
 abbrev pub HasPacked : ℕ → ℕ → List (ℕ × Object) → Tree → Type 0
 HasPacked dims most objects t = IsPacked dims most (map item_of_object objects) t
 
--- A part of the pages became those of an identifier table of these objects.
-pub record BecomesTable (dims : ℕ) (old new : PageMap) (was : Part) (directory : ℕ)
+-- A part of the pages became those of an identifier table of this kind and of these objects.
+pub record BecomesTable (dims : ℕ) (old new : PageMap) (was : Part) (kind : TableKind) (ids_root : ℕ)
     (objects : Objects) : Type 0 where
   pub table : IdTable
-  pub page : table.page ≡ directory
+  pub kind_is : kind_of table ≡ kind
+  pub page_is : page_of table ≡ ids_root
   pub stands : IdsStand dims new table
   pub objects_are : objects_of table ≡ objects
   pub moves : Moves old new was (part_of table)
 
 -- ---- by how many pages the live ones grow at most
 
--- an object inserted: its tree grows, and its table by one bucket
+-- an object inserted: its tree grows, and its table
 abbrev pub most_inserted_pages : ℕ
-most_inserted_pages = most_new_pages + 1
+most_inserted_pages = most_new_pages + most_added_pages
 
 -- an object replaced: its tree grows by a removal and by an insertion
 abbrev pub most_replaced_pages : ℕ
 most_replaced_pages = most_removal_pages + most_new_pages
 
--- so many objects loaded into a table of 1,000 chains
-abbrev pub most_filled_pages : ℕ → ℕ
-most_filled_pages count = count / 100 + 1000
-
--- and into a packed tree beside it
+-- so many objects loaded, into a table and into a packed tree beside it
 abbrev pub most_loaded_pages : ℕ → ℕ
 most_loaded_pages count = count + 1 + most_filled_pages count

@@ -11,26 +11,26 @@ use Rattle.node_page.specs.Checked.{ComesTo, named_pages}
 use Rattle.node_page.specs.Standing.{PageMap}
 use Rattle.layer_pages.specs.Layers.{IsLayerAt, LayerPages, Objects, part_of_layer}
 
--- the pages stand for a layer at that root and directory, of so many objects, and the list has its pages
-pub record IsCheckedLayer (dims most : ℕ) (pages : PageMap) (root : Root) (directory count : ℕ)
+-- the pages stand for a layer with its root and its identifier table there, of so many objects, and the list has its pages
+pub record IsCheckedLayer (dims most : ℕ) (pages : PageMap) (root : Root) (ids_root count : ℕ)
     (list : List ℕ)
     : Type 0 where
   pub layer : LayerPages
   pub objects : Objects
-  pub stands : IsLayerAt dims most pages root directory layer objects
+  pub stands : IsLayerAt dims most pages root ids_root layer objects
   pub count_is : len objects ≡ count
   pub pages_are : (n : ℕ) → named_pages list n ≡ part_of_layer layer n
 
 -- A walk through a layer comes to the page: down the nodes of its tree, or along a chain of its table; or it is
 -- the catalog, which says how many objects the layer has.
 abbrev pub ComesInLayer : ℕ → PageMap → Root → ℕ → ℕ → Type 0
-ComesInLayer dims pages root directory last =
-    (last ≡ 2) ⊎ (ComesTo dims pages root.page last ⊎ ComesInTable dims pages directory last)
+ComesInLayer dims pages root ids_root last =
+    (last ≡ 2) ⊎ (ComesTo dims pages root.page last ⊎ ComesInTable dims pages ids_root last)
 
 -- the page of a tree of these objects and a table that are no layer of so many: that of the catalog, and
--- where the tree has so many, that of the directory
+-- where the tree has so many, that of the identifier table
 abbrev pub odd_page : ℕ → ℕ → List Entry → ℕ
-odd_page directory count held = if length held == count then directory else 2
+odd_page ids_root count held = if length held == count then ids_root else 2
 
 -- ---- its steps
 

@@ -10,7 +10,7 @@ use Rattle.tree_node.specs.Trees.{Tree, objects_in}
 use Rattle.tree_node.specs.declared.node.Root.{Root}
 use Rattle.node_page.specs.Parts.{Moves, Part}
 use Rattle.node_page.specs.Standing.{PageMap}
-use Rattle.id_table.specs.Changes.{AreNew, with_all}
+use Rattle.id_words.specs.Objects.{AreNew, with_all}
 use Rattle.range_query.specs.Queries.{IsRangeAnswer}
 use Rattle.nearest.specs.Nearest.{nearest_rows}
 use Rattle.layer_pages.specs.Layers.{IsLayerAt, LayerPages, Objects, part_of_layer}
@@ -21,23 +21,23 @@ use Rattle.layer_pages.specs.Questions.{nearest_objects, objects_that}
 -- each page of a layer that stands is live
 abbrev pub PagesOfALayerAreThere : Type 0
 PagesOfALayerAreThere =
-    (dims most : ℕ) (pages : PageMap) (root : Root) (directory : ℕ) (l : LayerPages) (objects : Objects)
-    → IsLayerAt dims most pages root directory l objects → (n : ℕ) → 0 < part_of_layer l n → IsSome (pages n)
+    (dims most : ℕ) (pages : PageMap) (root : Root) (ids_root : ℕ) (l : LayerPages) (objects : Objects)
+    → IsLayerAt dims most pages root ids_root l objects → (n : ℕ) → 0 < part_of_layer l n → IsSome (pages n)
 
 -- a layer that stands beside the pages of a change stands after it, and shares no page with them
 abbrev pub LayersBesideStand : Type 0
 LayersBesideStand =
-    (dims most : ℕ) (old new : PageMap) (was now : Part) (root : Root) (directory : ℕ) (l : LayerPages)
-    (objects : Objects) → Moves old new was now → IsLayerAt dims most old root directory l objects
+    (dims most : ℕ) (old new : PageMap) (was now : Part) (root : Root) (ids_root : ℕ) (l : LayerPages)
+    (objects : Objects) → Moves old new was now → IsLayerAt dims most old root ids_root l objects
     → ((n : ℕ) → 0 < part_of_layer l n → was n ≡ 0)
-    → IsLayerAt dims most new root directory l objects × ((n : ℕ) → 0 < part_of_layer l n → now n ≡ 0)
+    → IsLayerAt dims most new root ids_root l objects × ((n : ℕ) → 0 < part_of_layer l n → now n ≡ 0)
 
 -- it stands in equal pages
 abbrev pub LayersStandInEqualPages : Type 0
 LayersStandInEqualPages =
-    (dims most : ℕ) (old new : PageMap) (root : Root) (directory : ℕ) (l : LayerPages) (objects : Objects)
-    → ((n : ℕ) → new n ≡ old n) → IsLayerAt dims most old root directory l objects
-    → IsLayerAt dims most new root directory l objects
+    (dims most : ℕ) (old new : PageMap) (root : Root) (ids_root : ℕ) (l : LayerPages) (objects : Objects)
+    → ((n : ℕ) → new n ≡ old n) → IsLayerAt dims most old root ids_root l objects
+    → IsLayerAt dims most new root ids_root l objects
 
 -- the boxes of a tree are boxes where those of its objects are, since each box above them is a least box
 abbrev pub ObjectsGiveBoxes : Type 0
@@ -60,15 +60,15 @@ NewObjectsAreEntries =
 -- for, if one is
 abbrev pub RangesAnswerObjects : Type 0
 RangesAnswerObjects =
-    (dims most : ℕ) (pages : PageMap) (root : Root) (directory : ℕ) (l : LayerPages) (objects : Objects)
+    (dims most : ℕ) (pages : PageMap) (root : Root) (ids_root : ℕ) (l : LayerPages) (objects : Objects)
     (test : Bounds → Bool) (asked : Option ℕ) (rows : List (ℕ × Object))
-    → IsLayerAt dims most pages root directory l objects → IsRangeAnswer test asked l.tree rows
+    → IsLayerAt dims most pages root ids_root l objects → IsRangeAnswer test asked l.tree rows
     → rows ≡ objects_that test asked objects
 
 -- a search for the nearest answers the nearest objects of the layer
 abbrev pub NearestAreObjects : Type 0
 NearestAreObjects =
-    (dims most : ℕ) (pages : PageMap) (root : Root) (directory : ℕ) (l : LayerPages) (objects : Objects)
+    (dims most : ℕ) (pages : PageMap) (root : Root) (ids_root : ℕ) (l : LayerPages) (objects : Objects)
     (k : ℕ)
-    (point : List ℤ) → IsLayerAt dims most pages root directory l objects
+    (point : List ℤ) → IsLayerAt dims most pages root ids_root l objects
     → nearest_rows dims k point l.tree ≡ nearest_objects dims k point objects

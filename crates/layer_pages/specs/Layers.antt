@@ -10,7 +10,7 @@ use Rattle.tree_node.specs.declared.node.Root.{Root}
 use Rattle.node_page.specs.Parts.{Part}
 use Rattle.node_page.specs.Rooted.{IsTreeAt}
 use Rattle.node_page.specs.Standing.{PageMap}
-use Rattle.id_table.specs.Table.{IdTable, IdsStand, objects_of, occurs_in_ids}
+use Rattle.id_table.specs.Table.{IdTable, IdsStand, objects_of, occurs_in_ids, page_of}
 
 -- the tree and the identifier table of a layer
 pub record LayerPages : Type 0 where
@@ -31,12 +31,12 @@ pub record CanBeRoot (root : Root) : Type 0 where
   pub page : (3 ≤ root.page) × (root.page < 2 ^ 31)
 
 -- The pages stand for the layer, whose tree is at that root, with nodes of at most so many entries, and whose
--- table is at that directory. Both hold just these objects, and no page is in the layer twice.
-pub record IsLayerAt (dims most : ℕ) (pages : PageMap) (root : Root) (directory : ℕ) (l : LayerPages)
+-- table begins at that page. Both hold just these objects, and no page is in the layer twice.
+pub record IsLayerAt (dims most : ℕ) (pages : PageMap) (root : Root) (ids_root : ℕ) (l : LayerPages)
     (objects : Objects) : Type 0 where
   pub tree : IsTreeAt dims most pages root l.tree
   pub boxes : RowHasBoxes dims l.tree.row
-  pub directory_is : l.ids.page ≡ directory
+  pub ids_root_is : page_of l.ids ≡ ids_root
   pub ids : IdsStand dims pages l.ids
   pub leaves : IsPermutation (objects_in l.tree.row) (entries objects)
   pub table : objects_of l.ids ≡ objects

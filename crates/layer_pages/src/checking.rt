@@ -23,45 +23,45 @@ use std::alloc::Allocator;
 // The page that says how many objects each layer has.
 const CATALOG: u32 = 2;
 
-/// Checks the layer of `count` objects at a root and a directory, whose tree has nodes of at most `m_max`
+/// Checks the layer of `count` objects with its root and its identifier table at these pages, whose tree has nodes of at most `fanout`
 /// entries, and answers its pages.
 ///
 /// On an honest device it answers so only where such a layer stands there; else it is `Damaged` with the
 /// number of a page that a walk through the layer comes to: that of the catalog where there is another count
-/// of objects, and that of the directory where the table has others than the tree. Where such a layer stands, a refusal is `Memory` or `Device`. It
-/// makes no more than two looks for each number below the next one, whatever the pages are. Map and gate
+/// of objects, and that of the identifier table where it has others than the tree. Where such a layer stands, a refusal is `Memory` or `Device`. It
+/// makes no more than two looks for each number below the next one, and one more, whatever the pages are. Map and gate
 /// stay, also after a refusal.
 pub fn check<'a, const D: usize, B: BlockDevice, A: Allocator + Copy, H: Allocator>(
     alloc: &'a H,
     cache: &mut PageCache<B, A>,
     root: Root,
-    directory: u32,
-    m_max: u8,
+    ids_root: u32,
+    fanout: u8,
     count: u64,
 ) -> Result<Vec<u32, &'a H>, Fault>
     requires { IsDims D }
     ensures asks { Asks cache.old cache.new result }
     ensures layer { IsPageMap cache.old → IfOk result (λ list.
-        IsCheckedLayer D m_max (pages cache.old) root directory count list.items) }
+        IsCheckedLayer D fanout (pages cache.old) root ids_root count list.items) }
     ensures given_layer { IsHonest cache.old → IfOk result (λ list.
-        IsCheckedLayer D m_max (given cache.old) root directory count list.items) }
+        IsCheckedLayer D fanout (given cache.old) root ids_root count list.items) }
     ensures stands { IsHonest cache.old → (l : LayerPages) (objects : Objects)
-        → IsLayerAt D m_max (pages cache.old) root directory l objects → map.len objects ≡ count
+        → IsLayerAt D fanout (pages cache.old) root ids_root l objects → map.len objects ≡ count
         → IfErr result IsOfDevice }
-    ensures looks { looks_of cache.new ≤ looks_of cache.old + 2 * next_of cache.old }
+    ensures looks { looks_of cache.new ≤ looks_of cache.old + 2 * next_of cache.old + 1 }
     ensures damage { IsHonest cache.old → IfErr result (λ f. (n : ℕ) → f ≡ fault.Damaged n →
-        ComesInLayer D (given cache.old) root directory n) }
+        ComesInLayer D (given cache.old) root ids_root n) }
     ensures other_faults { IfErr result (λ f. IsOfDevice f ⊎ IsDamage f) }
 {
-    let tree = check_tree::<D, B, A, &H>(alloc, cache, root, m_max)?;
-    let table = check_table::<D, B, A, &H>(alloc, cache, directory)?;
-    pages_of_both(directory, count, tree, table)
+    let tree = check_tree::<D, B, A, &H>(alloc, cache, root, fanout)?;
+    let table = check_table::<D, B, A, &H>(alloc, cache, ids_root)?;
+    pages_of_both(ids_root, count, tree, table)
 }
 
 // The pages of a tree and a table, where both have the same objects, so many. No page is in both, since those
 // of a tree are of another kind.
 fn pages_of_both<'a, const D: usize, H: Allocator>(
-    directory: u32,
+    ids_root: u32,
     count: u64,
     tree: TreeFacts<D, &'a H>,
     table: TableFacts<D, &'a H>,
@@ -73,7 +73,7 @@ fn pages_of_both<'a, const D: usize, H: Allocator>(
         → IsPermutation tree.entry.pairs.items (map.entries objects)
         → IsPermutation table.entry.pairs.items (map.entries objects) → IfErr result (λ f. f ≡ fault.Memory) }
     ensures damage { IfErr result (λ f. (f ≡ fault.Memory)
-        ⊎ (f ≡ fault.Damaged (odd_page directory count tree.entry.pairs.items))) }
+        ⊎ (f ≡ fault.Damaged (odd_page ids_root count tree.entry.pairs.items))) }
     ensures faults { IfErr result (λ f. (f ≡ fault.Memory) ⊎ IsDamage f) }
 {
     let mut held = tree.pairs;
@@ -82,7 +82,7 @@ fn pages_of_both<'a, const D: usize, H: Allocator>(
         return Err(Fault::Damaged(CATALOG));
     }
     if !have_same(held.as_mut_slice(), listed.as_mut_slice()) {
-        return Err(Fault::Damaged(directory));
+        return Err(Fault::Damaged(ids_root));
     }
     let mut pages = tree.pages;
     pages.extend_from_slice(table.pages.as_slice())?;

@@ -19,29 +19,29 @@ use std::alloc::Allocator;
 
 /// Frees all pages of a layer. The gate has to be open.
 ///
-/// With a sound map, where the pages stand for a layer at that root and directory, a refusal is `Memory` or
+/// With a sound map, where the pages stand for a layer there, a refusal is `Memory` or
 /// `Device`. No page more is live, also after a refusal.
 pub fn free<const D: usize, B: BlockDevice, A: Allocator + Copy>(
     cache: &mut PageCache<B, A>,
     root: Root,
-    directory: u32,
+    ids_root: u32,
 ) -> Result<(), Fault>
     requires dims { IsDims D }
     requires open { gate_of cache.old ≡ Open }
     requires root { CanBeRoot root }
     ensures changes { Changes cache.old cache.new result }
     ensures sound { IsPageMap cache.old → (l : LayerPages) (most : ℕ) (objects : Objects)
-        → IsLayerAt D most (pages cache.old) root directory l objects → IsPageMap cache.new }
+        → IsLayerAt D most (pages cache.old) root ids_root l objects → IsPageMap cache.new }
     ensures freed { IsPageMap cache.old → (l : LayerPages) (most : ℕ) (objects : Objects)
-        → IsLayerAt D most (pages cache.old) root directory l objects
+        → IsLayerAt D most (pages cache.old) root ids_root l objects
         → OnOk result (Moves (pages cache.old) (pages cache.new) (part_of_layer l) no_page) }
     ensures grows { Grows 0 cache.old cache.new }
     ensures faults { IsPageMap cache.old → (l : LayerPages) (most : ℕ) (objects : Objects)
-        → IsLayerAt D most (pages cache.old) root directory l objects →
+        → IsLayerAt D most (pages cache.old) root ids_root l objects →
         IfErr result IsOfDevice }
     ensures other_faults { IfErr result (λ f. IsOfDevice f ⊎ IsDamage f) }
 {
     free_tree::<D, B, A>(cache, root)?;
-    free_all::<D, B, A>(cache, directory)?;
+    free_all::<D, B, A>(cache, ids_root)?;
     Ok(())
 }

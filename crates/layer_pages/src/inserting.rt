@@ -7,9 +7,11 @@ ghost use Rattle.page_file.specs.declared.gate.Gate.TheVariants.{Open};
 ghost use Rattle.page_cache.specs.Cache.{Grows, IsPageMap, gate_of, pages};
 ghost use Rattle.page_cache.specs.Calls.{Changes};
 ghost use Rattle.node_page.specs.Faults.{IsChangeFault, IsNoDamage};
+ghost use Rattle.id_table.specs.Table.{kind_of};
 ghost use Rattle.layer_pages.specs.Changes.{BecomesLayer, HasInserted, most_inserted_pages};
 ghost use Rattle.layer_pages.specs.Layers.{CanBeRoot, IsLayerAt, LayerPages, Objects, part_of_layer};
 
+use crate::layer::Layer;
 use block_device::BlockDevice;
 use node_page::{Entry, Root};
 use page_cache::PageCache;
@@ -18,47 +20,53 @@ use reinsert::{Waiting, insert_with};
 use std::alloc::Allocator;
 
 /// Inserts an object, whose identifier the layer does not have, and answers the root of its tree: by a lawful
-/// insertion into the tree, whose nodes have at most `m_max` entries, and then into the identifier table. The
-/// gate has to be open.
+/// insertion into the tree, and then into the identifier table. The gate has to be open.
 ///
-/// With a sound map, where the pages stand for a layer at that root and directory, a refusal is `Memory` or
-/// `Device`, or `NoPages` where each page number is live. One that touched no page leaves the map as it was.
-/// Also after a refusal at most `most_inserted_pages` more pages are live.
+/// With a sound map, where the pages stand for that layer, a refusal is `Memory` or `Device`, or `NoPages`
+/// where each page number is live. One that touched no page leaves the map as it was. Also after a refusal at
+/// most `most_inserted_pages` more pages are live.
 pub fn insert<const D: usize, B: BlockDevice, A: Allocator + Copy>(
     cache: &mut PageCache<B, A>,
-    root: Root,
-    directory: u32,
+    layer: Layer,
     object: &Entry<D>,
-    m_max: u8,
     waiting: &mut Waiting<D>,
 ) -> Result<Root, Fault>
     requires dims { IsDims D }
     requires open { gate_of cache.old ≡ Open }
-    requires most { (4 ≤ m_max) × (m_max ≤ 100) }
-    requires root { CanBeRoot root }
+    requires most { (4 ≤ layer.fanout) × (layer.fanout ≤ 100) }
+    requires root { CanBeRoot layer.root }
     ensures changes { Changes cache.old cache.new result }
     ensures root { IfOk result CanBeRoot }
     ensures sound { IsPageMap cache.old → (l : LayerPages) (objects : Objects)
-        → IsLayerAt D m_max (pages cache.old) root directory l objects →
+        → IsLayerAt D layer.fanout (pages cache.old) layer.root layer.ids_root l objects →
         IfOk result (λ _. IsPageMap cache.new) }
     ensures inserted { IsPageMap cache.old → (l : LayerPages) (objects : Objects)
-        → IsLayerAt D m_max (pages cache.old) root directory l objects
+        → IsLayerAt D layer.fanout (pages cache.old) layer.root layer.ids_root l objects
         → map.contains_key objects object.now.reference ≡ false → IfOk result (λ after.
-        BecomesLayer D m_max (pages cache.old) (pages cache.new) (part_of_layer l) after directory
+        BecomesLayer D layer.fanout (pages cache.old) (pages cache.new) (part_of_layer l)
+        (kind_of l.ids) after
+        layer.ids_root
         (map.insert objects object.now.reference (object.now.bounds, object.now.tag))
-        (HasInserted D m_max l object.now.reference (object.now.bounds, object.now.tag))) }
+        (HasInserted D layer.fanout l object.now.reference (object.now.bounds, object.now.tag))) }
     ensures grows { Grows most_inserted_pages cache.old cache.new }
     ensures faults { IsPageMap cache.old → (l : LayerPages) (objects : Objects)
-        → IsLayerAt D m_max (pages cache.old) root directory l objects
+        → IsLayerAt D layer.fanout (pages cache.old) layer.root layer.ids_root l objects
         → IfErr result (IsNoDamage cache.new) }
     ensures other_faults { IfErr result IsChangeFault }
 {
     // a box that was looked at is known to be one
     let _ = object.bounds.low();
-    let after = insert_with(cache, root, object, 0, usize::from(m_max), waiting)?;
+    let after = insert_with(
+        cache,
+        layer.root,
+        object,
+        0,
+        usize::from(layer.fanout),
+        waiting,
+    )?;
     id_table::add(
         cache,
-        directory,
+        layer.ids_root,
         object.reference,
         &object.bounds,
         object.tag,

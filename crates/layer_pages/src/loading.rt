@@ -1,6 +1,6 @@
 //! All objects of a layer at once.
 
-ghost use Rattle.std.specs.Prelude.{◌≡◌, ◌≤◌, ◌%◌, ℕ, true, false, map as each, All};
+ghost use Rattle.std.specs.Prelude.{◌≡◌, ◌≤◌, ℕ, true, false, map as each, All};
 ghost use Rattle.std.specs.Prelude.{IfErr, IfOk, IsPermutation, OnOk, length};
 ghost use Rattle.std.specs.FinMap as map;
 ghost use Rattle.box_math.specs.Bounds.{IsBox, IsDims};
@@ -10,10 +10,13 @@ ghost use Rattle.page_cache.specs.Cache.{Grows, IsPageMap, gate_of, pages};
 ghost use Rattle.page_cache.specs.Calls.{Changes};
 ghost use Rattle.tree_node.specs.Nodes.{items_of};
 ghost use Rattle.node_page.specs.Faults.{IsNoDamage};
+ghost use Rattle.id_table.specs.Table.{kind_of};
 ghost use Rattle.layer_pages.specs.Changes.{BecomesLayer, BecomesTable, HasPacked, item_of_object};
-ghost use Rattle.layer_pages.specs.Changes.{most_filled_pages, most_loaded_pages};
+ghost use Rattle.id_table.specs.Changes.{most_filled_pages};
+ghost use Rattle.layer_pages.specs.Changes.{most_loaded_pages};
 ghost use Rattle.layer_pages.specs.Layers.{CanBeRoot, IsLayerAt, LayerPages, Objects, part_of_layer};
 
+use crate::layer::Layer;
 use block_device::BlockDevice;
 use box_math::BBox;
 use condense::free_tree;
@@ -23,50 +26,51 @@ use page_cache::PageCache;
 use page_file::Fault;
 use std::alloc::Allocator;
 
-/// Puts these objects into a layer without objects, and answers the root of its tree, which is packed and has
-/// nodes of at most `m_max` entries. Their identifiers are all different. The gate has to be open. The
-/// objects are left in another order.
+/// Puts these objects into a layer without objects, and answers the root of its tree, which is packed. Their
+/// identifiers are all different. The gate has to be open. The objects are left in another order.
 ///
-/// With a sound map, where the pages stand for a layer without objects at that root and directory, a refusal
-/// is `Memory` or `Device`, or `NoPages` where each page number is live. Also after a refusal at most
-/// `most_loaded_pages` more pages are live.
+/// With a sound map, where the pages stand for that layer without objects, a refusal is `Memory` or `Device`,
+/// or `NoPages` where each page number is live. Also after a refusal at most `most_loaded_pages` more pages
+/// are live.
 pub fn load<const D: usize, B: BlockDevice, A: Allocator + Copy, H: Allocator + Copy>(
     alloc: H,
     cache: &mut PageCache<B, A>,
-    root: Root,
-    directory: u32,
+    layer: Layer,
     objects: &mut [(u64, (BBox<D>, u32))],
-    m_max: u8,
 ) -> Result<Root, Fault>
     requires dims { IsDims D }
     requires open { gate_of cache.old ≡ Open }
-    requires most { (4 ≤ m_max) × (m_max ≤ 100) }
-    requires root { CanBeRoot root }
+    requires most { (4 ≤ layer.fanout) × (layer.fanout ≤ 100) }
+    requires root { CanBeRoot layer.root }
     ensures changes { Changes cache.old cache.new result }
     ensures root { IfOk result CanBeRoot }
     ensures sound { IsPageMap cache.old → (l : LayerPages) (most : ℕ) (all : Objects)
-        → IsLayerAt D most (pages cache.old) root directory l map.empty →
+        → IsLayerAt D most (pages cache.old) layer.root layer.ids_root l map.empty →
         IsPermutation objects.old (map.entries all)
         → IfOk result (λ _. IsPageMap cache.new) }
     ensures loaded { IsPageMap cache.old → (l : LayerPages) (most : ℕ) (all : Objects)
-        → IsLayerAt D most (pages cache.old) root directory l map.empty →
+        → IsLayerAt D most (pages cache.old) layer.root layer.ids_root l map.empty →
         IsPermutation objects.old (map.entries all)
         → IfOk result (λ after.
-        BecomesLayer D m_max (pages cache.old) (pages cache.new) (part_of_layer l) after
-        directory all (HasPacked D m_max objects.old)) }
+        BecomesLayer D layer.fanout (pages cache.old) (pages cache.new) (part_of_layer l)
+        (kind_of l.ids) after
+        layer.ids_root all (HasPacked D layer.fanout objects.old)) }
     ensures same { IsPermutation objects.old objects.new }
-    ensures grows { Grows (most_loaded_pages (length objects.old)) cache.old cache.new }
+    ensures grows { IsPageMap cache.old → (l : LayerPages) (most : ℕ) (all : Objects)
+        → IsLayerAt D most (pages cache.old) layer.root layer.ids_root l map.empty →
+        IsPermutation objects.old (map.entries all)
+        → Grows (most_loaded_pages (length objects.old)) cache.old cache.new }
     ensures faults { IsPageMap cache.old → (l : LayerPages) (most : ℕ) (all : Objects)
-        → IsLayerAt D most (pages cache.old) root directory l map.empty →
+        → IsLayerAt D most (pages cache.old) layer.root layer.ids_root l map.empty →
         IsPermutation objects.old (map.entries all)
         → IfErr result (IsNoDamage cache.new) }
 {
     let mut entries = entries_of(alloc, objects)?;
-    let after = bulk_load::load(alloc, cache, entries.as_mut_slice(), m_max)?;
+    let after = bulk_load::load(alloc, cache, entries.as_mut_slice(), layer.fanout)?;
     if !can_be_root(after) {
         return Err(Fault::Damaged(after.page));
     }
-    put_ids(cache, root, directory, objects)?;
+    put_ids(cache, layer.root, layer.ids_root, objects)?;
     Ok(after)
 }
 
@@ -104,7 +108,7 @@ fn can_be_root(root: Root) -> bool
 fn put_ids<const D: usize, B: BlockDevice, A: Allocator + Copy>(
     cache: &mut PageCache<B, A>,
     root: Root,
-    directory: u32,
+    ids_root: u32,
     objects: &mut [(u64, (BBox<D>, u32))],
 ) -> Result<(), Fault>
     requires dims { IsDims D }
@@ -112,27 +116,25 @@ fn put_ids<const D: usize, B: BlockDevice, A: Allocator + Copy>(
     requires root { CanBeRoot root }
     ensures changes { Changes cache.old cache.new result }
     ensures sound { IsPageMap cache.old → (l : LayerPages) (most : ℕ) (all : Objects)
-        → IsLayerAt D most (pages cache.old) root directory l map.empty →
+        → IsLayerAt D most (pages cache.old) root ids_root l map.empty →
         IsPermutation objects.old (map.entries all)
         → OnOk result (IsPageMap cache.new) }
     ensures put { IsPageMap cache.old → (l : LayerPages) (most : ℕ) (all : Objects)
-        → IsLayerAt D most (pages cache.old) root directory l map.empty →
+        → IsLayerAt D most (pages cache.old) root ids_root l map.empty →
         IsPermutation objects.old (map.entries all)
-        → OnOk result (BecomesTable D (pages cache.old) (pages cache.new) (part_of_layer l) directory all) }
+        → OnOk result (BecomesTable D (pages cache.old) (pages cache.new) (part_of_layer l) (kind_of l.ids)
+        ids_root all) }
     ensures same { IsPermutation objects.old objects.new }
-    ensures grows { Grows (most_filled_pages (length objects.old)) cache.old cache.new }
+    ensures grows { IsPageMap cache.old → (l : LayerPages) (most : ℕ) (all : Objects)
+        → IsLayerAt D most (pages cache.old) root ids_root l map.empty →
+        IsPermutation objects.old (map.entries all)
+        → Grows (most_filled_pages (length objects.old)) cache.old cache.new }
     ensures faults { IsPageMap cache.old → (l : LayerPages) (most : ℕ) (all : Objects)
-        → IsLayerAt D most (pages cache.old) root directory l map.empty →
+        → IsLayerAt D most (pages cache.old) root ids_root l map.empty →
         IsPermutation objects.old (map.entries all)
         → IfErr result (IsNoDamage cache.new) }
 {
-    // each page of the table is then looked at in a row
-    objects.sort_unstable_by_key(
-        |object| -> u64
-            ensures { result ≡ object.entry.now.0 % 1000 }
-        { object.0 % 1000 },
-    );
-    fill(cache, directory, objects)?;
+    fill(cache, ids_root, objects)?;
     free_tree::<D, B, A>(cache, root)?;
     Ok(())
 }

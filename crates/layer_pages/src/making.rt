@@ -15,18 +15,20 @@ ghost use Rattle.layer_pages.specs.Layers.{CanBeRoot};
 
 use arrayvec::ArrayVec;
 use block_device::BlockDevice;
+use id_table::TableKind;
 use node_page::{Node, Root, write_node};
 use page_cache::PageCache;
 use page_file::Fault;
 use std::alloc::Allocator;
 
-/// Makes a layer of no objects in pages that were not live, and answers its root and the page of its
-/// directory. The gate has to be open.
+/// Makes a layer of no objects in pages that were not live, with an identifier table of this kind, and answers
+/// its root and the first page of that table. The gate has to be open.
 ///
 /// With a sound map a refusal is `Memory` or `Device`, or `NoPages` where each page number is live. Also after
 /// a refusal at most two more pages are live.
 pub fn make<const D: usize, B: BlockDevice, A: Allocator + Copy>(
     cache: &mut PageCache<B, A>,
+    kind: TableKind,
 ) -> Result<(Root, u32), Fault>
     requires dims { IsDims D }
     requires open { gate_of cache.old ≡ Open }
@@ -34,14 +36,15 @@ pub fn make<const D: usize, B: BlockDevice, A: Allocator + Copy>(
     ensures places { IfOk result (λ made. CanBeRoot made.0 × (3 ≤ made.1) × (made.1 < next_of cache.new)) }
     ensures sound { IsPageMap cache.old → IsPageMap cache.new }
     ensures made { IsPageMap cache.old → (most : ℕ) → IfOk result (λ made.
-        BecomesLayer D most (pages cache.old) (pages cache.new) no_page made.0 made.1 map.empty IsEmptyLeaf) }
+        BecomesLayer D most (pages cache.old) (pages cache.new) no_page kind made.0 made.1 map.empty
+        IsEmptyLeaf) }
     ensures grows { Grows 2 cache.old cache.new }
     ensures faults { IsPageMap cache.old → IfErr result (IsNoDamage cache.new) }
     ensures other_faults { IfErr result IsChangeFault }
 {
     let page = make_leaf::<D, B, A>(cache)?;
-    let directory = id_table::make::<D, B, A>(cache)?;
-    Ok((Root { page, level: 0 }, directory))
+    let ids_root = id_table::make::<D, B, A>(cache, kind)?;
+    Ok((Root { page, level: 0 }, ids_root))
 }
 
 // Gives out a page and writes an empty leaf into it.

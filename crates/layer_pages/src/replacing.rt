@@ -8,9 +8,11 @@ ghost use Rattle.page_cache.specs.Cache.{Grows, IsPageMap, gate_of, pages};
 ghost use Rattle.page_cache.specs.Calls.{Changes};
 ghost use Rattle.node_page.specs.Faults.{IsChangeFault, IsNoDamage};
 ghost use Rattle.condense.specs.Removed.{IsRefused};
+ghost use Rattle.id_table.specs.Table.{kind_of};
 ghost use Rattle.layer_pages.specs.Changes.{BecomesLayer, HasReplaced, most_replaced_pages};
 ghost use Rattle.layer_pages.specs.Layers.{CanBeRoot, IsLayerAt, LayerPages, Objects, part_of_layer};
 
+use crate::layer::Layer;
 use block_device::BlockDevice;
 use box_math::BBox;
 use condense::{Kept, remove_with};
@@ -20,66 +22,63 @@ use page_file::Fault;
 use reinsert::{Waiting, insert_with};
 use std::alloc::Allocator;
 
-/// Gives the object with that identifier, which the layer has with the box `old` and that tag, the box `new`,
-/// and answers the root of its tree: by a lawful removal from the tree, whose nodes have at most `m_max`
-/// entries, then a lawful insertion, and then its other box in the identifier table. Its tag stays. The gate
-/// has to be open.
+/// Gives the object with that identifier, which the layer has with that box and that tag, the box `new`, and
+/// answers the root of its tree: by a lawful removal from the tree, then a lawful insertion, and then its
+/// other box in the identifier table. Its tag stays. The gate has to be open.
 ///
-/// With a sound map, where the pages stand for a layer at that root and directory, a refusal is `Memory` or
-/// `Device`, or `NoPages` where each page number is live. One that touched no page leaves the map as it was.
-/// Where the layer does not have the object with the box `old` and that tag, that is `Damaged` with the root's
-/// page, and no page is touched, unless memory or the device refused before. Also after a refusal at most
-/// `most_replaced_pages` more pages are live.
+/// With a sound map, where the pages stand for that layer, a refusal is `Memory` or `Device`, or `NoPages`
+/// where each page number is live. One that touched no page leaves the map as it was. Where the layer does
+/// not have the object with that box and that tag, that is `Damaged` with the root's page, and no page is
+/// touched, unless memory or the device refused before. Also after a refusal at most `most_replaced_pages`
+/// more pages are live.
 pub fn replace<const D: usize, B: BlockDevice, A: Allocator + Copy>(
     cache: &mut PageCache<B, A>,
-    root: Root,
-    directory: u32,
-    id: u64,
-    old: &BBox<D>,
-    tag: u32,
+    layer: Layer,
+    object: &Entry<D>,
     new: &BBox<D>,
-    m_max: u8,
     waiting: &mut Waiting<D>,
     kept: &mut Kept<D>,
 ) -> Result<Root, Fault>
     requires dims { IsDims D }
     requires open { gate_of cache.old ≡ Open }
-    requires most { (4 ≤ m_max) × (m_max ≤ 100) }
-    requires root { CanBeRoot root }
+    requires most { (4 ≤ layer.fanout) × (layer.fanout ≤ 100) }
+    requires root { CanBeRoot layer.root }
     ensures changes { Changes cache.old cache.new result }
     ensures root { IfOk result CanBeRoot }
     ensures sound { IsPageMap cache.old → (l : LayerPages) (objects : Objects)
-        → IsLayerAt D m_max (pages cache.old) root directory l objects →
-        map.get objects id ≡ Some (old.now, tag)
+        → IsLayerAt D layer.fanout (pages cache.old) layer.root layer.ids_root l objects →
+        map.get objects object.now.reference ≡ Some (object.now.bounds, object.now.tag)
         → IfOk result (λ _. IsPageMap cache.new) }
     ensures replaced { IsPageMap cache.old → (l : LayerPages) (objects : Objects)
-        → IsLayerAt D m_max (pages cache.old) root directory l objects →
-        map.get objects id ≡ Some (old.now, tag)
+        → IsLayerAt D layer.fanout (pages cache.old) layer.root layer.ids_root l objects →
+        map.get objects object.now.reference ≡ Some (object.now.bounds, object.now.tag)
         → IfOk result (λ after.
-        BecomesLayer D m_max (pages cache.old) (pages cache.new) (part_of_layer l) after
-        directory (map.insert objects id (new.now, tag))
-        (HasReplaced D m_max l id (old.now, tag) (new.now, tag))) }
+        BecomesLayer D layer.fanout (pages cache.old) (pages cache.new) (part_of_layer l)
+        (kind_of l.ids) after
+        layer.ids_root (map.insert objects object.now.reference (new.now, object.now.tag))
+        (HasReplaced D layer.fanout l object.now.reference (object.now.bounds, object.now.tag)
+        (new.now, object.now.tag))) }
     ensures absent { IsPageMap cache.old → (l : LayerPages) (objects : Objects)
-        → IsLayerAt D m_max (pages cache.old) root directory l objects →
-        ¬ (map.get objects id ≡ Some (old.now, tag))
-        → IsRefused root.page cache.old cache.new result }
+        → IsLayerAt D layer.fanout (pages cache.old) layer.root layer.ids_root l objects →
+        ¬ (map.get objects object.now.reference ≡ Some (object.now.bounds, object.now.tag))
+        → IsRefused layer.root.page cache.old cache.new result }
     ensures grows { Grows most_replaced_pages cache.old cache.new }
     ensures faults { IsPageMap cache.old → (l : LayerPages) (objects : Objects)
-        → IsLayerAt D m_max (pages cache.old) root directory l objects →
-        map.get objects id ≡ Some (old.now, tag)
+        → IsLayerAt D layer.fanout (pages cache.old) layer.root layer.ids_root l objects →
+        map.get objects object.now.reference ≡ Some (object.now.bounds, object.now.tag)
         → IfErr result (IsNoDamage cache.new) }
     ensures other_faults { IfErr result IsChangeFault }
 {
     // a box that was looked at is known to be one
     let _ = new.low();
-    let most = usize::from(m_max);
-    let between = remove_with(cache, root, id, old, tag, most, waiting, kept)?;
-    let object = Entry {
+    let most = usize::from(layer.fanout);
+    let between = remove_with(cache, layer.root, object, most, waiting, kept)?;
+    let moved = Entry {
         bounds: *new,
-        reference: id,
-        tag,
+        reference: object.reference,
+        tag: object.tag,
     };
-    let after = insert_with(cache, between, &object, 0, most, waiting)?;
-    id_table::update(cache, directory, id, new)?;
+    let after = insert_with(cache, between, &moved, 0, most, waiting)?;
+    id_table::update(cache, layer.ids_root, object.reference, new)?;
     Ok(after)
 }

@@ -19,7 +19,8 @@ use Rattle.live_layers.proofs.StopLemmas.{image_of, shut_is_durable, this_one}
 use Rattle.node_page.specs.Standing.{PageMap}
 use Rattle.page_cache.specs.Cache.{IsHonest}
 use Rattle.page_cache.proofs.Behind.{shut_lies}
-use Rattle.page_file.specs.File.{IsNewFile, IsPageMap, LiesIn, blocks_of, next_of, pages}
+use Rattle.page_file.specs.File.{IsNewFile, IsPageMap, LiesIn, blocks_of, next_of, pages, version_of}
+use Rattle.page_file.specs.declared.header.Version.TheVariants.{Two}
 use Rattle.page_file.specs.Laws.{a_run_goes_on}
 use Rattle.page_file.specs.Layout.{catalog_block}
 use Rattle.page_file.specs.Opening.{IsRefused}
@@ -97,11 +98,12 @@ new_image blocks new = record {
 }
 
 -- so are those of a file that was made
-pub made_image : {D : Type 0} {m : _} (file : PageFile D m) → LiesIn file (blocks_of file) → next_of file ≡ 3
-    → pages file 2 ≡ Some catalog_block → ((k : ℕ) → ¬ (k ≡ 2) → pages file k ≡ None) → IsPageMap file
+pub made_image : {D : Type 0} {m : _} (file : PageFile D m) → LiesIn file (blocks_of file) → version_of file ≡ Two
+    → next_of file ≡ 3 → pages file 2 ≡ Some catalog_block → ((k : ℕ) → ¬ (k ≡ 2) → pages file k ≡ None) → IsPageMap file
     → IsImage (blocks_of file) empty
-made_image file lies next catalog others map = new_image (blocks_of file) (record {
+made_image file lies version next catalog others map = new_image (blocks_of file) (record {
   passes = lies.passes;
+  version = lies.version ∙ version;
   next = lies.next ∙ next;
   catalog = lies.pages_there 2 ∙ catalog;
   others = λ k ne. lies.pages_there k ∙ others k ne;

@@ -5,8 +5,9 @@ use Rattle.live_layers.specs.Keeping as keeping
 use Rattle.live_layers.specs.Keeping.{IsSound, Leaves, cache_of}
 use Rattle.live_layers.specs.Staying.{KeepsPagesAndRecords}
 use Rattle.live_layers.specs.declared.layers.Layers.{Layers}
-use Rattle.page_cache.specs.Cache.{IsHonest, KeepsGate, blocks_of, device_of, looks_of}
+use Rattle.page_cache.specs.Cache.{IsHonest, KeepsGate, blocks_of, device_of, looks_of, version_of}
 use Rattle.page_cache.specs.declared.cache.PageCache.{PageCache}
+use Rattle.page_file.specs.declared.header.Version.{Version}
 use Rattle.plain_table.specs.Table.{Table}
 use Rattle.layer_store.specs.Checked.{Standing}
 use Rattle.store_law.specs.Sessions.{Reaches, SessionState}
@@ -29,6 +30,13 @@ device_in store = device_of (cache_in store)
 
 abbrev pub blocks_in : {D A : Type 0} {m : _} → Store D A m → Blocks
 blocks_in store = blocks_of (cache_in store)
+
+-- the version of its file, and that to which it may be raised
+abbrev pub file_version : {D A : Type 0} {m : _} → Store D A m → Version
+file_version store = version_of (cache_in store)
+
+abbrev pub newest_in : {D A : Type 0} {m : _} → Store D A m → Version
+newest_in store = keeping.newest_of store.layers
 
 -- how many nodes its questions have looked at, and other pages
 abbrev pub looks_in : {D A : Type 0} {m : _} → Store D A m → ℕ

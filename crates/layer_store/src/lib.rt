@@ -6,5 +6,6 @@ pub mod laws;
 mod store;
 
 pub use live_layers::LayerOutline;
+pub use page_file::Version;
 pub use plain_table::{AnyBox, DumpRow, LayerInfo, RawBox, RawPoint, RawQuery, Refusal};
 pub use store::{Store, create_store, open_store};

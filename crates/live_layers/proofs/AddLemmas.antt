@@ -6,7 +6,7 @@ use Rattle.std.proofs.Math.Nat.{min-eq_left}
 use Rattle.std.specs.FinMap.{contains_key, entries, insert as map_insert, len-entries}
 use Rattle.box_math.specs.Objects.{Object}
 use Rattle.catalog_page.specs.Layout.{Record, records_of}
-use Rattle.id_table.specs.Table.{part_of}
+use Rattle.id_table.specs.Table.{kind_of, part_of}
 use Rattle.layer_pages.specs.Changes.{BecomesLayer, HasInserted}
 use Rattle.layer_pages.specs.Layers.{CanBeRoot, IsLayerAt, part_of_layer}
 use Rattle.page_cache.specs.Cache.{IsPageMap, next_of, pages}
@@ -53,14 +53,15 @@ module _ {D A : Type 0} {m : _} (kept : Layers D A m) (t : Table) (name : List �
       let row : Record = (reading kept t name place sound finds).row in
       by_record row ∙ ap located_by (row_there kept t name place sound finds row)
 
-  pub stands_at : IsLayerAt dims located.fanout (pages kept.cache) located.root located.directory
+  pub stands_at : IsLayerAt dims located.fanout (pages kept.cache) located.root located.ids_root
       (reading kept t name place sound finds).pages (layer_at t name).objects
   stands_at = stands_here kept t name place sound finds located by_row dims is_dims
 
   module _ (id : ℕ) (o : Object) (absent : contains_key (layer_at t name).objects id ≡ false)
       (cache : PageCache D A m) (root : Root)
       (became : BecomesLayer dims located.fanout (pages kept.cache) (pages cache)
-      (part_of_layer (reading kept t name place sound finds).pages) root located.directory
+      (part_of_layer (reading kept t name place sound finds).pages)
+      (kind_of (reading kept t name place sound finds).pages.ids) root located.ids_root
       (map_insert (layer_at t name).objects id o)
       (HasInserted dims located.fanout (reading kept t name place sound finds).pages id o))
       (new : Layers D A m) (same : new.cache ≡ cache) (was count : ℕ)
@@ -72,12 +73,14 @@ module _ {D A : Type 0} {m : _} (kept : Layers D A m) (t : Table) (name : List �
       → records_of new.records ≡ slice_set (records_of kept.records) place
       (with_tree (get_or (records_of kept.records) place d) root count)) where
     became_new : BecomesLayer dims located.fanout (pages kept.cache) (pages new.cache)
-        (part_of_layer (reading kept t name place sound finds).pages) root located.directory
+        (part_of_layer (reading kept t name place sound finds).pages)
+        (kind_of (reading kept t name place sound finds).pages.ids) root located.ids_root
         (map_insert (layer_at t name).objects id o)
         (HasInserted dims located.fanout (reading kept t name place sound finds).pages id o)
     became_new =
         subst (λ (x : PageCache D A m). BecomesLayer dims located.fanout (pages kept.cache) (pages x)
-        (part_of_layer (reading kept t name place sound finds).pages) root located.directory
+        (part_of_layer (reading kept t name place sound finds).pages)
+        (kind_of (reading kept t name place sound finds).pages.ids) root located.ids_root
         (map_insert (layer_at t name).objects id o)
         (HasInserted dims located.fanout (reading kept t name place sound finds).pages id o)) (sym same)
         became

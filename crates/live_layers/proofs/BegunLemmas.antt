@@ -5,7 +5,7 @@ use Rattle.block_device.specs.Device.{Blocks, LeavesOnly}
 use Rattle.catalog_page.specs.Layout.{records_of}
 use Rattle.live_layers.specs.Broken.{before, cause_in, told_by}
 use Rattle.live_layers.specs.declared.broken.Broken.{Broken}
-use Rattle.page_cache.specs.Cache.{IsHonest, IsUnchanged, KeepsMap, blocks_of, device_of, gate_of}
+use Rattle.page_cache.specs.Cache.{IsHonest, IsUnchanged, KeepsMap, blocks_of, device_of, gate_of, next_of}
 use Rattle.page_cache.specs.Calls.{ChangesUntil, faults_behind}
 use Rattle.page_cache.specs.declared.cache.PageCache.{PageCache}
 use Rattle.page_file.specs.Fault.{faults_after}
@@ -15,6 +15,7 @@ use Rattle.page_file.specs.declared.fault.Fault.TheVariants as fault
 use Rattle.page_file.specs.declared.gate.Gate.TheVariants.{Open}
 use Rattle.plain_table.specs.Table.{Table}
 use Rattle.live_layers.specs.Begun.{Begins, BeginsChange}
+use Rattle.live_layers.specs.Image.{IsRefusedOrImageOf}
 use Rattle.live_layers.specs.Keeping.{IsSound}
 use Rattle.live_layers.specs.Staying.{KeepsPagesAndRecords}
 use Rattle.live_layers.specs.declared.layers.Layers.{Layers}
@@ -118,6 +119,23 @@ module _ {D A : Type 0} {m : _} {T : Type 0} where
         faults = changes.faults ∙ ap (faults_after f) begun.faults;
       })
 
+  -- what was changed, and then the version of its file
+  begins_same : (old made new : PageCache D A m) (y : T) → device_of new ≡ device_of made
+      → gate_of new ≡ gate_of made → next_of new ≡ next_of made → Begins old made (Ok y) → Begins old new (Ok y)
+  begins_same old made new y device gate next b = record {
+    stops = λ ts honest rests. subst
+        (λ (d : D). LeavesOnly m.moment m.left_since m.recovery (device_of old) d (IsRefusedOrImageOf ts))
+        (sym device) (b.stops ts honest rests);
+    rests = λ ts honest rests closed. absurd (closed (gate ∙ b.opened));
+    opened = gate ∙ b.opened;
+    broke_open = tt;
+    told = tt;
+    stays_open = λ open'. gate ∙ b.stays_open open';
+    honest = (λ h. subst m.honest (sym device) (b.honest.0 h), λ h. b.honest.1 (subst m.honest device h));
+    next = omega (arith, b.next, next);
+    faults = ap m.faults device ∙ b.faults;
+  }
+
   -- ---- of layers
 
   -- there was no memory
@@ -163,6 +181,19 @@ module _ {D A : Type 0} {m : _} {T : Type 0} where
           written = λ was. same.2 ∙ was;
         }));
     written = on_any_err result _ (λ was. same.2 ∙ keeps.written was);
+  }
+
+  pub made_and_admitted : {S : Type 0} (old mid new : Layers D A m) (cache : PageCache D A m) {x : S} {y : T}
+      → device_of new.cache ≡ device_of cache → gate_of new.cache ≡ gate_of cache
+      → next_of new.cache ≡ next_of cache → Begins old.cache mid.cache (Ok x)
+      → ChangesUntil mid.cache cache None → BeginsChange old new (Ok y)
+  made_and_admitted old mid new cache {x} {y} device gate next begun changes = record {
+    begins =
+        begins_same old.cache cache new.cache y device gate next
+        (begun_and_made old.cache mid.cache cache x y begun changes);
+    untouched = λ t sound. tt;
+    kept = tt;
+    written = tt;
   }
 
   pub made_behind : {S : Type 0} (old mid new : Layers D A m) (cache : PageCache D A m) {x : S} {y : T}

@@ -37,26 +37,26 @@ pub record GoodRecord (next : ℕ) (r : Record) : Type 0 where
   pub layer : is_layer r ≡ true
   pub low : r.level ≤ 40
   pub root : is_page next r.root ≡ true
-  pub directory : is_page next r.directory ≡ true
+  pub ids_root : is_page next r.ids_root ≡ true
 
 pub good_parts : (next : ℕ) (r : Record) → is_layer_record next r ≡ true → GoodRecord next r
 good_parts next r e =
     let front = is_layer r && nat_le r.level 40 in
-    let three = first_so (front && is_page next r.root) (is_page next r.directory) e in
+    let three = first_so (front && is_page next r.root) (is_page next r.ids_root) e in
     let two = first_so front (is_page next r.root) three in
     record {
       layer = first_so (is_layer r) (nat_le r.level 40) two;
       low = not_more r.level 40 (second_so (is_layer r) (nat_le r.level 40) two);
       root = second_so front (is_page next r.root) three;
-      directory = second_so (front && is_page next r.root) (is_page next r.directory) e;
+      ids_root = second_so (front && is_page next r.root) (is_page next r.ids_root) e;
     }
 
 pub from_parts : (next : ℕ) (r : Record) → GoodRecord next r → is_layer_record next r ≡ true
 from_parts next r g =
-    both_true {s = (is_layer r && nat_le r.level 40) && is_page next r.root} {t = is_page next r.directory}
+    both_true {s = (is_layer r && nat_le r.level 40) && is_page next r.root} {t = is_page next r.ids_root}
     (both_true {s = is_layer r && nat_le r.level 40} {t = is_page next r.root}
     (both_true {s = is_layer r} {t = nat_le r.level 40} g.layer (at_most r.level 40 g.low)) g.root)
-    g.directory
+    g.ids_root
 
 -- a good record where more pages were given out
 pub more_record : (next next' : ℕ) (r : Record) → next ≤ next' → is_layer_record next r ≡ true
@@ -68,7 +68,7 @@ more_record next next' r le e =
       layer = g.layer;
       low = g.low;
       root = more_pages next next' r.root le g.root;
-      directory = more_pages next next' r.directory le g.directory;
+      ids_root = more_pages next next' r.ids_root le g.ids_root;
     })
 
 -- the records of a good catalog, of which there may be so many objects

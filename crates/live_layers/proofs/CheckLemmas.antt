@@ -27,7 +27,7 @@ use Rattle.live_layers.proofs.LayerLemmas.{layer_at_stands, layer_stays, layers_
 
 -- a layer that was checked, its pages appended
 pub adds_layer : (dims : ℕ) (pages : PageMap) (r : Record) (list before now : List ℕ) → r.dims ≡ dims
-    → IsCheckedLayer dims r.fanout pages (root_of r) r.directory r.count list → now ≡ before ++ list
+    → IsCheckedLayer dims r.fanout pages (root_of r) r.ids_root r.count list → now ≡ before ++ list
     → AddsLayer pages r before now
 adds_layer dims pages r list before now axes checked is = record {
   layer = record {
@@ -37,7 +37,7 @@ adds_layer dims pages r list before now axes checked is = record {
   };
   row = refl;
   stands = record {
-    at = subst (λ (d : ℕ). IsLayerAt d r.fanout pages (root_of r) r.directory checked.layer checked.objects)
+    at = subst (λ (d : ℕ). IsLayerAt d r.fanout pages (root_of r) r.ids_root checked.layer checked.objects)
         (sym axes) checked.stands;
     dims = refl;
     fanout = refl;
@@ -55,10 +55,10 @@ adds_layer dims pages r list before now axes checked is = record {
 -- a layer that stands, as it is checked
 module _ (dims : ℕ) (pages : PageMap) (r : Record) (h : Reading) (row : h.row ≡ r) (axes : r.dims ≡ dims)
     (stands : LayerStands pages h) where
-  pub layer_of_row : IsLayerAt dims r.fanout pages (root_of r) r.directory h.pages h.layer.objects
+  pub layer_of_row : IsLayerAt dims r.fanout pages (root_of r) r.ids_root h.pages h.layer.objects
   layer_of_row =
-      subst (λ (d : ℕ). IsLayerAt d r.fanout pages (root_of r) r.directory h.pages h.layer.objects) axes
-      (subst (λ (x : Record). IsLayerAt x.dims x.fanout pages (root_of x) x.directory h.pages
+      subst (λ (d : ℕ). IsLayerAt d r.fanout pages (root_of r) r.ids_root h.pages h.layer.objects) axes
+      (subst (λ (x : Record). IsLayerAt x.dims x.fanout pages (root_of x) x.ids_root h.pages
       h.layer.objects) row stands.at)
 
   pub count_of_row : len h.layer.objects ≡ r.count
@@ -151,15 +151,15 @@ damaged_fault fault.WrongVersion n e = let no : refusal.WrongVersion ≡ refusal
 damaged_fault fault.NoPages n e = let no : refusal.NoPages ≡ refusal.Damaged n = e in absurd (cc)
 
 -- a walk through a layer is one through each layer's pages that agree
-pub comes_in_same : (dims : ℕ) (m m' : PageMap) (root : Root) (directory n : ℕ) → ((k : ℕ) → m k ≡ m' k)
-    → ComesInLayer dims m root directory n → ComesInLayer dims m' root directory n
-comes_in_same dims m m' root directory n same comes =
-    subst (λ (p : PageMap). ComesInLayer dims p root directory n) (λ i k. same k i) comes
+pub comes_in_same : (dims : ℕ) (m m' : PageMap) (root : Root) (ids_root n : ℕ) → ((k : ℕ) → m k ≡ m' k)
+    → ComesInLayer dims m root ids_root n → ComesInLayer dims m' root ids_root n
+comes_in_same dims m m' root ids_root n same comes =
+    subst (λ (p : PageMap). ComesInLayer dims p root ids_root n) (λ i k. same k i) comes
 
 pub comes_in_all : (m m' : PageMap) (rs : List Record) (n : ℕ) → ((k : ℕ) → m k ≡ m' k)
     → ComesInLayers m rs n → ComesInLayers m' rs n
 comes_in_all m m' rs n same comes =
-    (comes.0, comes.1, comes_in_same comes.0.dims m m' (root_of comes.0) comes.0.directory n same comes.2)
+    (comes.0, comes.1, comes_in_same comes.0.dims m m' (root_of comes.0) comes.0.ids_root n same comes.2)
 
 pub among_records : (items : List LayerRecord) (i : ℕ) (r : LayerRecord) → i < length items
     → r ≡ get_or items i r → Contains (map record_of items) (record_of r)

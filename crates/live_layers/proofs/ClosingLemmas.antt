@@ -55,6 +55,7 @@ module _ {D A : Type 0} {m : _} where
   unchanged_keeps_gate old new same = record {
     gate = same.gate;
     honest = (λ h. subst m.honest (sym same.device) h, λ h. subst m.honest same.device h);
+    version = λ h. same.version;
     blocks = λ h closed. ap m.shown same.device;
     stops = λ h. record {
       later = let e = ap m.moment same.device in omega (arith, e);

@@ -31,13 +31,13 @@ use Rattle.live_layers.proofs.UsedLemmas.{some_listed}
 
 -- the pages of layers, by their objects
 pages_of_layers : (limit : ℕ) (pages : PageMap) (hs : List Reading) → LayersStand pages hs
-    → 100 * sum_over limit (of_layers hs) ≤ 101 * objects_named (map row_of hs) + 100200 * length hs
+    → 28 * sum_over limit (of_layers hs) ≤ 29 * objects_named (map row_of hs) + 28056 * length hs
 pages_of_layers limit pages [] stand = omega (arith, sum_none limit)
 pages_of_layers limit pages (h ∷ hs) stand =
     omega (
       arith,
       sum_both limit (of_layer h) (of_layers hs),
-      pages_of_layer h.row.dims h.row.fanout limit pages (root_of h.row) h.row.directory h.pages
+      pages_of_layer h.row.dims h.row.fanout limit pages (root_of h.row) h.row.ids_root h.pages
           h.layer.objects stand.0.at,
       stand.0.count,
       sum_by-cons (λ (r : Record). r.count) h.row (map row_of hs),
@@ -55,8 +55,8 @@ module _ {D A : Type 0} {m : _} (kept : Layers D A m) (t : Table) (sound : IsSou
       (a_page_is_live_or_free (cache_of kept) n low below)
 
   -- The live pages: the catalog, and those of each layer.
-  live_pages : 100 * next_of (cache_of kept) ≤ 100 * free_count_of (cache_of kept) + 300 + 101 * object_count
-      t + 100200 * length (records_in kept)
+  live_pages : 28 * next_of (cache_of kept) ≤ 28 * free_count_of (cache_of kept) + 84 + 29 * object_count t
+      + 28056 * length (records_in kept)
   live_pages =
       let next = next_of (cache_of kept) in
       let hs = sound.holds.layers in
@@ -77,8 +77,8 @@ module _ {D A : Type 0} {m : _} (kept : Layers D A m) (t : Table) (sound : IsSou
       )
 
   module _ (few : length (records_in kept) ≤ 60) where
-    pub few_pages_are_live : next_of (cache_of kept) ≤ free_count_of (cache_of kept) + 3 + object_count
-        t + object_count t / 100 + 60 * 1002
+    pub few_pages_are_live : next_of (cache_of kept) ≤ free_count_of (cache_of kept) + 3 + object_count t
+        + object_count t / 28 + 60 * 1002
     few_pages_are_live = omega (arith, few, live_pages)
 
     -- no change of so few objects makes each page number live

@@ -16,11 +16,16 @@ use Rattle.std.proofs.lemmas.List.Sums.{sum_by-insert}
 use Rattle.box_math.specs.Objects.{Object}
 use Rattle.catalog_page.specs.Layout.{Record, record_of, records_of}
 use Rattle.catalog_page.specs.declared.layer_record.LayerRecord.{LayerRecord}
+use Rattle.id_table.specs.declared.kind.TableKind.{TableKind}
+use Rattle.id_table.specs.declared.kind.TableKind.TheVariants as kinds
 use Rattle.layer_pages.specs.Changes.{BecomesLayer, IsEmptyLeaf}
 use Rattle.layer_pages.specs.Layers.{CanBeRoot}
 use Rattle.node_page.specs.Parts.{no_page}
 use Rattle.page_cache.specs.Cache.{IsPageMap, next_of, pages}
 use Rattle.page_cache.specs.Laws.{a_live_page_was_given_out}
+use Rattle.node_page.specs.Standing.{PageMap}
+use Rattle.page_file.specs.declared.header.Version.{Version}
+use Rattle.page_file.specs.declared.header.Version.TheVariants.{Two, Three}
 use Rattle.plain_table.specs.Commands.Command.{Create}
 use Rattle.plain_table.specs.Step.{after, changed, kept_or, refusal_of}
 use Rattle.plain_table.specs.Table.{Layer, Table, is_dims, is_fanout, is_layer_name, most_objects}
@@ -29,7 +34,7 @@ use Rattle.plain_table.specs.declared.refusal.Refusal.TheVariants as refusal
 use Rattle.tree_node.specs.Trees.{Tree}
 use Rattle.tree_node.specs.declared.node.Root.{Root}
 use Rattle.live_layers.specs.Catalog.{AreLayers, is_layer, is_layer_record}
-use Rattle.live_layers.specs.Creating.{BringsTree, MayBeLayer, new_layer}
+use Rattle.live_layers.specs.Creating.{BringsTree, MayBeLayer, kind_in, new_layer, version_after}
 use Rattle.live_layers.specs.Keeping.{Belongs, IsSound}
 use Rattle.live_layers.specs.Layers.{Holds, IsTreeOf, LayerStands, Reading, entry_of, of_layers, row_of}
 use Rattle.live_layers.specs.declared.layers.Layers.{Layers}
@@ -88,38 +93,38 @@ it_grows t name dims fanout none absent = λ same.
 
 -- the record of a layer that is made
 abbrev pub made_record : List ℕ → ℕ → ℕ → Root → ℕ → Record
-made_record name dims fanout root directory =
+made_record name dims fanout root ids_root =
     record {
       name = name;
       dims = dims;
       fanout = fanout;
       level = root.level;
       root = root.page;
-      directory = directory;
+      ids_root = ids_root;
       count = 0;
     }
 
-is_layer_made : (name : List ℕ) (dims fanout : ℕ) (root : Root) (directory : ℕ) → MayBeLayer name dims fanout
-    → is_layer (made_record name dims fanout root directory) ≡ true
-is_layer_made name dims fanout root directory may =
+is_layer_made : (name : List ℕ) (dims fanout : ℕ) (root : Root) (ids_root : ℕ) → MayBeLayer name dims fanout
+    → is_layer (made_record name dims fanout root ids_root) ≡ true
+is_layer_made name dims fanout root ids_root may =
     both_true {s = is_layer_name name && is_dims dims} {t = is_fanout fanout}
     (both_true {s = is_layer_name name} {t = is_dims dims} may.named may.axes) may.sized
 
 -- records of layers that may be, and one more
 pub one_more_may_be : (records : List Record) (place : ℕ) (name : List ℕ) (dims fanout : ℕ) (root : Root)
-    (directory : ℕ) → MayBeLayer name dims fanout → CanBeRoot root → 3 ≤ directory → directory < 2 ^ 31
-    → (new : List Record) → new ≡ insert records place (made_record name dims fanout root directory)
+    (ids_root : ℕ) → MayBeLayer name dims fanout → CanBeRoot root → 3 ≤ ids_root → ids_root < 2 ^ 31
+    → (new : List Record) → new ≡ insert records place (made_record name dims fanout root ids_root)
     → AreLayers records → AreLayers new
-one_more_may_be records place name dims fanout root directory may can low below new is each =
+one_more_may_be records place name dims fanout root ids_root may can low below new is each =
     subst AreLayers (sym is)
     (All-insert (λ (r : Record). is_layer_record (2 ^ 31) r ≡ true) records place
-    (made_record name dims fanout root directory)
-    (from_parts (2 ^ 31) (made_record name dims fanout root directory)
+    (made_record name dims fanout root ids_root)
+    (from_parts (2 ^ 31) (made_record name dims fanout root ids_root)
     (record {
-      layer = is_layer_made name dims fanout root directory may;
+      layer = is_layer_made name dims fanout root ids_root may;
       low = can.level;
       root = a_page (2 ^ 31) root.page can.page.0 can.page.1;
-      directory = a_page (2 ^ 31) directory low below;
+      ids_root = a_page (2 ^ 31) ids_root low below;
     })) each)
 
 -- the record that is put in
@@ -139,19 +144,35 @@ contains_more xs i y x le (k, lt, is) = ⊎_elim
     (k + 1, omega (arith, lt, length-insert xs i y le), get_or-insert_above xs i y x k more le ∙ is))
     (cases_lt k i)
 
+-- ---- the version
+
+pub version_made : (newest was mid now : Version) (kind : TableKind) → kind ≡ kind_in newest
+    → (kind ≡ kinds.Chains → now ≡ mid) → (kind ≡ kinds.Tree → now ≡ Three) → mid ≡ was → now ≡ version_after newest was
+version_made Two was mid now kind is chains tree same = chains is ∙ same
+version_made Three was mid now kind is chains tree same = tree is
+
+-- a layer that was made stands where the pages stayed
+pub made_still : (old mid new : PageMap) (dims fanout : ℕ) (kind : TableKind) (root : Root) (ids_root : ℕ)
+    → ((n : ℕ) → new n ≡ mid n)
+    → BecomesLayer dims fanout old mid no_page kind root ids_root empty IsEmptyLeaf
+    → BecomesLayer dims fanout old new no_page kind root ids_root empty IsEmptyLeaf
+made_still old mid new dims fanout kind root ids_root same =
+    subst (λ (p : PageMap). BecomesLayer dims fanout old p no_page kind root ids_root empty IsEmptyLeaf)
+    (λ i n. sym (same n) i)
+
 -- ---- the pages
 
 module _ {D A : Type 0} {m : _} (kept new : Layers D A m) (t : Table) (name : List ℕ) (place : ℕ)
     (sound : IsSound kept t) (belongs : Belongs t name place) (dims fanout : ℕ)
     (may : MayBeLayer name dims fanout)
-    (root : Root) (directory : ℕ)
-    (became : BecomesLayer dims fanout (pages kept.cache) (pages new.cache) no_page root directory empty
+    (root : Root) (ids_root : ℕ) (kind : TableKind)
+    (became : BecomesLayer dims fanout (pages kept.cache) (pages new.cache) no_page kind root ids_root empty
     IsEmptyLeaf) (can : CanBeRoot root) (le : next_of kept.cache ≤ next_of new.cache)
     (records : records_of new.records ≡ insert (records_of kept.records) place
-    (made_record name dims fanout root directory)) where
+    (made_record name dims fanout root ids_root)) where
   abbrev made : Reading
   made = record {
-    row = made_record name dims fanout root directory;
+    row = made_record name dims fanout root ids_root;
     pages = became.layer;
     layer = new_layer dims fanout;
   }
@@ -172,11 +193,11 @@ module _ {D A : Type 0} {m : _} (kept new : Layers D A m) (t : Table) (name : Li
   few = omega (arith, no_more_objects t name place dims fanout belongs, sound.within, sound.counted)
 
   held : Holds (pages new.cache) (next_of new.cache)
-      (insert (records_of kept.records) place (made_record name dims fanout root directory))
+      (insert (records_of kept.records) place (made_record name dims fanout root ids_root))
       (map_insert t name (new_layer dims fanout))
   held = holds_more (pages kept.cache) (pages new.cache) (next_of kept.cache) (next_of new.cache)
       (records_of kept.records) t sound.holds name place belongs made stands refl became.moves le given
-      (is_layer_made name dims fanout root directory may) can.level few
+      (is_layer_made name dims fanout root ids_root may) can.level few
 
   -- the layers are sound with the table that has one more
   pub sound_made : IsPageMap new.cache → new.object_count ≡ kept.object_count → new.written ≡ false
@@ -196,7 +217,7 @@ module _ {D A : Type 0} {m : _} (kept new : Layers D A m) (t : Table) (name : Li
   theirs_stay =
       all_stay (pages kept.cache) (pages new.cache) (next_of kept.cache) (next_of new.cache)
       (records_of kept.records) t sound.holds name place belongs made stands refl became.moves le given
-      (is_layer_made name dims fanout root directory may) can.level few
+      (is_layer_made name dims fanout root ids_root may) can.level few
 
   -- and so do their trees
   their_trees_stay : (other : List ℕ) (s : Tree)
@@ -222,7 +243,7 @@ module _ {D A : Type 0} {m : _} (kept new : Layers D A m) (t : Table) (name : Li
   unfolding stands
   tree_made =
       let K = records_of kept.records in
-      let row = made_record name dims fanout root directory in
+      let row = made_record name dims fanout root ids_root in
       record {
         now = became.layer.tree;
         after = subst (λ (rs : List Record). IsTreeOf (pages new.cache) rs name became.layer.tree)

@@ -79,12 +79,12 @@ all_meet dims (o ∷ os) boxes =
     ∙ ap (λ (xs : List (ℕ × Object)). o ∷ xs) (all_meet dims os (All-tail (HasBox dims) o os boxes))
 
 -- so all objects of a layer meet it
-pub all_objects_meet : (dims most : ℕ) (pages : PageMap) (root : Root) (directory : ℕ) (l : LayerPages)
-    (objects : Objects) → IsLayerAt dims most pages root directory l objects
+pub all_objects_meet : (dims most : ℕ) (pages : PageMap) (root : Root) (ids_root : ℕ) (l : LayerPages)
+    (objects : Objects) → IsLayerAt dims most pages root ids_root l objects
     → filter
     (λ (o : ℕ × Object). meets_test dims (bounds_of o.1) (everywhere dims) && has_tag None o.1)
     (entries objects) ≡ entries objects
-all_objects_meet dims most pages root directory l objects at =
+all_objects_meet dims most pages root ids_root l objects at =
     all_meet dims (entries objects)
     (All-permutation (HasBox dims) (objects_in l.tree.row) (entries objects) at.leaves
     (boxes_in dims l.tree.row at.boxes))

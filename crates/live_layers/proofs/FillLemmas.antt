@@ -10,6 +10,7 @@ use Rattle.std.proofs.lemmas.List.Sorted.{IsPermutation-cons, IsPermutation-refl
 use Rattle.std.proofs.lemmas.List.Sorted.{length_permutation}
 use Rattle.box_math.specs.Objects.{Object}
 use Rattle.catalog_page.specs.Layout.{Record, records_of}
+use Rattle.id_table.specs.Table.{kind_of}
 use Rattle.layer_pages.specs.Changes.{BecomesLayer, HasPacked}
 use Rattle.layer_pages.specs.Layers.{CanBeRoot, IsLayerAt, Objects, part_of_layer}
 use Rattle.layer_pages.proofs.ObjectLemmas.{one_entry_more}
@@ -32,17 +33,18 @@ module _ {D A : Type 0} {m : _} (kept : Layers D A m) (t : Table) (name : List �
     (located : Located)
     (by_record : (d : Record) → located ≡ located_by (get_or (records_of kept.records) place d))
     (dims : ℕ) (is_dims : (layer_at t name).dims ≡ dims) (none : len (layer_at t name).objects ≡ 0) where
-  pub stands_empty : IsLayerAt dims located.fanout (pages kept.cache) located.root located.directory
+  pub stands_empty : IsLayerAt dims located.fanout (pages kept.cache) located.root located.ids_root
       (reading kept t name place sound finds).pages empty
   stands_empty =
-      subst (λ (o : Objects). IsLayerAt dims located.fanout (pages kept.cache) located.root located.directory
+      subst (λ (o : Objects). IsLayerAt dims located.fanout (pages kept.cache) located.root located.ids_root
       (reading kept t name place sound finds).pages o) (empty_of_len (layer_at t name).objects none)
       (stands_at kept t name place sound finds located by_record dims is_dims)
 
   module _ (objects : List (ℕ × Object)) (all : Objects) (same_objects : IsPermutation objects (entries all))
       (cache : PageCache D A m) (root : Root)
       (became : BecomesLayer dims located.fanout (pages kept.cache) (pages cache)
-      (part_of_layer (reading kept t name place sound finds).pages) root located.directory all
+      (part_of_layer (reading kept t name place sound finds).pages)
+      (kind_of (reading kept t name place sound finds).pages.ids) root located.ids_root all
       (HasPacked dims located.fanout objects))
       (new : Layers D A m) (same : new.cache ≡ cache) (can : CanBeRoot root)
       (le : next_of kept.cache ≤ next_of cache) (room : kept.object_count + length objects ≤ most_objects)
@@ -50,11 +52,13 @@ module _ {D A : Type 0} {m : _} (kept : Layers D A m) (t : Table) (name : List �
       → records_of new.records ≡ slice_set (records_of kept.records) place
       (with_tree (get_or (records_of kept.records) place d) root (length objects))) where
     became_new : BecomesLayer dims located.fanout (pages kept.cache) (pages new.cache)
-        (part_of_layer (reading kept t name place sound finds).pages) root located.directory all
+        (part_of_layer (reading kept t name place sound finds).pages)
+        (kind_of (reading kept t name place sound finds).pages.ids) root located.ids_root all
         (HasPacked dims located.fanout objects)
     became_new =
         subst (λ (x : PageCache D A m). BecomesLayer dims located.fanout (pages kept.cache) (pages x)
-        (part_of_layer (reading kept t name place sound finds).pages) root located.directory all
+        (part_of_layer (reading kept t name place sound finds).pages)
+        (kind_of (reading kept t name place sound finds).pages.ids) root located.ids_root all
         (HasPacked dims located.fanout objects)) (sym same) became
 
     counts : length (entries all) ≡ length objects

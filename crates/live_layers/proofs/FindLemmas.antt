@@ -13,6 +13,7 @@ use Rattle.std.proofs.lemmas.List.{get_or-map, length-map}
 use Rattle.plain_table.specs.Table.{Table, Layer, no_layer}
 use Rattle.catalog_page.specs.Layout.{Record, record_of}
 use Rattle.catalog_page.specs.declared.layer_record.LayerRecord.{LayerRecord}
+use Rattle.id_table.specs.Table.{no_table}
 use Rattle.node_page.specs.Standing.{PageMap}
 use Rattle.tree_node.specs.Trees.{end}
 use Rattle.live_layers.specs.Keeping.{Belongs, Finds}
@@ -82,14 +83,14 @@ no_record =
       fanout = 0;
       level = 0;
       root = 0;
-      directory = 0;
+      ids_root = 0;
       count = 0;
     }
 
 abbrev pub no_reading : Reading
 no_reading = record {
-  row = record { name = []; dims = 0; fanout = 0; level = 0; root = 0; directory = 0; count = 0 };
-  pages = record { tree = record { page = 0; level = 0; row = end }; ids = record { page = 0; chains = [] } };
+  row = record { name = []; dims = 0; fanout = 0; level = 0; root = 0; ids_root = 0; count = 0 };
+  pages = record { tree = record { page = 0; level = 0; row = end }; ids = no_table };
   layer = no_layer;
 }
 

@@ -11,7 +11,8 @@ use Rattle.std.proofs.lemmas.List.{map-set}
 use Rattle.std.proofs.lemmas.List.Elements.{All-set, All-weaker}
 use Rattle.std.proofs.lemmas.List.Sums.{sum_by-cons}
 use Rattle.catalog_page.specs.Layout.{Record}
-use Rattle.id_table.proofs.TableLemmas.{occurs_here}
+use Rattle.id_table.specs.Table.{page_of}
+use Rattle.id_table.proofs.TableLemmas.{begins_in_itself}
 use Rattle.node_page.specs.Parts.{IsAllOf, Moves, Part, both, no_page, one_page}
 use Rattle.node_page.specs.Rooted.{IsTreeAt}
 use Rattle.node_page.specs.Standing.{PageMap}
@@ -86,15 +87,15 @@ record_good pages next h others stands all given layer low =
     let apart = not_the_catalog n (omega (arith, all.once n, p)) in
     a_page next n (omega (arith, where'.0, apart)) where'.1 in
     let root = h.pages.tree.page in
-    let directory = h.pages.ids.page in
+    let ids_root = page_of h.pages.ids in
     from_parts next h.row (record {
       layer = layer;
       low = low;
       root = subst (λ (n : ℕ). is_page next n ≡ true) stands.at.tree.page_is
           (good root (omega (arith, begins root)));
-      directory =
-          subst (λ (n : ℕ). is_page next n ≡ true) stands.at.directory_is
-          (good directory (omega (arith, occurs_here directory)));
+      ids_root =
+          subst (λ (n : ℕ). is_page next n ≡ true) stands.at.ids_root_is
+          (good ids_root (omega (arith, begins_in_itself h.pages.ids)));
     })
 
 -- ---- the layer at a place

@@ -208,12 +208,12 @@ joins_answer dims within s t xs ys pairs same same' sorted sorted' answer =
 
 -- what a join of the trees of two layers answers are the pairs of the table
 pub pairs_are : (dims within most other_most : ℕ) (pages : PageMap) (root other_root : Root)
-    (directory other_directory : ℕ) (l o : LayerPages) (first second : Layer) (pairs : List (ℕ × ℕ))
+    (ids_root other_ids_root : ℕ) (l o : LayerPages) (first second : Layer) (pairs : List (ℕ × ℕ))
     → first.dims ≡ dims
-    → IsLayerAt dims most pages root directory l first.objects
-    → IsLayerAt dims other_most pages other_root other_directory o second.objects
+    → IsLayerAt dims most pages root ids_root l first.objects
+    → IsLayerAt dims other_most pages other_root other_ids_root o second.objects
     → IsJoinAnswer dims within l.tree o.tree pairs → pairs ≡ join_rows first second within
-pairs_are dims within most other_most pages root other_root directory other_directory l o first second pairs
+pairs_are dims within most other_most pages root other_root ids_root other_ids_root l o first second pairs
     same at at' answer =
     joins_answer dims within l.tree o.tree (entries first.objects) (entries second.objects) pairs at.leaves
     at'.leaves (entries_sorted first.objects) (entries_sorted second.objects) answer

@@ -3,9 +3,7 @@ use Rattle.std.proofs.Common.{◌≡◌, ◌∙◌, ℕ, zero, suc, ◌+◌, ◌
 use Rattle.std.proofs.Common.{arith}
 use Rattle.std.specs.Prelude.{slice_set}
 use Rattle.std.specs.List.{insert}
-use Rattle.id_table.specs.Table.{IdTable, IdsStand, chain_at, link_at, occurs_in_ids}
-use Rattle.id_table.proofs.ReplaceLemmas.{chain_stays}
-use Rattle.id_table.proofs.TableLemmas.{chain_in_table, occurs_here}
+use Rattle.id_table.proofs.TableLemmas.{ids_stay}
 use Rattle.layer_pages.specs.Layers.{IsLayerAt, LayerPages, Objects, part_of_layer}
 use Rattle.node_page.specs.Parts.{Part}
 use Rattle.node_page.specs.Standing.{PageMap}
@@ -15,25 +13,10 @@ use Rattle.live_layers.specs.Layers.{Reading, LayerStands, LayersStand, of_layer
 
 -- ---- equal pages
 
-pub ids_stay : (dims : ℕ) (old new : PageMap) (t : IdTable)
-    → ((n : ℕ) → 0 < occurs_in_ids n t → new n ≡ old n) → IdsStand dims old t → IdsStand dims new t
-ids_stay dims old new t same h = record {
-  directory = h.directory;
-  there = same t.page (omega (arith, occurs_here t.page)) ∙ h.there;
-  low = h.low;
-  spelled = h.spelled;
-  whole = h.whole;
-  chains = λ class lt. chain_stays dims old new (link_at class h.directory) (chain_at t class)
-      (λ n p. same n (omega (arith, p, chain_in_table n class t (omega (arith, lt, h.whole)))))
-      (h.chains class lt);
-  filled = h.filled;
-  once = h.once;
-}
-
-pub pages_stay : (dims most : ℕ) (old new : PageMap) (root : Root) (directory : ℕ) (l : LayerPages)
+pub pages_stay : (dims most : ℕ) (old new : PageMap) (root : Root) (ids_root : ℕ) (l : LayerPages)
     (objects : Objects) → ((n : ℕ) → 0 < part_of_layer l n → new n ≡ old n)
-    → IsLayerAt dims most old root directory l objects → IsLayerAt dims most new root directory l objects
-pages_stay dims most old new root directory l objects same h = record {
+    → IsLayerAt dims most old root ids_root l objects → IsLayerAt dims most new root ids_root l objects
+pages_stay dims most old new root ids_root l objects same h = record {
   tree = record {
     page_is = h.tree.page_is;
     level_is = h.tree.level_is;
@@ -41,7 +24,7 @@ pages_stay dims most old new root directory l objects same h = record {
     shape = h.tree.shape;
   };
   boxes = h.boxes;
-  directory_is = h.directory_is;
+  ids_root_is = h.ids_root_is;
   ids = ids_stay dims old new l.ids (λ n p. same n (omega (arith, p))) h.ids;
   leaves = h.leaves;
   table = h.table;
@@ -52,7 +35,7 @@ pages_stay dims most old new root directory l objects same h = record {
 pub layer_stays : (old new : PageMap) (h : Reading) → ((n : ℕ) → 0 < of_layer h n → new n ≡ old n)
     → LayerStands old h → LayerStands new h
 layer_stays old new h same stands = record {
-  at = pages_stay h.row.dims h.row.fanout old new _ h.row.directory h.pages h.layer.objects same stands.at;
+  at = pages_stay h.row.dims h.row.fanout old new _ h.row.ids_root h.pages h.layer.objects same stands.at;
   dims = stands.dims;
   fanout = stands.fanout;
   count = stands.count;

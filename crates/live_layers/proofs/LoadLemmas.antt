@@ -9,7 +9,7 @@ use Rattle.std.proofs.lemmas.Bool.Decides.{nat_tests}
 use Rattle.std.proofs.lemmas.List.{length-map}
 use Rattle.box_math.specs.Objects.{Object}
 use Rattle.catalog_page.specs.Layout.{Record, records_of}
-use Rattle.id_table.proofs.TableLemmas.{same_key}
+use Rattle.id_words.proofs.ObjectLemmas.{same_key}
 use Rattle.plain_table.specs.Commands.Command.{Load}
 use Rattle.plain_table.specs.Laws.{none_holds}
 use Rattle.plain_table.specs.Loads.{GivenObjects, are_ordered, given_object, have_dims, ids_of}

@@ -105,14 +105,14 @@ module _ {D A : Type 0} {m : _} (kept : Layers D A m) (t : Table) (name : List �
         dims = r.dims;
         fanout = r.fanout;
         root = record { page = r.root; level = r.level };
-        directory = r.directory;
+        ids_root = r.ids_root;
       })
   located_here =
       let stands =
       here_stands (pages kept.cache) (next_of kept.cache) (records_of kept.records) t sound.holds name
       place finds in
       let its =
-      subst (λ (x : Record). IsLayerAt x.dims x.fanout (pages kept.cache) (root_of x) x.directory
+      subst (λ (x : Record). IsLayerAt x.dims x.fanout (pages kept.cache) (root_of x) x.ids_root
       reading.pages reading.layer.objects) (sym row_is) stands.at in
       record {
         layer = reading.pages;
@@ -121,7 +121,7 @@ module _ {D A : Type 0} {m : _} (kept : Layers D A m) (t : Table) (name : List �
             ∙ ap (λ (x : Record). x.fanout) (sym row_is);
         stands =
             subst (λ (l : Layer). IsLayerAt r.dims r.fanout (pages kept.cache) (root_of (record_of r))
-            r.directory reading.pages l.objects) (sym layer_is) its;
+            r.ids_root reading.pages l.objects) (sym layer_is) its;
         its_tree = record {
           row = reading.row;
           among = (
@@ -140,8 +140,8 @@ module _ {D A : Type 0} {m : _} (kept : Layers D A m) (t : Table) (name : List �
 -- the layer stands with the axes that are known
 pub stands_with : {D A : Type 0} {m : _} (kept : Layers D A m) (t : Table) (name : List ℕ) (there : Located)
     (located : IsLocated kept t name there) (axes : ℕ) → there.dims ≡ axes
-    → IsLayerAt axes there.fanout (pages kept.cache) there.root there.directory located.layer
+    → IsLayerAt axes there.fanout (pages kept.cache) there.root there.ids_root located.layer
     (layer_at t name).objects
 stands_with kept t name there located axes e =
-    subst (λ (d : ℕ). IsLayerAt d there.fanout (pages kept.cache) there.root there.directory located.layer
+    subst (λ (d : ℕ). IsLayerAt d there.fanout (pages kept.cache) there.root there.ids_root located.layer
     (layer_at t name).objects) e located.stands

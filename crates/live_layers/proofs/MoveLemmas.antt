@@ -7,6 +7,7 @@ use Rattle.std.specs.FinMap.{get, insert as map_insert, len, len-insert}
 use Rattle.box_math.specs.Bounds.{Bounds}
 use Rattle.box_math.specs.Objects.{Object, bounds_of, tag_of}
 use Rattle.catalog_page.specs.Layout.{Record, records_of}
+use Rattle.id_table.specs.Table.{kind_of}
 use Rattle.layer_pages.specs.Changes.{BecomesLayer, HasReplaced}
 use Rattle.layer_pages.specs.Layers.{CanBeRoot, part_of_layer}
 use Rattle.page_cache.specs.Cache.{IsPageMap, next_of, pages}
@@ -80,8 +81,9 @@ module _ {D A : Type 0} {m : _} (kept : Layers D A m) (t : Table) (name : List �
     (id : ℕ) (known : Object) (bounds : Bounds) (there : get (layer_at t name).objects id ≡ Some known)
     (cache : PageCache D A m) (root : Root)
     (became : BecomesLayer dims located.fanout (pages kept.cache) (pages cache)
-    (part_of_layer (read kept t name place sound finds located by_record dims is_dims)) root
-    located.directory (map_insert (layer_at t name).objects id (bounds, tag_of known))
+    (part_of_layer (read kept t name place sound finds located by_record dims is_dims))
+    (kind_of (read kept t name place sound finds located by_record dims is_dims).ids) root
+    located.ids_root (map_insert (layer_at t name).objects id (bounds, tag_of known))
     (HasReplaced dims located.fanout (read kept t name place sound finds located by_record dims is_dims) id
     known (bounds, tag_of known)))
     (new : Layers D A m) (same : new.cache ≡ cache) (count : ℕ)

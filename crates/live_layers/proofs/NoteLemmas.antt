@@ -50,7 +50,7 @@ still_layers records new place root count d lt can is each =
       layer = parts.layer;
       low = can.level;
       root = a_page (2 ^ 31) root.page can.page.0 can.page.1;
-      directory = parts.directory;
+      ids_root = parts.ids_root;
     }) in
     subst AreLayers (sym is)
     (All-set (λ (x : Record). is_layer_record (2 ^ 31) x ≡ true) records place (with_tree r root count)

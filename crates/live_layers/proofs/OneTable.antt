@@ -21,10 +21,10 @@ use Rattle.live_layers.specs.Layers.{Holds, LayerStands, LayersStand, Reading, e
 -- ---- one table
 
 -- a layer's tree, of which one stands there, has its objects
-same_objects : (dims most : ℕ) (pages : PageMap) (root : Root) (directory : ℕ) (l k : LayerPages)
-    (a b : Objects) → IsLayerAt dims most pages root directory l a
-    → IsLayerAt dims most pages root directory k b → a ≡ b
-same_objects dims most pages root directory l k a b h g =
+same_objects : (dims most : ℕ) (pages : PageMap) (root : Root) (ids_root : ℕ) (l k : LayerPages)
+    (a b : Objects) → IsLayerAt dims most pages root ids_root l a
+    → IsLayerAt dims most pages root ids_root k b → a ≡ b
+same_objects dims most pages root ids_root l k a b h g =
     let trees : l.tree ≡ k.tree =
     one_tree_stands dims pages l.tree k.tree (h.tree.page_is ∙ sym g.tree.page_is) h.tree.stands
     g.tree.stands in
@@ -39,10 +39,10 @@ same_layer : (pages : PageMap) (h k : Reading) → h.row ≡ k.row → LayerStan
     → entry_of h ≡ entry_of k
 same_layer pages h k e a b =
     let at =
-    subst (λ (r : Record). IsLayerAt r.dims r.fanout pages (root_of r) r.directory h.pages
+    subst (λ (r : Record). IsLayerAt r.dims r.fanout pages (root_of r) r.ids_root h.pages
     h.layer.objects) e a.at in
     let objects =
-    same_objects k.row.dims k.row.fanout pages (root_of k.row) k.row.directory h.pages k.pages
+    same_objects k.row.dims k.row.fanout pages (root_of k.row) k.row.ids_root h.pages k.pages
     h.layer.objects k.layer.objects at b.at in
     λ i. (
       (e i).name,

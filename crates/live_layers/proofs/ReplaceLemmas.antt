@@ -6,6 +6,7 @@ use Rattle.std.specs.FinMap.{entries, len, insert as map_insert}
 use Rattle.std.proofs.lemmas.List.{get_or-map, length-map, map-set}
 use Rattle.std.proofs.lemmas.List.Sums.{sum_by-set, sum_by_more_le}
 use Rattle.catalog_page.specs.Layout.{Record, records_of}
+use Rattle.id_table.specs.Table.{kind_of}
 use Rattle.layer_pages.specs.Changes.{BecomesLayer}
 use Rattle.layer_pages.specs.Layers.{IsLayerAt, Objects, part_of_layer}
 use Rattle.page_cache.specs.Cache.{IsPageMap, next_of, pages}
@@ -108,19 +109,19 @@ module _ {D A : Type 0} {m : _} (kept : Layers D A m) (t : Table) (name : List �
   module _ (located : Located) (by_record : located ≡ located_by reading.row) (dims : ℕ)
       (is_dims : (layer_at t name).dims ≡ dims) where
     -- it stands where it was located
-    pub stands_here : IsLayerAt dims located.fanout (pages kept.cache) located.root located.directory
+    pub stands_here : IsLayerAt dims located.fanout (pages kept.cache) located.root located.ids_root
         reading.pages (layer_at t name).objects
     stands_here =
         let its : IsLayerAt reading.row.dims reading.row.fanout (pages kept.cache) (root_of reading.row)
-        reading.row.directory reading.pages (layer_at t name).objects =
+        reading.row.ids_root reading.pages (layer_at t name).objects =
         subst (λ (l : Layer). IsLayerAt reading.row.dims reading.row.fanout (pages kept.cache)
-        (root_of reading.row) reading.row.directory reading.pages l.objects) (sym layer_there)
+        (root_of reading.row) reading.row.ids_root reading.pages l.objects) (sym layer_there)
         stands_there.at in
-        let at : IsLayerAt reading.row.dims located.fanout (pages kept.cache) located.root located.directory
+        let at : IsLayerAt reading.row.dims located.fanout (pages kept.cache) located.root located.ids_root
         reading.pages (layer_at t name).objects =
-        subst (λ (x : Located). IsLayerAt reading.row.dims x.fanout (pages kept.cache) x.root x.directory
+        subst (λ (x : Located). IsLayerAt reading.row.dims x.fanout (pages kept.cache) x.root x.ids_root
         reading.pages (layer_at t name).objects) (sym by_record) its in
-        subst (λ (k : ℕ). IsLayerAt k located.fanout (pages kept.cache) located.root located.directory
+        subst (λ (k : ℕ). IsLayerAt k located.fanout (pages kept.cache) located.root located.ids_root
         reading.pages (layer_at t name).objects) (sym dims_there ∙ is_dims) at
 
     pub fanout_here : (layer_at t name).fanout ≡ located.fanout
@@ -130,7 +131,7 @@ module _ {D A : Type 0} {m : _} (kept : Layers D A m) (t : Table) (name : List �
 
     module _ (new : Layers D A m) (root : Root) (objects : Objects) (IsSo : Tree → Type 0)
         (became : BecomesLayer dims located.fanout (pages kept.cache) (pages new.cache)
-        (part_of_layer reading.pages) root located.directory objects IsSo)
+        (part_of_layer reading.pages) (kind_of reading.pages.ids) root located.ids_root objects IsSo)
         (count : ℕ) (counts : length (entries objects) ≡ count) (low : root.level ≤ 40)
         (le : next_of kept.cache ≤ next_of new.cache)
         (few : object_count
@@ -144,12 +145,12 @@ module _ {D A : Type 0} {m : _} (kept : Layers D A m) (t : Table) (name : List �
       abbrev reading' : Reading
       reading' = record { row = with_tree reading.row root count; pages = became.layer; layer = layer' }
 
-      at' : IsLayerAt reading.row.dims reading.row.fanout (pages new.cache) root reading.row.directory
+      at' : IsLayerAt reading.row.dims reading.row.fanout (pages new.cache) root reading.row.ids_root
           became.layer objects
       at' = subst
-          (λ (x : Located). IsLayerAt reading.row.dims x.fanout (pages new.cache) root x.directory
+          (λ (x : Located). IsLayerAt reading.row.dims x.fanout (pages new.cache) root x.ids_root
           became.layer objects) by_record
-          (subst (λ (k : ℕ). IsLayerAt k located.fanout (pages new.cache) root located.directory became.layer
+          (subst (λ (k : ℕ). IsLayerAt k located.fanout (pages new.cache) root located.ids_root became.layer
           objects) (sym is_dims ∙ dims_there) became.stands)
 
       stands' : LayerStands (pages new.cache) reading'

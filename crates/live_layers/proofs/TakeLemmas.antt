@@ -9,7 +9,7 @@ use Rattle.std.specs.Ordering.{nat_cmp}
 use Rattle.box_math.specs.Objects.{Object}
 use Rattle.catalog_page.specs.Layout.{Record, records_of}
 use Rattle.condense.specs.Removal.{IsRemoval}
-use Rattle.id_table.specs.Table.{part_of}
+use Rattle.id_table.specs.Table.{kind_of, part_of}
 use Rattle.layer_pages.specs.Changes.{BecomesLayer, HasInserted, HasRemoved}
 use Rattle.layer_pages.specs.Layers.{CanBeRoot, LayerPages, Objects, part_of_layer}
 use Rattle.page_cache.specs.Cache.{IsPageMap, next_of, pages}
@@ -84,8 +84,8 @@ module _ {D A : Type 0} {m : _} (kept : Layers D A m) (t : Table) (name : List �
       (by_row kept t name place sound finds located by_record dims is_dims) dims is_dims
 
   module _ (cache : PageCache D A m) (root : Root) (objects : Objects) (IsSo : Tree → Type 0)
-      (became : BecomesLayer dims located.fanout (pages kept.cache) (pages cache) (part_of_layer read) root
-      located.directory objects IsSo)
+      (became : BecomesLayer dims located.fanout (pages kept.cache) (pages cache) (part_of_layer read)
+      (kind_of read.ids) root located.ids_root objects IsSo)
       (new : Layers D A m) (same : new.cache ≡ cache) (count : ℕ) (counts : len objects ≡ count)
       (can : CanBeRoot root) (le : next_of kept.cache ≤ next_of cache)
       (few : object_count (map_insert t name (record (layer_at t name) { objects = objects })) ≤ most_objects)
@@ -93,10 +93,10 @@ module _ {D A : Type 0} {m : _} (kept : Layers D A m) (t : Table) (name : List �
       → records_of new.records ≡ slice_set (records_of kept.records) place
       (with_tree (get_or (records_of kept.records) place d) root count)) where
     became_new : BecomesLayer dims located.fanout (pages kept.cache) (pages new.cache) (part_of_layer read)
-        root located.directory objects IsSo
+        (kind_of read.ids) root located.ids_root objects IsSo
     became_new =
         subst (λ (x : PageCache D A m). BecomesLayer dims located.fanout (pages kept.cache) (pages x)
-        (part_of_layer read) root located.directory objects IsSo) (sym same) became
+        (part_of_layer read) (kind_of read.ids) root located.ids_root objects IsSo) (sym same) became
 
     later : next_of kept.cache ≤ next_of new.cache
     later = subst (λ (x : PageCache D A m). next_of kept.cache ≤ next_of x) (sym same) le
@@ -126,8 +126,8 @@ module _ {D A : Type 0} {m : _} (kept : Layers D A m) (t : Table) (name : List �
 
   module _ (id : ℕ) (o : Object) (there : get (layer_at t name).objects id ≡ Some o)
       (cache : PageCache D A m) (root : Root)
-      (became : BecomesLayer dims located.fanout (pages kept.cache) (pages cache) (part_of_layer read) root
-      located.directory (remove (layer_at t name).objects id) (HasRemoved dims located.fanout read id o))
+      (became : BecomesLayer dims located.fanout (pages kept.cache) (pages cache) (part_of_layer read)
+      (kind_of read.ids) root located.ids_root (remove (layer_at t name).objects id) (HasRemoved dims located.fanout read id o))
       (new : Layers D A m) (same : new.cache ≡ cache) (was count : ℕ)
       (was_is : (d : Record) → was ≡ (get_or (records_of kept.records) place d).count)
       (count_is : count ≡ was - 1)

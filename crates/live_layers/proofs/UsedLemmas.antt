@@ -8,8 +8,8 @@ use Rattle.std.proofs.lemmas.Bool.{cases_eq}
 use Rattle.std.proofs.lemmas.Bool.Decides.{nat_tests}
 use Rattle.catalog_page.specs.Layout.{Record}
 use Rattle.id_table.specs.Table.{IdTable, occurs_in_ids}
+use Rattle.id_table.proofs.TableLemmas.{one_table}
 use Rattle.layer_pages.specs.Layers.{IsLayerAt}
-use Rattle.layer_pages.proofs.CheckLemmas.{one_table}
 use Rattle.layer_pages.proofs.LayerLemmas.{pages_of_a_layer}
 use Rattle.node_page.specs.Checked.{named_pages}
 use Rattle.node_page.specs.Parts.{IsAllOf}
@@ -90,7 +90,7 @@ layers_live pages [] n stand some = absurd (omega (arith, some))
 layers_live pages (h ∷ hs) n stand some = ⊎_elim
     (λ (none : of_layer h n ≡ 0). layers_live pages hs n stand.1 (omega (arith, some, none)))
     (λ (here : 0 < of_layer h n). pages_of_a_layer h.row.dims h.row.fanout pages (root_of h.row)
-    h.row.directory h.pages h.layer.objects stand.0.at n here)
+    h.row.ids_root h.pages h.layer.objects stand.0.at n here)
     (none_or_some (of_layer h n))
 
 -- where two are read from one record, they are the same
@@ -99,13 +99,13 @@ same_parts : (pages : PageMap) (h k : Reading) (n : ℕ) → h.row ≡ k.row →
 same_parts pages h k n row a b =
     let r = k.row in
     let at =
-    subst (λ (x : Record). IsLayerAt x.dims x.fanout pages (root_of x) x.directory h.pages
+    subst (λ (x : Record). IsLayerAt x.dims x.fanout pages (root_of x) x.ids_root h.pages
     h.layer.objects) row a.at in
     let trees : h.pages.tree ≡ k.pages.tree =
     one_tree_stands r.dims pages h.pages.tree k.pages.tree (at.tree.page_is ∙ sym b.at.tree.page_is)
     at.tree.stands b.at.tree.stands in
     let tables : h.pages.ids ≡ k.pages.ids =
-    one_table r.dims pages h.pages.ids k.pages.ids (at.directory_is ∙ sym b.at.directory_is) at.ids
+    one_table r.dims pages h.pages.ids k.pages.ids (at.ids_root_is ∙ sym b.at.ids_root_is) at.ids
     b.at.ids in
     omega (arith, ap (λ (t : Tree). occurs_in n t) trees, ap (λ (t : IdTable). occurs_in_ids n t) tables)
 

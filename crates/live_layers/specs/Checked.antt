@@ -28,7 +28,7 @@ IsCheckRefusal r = (f : Fault) × (r ≡ as_refusal f) × (IsOfDevice f ⊎ IsDa
 -- a walk through one of the layers comes to the page
 abbrev pub ComesInLayers : PageMap → List Record → ℕ → Type 0
 ComesInLayers pages records n = (r : Record) × Contains records r
-    × ComesInLayer r.dims pages (root_of r) r.directory n
+    × ComesInLayer r.dims pages (root_of r) r.ids_root n
 
 -- the layers of the records stand in the pages, and the live pages are those in use and no others, each in
 -- one place

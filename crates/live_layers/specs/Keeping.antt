@@ -10,6 +10,7 @@ use Rattle.page_cache.specs.Cache.{IsPageMap, blocks_of, device_of, gate_of, loo
 use Rattle.page_cache.specs.declared.cache.PageCache.{PageCache}
 use Rattle.page_file.specs.Stops.{SameButGate}
 use Rattle.page_file.specs.declared.gate.Gate.TheVariants.{Shut, Open}
+use Rattle.page_file.specs.declared.header.Version.{Version}
 use Rattle.plain_table.specs.Table.{Table, Layer, most_objects, object_count}
 use Rattle.store_law.specs.Stops.{AfterStop, Stops, tables_left}
 use Rattle.store_law.specs.Stops.AfterStop.{Surely, Perhaps}
@@ -30,6 +31,10 @@ cache_of kept = kept.cache
 
 abbrev pub records_in : {D A : Type 0} {m : _} → Layers D A m → List Record
 records_in kept = records_of kept.records
+
+-- the version that the file may be raised to
+abbrev pub newest_of : {D A : Type 0} {m : _} → Layers D A m → Version
+newest_of kept = kept.newest
 
 -- page 2 spells the records, so nothing is to be written but what the cache holds
 abbrev pub IsWritten : {D A : Type 0} {m : _} → Layers D A m → Type 0

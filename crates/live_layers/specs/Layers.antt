@@ -33,7 +33,7 @@ root_of r = record { page = r.root; level = r.level }
 -- the pages stand for the layer where its record says, and the record has its dimension, fanout and count of
 -- objects
 pub record LayerStands (pages : PageMap) (h : Reading) : Type 0 where
-  pub at : IsLayerAt h.row.dims h.row.fanout pages (root_of h.row) h.row.directory h.pages h.layer.objects
+  pub at : IsLayerAt h.row.dims h.row.fanout pages (root_of h.row) h.row.ids_root h.pages h.layer.objects
   pub dims : h.layer.dims ≡ h.row.dims
   pub fanout : h.layer.fanout ≡ h.row.fanout
   pub count : length (entries h.layer.objects) ≡ h.row.count

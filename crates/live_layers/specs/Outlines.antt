@@ -46,5 +46,5 @@ pub record IsIdPages {D A : Type 0} {m : _} (kept : Layers D A m) (t : Table) (n
   pub stands : IsLocated kept t name located
   pub pairs : List (ℕ × Object)
   pub list : List ℕ
-  pub table : IsCheckedTable located.dims (pages (cache_of kept)) located.directory pairs list
+  pub table : IsCheckedTable located.dims (pages (cache_of kept)) located.ids_root pairs list
   pub many : n ≡ length list

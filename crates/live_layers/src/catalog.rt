@@ -37,7 +37,7 @@ fn is_layer_record(layer: &LayerRecord, next: u32) -> bool
     is_layer(layer)
         && layer.level <= 40
         && is_page(next, layer.root)
-        && is_page(next, layer.directory)
+        && is_page(next, layer.ids_root)
 }
 
 // Whether the name, dimension and fanout are those of a layer that may be.

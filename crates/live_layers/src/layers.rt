@@ -29,6 +29,7 @@ use arrayvec::ArrayVec;
 use block_device::BlockDevice;
 use catalog_page::LayerRecord;
 use page_cache::PageCache;
+use page_file::Version;
 use std::alloc::Allocator;
 
 // The page of the catalog.
@@ -46,5 +47,7 @@ pub struct Layers<D: BlockDevice, A: Allocator> {
     object_count: u64,
     // true only where page 2 spells the records
     written: bool,
+    // the version that the file may be raised to: layers that are made have what it allows
+    newest: Version,
     ghost are_layers: { AreLayers (records_of records) },
 }

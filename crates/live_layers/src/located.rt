@@ -11,6 +11,6 @@ pub struct Located {
     pub fanout: u8,
     /// The root of its tree.
     pub root: Root,
-    /// The page of the directory of its identifier table.
-    pub directory: u32,
+    /// The first page of its identifier table.
+    pub ids_root: u32,
 }

@@ -35,7 +35,7 @@ use Rattle.tree_node.specs.declared.node.Root.{Root}
 use Rattle.tree_node.specs.Shape.{HasLooseShape}
 use Rattle.tree_node.proofs.SearchLemmas.{admitted_are_reached}
 use Rattle.nearest.specs.declared.candidate.Candidate.{Candidate}
-use Rattle.nearest.specs.Candidates.{IsAsFar, Past, candidate_at, offered, row_at}
+use Rattle.nearest.specs.Candidates.{Appends, IsAsFar, Past, candidate_at, offered, row_at}
 use Rattle.box_math.specs.Nearest.{nearest_first}
 use Rattle.nearest.specs.Nearest.{is_searched, nearest_rows}
 use Rattle.nearest.proofs.OrderLemmas.{Ascends-nearest_first}
@@ -415,6 +415,18 @@ nearest_moved fresh rest queue next x out perm =
     (IsPermutation-trans (queue ++ (x ∷ rest)) (x ∷ (queue ++ rest)) (next ++ rest)
     (IsPermutation-middle queue x rest) (IsPermutation-append_left rest (x ∷ queue) next perm))
 
+-- children that were appended to what was new, and those that were left out
+children_moved : (waiting kept children newest taken gone : List Candidate)
+    → IsPermutation children (taken ++ gone) → newest ≡ kept ++ taken
+    → IsPermutation ((waiting ++ kept) ++ children) ((waiting ++ newest) ++ gone)
+children_moved waiting kept children newest taken gone perm is =
+    let same : (waiting ++ kept) ++ (taken ++ gone) ≡ (waiting ++ newest) ++ gone =
+    sym (append_assoc (waiting ++ kept) taken gone)
+    ∙ ap (λ (cs : List Candidate). cs ++ gone) (append_assoc waiting kept taken)
+    ∙ ap (λ (cs : List Candidate). (waiting ++ cs) ++ gone) (sym is) in
+    subst (IsPermutation ((waiting ++ kept) ++ children)) same
+    (IsPermutation-append_right (waiting ++ kept) children (taken ++ gone) perm)
+
 -- two facts of an answer make a third
 pub on_ok_both : {T E P Q R : Type 0} (r : Result T E) → (P → Q → R) → OnOk r P → OnOk r Q → OnOk r R
 on_ok_both (Ok x) f p q = f p q
@@ -581,7 +593,8 @@ module _ {B A : Type 0} {m : _} where
             → IsPermutation (rest ++ fresh) ((waiting ++ kept) ++ gone)
             → All (λ c. Past c.distance k best) gone
             → (IsHonest now → (c : NodeContent) → node_in dims (pages now x.page) ≡ Some c
-            → c.level ≡ x.level → newest ≡ kept ++ map (candidate_at (far_from dims point) x.level) c.entries)
+            → c.level ≡ x.level → Appends k best (map (candidate_at (far_from dims point) x.level) c.entries)
+            kept newest)
             → (IsHonest now → (c : NodeContent) × (node_in dims (given now x.page) ≡ Some c)
             × (children : List Candidate) × (newest ≡ kept ++ children)
             × All (λ child. Names c child.page) children)
@@ -613,17 +626,19 @@ module _ {B A : Type 0} {m : _} where
                   (All-permutation (IsAsFar x.distance) (rest ++ fresh) (both ++ gone) moved rest_as_far) in
                   let o = opened x both near as_far within in
                   let content : NodeContent = record { level = x.level; entries = row_items o.row } in
-                  let is =
+                  let took =
                   entries (so_far.asks.gate.honest.0 h) content
                   (ap (node_in dims) (so_far.asks.map.pages_stay h x.page) ∙ o.there.node) refl in
                   let children = map (candidate_at (far_from dims point) x.level) (row_items o.row) in
-                  let f : Frontier dims (pages old) (far_from dims point) t.row k (waiting ++ newest) best
+                  let all : Frontier dims (pages old) (far_from dims point) t.row k (both ++ children) best
                   (looks_of old) (looks_of next) =
                   subst (λ (n : ℕ). Frontier dims (pages old) (far_from dims point) t.row k
-                  (waiting ++ newest) best (looks_of old) n) (sym looked)
-                  (subst (λ (cs : List Candidate). Frontier dims (pages old) (far_from dims point) t.row k cs
-                  best (looks_of old) (one_more (looks_of now)))
-                  (append_assoc waiting kept children ∙ ap (λ (cs : List Candidate). waiting ++ cs) (sym is))
-                  (o.node high)) in
+                  (both ++ children) best (looks_of old) n) (sym looked) (o.node high) in
+                  let f : Frontier dims (pages old) (far_from dims point) t.row k (waiting ++ newest) best
+                  (looks_of old) (looks_of next) =
+                  left_out (waiting ++ newest) took.gone
+                  (reordered (both ++ children) ((waiting ++ newest) ++ took.gone) all
+                  (children_moved waiting kept children newest took.kept took.gone took.all took.is))
+                  took.past in
                   reordered (waiting ++ newest) (later ++ newer) f shared;
             }

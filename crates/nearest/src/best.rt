@@ -16,7 +16,7 @@ use std::collections::BinaryHeap;
 use std::marker::Model;
 
 // Memory for so many objects is taken at once.
-const FEW: usize = 16;
+const FEW: usize = 1024;
 
 /// The k nearest objects so far. Contracts see their identifiers and distances in the order of an answer.
 #[derive(Drop)]

@@ -1,10 +1,7 @@
 //! What waits in a search: nodes that were not read yet.
 
-ghost use Rattle.std.specs.Prelude.{◌≡◌, ◌^◌, ◌<◌};
-ghost use Rattle.box_math.specs.Bounds.{IsDims};
-ghost use Rattle.box_math.specs.Measures.{point_dist2_of};
+ghost use Rattle.std.specs.Prelude.{◌≡◌, ◌^◌, ◌<◌, ◌-◌};
 ghost use Rattle.tree_node.specs.Nodes.{item_of};
-ghost use Rattle.nearest.specs.Candidates.{candidate_at, row_at};
 
 use node_page::Entry;
 
@@ -24,29 +21,25 @@ pub(crate) struct Object {
     pub(crate) identifier: u64,
 }
 
-/// The child that an entry of a node on the level names.
-pub(crate) fn child_of<const D: usize>(entry: &Entry<D>, level: u8, point: &[i32; D]) -> Candidate
-    requires dims { IsDims D }
+/// The child that an entry of a node on the level names, at the distance.
+pub(crate) fn child_of<const D: usize>(entry: &Entry<D>, level: u8, distance: u128) -> Candidate
     requires page { (item_of entry.now).reference < 2 ^ 32 }
-    ensures { result ≡ candidate_at (λ b. point_dist2_of D b point.now) level (item_of entry.now) }
+    ensures { result
+        ≡ record { distance = distance; page = (item_of entry.now).reference; level = level - 1 } }
 {
     Candidate {
-        distance: entry.bounds.point_dist2(point),
+        distance,
         page: entry.reference as u32,
         level: level.saturating_sub(1),
     }
 }
 
-/// The object that an entry of a leaf names.
-pub(crate) fn object_of<const D: usize>(entry: &Entry<D>, point: &[i32; D]) -> Object
-    requires { IsDims D }
-    ensures { (
-      result.identifier,
-      result.distance,
-    ) ≡ row_at (λ b. point_dist2_of D b point.now) (item_of entry.now) }
+/// The object that an entry of a leaf names, at the distance.
+pub(crate) fn object_of<const D: usize>(entry: &Entry<D>, distance: u128) -> Object
+    ensures { result ≡ record { distance = distance; identifier = (item_of entry.now).reference } }
 {
     Object {
-        distance: entry.bounds.point_dist2(point),
+        distance,
         identifier: entry.reference,
     }
 }

@@ -1,32 +1,33 @@
 //! The search for the objects nearest to a point: what is nearest is taken first.
 
 ghost use Rattle.std.specs.Prelude.{◌≡◌, ◌⊎◌, ℕ, ◌+◌, ◌^◌, ◌<◌, ◌≤◌, ◌++◌, Some, [], ◌∷◌};
-ghost use Rattle.std.specs.Prelude.{List, All, false, slice_get, slice_index_or, map, length, IsPermutation};
+ghost use Rattle.std.specs.Prelude.{List, All, slice_index_or, map, length, IsPermutation};
 ghost use Rattle.std.specs.Prelude.{IfOk, IfErr, IfSome, IfNone, OnOk};
 ghost use Rattle.block_device.specs.Device.{one_more};
-ghost use Rattle.box_math.specs.Bounds.{Bounds, IsBox, IsDims};
-ghost use Rattle.box_math.specs.Masks.{has_bit};
+ghost use Rattle.box_math.specs.Bounds.{IsDims};
 ghost use Rattle.box_math.specs.Measures.{point_dist2_of};
 ghost use Rattle.page_file.specs.Fault.{IsDamage, IsOfDevice};
 ghost use Rattle.page_file.specs.declared.fault.Fault.TheVariants as fault;
 ghost use Rattle.page_cache.specs.Cache.{IsHonest, given, looks_of, pages};
 ghost use Rattle.page_cache.specs.Calls.{Asks};
-ghost use Rattle.tree_node.specs.Nodes.{Item, NodeContent};
+ghost use Rattle.tree_node.specs.Nodes.{NodeContent};
 ghost use Rattle.tree_node.specs.Searches.{admitted, counted};
 ghost use Rattle.tree_node.specs.Trees.{Tree};
 ghost use Rattle.node_page.specs.Checked.{ComesTo, Names};
 ghost use Rattle.node_page.specs.Rooted.{IsTreeAt};
 ghost use Rattle.node_page.specs.Standing.{node_in};
-ghost use Rattle.node_page.specs.Views.{content_in};
-ghost use Rattle.nearest.specs.Candidates.{IsAsFar, Past, candidate_at, offered, row_at, work_in};
+ghost use Rattle.nearest.specs.Candidates.{Appends, IsAsFar, Past, candidate_at, offered};
+ghost use Rattle.nearest.specs.Candidates.{row_at, work_in};
 ghost use Rattle.nearest.specs.Nearest.{is_searched, nearest_rows};
 ghost use Rattle.nearest.specs.declared.candidate.Candidate.{Candidate};
 
 use crate::best::Best;
-use crate::candidate::{Candidate, child_of, object_of};
+use crate::candidate::Candidate;
+use crate::children::append_children;
+use crate::objects::offer_objects;
 use crate::queue::Queue;
 use block_device::BlockDevice;
-use node_page::{NodeView, Root, view_node};
+use node_page::{Root, view_node};
 use page_cache::PageCache;
 use page_file::Fault;
 use std::alloc::Allocator;
@@ -64,7 +65,7 @@ pub fn nearest<const D: usize, B: BlockDevice, A: Allocator + Copy, H: Allocator
 {
     let mut best = Best::new(alloc, k)?;
     let mut queue = Queue::new(alloc)?;
-    let mut fresh = Vec::with_capacity(alloc, MANY)?;
+    let mut fresh = Vec::with_capacity(alloc, MANY + 100)?;
     queue.push(Candidate {
         distance: 0,
         page: root.page,
@@ -76,7 +77,7 @@ pub fn nearest<const D: usize, B: BlockDevice, A: Allocator + Copy, H: Allocator
             settle(&mut fresh, &best, k, &mut queue)?;
         } else {
             settle_many(&mut fresh, &best, k, &mut queue)?;
-            look_at_children::<D, B, A, H>(cache, first, point, &mut fresh)?;
+            look_at_children::<D, B, A, H>(cache, first, point, k, &best, &mut fresh)?;
             push_nearest(&mut fresh, &mut queue)?;
         }
     }
@@ -122,50 +123,27 @@ fn look_at_objects<const D: usize, B: BlockDevice, A: Allocator + Copy, H: Alloc
     ensures other_faults { IfErr result (λ f. IsOfDevice f ⊎ IsDamage f) }
 {
     let view = view_node::<D, B, A>(cache, page, 0)?;
-    let mut mask = near_mask(&view, point, k, best);
-    for place in 0..view.len() {
-        if mask & 1 == 1 {
-            best.offer(object_of(&view.entry(place), point), k)?;
-        }
-        mask >>= 1;
-    }
-    Ok(())
+    offer_objects(&view, point, k, best)
 }
 
-// Which entries of a leaf may be among the k best: bit k of the mask is set for each but those that are
-// farther.
-fn near_mask<const D: usize, H: Allocator>(
-    view: &NodeView<'_, D>,
-    point: &[i32; D],
-    k: usize,
-    best: &Best<H>,
-) -> u128
-    requires some { 1 ≤ k }
-    requires few { length best.now ≤ k }
-    requires boxes { All (λ item. IsBox D item.bounds) (content_in view.now).entries }
-    requires small { length (content_in view.now).entries ≤ 100 }
-    ensures { (place : ℕ) (item : Item) → slice_get (content_in view.now).entries place ≡ Some item
-        → has_bit result place ≡ false → Past (point_dist2_of D item.bounds point.now) k best.now }
-{
-    if !best.is_full(k) {
-        return u128::MAX;
-    }
-    view.mask(&best.reach(point, k))
-}
-
-// Reads a node above the leaves, and appends its children.
+// Reads a node above the leaves, and appends its children, but for those that are too far when it is read.
 fn look_at_children<const D: usize, B: BlockDevice, A: Allocator + Copy, H: Allocator>(
     cache: &mut PageCache<B, A>,
     node: Candidate,
     point: &[i32; D],
+    k: usize,
+    best: &Best<H>,
     fresh: &mut Vec<Candidate, H>,
 ) -> Result<(), Fault>
     requires dims { IsDims D }
     requires above { 0 < node.level }
+    requires some { 1 ≤ k }
+    requires few { length best.now ≤ k }
     ensures asks { Asks cache.old cache.new result }
     ensures children { IsHonest cache.old → (c : NodeContent) → node_in D (pages cache.old node.page) ≡ Some c
-        → c.level ≡ node.level → OnOk result (fresh.new.items
-        ≡ fresh.old.items ++ map (candidate_at (λ b. point_dist2_of D b point.now) node.level) c.entries) }
+        → c.level ≡ node.level → OnOk result (Appends k best.now
+        (map (candidate_at (λ b. point_dist2_of D b point.now) node.level) c.entries)
+        fresh.old.items fresh.new.items) }
     ensures named { IsHonest cache.old → OnOk result ((c : NodeContent)
         × (node_in D (given cache.old node.page) ≡ Some c) × (children : List Candidate)
         × (fresh.new.items ≡ fresh.old.items ++ children) × All (λ child. Names c child.page) children) }
@@ -177,10 +155,7 @@ fn look_at_children<const D: usize, B: BlockDevice, A: Allocator + Copy, H: Allo
     ensures other_faults { IfErr result (λ f. IsOfDevice f ⊎ IsDamage f) }
 {
     let view = view_node::<D, B, A>(cache, node.page, node.level)?;
-    for place in 0..view.len() {
-        fresh.push(child_of(&view.entry(place), node.level, point))?;
-    }
-    Ok(())
+    append_children(&view, node.level, point, k, best, fresh)
 }
 
 // Moves the nearest of the new candidates into the queue. What is no farther than those there is no farther

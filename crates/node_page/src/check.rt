@@ -34,7 +34,7 @@ pub struct TreeFacts<const D: usize, H: Allocator> {
     pub pages: Vec<u32, H>,
 }
 
-/// Checks the tree at a root, each of whose nodes has at most `m_max` entries, and answers what it holds.
+/// Checks the tree at a root, each of whose nodes has at most `fanout` entries, and answers what it holds.
 ///
 /// On an honest device it answers so only where a tree of that shape stands at the root, no page of it twice;
 /// else it is `Damaged` with the number of a page that a walk down the nodes comes to. Where such a tree
@@ -44,18 +44,18 @@ pub fn check_tree<const D: usize, B: BlockDevice, A: Allocator + Copy, H: Alloca
     alloc: H,
     cache: &mut PageCache<B, A>,
     root: Root,
-    m_max: u8,
+    fanout: u8,
 ) -> Result<TreeFacts<D, H>, Fault>
     requires { IsDims D }
     ensures asks { Asks cache.old cache.new result }
     ensures tree { IsPageMap cache.old →
-        IfOk result (λ facts. IsCheckedTree D m_max (pages cache.old) root.page
+        IfOk result (λ facts. IsCheckedTree D fanout (pages cache.old) root.page
         root.level facts.pairs.items facts.pages.items) }
     ensures given_tree { IsHonest cache.old →
-        IfOk result (λ facts. IsCheckedTree D m_max (given cache.old) root.page
+        IfOk result (λ facts. IsCheckedTree D fanout (given cache.old) root.page
         root.level facts.pairs.items facts.pages.items) }
     ensures stands { IsHonest cache.old → (t : Tree) → t.page ≡ root.page → t.level ≡ root.level
-        → Stands D (pages cache.old) t → HasShape D m_max t → IfErr result IsOfDevice }
+        → Stands D (pages cache.old) t → HasShape D fanout t → IfErr result IsOfDevice }
     ensures looks { looks_of cache.new ≤ looks_of cache.old + next_of cache.old }
     ensures damage { IsHonest cache.old
         → IfErr result (λ f. (n : ℕ) → f ≡ fault.Damaged n → ComesTo D (given cache.old) root.page n) }
@@ -65,29 +65,29 @@ pub fn check_tree<const D: usize, B: BlockDevice, A: Allocator + Copy, H: Alloca
     let mut pairs = Vec::new(alloc);
     visits.visit(root.page)?;
     let node = read_node::<D, B, A>(cache, root.page, root.level)?;
-    if !is_root_count(node.entries.len(), root.level, m_max) {
+    if !is_root_count(node.entries.len(), root.level, fanout) {
         return Err(Fault::Damaged(root.page));
     }
-    add_below::<D, B, A, H>(cache, &node, m_max, &mut visits, &mut pairs)?;
+    add_below::<D, B, A, H>(cache, &node, fanout, &mut visits, &mut pairs)?;
     let pages = visits.into_pages();
     Ok(TreeFacts { pairs, pages })
 }
 
-// Whether a root of the level may have so many entries: at most `m_max`, and at least two above the leaves.
-fn is_root_count(count: usize, level: u8, m_max: u8) -> bool
-    ensures { IsTrue result ↔ ((count ≤ m_max) × (0 < level → 2 ≤ count)) }
+// Whether a root of the level may have so many entries: at most `fanout`, and at least two above the leaves.
+fn is_root_count(count: usize, level: u8, fanout: u8) -> bool
+    ensures { IsTrue result ↔ ((count ≤ fanout) × (0 < level → 2 ≤ count)) }
 {
-    count <= usize::from(m_max) && (level == 0 || count >= 2)
+    count <= usize::from(fanout) && (level == 0 || count >= 2)
 }
 
 // Whether a node fits below an entry with the box: it has the least to the most entries, and the box is the
 // least round theirs.
-fn fits_below<const D: usize>(node: &Node<D>, bounds: &BBox<D>, m_max: u8) -> bool
-    ensures { IsTrue result ↔ ((least_entries m_max ≤ length (content_of node.now).entries)
-        × (length (content_of node.now).entries ≤ m_max)
+fn fits_below<const D: usize>(node: &Node<D>, bounds: &BBox<D>, fanout: u8) -> bool
+    ensures { IsTrue result ↔ ((least_entries fanout ≤ length (content_of node.now).entries)
+        × (length (content_of node.now).entries ≤ fanout)
         × (bounds.now ≡ least_box D (content_of node.now).entries)) }
 {
-    let most = usize::from(m_max);
+    let most = usize::from(fanout);
     let count = node.entries.len();
     if count < (2 * most / 5).max(2) || count > most {
         return false;
@@ -99,7 +99,7 @@ fn fits_below<const D: usize>(node: &Node<D>, bounds: &BBox<D>, m_max: u8) -> bo
 fn add_below<const D: usize, B: BlockDevice, A: Allocator + Copy, H: Allocator + Copy>(
     cache: &mut PageCache<B, A>,
     node: &Node<D>,
-    m_max: u8,
+    fanout: u8,
     visits: &mut Visits<H>,
     pairs: &mut Vec<(u64, (BBox<D>, u32)), H>,
 ) -> Result<(), Fault>
@@ -108,10 +108,10 @@ fn add_below<const D: usize, B: BlockDevice, A: Allocator + Copy, H: Allocator +
     requires boxes { All (λ item. IsBox D item.bounds) (content_of node.now).entries }
     requires numbers { length visits.old.marks.items ≡ next_of cache.old }
     ensures asks { Asks cache.old cache.new result }
-    ensures found { IsHonest cache.old → OnOk result (AddsTree D m_max (given cache.old) (content_of node.now)
+    ensures found { IsHonest cache.old → OnOk result (AddsTree D fanout (given cache.old) (content_of node.now)
         pairs.old.items pairs.new.items visits.old.pages.items visits.new.pages.items) }
     ensures stands { IsHonest cache.old → (row : Row) → row_items row ≡ (content_of node.now).entries
-        → RowStands D (given cache.old) node.now.level row → RowHasShape D m_max row
+        → RowStands D (given cache.old) node.now.level row → RowHasShape D fanout row
         → ((n : ℕ) → times_in n visits.old.pages.items + occurs n row ≤ 1) → IfErr result IsOfDevice }
     ensures numbers { length visits.new.marks.items ≡ length visits.old.marks.items }
     ensures looks { looks_of cache.new + length visits.old.pages.items
@@ -127,10 +127,10 @@ fn add_below<const D: usize, B: BlockDevice, A: Allocator + Copy, H: Allocator +
         let page = entry.reference as u32;
         visits.visit(page)?;
         let below = read_node::<D, B, A>(cache, page, node.level - 1)?;
-        if !fits_below(&below, &entry.bounds, m_max) {
+        if !fits_below(&below, &entry.bounds, fanout) {
             return Err(Fault::Damaged(page));
         }
-        add_below::<D, B, A, H>(cache, &below, m_max, visits, pairs)?;
+        add_below::<D, B, A, H>(cache, &below, fanout, visits, pairs)?;
     }
     Ok(())
 }

@@ -122,6 +122,7 @@ module _ {D A : Type 0} {m : _} where
   map_from old new header honest blocks = record {
     next = ap (λ (h : Header). h.next) header;
     free_count = ap (λ (h : Header). h.count) header;
+    version = λ h. ap (λ (x : Header). x.version) header;
     pages_stay = λ h k. ap (λ (b : Blocks). page_of b (below.header_of new.file) k) (blocks h)
         ∙ ap (λ (x : Header). page_of (blocks_behind old) x k) header;
     given_stay = λ h k. ap (λ (b : Blocks). given_pages b (next_of new) k) (blocks h)
@@ -178,6 +179,7 @@ module _ {D A : Type 0} {m : _} where
       let header = ap (λ (f : PageFile D m). below.header_of f) file in record {
         device = ap (λ (f : PageFile D m). below.device_of f) file;
         gate = ap (λ (f : PageFile D m). below.gate_of f) file;
+        version = ap (λ (x : Header). x.version) header;
         next = ap (λ (x : Header). x.next) header;
         free_count = ap (λ (x : Header). x.count) header;
         pages_stay = λ k. ap (λ (x : Blocks). page_of x (below.header_of new.file) k) b
@@ -224,12 +226,14 @@ module _ {D A : Type 0} {m : _} (cache : PageCache D A m)
   lies_below blocks = (
     λ l. record {
       passes = l.passes;
+      version = l.version;
       next = l.next;
       pages_there = λ k. l.pages_there k ∙ pages_below k;
       sound = (λ p. l.sound.0 (map_below.1 p), λ s. map_below.0 (l.sound.1 s));
     },
     λ l. record {
       passes = l.passes;
+      version = l.version;
       next = l.next;
       pages_there = λ k. l.pages_there k ∙ sym (pages_below k);
       sound = (λ p. l.sound.0 (map_below.0 p), λ s. map_below.1 (l.sound.1 s));
@@ -269,6 +273,7 @@ module _ {D A : Type 0} {m : _} where
   map_by_file old new none_old none_new keeps = record {
     next = keeps.next;
     free_count = keeps.free_count;
+    version = keeps.version;
     pages_stay = λ h k. pages_below new none_new k ∙ keeps.pages_stay h k ∙ sym (pages_below old none_old k);
     given_stay = λ h k. given_below new none_new k ∙ keeps.given_stay h k ∙ sym (given_below old none_old k);
     sound = (

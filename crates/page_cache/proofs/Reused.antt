@@ -33,7 +33,12 @@ module _ (f : ℕ → Option (List ℕ)) (bs : Blocks) (h : Header) (sound : is_
       case : (c : ℕ) → with_free c (laid_over f bs) h ≡ with_free c bs h
       case zero = refl
       case (suc c) =
-          ap (λ (b : List ℕ). record { next = h.next; first = link_of b; count = h.count - 1 })
+          ap (λ (b : List ℕ). record {
+            version = h.version;
+            next = h.next;
+            first = link_of b;
+            count = h.count - 1;
+          })
           (first_same none)
 
   module _ (cs : Blocks) (h2 : Header) (none : f h.first ≡ None) (none_next : f h.next ≡ None) where

@@ -3,6 +3,7 @@ use Rattle.std.specs.Prelude.{◌≡◌, ◌<◌, ◌↔◌, ℕ, List, Bool, Op
 use Rattle.std.specs.Map.{keys_of}
 use Rattle.block_device.specs.Device.{Blocks, block_at}
 use Rattle.page_file.specs.File as below
+use Rattle.page_file.specs.Layout.{opened_version}
 use Rattle.page_file.specs.Opening.{failed_check}
 use Rattle.page_file.specs.Pages as breaks_at
 use Rattle.page_file.specs.Pages.{HasFreeChain, IsSoundMap, free_page_link, free_pages_of, given_pages}
@@ -10,6 +11,7 @@ use Rattle.page_file.specs.Pages.{next_in, page_of, pages_in}
 use Rattle.page_file.specs.declared.fault.Fault.{Fault}
 use Rattle.page_file.specs.declared.fault.Fault.TheVariants.{Damaged}
 use Rattle.page_file.specs.declared.gate.Gate.{Gate}
+use Rattle.page_file.specs.declared.header.Version.{Version}
 use Rattle.page_cache.specs.Frames.{changed_pages, frame_at, laid_over}
 use Rattle.page_cache.specs.declared.cache.PageCache.{PageCache}
 
@@ -26,6 +28,10 @@ IsHonest cache = below.IsHonest cache.file
 -- its gate: shut, open or unsure
 abbrev pub gate_of : {D A : Type 0} {m : _} → PageCache D A m → Gate
 gate_of cache = below.gate_of cache.file
+
+-- its version: what its pages may be
+abbrev pub version_of : {D A : Type 0} {m : _} → PageCache D A m → Version
+version_of cache = below.version_of cache.file
 
 -- one more than the greatest page number given out
 abbrev pub next_of : {D A : Type 0} {m : _} → PageCache D A m → ℕ
@@ -95,32 +101,35 @@ pub record IsPageMap {D A : Type 0} {m : _} (cache : PageCache D A m) : Type 0 w
   pub honest : IsHonest cache
   pub free : HasFreeChain (blocks_behind cache) (below.header_of cache.file)
 
--- the gate and its moment stay
+-- the gate and its moment stay, and so does the version
 abbrev pub KeepsGate : {D A : Type 0} {m : _} → PageCache D A m → PageCache D A m → Type 0
 KeepsGate old new = below.KeepsGate old.file new.file
 
--- The map stays, and is as sound as it was; so do the pages given out that are not live, and the count of the
--- free ones.
+-- The map stays, and is as sound as it was; so do the pages given out that are not live, the count of the
+-- free ones, and the version.
 pub record KeepsMap {D A : Type 0} {m : _} (old new : PageCache D A m) : Type 0 where
   pub next : next_of new ≡ next_of old
   pub free_count : free_count_of new ≡ free_count_of old
+  pub version : IsHonest old → version_of new ≡ version_of old
   pub pages_stay : IsHonest old → (k : ℕ) → pages new k ≡ pages old k
   pub given_stay : IsHonest old → (k : ℕ) → given new k ≡ given old k
   pub sound : IsPageMap old ↔ IsPageMap new
 
--- Blocks in which the map lies, settled: opening refuses them by no check, and finds the same map, which is
--- as sound.
+-- Blocks in which the map lies, settled: opening refuses them by no check, and finds the same version and the
+-- same map, which is as sound.
 pub record LiesIn {D A : Type 0} {m : _} (cache : PageCache D A m) (blocks : Blocks) : Type 0 where
   pub passes : failed_check blocks ≡ None
+  pub version : opened_version blocks ≡ version_of cache
   pub next : next_in blocks ≡ next_of cache
   pub pages_there : (k : ℕ) → pages_in blocks k ≡ pages cache k
   pub sound : IsPageMap cache ↔ IsSoundMap blocks
 
--- Nothing that callers see has changed: the device, the gate, the map, the count of looks and the
--- capacity are the same.
+-- Nothing that callers see has changed: the device, the gate, the version, the map, the count of looks and
+-- the capacity are the same.
 pub record IsUnchanged {D A : Type 0} {m : _} (old new : PageCache D A m) : Type 0 where
   pub device : device_of new ≡ device_of old
   pub gate : gate_of new ≡ gate_of old
+  pub version : version_of new ≡ version_of old
   pub next : next_of new ≡ next_of old
   pub free_count : free_count_of new ≡ free_count_of old
   pub pages_stay : (k : ℕ) → pages new k ≡ pages old k

@@ -18,8 +18,8 @@ use lru::{DefaultHasher, LruCache};
 use page_file::PageFile;
 use std::alloc::Allocator;
 
-/// A cache over a file of pages: the same map from live page number to 4096 bytes and the same gate as the
-/// file's, with pages held in memory and a count of looks.
+/// A cache over a file of pages: the same map from live page number to 4096 bytes, the same gate and the same
+/// version as the file's, with pages held in memory and a count of looks.
 ///
 /// A page that is put is changed in memory alone. It is written when it leaves the cache, in `flush` and in
 /// `settle`; where that is refused it stays held. A page leaves where there is no room for another one, and

@@ -8,15 +8,21 @@ use Rattle.block_device.specs.Device.{Blocks}
 use Rattle.block_device.specs.declared.device.DeviceError.TheVariants as error
 use Rattle.page_file.specs.Fault.{number_of, fault_of, faults_after, HasCause, IsOfDevice, IsDamage}
 use Rattle.page_file.specs.Layout.{gate_block, header_block, catalog_block, new_header, free_block}
-use Rattle.page_file.specs.Layout.{IsShutGate, IsHeader, kind_of, link_of}
+use Rattle.page_file.specs.Layout.{IsShutGate, IsHeader, kind_of, link_of, opened_version}
 use Rattle.page_file.specs.Opening.{is_sound, gate_checks, header_checks, first_fault, failed_check}
 use Rattle.page_file.specs.Opening.{IsRefused}
 use Rattle.page_file.specs.declared.fault.Fault.TheVariants.{Memory, Device, Damaged, NotClosed, NotAStore}
 use Rattle.page_file.specs.declared.fault.Fault.TheVariants.{WrongVersion, NoPages}
 use Rattle.page_file.specs.declared.header.Header.{Header}
+use Rattle.page_file.specs.declared.header.Version.{Version}
+use Rattle.page_file.specs.declared.header.Version.TheVariants.{Two, Three}
+
+abbrev pub of_version : Version → ℕ → ℕ → ℕ → Header
+of_version version next first count =
+    record { version = version; next = next; first = first; count = count }
 
 abbrev pub numbers : ℕ → ℕ → ℕ → Header
-numbers next first count = record { next = next; first = first; count = count }
+numbers next first count = of_version Two next first count
 
 -- ---- the blocks as they are written, to their last byte
 
@@ -32,6 +38,10 @@ a_gate_that_is_open = refl
 a_header : header_block (numbers 5 4 1) ≡ codes "RSTARHDR" ++ 0 ∷ 2 ∷ 0 ∷ 0 ∷ 0 ∷ 0 ∷ 0 ∷ 5 ∷ 0 ∷ 0 ∷ 0 ∷ 4 ∷ 0 ∷ 0 ∷ 0 ∷ 1 ∷ replicate 4072 0
 unfolding header_block put_number zeros
 a_header = refl
+
+a_header_of_version_3 : header_block (of_version Three 5 4 1) ≡ codes "RSTARHDR" ++ 0 ∷ 3 ∷ 0 ∷ 0 ∷ 0 ∷ 0 ∷ 0 ∷ 5 ∷ 0 ∷ 0 ∷ 0 ∷ 4 ∷ 0 ∷ 0 ∷ 0 ∷ 1 ∷ replicate 4072 0
+unfolding header_block put_number zeros
+a_header_of_version_3 = refl
 
 a_header_is_big_endian : header_block (numbers 0x80000000 0x7fffffff 0x01020304) ≡ codes "RSTARHDR" ++ 0 ∷ 2 ∷ 0 ∷ 0 ∷ 128 ∷ 0 ∷ 0 ∷ 0 ∷ 127 ∷ 255 ∷ 255 ∷ 255 ∷ 1 ∷ 2 ∷ 3 ∷ 4 ∷ replicate 4072 0
 unfolding header_block put_number zeros
@@ -78,16 +88,49 @@ another_text_is_no_gate h = let no = h.text in absurd (omega (arith, no))
 
 a_header_is_read : IsHeader (numbers 5 4 1) (header 2 5 4 1)
 unfolding number_at
-a_header_is_read = record { text = refl; known = refl; next_is = refl; first_is = refl; count_is = refl }
+a_header_is_read =
+    record {
+      text = refl;
+      known = refl;
+      version_is = refl;
+      next_is = refl;
+      first_is = refl;
+      count_is = refl;
+    }
 
 so_is_one_of_version_1 : IsHeader (numbers 5 4 1) (header 1 5 4 1)
 unfolding number_at
 so_is_one_of_version_1 =
-    record { text = refl; known = refl; next_is = refl; first_is = refl; count_is = refl }
+    record {
+      text = refl;
+      known = refl;
+      version_is = refl;
+      next_is = refl;
+      first_is = refl;
+      count_is = refl;
+    }
+
+so_is_one_of_version_3 : IsHeader (of_version Three 5 4 1) (header 3 5 4 1)
+unfolding number_at
+so_is_one_of_version_3 =
+    record {
+      text = refl;
+      known = refl;
+      version_is = refl;
+      next_is = refl;
+      first_is = refl;
+      count_is = refl;
+    }
+
+version_1_is_read_as_2 : map (λ version. opened_version (gate ∷ header version 3 0 0 ∷ [] ∷ []))
+    (1 ∷ 2 ∷ 3 ∷ []) ≡ Two ∷ Two ∷ Three ∷ []
+unfolding number_at
+version_1_is_read_as_2 = refl
 
 no_other_numbers_are_read : (h : Header) → IsHeader h (header 1 5 4 1) → h ≡ numbers 5 4 1
 unfolding number_at
-no_other_numbers_are_read h is = ap (λ n. numbers n h.first h.count) (sym is.next_is)
+no_other_numbers_are_read h is = ap (λ v. of_version v h.next h.first h.count) (sym is.version_is)
+    ∙ ap (λ n. numbers n h.first h.count) (sym is.next_is)
     ∙ ap (λ n. numbers 5 n h.count) (sym is.first_is) ∙ ap (λ n. numbers 5 4 n) (sym is.count_is)
 
 a_gate_is_no_header : (h : Header) → IsHeader h gate → ⊥
@@ -134,7 +177,7 @@ where_none_fails_none_is_answered = refl
 
 opened : map failed_check
     ((gate ∷ header 2 3 0 0 ∷ [] ∷ []) ∷ (gate ∷ header 1 4 3 1 ∷ [] ∷ [] ∷ [])
-    ∷ (gate ∷ header 1 3 0 0 ∷ [] ∷ [] ∷ []) ∷ []) ≡ None ∷ None ∷ None ∷ []
+    ∷ (gate ∷ header 3 3 0 0 ∷ [] ∷ [] ∷ []) ∷ []) ≡ None ∷ None ∷ None ∷ []
 unfolding failed_check gate_checks header_checks number_at
 opened = refl
 
@@ -157,7 +200,7 @@ unfolding failed_check gate_checks header_checks number_at
 a_wrong_header_before_an_unknown_version = refl
 
 an_unknown_version_before_bad_numbers : map (λ version. failed_check (gate ∷ header version 9 9 9 ∷ [] ∷ []))
-    (0 ∷ 3 ∷ 255 ∷ []) ≡ replicate 3 (Some WrongVersion)
+    (0 ∷ 4 ∷ 255 ∷ []) ≡ replicate 3 (Some WrongVersion)
 unfolding failed_check gate_checks header_checks number_at
 an_unknown_version_before_bad_numbers = refl
 

@@ -1,13 +1,15 @@
 -- What a write and then a sync leave at each moment.
-use Rattle.std.proofs.Common.{◌≡◌, ℕ, inl, refl}
+use Rattle.std.proofs.Common.{◌≡◌, ◌∙◌, ℕ, inl, refl}
 use Rattle.std.specs.Prelude.{◌↔◌}
 use Rattle.block_device.specs.Device.{Blocks, Elapses, Follows, LeavesNoMore, LeavesOnly, Torn, Brings}
 use Rattle.block_device.specs.Device.{Recovery}
 use Rattle.block_device.specs.Moments.{started, goes_on, leaves_weaker}
-use Rattle.page_file.specs.File.{IsHonest, KeepsGate, blocks_of, gate_of}
+use Rattle.page_file.specs.File.{IsHonest, KeepsGate, blocks_of, gate_of, version_of}
 use Rattle.page_file.specs.Gated.{now_since}
-use Rattle.page_file.specs.Stops.{GateAside, StopSince, TornFrom}
+use Rattle.page_file.specs.Laws.{a_stop_now_leaves_all_but_the_gate}
+use Rattle.page_file.specs.Stops.{GateAside, SameButGate, StopSince, TornFrom}
 use Rattle.page_file.specs.declared.file.PageFile.{PageFile}
+use Rattle.page_file.specs.declared.gate.Gate.TheVariants.{Open}
 use Rattle.page_file.specs.Written.{aside_torn}
 
 module _ {D : Type 0} (moment : D → ℕ) (left_since : D → ℕ → Blocks → Type 0) (recovery : Recovery D)
@@ -59,13 +61,15 @@ module _ {D : Type 0} (moment : D → ℕ) (left_since : D → ℕ → Blocks �
 
 -- calls that leave no more, and let header and gate be, keep the gate
 pub kept_where_no_more_is_left : {D : Type 0} {m : _} (old new : PageFile D m) → gate_of new ≡ gate_of old
-    → (IsHonest old ↔ IsHonest new) → (IsHonest old → blocks_of new ≡ blocks_of old)
+    → (IsHonest old ↔ IsHonest new) → (IsHonest old → version_of new ≡ version_of old)
+    → (IsHonest old → blocks_of new ≡ blocks_of old)
     → (IsHonest old
     → LeavesOnly m.moment m.left_since m.recovery old.device new.device (m.may_leave old.device))
     → KeepsGate old new
-kept_where_no_more_is_left {m = m} old new gate honest same leaves = record {
+kept_where_no_more_is_left {m = m} old new gate honest version same leaves = record {
   gate = gate;
   honest = honest;
+  version = version;
   blocks = λ h closed. same h;
   stops = λ h.
       let l = leaves_weaker m.moment m.left_since m.recovery old.device new.device (m.may_leave old.device)
@@ -73,3 +77,13 @@ kept_where_no_more_is_left {m = m} old new gate honest same leaves = record {
       (λ c left. now_since (gate_of old) (blocks_of old) c (old.stop_now h c left)) (leaves h) in
       record { later = l.later; before = l.before; brings = l.brings };
 }
+
+-- the gate written while it is not open leaves the blocks as they were, the gate aside
+pub aside_while_closed : {D : Type 0} {m : _} (old : PageFile D m) (new : D) → IsHonest old
+    → ¬ (gate_of old ≡ Open)
+    → LeavesOnly m.moment m.left_since m.recovery old.device new (GateAside (m.may_leave old.device))
+    → LeavesOnly m.moment m.left_since m.recovery old.device new (λ c. SameButGate c (blocks_of old))
+aside_while_closed {m = m} old new h closed leaves =
+    leaves_weaker m.moment m.left_since m.recovery old.device new (GateAside (m.may_leave old.device))
+    (λ c. SameButGate c (blocks_of old))
+    (λ c from. from.2 ∙ a_stop_now_leaves_all_but_the_gate old from.0 h closed from.1) leaves

@@ -14,7 +14,7 @@ use Rattle.block_device.specs.Outcomes.{repeated_block}
 use Rattle.page_file.specs.Breaks.{a_sound_chain_breaks_nowhere}
 use Rattle.page_file.specs.Chains.{a_chain_is_distinct}
 use Rattle.page_file.specs.File.{IsHonest, IsPageMap, KeepsGate, KeepsMap, LiesIn, blocks_of, gate_of}
-use Rattle.page_file.specs.File.{next_of, pages}
+use Rattle.page_file.specs.File.{next_of, pages, version_of}
 use Rattle.page_file.specs.Layout.{gate_block}
 use Rattle.page_file.specs.Opening.{gate_checks, header_checks, failed_check, IsRefused}
 use Rattle.page_file.specs.Pages.{chain, free_pages_of, is_live, page_of, given_pages, pages_in, next_in}
@@ -25,6 +25,7 @@ use Rattle.page_file.specs.Stops.{AddsOnly}
 use Rattle.page_file.specs.declared.file.PageFile.{PageFile}
 use Rattle.page_file.specs.declared.gate.Gate.TheVariants.{Shut, Open, Unsure}
 use Rattle.page_file.specs.declared.header.Header.{Header}
+use Rattle.page_file.specs.declared.header.Version.TheVariants.{Two, Three}
 use Rattle.page_file.proofs.Examples.{numbers, gate, open_gate, header, closed, a_closed_file_is_not_refused}
 
 -- ---- the pages
@@ -289,12 +290,20 @@ module _ {D : Type 0} {m : _} (old new : PageFile D m) where
       → ⊥
   a_page_freed_is_another_map honest was is h = let no = sym is ∙ h.pages_stay honest 3 ∙ was in absurd (cc)
 
+  a_raised_version_is_another_map : IsHonest old → version_of old ≡ Two → version_of new ≡ Three
+      → KeepsMap old new → ⊥
+  a_raised_version_is_another_map honest was is h = let no = sym is ∙ h.version honest ∙ was in absurd (cc)
+
   a_map_stays_sound : (IsPageMap new → ⊥) → KeepsMap old new → IsPageMap old → ⊥
   a_map_stays_sound broken h sound = broken (h.sound.0 sound)
 
   no_file_lies_in_refused_blocks : LiesIn old [] → ⊥
   unfolding failed_check
   no_file_lies_in_refused_blocks h = let no = h.passes in absurd (cc)
+
+  no_file_of_version_3_lies_in_blocks_of_version_1 : version_of old ≡ Three → LiesIn old closed → ⊥
+  unfolding number_at
+  no_file_of_version_3_lies_in_blocks_of_version_1 is h = let no : Two ≡ Three = h.version ∙ is in absurd (cc)
 
   no_file_lies_in_blocks_of_another_next : next_of old ≡ 4 → LiesIn old closed → ⊥
   unfolding number_at

@@ -9,7 +9,7 @@ use Rattle.page_file.specs.declared.file.PageFile.{PageFile}
 use Rattle.page_file.specs.declared.gate.Gate.TheVariants.{Open}
 use Rattle.page_file.specs.declared.header.Header.{Header}
 use Rattle.page_file.specs.File.{IsHonest, IsNewFile, LiesIn, gate_of}
-use Rattle.page_file.specs.Layout.{IsHeader, catalog_block, new_header}
+use Rattle.page_file.specs.Layout.{IsHeader, catalog_block, new_header, opened_version}
 use Rattle.page_file.specs.Opening.{IsRefused, failed_check, header_of_block}
 use Rattle.page_file.specs.Pages.{HasFreeChain, IsSoundMap, header_in, is_live, next_in, page_of, pages_in}
 use Rattle.page_file.specs.Stops.{SameButGate}
@@ -20,6 +20,7 @@ use Rattle.page_file.specs.Settled.{header_is}
 -- blocks in which opening finds the same as in those
 pub record FindsSame (c blocks : Blocks) : Type 0 where
   pub passes : failed_check c ≡ None
+  pub version : opened_version c ≡ opened_version blocks
   pub next : next_in c ≡ next_in blocks
   pub pages_there : (k : ℕ) → pages_in c k ≡ pages_in blocks k
   pub sound : IsSoundMap c ↔ IsSoundMap blocks
@@ -36,6 +37,7 @@ finds_same c blocks same passes =
     ap (λ (b : List ℕ). header_of_block b) (aside_at c blocks 1 same (omega arith)) in
     record {
       passes = passes;
+      version = ap (λ (h : Header). h.version) header;
       next = ap (λ (h : Header). h.next) header;
       pages_there = λ k. ap (λ (h : Header). page_of c h k) header
           ∙ pages_same blocks c (header_in blocks) behind k;
@@ -62,6 +64,7 @@ aside_lies {m = m} file c h closed same = ⊎_elim
     (λ (refused : IsRefused c). inl refused)
     (λ (found : FindsSame c blocks). inr (record {
       passes = found.passes;
+      version = found.version ∙ ap (λ (x : Header). x.version) header;
       next = found.next ∙ ap (λ (x : Header). x.next) header;
       pages_there = λ k. found.pages_there k ∙ ap (λ (x : Header). page_of blocks x k) header;
       sound = (
@@ -90,6 +93,7 @@ new_aside blocks c is catalog same = ⊎_elim
     (λ (refused : IsRefused c). inl refused)
     (λ (found : FindsSame c blocks). inr (record {
       passes = found.passes;
+      version = found.version ∙ ap (λ (x : Header). x.version) header;
       next = found.next ∙ ap (λ (x : Header). x.next) header;
       catalog = found.pages_there 2 ∙ ap (λ (x : Header). page_of blocks x 2) header ∙ ap Some catalog;
       others = λ k ne. found.pages_there k ∙ ap (λ (x : Header). page_of blocks x k) header

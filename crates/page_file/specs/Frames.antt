@@ -57,6 +57,7 @@ pub map_kept : {D : Type 0} {m : _} (old new : PageFile D m) → new.header ≡ 
 map_kept {m = m} old new header honest same = record {
   next = ap (λ (h : Header). h.next) header;
   free_count = ap (λ (h : Header). h.count) header;
+  version = λ h. ap (λ (x : Header). x.version) header;
   pages_stay = λ h k. ap (λ (x : Header). page_of (m.shown new.device) x k) header
       ∙ pages_same (m.shown old.device) (m.shown new.device) old.header (same h) k;
   given_stay = λ h k. ap (λ (x : Header). given_pages (m.shown new.device) x.next k) header
@@ -95,6 +96,7 @@ shut_lies {m = m} file h shut =
           passes_to blocks
           (settled_passes blocks file.header (file.shut_reads h shut) header (file.room h) file.sound
           (sound_says file.header file.sound).start);
+      version = ap (λ (x : Header). x.version) same;
       next = ap (λ (x : Header). x.next) same;
       pages_there = λ k. ap (λ (x : Header). page_of blocks x k) same;
       sound = (

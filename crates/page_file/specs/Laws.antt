@@ -9,7 +9,7 @@ use Rattle.page_file.specs.declared.file.PageFile.{PageFile}
 use Rattle.page_file.specs.declared.gate.Gate.{Gate}
 use Rattle.page_file.specs.declared.gate.Gate.TheVariants.{Shut, Open, Unsure}
 use Rattle.page_file.specs.File.{IsHonest, IsLive, IsPageMap, KeepsGate, KeepsMap, LiesIn, blocks_of, gate_of}
-use Rattle.page_file.specs.File.{given, next_of, pages}
+use Rattle.page_file.specs.File.{given, next_of, pages, version_of}
 use Rattle.page_file.specs.Opening.{IsRefused, failed_check}
 use Rattle.page_file.specs.Stops.{AddsOnly, SameButGate, StopNow, StopSince}
 use Rattle.page_file.specs.Aside.{aside_lies, aside_passes}
@@ -64,6 +64,7 @@ a_gate_aside_is_refused_or_the_same file blocks c lies same = ⊎_elim
     (λ (refused : IsRefused c). inl refused)
     (λ found. inr (record {
       passes = found.passes;
+      version = found.version ∙ lies.version;
       next = found.next ∙ lies.next;
       pages_there = λ k. found.pages_there k ∙ lies.pages_there k;
       sound = (λ p. found.sound.1 (lies.sound.0 p), λ s. lies.sound.1 (found.sound.0 s));
@@ -75,11 +76,14 @@ pub a_gate_aside_finds_the_file : {D : Type 0} {m : _} (file : PageFile D m) (c 
     → ¬ (gate_of file ≡ Open) → SameButGate c (blocks_of file) → IsRefused c ⊎ LiesIn file c
 a_gate_aside_finds_the_file file c h closed same = aside_lies file c h closed same
 
--- two files that lie in the same blocks have the same map
+-- two files that lie in the same blocks have the same version and the same map
 pub a_file_opened_again_is_the_same : {D E : Type 0} {m : _} {n : _} (old : PageFile D m)
     (new : PageFile E n) (blocks : Blocks) → LiesIn old blocks → LiesIn new blocks
-    → (next_of new ≡ next_of old) × ((k : ℕ) → pages new k ≡ pages old k) × (IsPageMap old ↔ IsPageMap new)
+    → (version_of new ≡ version_of old) × (next_of new ≡ next_of old)
+    × ((k : ℕ) → pages new k ≡ pages old k)
+    × (IsPageMap old ↔ IsPageMap new)
 a_file_opened_again_is_the_same old new blocks a b = (
+  sym b.version ∙ a.version,
   sym b.next ∙ a.next,
   λ k. sym (b.pages_there k) ∙ a.pages_there k,
   (λ p. b.sound.1 (a.sound.0 p), λ p. a.sound.1 (b.sound.0 p)),
@@ -91,12 +95,14 @@ pub a_kept_map_lies_there : {D : Type 0} {m : _} (old new : PageFile D m) (block
 a_kept_map_lies_there old new blocks h keeps = (
   λ l. record {
     passes = l.passes;
+    version = l.version ∙ sym (keeps.version h);
     next = l.next ∙ sym keeps.next;
     pages_there = λ k. l.pages_there k ∙ sym (keeps.pages_stay h k);
     sound = (λ p. l.sound.0 (keeps.sound.1 p), λ s. keeps.sound.0 (l.sound.1 s));
   },
   λ l. record {
     passes = l.passes;
+    version = l.version ∙ keeps.version h;
     next = l.next ∙ keeps.next;
     pages_there = λ k. l.pages_there k ∙ keeps.pages_stay h k;
     sound = (λ p. l.sound.0 (keeps.sound.0 p), λ s. keeps.sound.1 (l.sound.1 s));
@@ -108,6 +114,7 @@ pub no_call_keeps_the_gate : {D : Type 0} {m : _} (file : PageFile D m) → Keep
 no_call_keeps_the_gate {m = m} file = record {
   gate = refl;
   honest = (λ h. h, λ h. h);
+  version = λ h. refl;
   blocks = λ h shut. refl;
   stops = λ h.
       record {
@@ -135,6 +142,7 @@ pub the_gate_is_kept_in_turn : {D : Type 0} {m : _} (old mid new : PageFile D m)
 the_gate_is_kept_in_turn {m = m} old mid new a b = record {
   gate = b.gate ∙ a.gate;
   honest = (λ h. b.honest.0 (a.honest.0 h), λ h. a.honest.1 (b.honest.1 h));
+  version = λ h. b.version (a.honest.0 h) ∙ a.version h;
   blocks = λ h closed. b.blocks (a.honest.0 h) (λ e. closed (sym a.gate ∙ e)) ∙ a.blocks h closed;
   stops = λ h.
       let first = a.stops h in let second = b.stops (a.honest.0 h) in
@@ -163,6 +171,7 @@ no_call_keeps_the_map file =
     record {
       next = refl;
       free_count = refl;
+      version = λ h. refl;
       pages_stay = λ h k. refl;
       given_stay = λ h k. refl;
       sound = (λ p. p, λ p. p);
@@ -173,6 +182,7 @@ pub the_map_is_kept_in_turn : {D : Type 0} {m : _} (old mid new : PageFile D m)
 the_map_is_kept_in_turn old mid new honest a b = record {
   next = b.next ∙ a.next;
   free_count = b.free_count ∙ a.free_count;
+  version = λ h. b.version (honest h) ∙ a.version h;
   pages_stay = λ h k. b.pages_stay (honest h) k ∙ a.pages_stay h k;
   given_stay = λ h k. b.given_stay (honest h) k ∙ a.given_stay h k;
   sound = (λ p. b.sound.0 (a.sound.0 p), λ p. a.sound.1 (b.sound.1 p));

@@ -1,10 +1,12 @@
 -- The blocks of a file: gate, header, catalog and free page, as they are written and as they are read
 -- (our format, docs/FORMAT.md).
-use Rattle.std.specs.Prelude.{◌≡◌, ℕ, List, Bool, true, ◌&&◌, nat_le}
+use Rattle.std.specs.Prelude.{◌≡◌, ◌==◌, ℕ, List, Bool, true, ◌&&◌, nat_le, if◌then◌else◌}
 use Rattle.block_device.specs.Device.{Blocks, block_at}
 use Rattle.block_bytes.specs.Numbers.{zeros, number_at, put_number}
 use Rattle.block_bytes.specs.Kinds.{free_kind}
 use Rattle.page_file.specs.declared.header.Header.{Header}
+use Rattle.page_file.specs.declared.header.Version.{Version}
+use Rattle.page_file.specs.declared.header.Version.TheVariants.{Two, Three}
 
 -- the ASCII text RSTARGAT
 abbrev pub gate_text : ℕ
@@ -14,19 +16,29 @@ gate_text = 0x5253544152474154
 abbrev pub header_text : ℕ
 header_text = 0x5253544152484452
 
--- the version that is written; that one and version 1 are read
-abbrev pub version : ℕ
-version = 2
-
+-- the numbers of the versions that are read
 abbrev pub is_known : ℕ → Bool
-is_known v = nat_le 1 v && nat_le v version
+is_known number = nat_le 1 number && nat_le number 3
 
--- the version that a header's block holds, and that of a file
-abbrev pub version_of : List ℕ → ℕ
-version_of block = number_at 2 8 block
+-- the number of a version, as a header is written, and the version of a number, as it is read: a file of
+-- version 1 is one of version 2 that was not changed since
+abbrev pub version_number : Version → ℕ
+version_number Two = 2
+version_number Three = 3
+
+abbrev pub version_from : ℕ → Version
+version_from number = if number == 3 then Three else Two
+
+-- the version's number in a header's block, and in the blocks of a file
+abbrev pub header_version : List ℕ → ℕ
+header_version block = number_at 2 8 block
 
 abbrev pub version_in : Blocks → ℕ
-version_in blocks = version_of (block_at 1 blocks)
+version_in blocks = header_version (block_at 1 blocks)
+
+-- the version of a file that is opened on these blocks
+abbrev pub opened_version : Blocks → Version
+opened_version blocks = version_from (version_in blocks)
 
 -- block 0, the gate: open (0) or shut (1)
 unfoldable pub gate_block : ℕ → List ℕ
@@ -37,7 +49,7 @@ unfoldable pub header_block : Header → List ℕ
 header_block h =
     put_number 4 20 h.count
     (put_number 4 16 h.first
-    (put_number 4 12 h.next (put_number 2 8 version (put_number 8 0 header_text zeros))))
+    (put_number 4 12 h.next (put_number 2 8 (version_number h.version) (put_number 8 0 header_text zeros))))
 
 -- block 2 of a new file, a catalog of no layers
 unfoldable pub catalog_block : List ℕ
@@ -45,7 +57,7 @@ catalog_block = put_number 1 0 1 zeros
 
 -- the header of a new file, in which the catalog alone was given out
 abbrev pub new_header : Header
-new_header = record { next = 3; first = 0; count = 0 }
+new_header = record { version = Two; next = 3; first = 0; count = 0 }
 
 -- a free page that names the next one, 0 if none
 unfoldable pub free_block : ℕ → List ℕ
@@ -56,10 +68,11 @@ pub record IsShutGate (block : List ℕ) : Type 0 where
   pub text : number_at 8 0 block ≡ gate_text
   pub shut : number_at 1 8 block ≡ 1
 
--- a block that reads as a header of these numbers
+-- a block that reads as this header
 pub record IsHeader (h : Header) (block : List ℕ) : Type 0 where
   pub text : number_at 8 0 block ≡ header_text
-  pub known : is_known (version_of block) ≡ true
+  pub known : is_known (header_version block) ≡ true
+  pub version_is : version_from (header_version block) ≡ h.version
   pub next_is : number_at 4 12 block ≡ h.next
   pub first_is : number_at 4 16 block ≡ h.first
   pub count_is : number_at 4 20 block ≡ h.count

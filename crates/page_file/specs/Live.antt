@@ -134,7 +134,7 @@ lives_some blocks h n l = some_is (page_of blocks h n) (block_at n blocks) (page
 module _ (old new : Blocks) (h : Header) (start : 3 ≤ h.next) (room : h.next ≤ length old)
     (free : HasFreeChain old h) (torn : Torn h.next old new) where
   abbrev pub one_page_more : Header
-  one_page_more = record { next = h.next + 1; first = h.first; count = h.count }
+  one_page_more = record { version = h.version; next = h.next + 1; first = h.first; count = h.count }
 
   not_free : is_member eqb (free_pages_of old h) h.next ≡ false
   not_free = case (is_member eqb (free_pages_of old h) h.next) refl
@@ -185,7 +185,7 @@ module _ (n : ℕ) (old new : Blocks) (h : Header) (torn : Torn n old new) (le :
     (apart : is_member eqb (free_pages_of old h) n ≡ false) (low : 3 ≤ n)
     (linked : link_of (block_at n new) ≡ h.first) where
   abbrev pub one_more_free : Header
-  one_more_free = record { next = h.next; first = n; count = h.count + 1 }
+  one_more_free = record { version = h.version; next = h.next; first = n; count = h.count + 1 }
 
   freed_chain : chain new (h.count + 1) n ≡ n ∷ chain old h.count h.first
   freed_chain = ap (λ (c : ℕ). chain new c n) (let e : h.count + 1 ≡ suc h.count = omega arith in e)

@@ -3,7 +3,7 @@ use Rattle.std.specs.Prelude.{ℕ, ◌-◌, Bool, ◌&&◌, ◌||◌, ◌==◌, 
 use Rattle.std.specs.Prelude.{length, Option, Some, None, IsSome, if◌then◌else◌}
 use Rattle.block_device.specs.Device.{Blocks, block_at}
 use Rattle.block_bytes.specs.Numbers.{number_at}
-use Rattle.page_file.specs.Layout.{gate_text, header_text, is_known, version_of}
+use Rattle.page_file.specs.Layout.{gate_text, header_text, header_version, is_known, version_from}
 use Rattle.page_file.specs.declared.header.Header.{Header}
 use Rattle.page_file.specs.declared.fault.Fault.{Fault}
 use Rattle.page_file.specs.declared.fault.Fault.TheVariants.{Damaged, NotClosed, NotAStore, WrongVersion}
@@ -15,10 +15,15 @@ is_sound h =
     nat_le 3 h.next && ((h.first == 0 || (nat_le 3 h.first && nat_lt h.first h.next))
     && ((if h.first == 0 then h.count == 0 else not (h.count == 0)) && nat_le h.count (h.next - 3)))
 
--- the numbers that a header's block holds
+-- what a header's block says
 abbrev pub header_of_block : List ℕ → Header
 header_of_block block =
-    record { next = number_at 4 12 block; first = number_at 4 16 block; count = number_at 4 20 block }
+    record {
+      version = version_from (header_version block);
+      next = number_at 4 12 block;
+      first = number_at 4 16 block;
+      count = number_at 4 20 block;
+    }
 
 -- a check: the test that a file fails by, and the fault that is answered then
 abbrev pub Check : Type 0
@@ -35,7 +40,7 @@ gate_checks block =
 unfoldable pub header_checks : ℕ → List ℕ → List Check
 header_checks blocks block =
     (not (number_at 8 0 block == header_text), NotAStore)
-    ∷ (not (is_known (version_of block)), WrongVersion)
+    ∷ (not (is_known (header_version block)), WrongVersion)
     ∷ (not (nat_le (number_at 4 12 block) blocks && is_sound (header_of_block block)), Damaged 1)
     ∷ []
 

@@ -8,6 +8,7 @@ use Rattle.block_bytes.specs.Kinds.{free_kind}
 use Rattle.page_file.specs.Layout.{kind_of, link_of}
 use Rattle.page_file.specs.Opening.{header_of_block}
 use Rattle.page_file.specs.declared.header.Header.{Header}
+use Rattle.page_file.specs.declared.header.Version.{Version}
 
 -- so many free pages from the first on, each of which names the next; a number below 3 names none
 abbrev pub chain : Blocks → ℕ → ℕ → List ℕ
@@ -61,15 +62,24 @@ SameBut n old new = (k : ℕ) → ¬ (k ≡ n) → new k ≡ old k
 
 -- the header once one more number is given out, and once page n is the first free page
 abbrev pub with_one_given : Header → Header
-with_one_given h = record { next = h.next + 1; first = h.first; count = h.count }
+with_one_given h = record { version = h.version; next = h.next + 1; first = h.first; count = h.count }
 
 abbrev pub with_one_free : ℕ → Header → Header
-with_one_free n h = record { next = h.next; first = n; count = h.count + 1 }
+with_one_free n h = record { version = h.version; next = h.next; first = n; count = h.count + 1 }
 
 -- and once the first free page is taken from the chain
 abbrev pub with_one_taken : Blocks → Header → Header
 with_one_taken blocks h =
-    record { next = h.next; first = link_of (block_at h.first blocks); count = h.count - 1 }
+    record {
+      version = h.version;
+      next = h.next;
+      first = link_of (block_at h.first blocks);
+      count = h.count - 1;
+    }
+
+-- and of another version
+abbrev pub with_version : Version → Header → Header
+with_version version h = record { version = version; next = h.next; first = h.first; count = h.count }
 
 -- the number that is given out next, of so many free pages: that of the first one, or a new number where
 -- there is none

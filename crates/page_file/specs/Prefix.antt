@@ -8,7 +8,7 @@ use Rattle.std.proofs.lemmas.Bool.{cases_lt}
 use Rattle.std.proofs.lemmas.Bool.Decides.{nat_tests}
 use Rattle.block_device.specs.Device.{Begins, Blocks, block_at}
 use Rattle.page_file.specs.File.{IsNewFile, IsPageMap, LiesIn}
-use Rattle.page_file.specs.Layout.{IsHeader, IsShutGate, kind_of, link_of}
+use Rattle.page_file.specs.Layout.{IsHeader, IsShutGate, kind_of, link_of, opened_version}
 use Rattle.page_file.specs.Opening.{failed_check, header_of_block, is_sound}
 use Rattle.page_file.specs.Pages.{IsChain, IsSoundMap, chain, header_in, next_in, page_of, pages_in}
 use Rattle.page_file.specs.Settled.{passes_from, passes_to}
@@ -63,6 +63,9 @@ module _ (kept c : Blocks) (b : Begins kept c) where
     header_is : header_in c ≡ header_in kept
     header_is = header_same (passes_from kept passes).three
 
+    pub version_more : opened_version c ≡ opened_version kept
+    version_more = ap (λ (h : Header). h.version) header_is
+
     pub next_more : next_in c ≡ next_in kept
     next_more = ap (λ (h : Header). h.next) header_is
 
@@ -114,6 +117,7 @@ lies_longer file kept c map lies b =
     let sound : IsSoundMap kept = lies.sound.0 map in
     record {
       passes = passes_more kept c b lies.passes;
+      version = version_more kept c b lies.passes sound ∙ lies.version;
       next = next_more kept c b lies.passes sound ∙ lies.next;
       pages_there = λ k. pages_more kept c b lies.passes sound k ∙ lies.pages_there k;
       sound = (λ _. sound_more kept c b lies.passes sound, λ _. map);
@@ -123,6 +127,7 @@ lies_longer file kept c map lies b =
 pub new_longer : (kept c : Blocks) → IsNewFile kept → Begins kept c → IsNewFile c
 new_longer kept c is b = record {
   passes = passes_more kept c b is.passes;
+  version = version_more kept c b is.passes is.sound ∙ is.version;
   next = next_more kept c b is.passes is.sound ∙ is.next;
   catalog = pages_more kept c b is.passes is.sound 2 ∙ is.catalog;
   others = λ k ne. pages_more kept c b is.passes is.sound k ∙ is.others k ne;

@@ -1,12 +1,15 @@
 -- What is read from a gate, a header and a free page as they are written.
-use Rattle.std.proofs.Common.{◌≡◌, ◌∙◌, ℕ, ◌+◌, ◌^◌, ◌<◌, ◌≤◌, List, true, length, refl, sym, subst, arith}
-use Rattle.std.proofs.Common.{inl, lit<}
+use Rattle.std.proofs.Common.{◌≡◌, ◌∙◌, ℕ, ◌+◌, ◌^◌, ◌<◌, ◌≤◌, List, true, length, refl, sym, ap, subst}
+use Rattle.std.proofs.Common.{arith, inl, lit<}
 use Rattle.block_bytes.specs.Numbers.{zeros, number_at, put_number, IsApart}
 use Rattle.block_bytes.specs.Laws.{length-zeros, length-put, number_at-put, number_at-put_other}
 use Rattle.block_bytes.specs.Kinds.{free_kind}
 use Rattle.page_file.specs.declared.header.Header.{Header}
-use Rattle.page_file.specs.Layout.{gate_text, header_text, version, is_known, gate_block, header_block}
-use Rattle.page_file.specs.Layout.{free_block, version_of, IsShutGate, IsHeader, kind_of, link_of}
+use Rattle.page_file.specs.declared.header.Version.{Version}
+use Rattle.page_file.specs.declared.header.Version.TheVariants.{Two, Three}
+use Rattle.page_file.specs.Layout.{gate_text, header_text, is_known, gate_block, header_block, header_version}
+use Rattle.page_file.specs.Layout.{free_block, version_from, version_number, IsShutGate, IsHeader, kind_of}
+use Rattle.page_file.specs.Layout.{link_of}
 
 -- a number put into a block of 4096 bytes leaves one of 4096, keeps what is read elsewhere, and is read
 size : (n at x : ℕ) (block : List ℕ) → at + n ≤ 4096 → length block ≡ 4096
@@ -42,11 +45,25 @@ length-gate shut = size 1 8 shut _ (omega arith) (text_size gate_text)
 pub shut_gate : IsShutGate (gate_block 1)
 shut_gate = record { text = text-gate 1; shut = shut-gate 1 (lit< tt) }
 
--- a header is written with the version of today
-pub version_written : (h : Header) → version_of (header_block h) ≡ version
+-- each version has a number of two bytes, which is read as it
+a_small_number : (v : Version) → version_number v < 256 ^ 2
+a_small_number Two = lit< tt
+a_small_number Three = lit< tt
+
+a_known_number : (v : Version) → is_known (version_number v) ≡ true
+a_known_number Two = refl
+a_known_number Three = refl
+
+the_version_read : (v : Version) → version_from (version_number v) ≡ v
+the_version_read Two = refl
+the_version_read Three = refl
+
+-- a header is written with its version
+pub version_written : (h : Header) → header_version (header_block h) ≡ version_number h.version
 unfolding header_block
 version_written h =
     let p1 = put_number 8 0 header_text zeros in
+    let version = version_number h.version in
     let p2 = put_number 2 8 version p1 in
     let p3 = put_number 4 12 h.next p2 in
     let p4 = put_number 4 16 h.first p3 in
@@ -57,13 +74,14 @@ version_written h =
     past 2 8 4 20 h.count _ p4 (omega arith) l4 (inl (omega arith))
     (past 2 8 4 16 h.first _ p3 (omega arith) l3 (inl (omega arith))
     (past 2 8 4 12 h.next _ p2 (omega arith) l2 (inl (omega arith))
-    (there 2 8 version p1 (omega arith) l1 (lit< tt))))
+    (there 2 8 version p1 (omega arith) l1 (a_small_number h.version))))
 
 pub header_reads : (h : Header) → h.next < 2 ^ 32 → h.first < 2 ^ 32 → h.count < 2 ^ 32
     → IsHeader h (header_block h)
 unfolding header_block
 header_reads h n f c =
     let p1 = put_number 8 0 header_text zeros in
+    let version = version_number h.version in
     let p2 = put_number 2 8 version p1 in
     let p3 = put_number 4 12 h.next p2 in
     let p4 = put_number 4 16 h.first p3 in
@@ -77,7 +95,8 @@ header_reads h n f c =
           (past 8 0 4 12 h.next _ p2 (omega arith) l2 (inl (omega arith))
           (past 8 0 2 8 version _ p1 (omega arith) l1 (inl (omega arith))
           (there 8 0 header_text zeros (omega arith) length-zeros (lit< tt)))));
-      known = subst (λ (v : ℕ). is_known v ≡ true) (sym (version_written h)) refl;
+      known = subst (λ (n : ℕ). is_known n ≡ true) (sym (version_written h)) (a_known_number h.version);
+      version_is = ap version_from (version_written h) ∙ the_version_read h.version;
       next_is =
           past 4 12 4 20 h.count _ p4 (omega arith) l4 (inl (omega arith))
           (past 4 12 4 16 h.first _ p3 (omega arith) l3 (inl (omega arith))

@@ -47,11 +47,18 @@ one_given blocks h none = ap (λ (c : ℕ). with_free c blocks h) none
 -- the first free page is taken, and its block torn
 module _ (old new : Blocks) (h : Header) (c : ℕ) (is : h.count ≡ suc c) (free : HasFreeChain old h)
     (room : h.next ≤ length old) (torn : Torn h.first old new) where
-  abbrev taken : Header
-  taken = record { next = h.next; first = link_of (block_at h.first old); count = c }
+  abbrev taken_with : ℕ → Header
+  taken_with n =
+      record { version = h.version; next = h.next; first = link_of (block_at h.first old); count = n }
 
-  whole : HasFreeChain old (record { next = h.next; first = h.first; count = suc c })
-  whole = subst (λ (n : ℕ). HasFreeChain old (record { next = h.next; first = h.first; count = n })) is free
+  abbrev counted : ℕ → Header
+  counted n = record { version = h.version; next = h.next; first = h.first; count = n }
+
+  abbrev taken : Header
+  taken = taken_with c
+
+  whole : HasFreeChain old (counted (suc c))
+  whole = subst (λ (n : ℕ). HasFreeChain old (counted n)) is free
 
   le : h.first ≤ length old
   le = omega (arith, whole.1, room)
@@ -103,9 +110,7 @@ module _ (old new : Blocks) (h : Header) (c : ℕ) (is : h.count ≡ suc c) (fre
 
   is_taken : with_one_taken old h ≡ taken
   is_taken =
-      ap (λ (n : ℕ). record { next = h.next; first = link_of (block_at h.first old); count = n - 1 }) is
-      ∙ ap (λ (n : ℕ). record { next = h.next; first = link_of (block_at h.first old); count = n })
-      (let e : suc c - 1 ≡ c = omega arith in e)
+      ap (λ (n : ℕ). taken_with (n - 1)) is ∙ ap taken_with (let e : suc c - 1 ≡ c = omega arith in e)
 
 -- where the blocks of the pages given out are the same, and none is free
 module _ (old new : Blocks) (next : ℕ) (same : (k : ℕ) → k < next → block_at k new ≡ block_at k old) where

@@ -6,7 +6,9 @@ use Rattle.block_device.specs.Device.{Blocks, block_at}
 use Rattle.block_bytes.specs.Numbers.{number_at}
 use Rattle.page_file.specs.declared.fault.Fault.TheVariants.{NotAStore, NotClosed, WrongVersion, Damaged}
 use Rattle.page_file.specs.declared.header.Header.{Header}
-use Rattle.page_file.specs.Layout.{gate_text, header_text, is_known, version_of, IsShutGate, IsHeader}
+use Rattle.page_file.specs.declared.header.Version.{Version}
+use Rattle.page_file.specs.Layout.{gate_text, header_text, header_version, is_known, version_from}
+use Rattle.page_file.specs.Layout.{IsShutGate, IsHeader}
 use Rattle.page_file.specs.Opening.{Check, failed_check, first_fault, gate_checks, header_checks}
 use Rattle.page_file.specs.Opening.{header_of_block, is_sound}
 use Rattle.page_file.specs.Pages.{header_in, may_link}
@@ -46,7 +48,7 @@ passes_from blocks e =
     let page = block_at 1 blocks in
     let fit : Bool = nat_le (number_at 4 12 page) (length blocks) && is_sound (header_of_block page) in
     let last : Check = (not fit, Damaged 1) in
-    let known : Check = (not (is_known (version_of page)), WrongVersion) in
+    let known : Check = (not (is_known (header_version page)), WrongVersion) in
     let text : Check = (not (number_at 8 0 page == header_text), NotAStore) in
     let shut : Check = (not (number_at 1 8 (block_at 0 blocks) == 1), NotClosed) in
     let gate : Check = (not (number_at 8 0 (block_at 0 blocks) == gate_text), NotAStore) in
@@ -65,6 +67,7 @@ passes_from blocks e =
           record {
             text = equal _ _ d.0;
             known = not_false _ f.0;
+            version_is = refl;
             next_is = refl;
             first_is = refl;
             count_is = refl;
@@ -87,7 +90,7 @@ passes_to blocks p =
     grind (arith, nat_tests) in
     let fits : fit ≡ true = ap (λ (t : Bool). t && is_sound (header_of_block page)) le ∙ p.sound in
     let last : Check = (not fit, Damaged 1) in
-    let known : Check = (not (is_known (version_of page)), WrongVersion) in
+    let known : Check = (not (is_known (header_version page)), WrongVersion) in
     let text : Check = (not (number_at 8 0 page == header_text), NotAStore) in
     let shut : Check = (not (number_at 1 8 (block_at 0 blocks) == 1), NotClosed) in
     let gate : Check = (not (number_at 8 0 (block_at 0 blocks) == gate_text), NotAStore) in
@@ -98,15 +101,17 @@ passes_to blocks p =
     (pass known (last ∷ []) (ap not p.header.known)
     (pass last [] (ap not fits) refl)))))
 
-abbrev made : ℕ → ℕ → ℕ → Header
-made next first count = record { next = next; first = first; count = count }
+abbrev made : Version → ℕ → ℕ → ℕ → Header
+made version next first count = record { version = version; next = next; first = first; count = count }
 
--- a block that reads as a header of these numbers holds them
+-- a block that reads as a header says what it says
 pub header_is : (h : Header) (block : List ℕ) → IsHeader h block → header_of_block block ≡ h
 header_is h block is =
-    ap (λ (n : ℕ). made n (number_at 4 16 block) (number_at 4 20 block)) is.next_is
-    ∙ ap (λ (f : ℕ). made h.next f (number_at 4 20 block)) is.first_is
-    ∙ ap (λ (c : ℕ). made h.next h.first c) is.count_is
+    ap (λ (v : Version). made v (number_at 4 12 block) (number_at 4 16 block) (number_at 4 20 block))
+    is.version_is
+    ∙ ap (λ (n : ℕ). made h.version n (number_at 4 16 block) (number_at 4 20 block)) is.next_is
+    ∙ ap (λ (f : ℕ). made h.version h.next f (number_at 4 20 block)) is.first_is
+    ∙ ap (λ (c : ℕ). made h.version h.next h.first c) is.count_is
 
 -- a file that is settled on these blocks passes the checks
 pub settled_passes : (blocks : Blocks) (h : Header) → IsShutGate (block_at 0 blocks)
@@ -135,14 +140,15 @@ sound_says h e = record {
 }
 
 -- they stay sound where a page more is given out, and where one is freed
-pub more_given : (h : Header) → is_sound h ≡ true → is_sound (made (h.next + 1) h.first h.count) ≡ true
+pub more_given : (h : Header) → is_sound h ≡ true
+    → is_sound (made h.version (h.next + 1) h.first h.count) ≡ true
 more_given h e = grind (arith, nat_tests)
 
 pub more_free : (h : Header) (n : ℕ) → is_sound h ≡ true → 3 ≤ n → n < h.next → h.count < h.next - 3
-    → is_sound (made h.next n (h.count + 1)) ≡ true
+    → is_sound (made h.version h.next n (h.count + 1)) ≡ true
 more_free h n e low below room = grind (arith, nat_tests)
 
 -- and where the first free one is taken, whose link is as the format has it
 pub one_less_free : (h : Header) (link : ℕ) → is_sound h ≡ true → 0 < h.count
-    → may_link h.count h.next link ≡ true → is_sound (made h.next link (h.count - 1)) ≡ true
+    → may_link h.count h.next link ≡ true → is_sound (made h.version h.next link (h.count - 1)) ≡ true
 one_less_free h link e some linked = grind (arith, nat_tests)

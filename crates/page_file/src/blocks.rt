@@ -4,7 +4,7 @@ ghost use Rattle.std.specs.Prelude.{◌≡◌, ◌≤◌, ◌<◌, ◌^◌, ◌�
 ghost use Rattle.block_device.specs.Device.{Blocks, Only, LeavesNoMore, LeavesOnly, Follows, Torn, block_at};
 ghost use Rattle.block_device.specs.Device.{written};
 ghost use Rattle.page_file.specs.Fault.{HasCause, IsOfDevice};
-ghost use Rattle.page_file.specs.Layout.{gate_block, version_in, IsHeader};
+ghost use Rattle.page_file.specs.Layout.{gate_block, version_in, version_number, IsHeader};
 ghost use Rattle.page_file.specs.Stops.{GateAside, TornFrom, SameButGate};
 ghost use Rattle.page_file.specs.declared.fault.Fault.TheVariants as fault;
 
@@ -46,7 +46,8 @@ pub fn write_header<D: BlockDevice>(device: &mut D, header: &Header) -> Result<(
         block_at k (D.shown device.new) ≡ block_at k (D.shown device.old) }
     ensures header { D.honest device.old →
         OnOk result (IsHeader header.now (block_at 1 (D.shown device.new))) }
-    ensures version { D.honest device.old → OnOk result (version_in (D.shown device.new) ≡ 2) }
+    ensures version { D.honest device.old →
+        OnOk result (version_in (D.shown device.new) ≡ version_number header.now.version) }
     ensures durable { D.honest device.old → OnOk result (Only (D.shown device.new) (D.may_leave device.new)) }
     ensures now { D.honest device.old → Follows (Torn 1) (D.may_leave device.old) (D.may_leave device.new) }
     ensures stops { D.honest device.old →

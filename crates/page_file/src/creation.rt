@@ -9,12 +9,13 @@ ghost use Rattle.page_file.specs.Stops.{IsOpen, AllLeave, SameButGate};
 
 use crate::Fault;
 use crate::blocks::{write_block, write_gate};
-use crate::header::Header;
+use crate::header::{Header, Version};
 use crate::layout::{catalog_page, header_page};
 use block_device::BlockDevice;
 
 /// The header of a new file.
 pub const NEW_HEADER: Header = Header {
+    version: Version::Two,
     next: 3,
     first: 0,
     count: 0,

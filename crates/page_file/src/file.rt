@@ -18,10 +18,11 @@ use block_device::BlockDevice;
 pub use open::{create_pages, open_pages};
 
 /// A file of pages on a device: a map from live page number to 4096 bytes, in which page 2, the catalog,
-/// is always live, and a gate that is shut, open or unsure.
+/// is always live, a gate that is shut, open or unsure, and a version.
 ///
-/// `begin_change`, `settle` and `close` alone change the gate or its moment. On a device that is not
-/// honest, and on blocks that stand for no such map, each call is safe and returns.
+/// `begin_change`, `settle` and `close` alone change the gate or its moment, and `raise_version` alone the
+/// version. On a device that is not honest, and on blocks that stand for no such map, each call is safe and
+/// returns.
 #[derive(Drop)]
 pub struct PageFile<D: BlockDevice> {
     device: D,

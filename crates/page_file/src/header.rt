@@ -1,10 +1,22 @@
-//! The numbers of a file's header, and their checks.
+//! What a file's header says, and the checks of its numbers.
 ghost use Rattle.std.specs.Prelude.{◌≡◌};
 ghost use Rattle.page_file.specs.Opening as opening;
 
-/// The numbers of a file's header.
+/// What the pages of a file may be (docs/FORMAT.md, "Versions").
+#[derive(Clone, Copy, Debug, PartialEq, Eq, Drop)]
+pub enum Version {
+    /// Pages of formats 1 and 2, in which each identifier table is a directory of chains. A file of version 1
+    /// is read as one of version 2, and written so where it is changed.
+    Two,
+    /// Those, and identifier tables that are trees.
+    Three,
+}
+
+/// What a file's header says: the version, and three numbers.
 #[derive(Clone, Copy, Debug, PartialEq, Eq, Drop)]
 pub struct Header {
+    /// What the pages may be.
+    pub version: Version,
     /// One more than the greatest page number given out.
     pub next: u32,
     /// The first free page, 0 if there is none.

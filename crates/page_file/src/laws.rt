@@ -6,7 +6,7 @@ ghost use Rattle.page_file.specs.declared.file.PageFile.{PageFile};
 ghost use Rattle.page_file.specs.declared.gate.Gate.TheVariants.{Shut, Open};
 ghost use Rattle.page_file.specs.File.{IsHonest, IsLive, IsNewFile, IsPageMap, KeepsGate, KeepsMap};
 ghost use Rattle.page_file.specs.File.{LiesIn, blocks_of};
-ghost use Rattle.page_file.specs.File.{device_of, gate_of, given, next_of, pages};
+ghost use Rattle.page_file.specs.File.{device_of, gate_of, given, next_of, pages, version_of};
 ghost use Rattle.page_file.specs.Layout.{kind_of};
 ghost use Rattle.page_file.specs.Opening.{IsRefused, failed_check};
 ghost use Rattle.page_file.specs.Stops.{SameButGate, StopSince};
@@ -42,12 +42,14 @@ pub fn a_gate_aside_is_refused_or_the_same<D: BlockDevice>()
         SameButGate c blocks → IsRefused c ⊎ LiesIn file c }
 {}
 
-/// Two files that lie in the same blocks have the same map: a closed file opened again is the same.
+/// Two files that lie in the same blocks have the same version and the same map: a closed file opened again
+/// is the same.
 #[tactic(auto, using(crate::specs::Laws::a_file_opened_again_is_the_same))]
 pub fn a_file_opened_again_is_the_same<D: BlockDevice>()
     ensures { (old new : PageFile D ⟦<D as BlockDevice>⟧) (blocks : Blocks) → LiesIn old blocks →
         LiesIn new blocks →
-        (next_of new ≡ next_of old) × ((k : ℕ) → pages new k ≡ pages old k)
+        (version_of new ≡ version_of old) × (next_of new ≡ next_of old)
+        × ((k : ℕ) → pages new k ≡ pages old k)
         × (IsPageMap old ↔ IsPageMap new) }
 {}
 

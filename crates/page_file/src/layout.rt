@@ -5,9 +5,9 @@ ghost use Rattle.page_file.specs.Layout as layout;
 ghost use Rattle.page_file.specs.Opening.{header_of_block};
 ghost use Rattle.page_file.specs.Pages.{free_page_link, may_link};
 
-use crate::header::Header;
+use crate::header::{Header, Version};
 use block_bytes::{
-    FREE_KIND, read_u8, read_u32, write_u8, write_u16, write_u32, write_u64, zero_block,
+    FREE_KIND, read_u8, read_u16, read_u32, write_u8, write_u16, write_u32, write_u64, zero_block,
 };
 
 /// The ASCII text RSTARGAT.
@@ -16,14 +16,32 @@ pub const GATE_TEXT: u64 = 0x5253_5441_5247_4154;
 /// The ASCII text RSTARHDR.
 pub const HEADER_TEXT: u64 = 0x5253_5441_5248_4452;
 
-/// The version that is written. Files of version 1 are read too (docs/FORMAT.md, "Versions").
-pub const VERSION: u16 = 2;
-
-/// Whether files of a version are read.
-pub fn is_known(version: u16) -> bool
-    ensures { result ≡ layout.is_known version }
+/// Whether files of which the header has this number as the version are read (docs/FORMAT.md, "Versions").
+pub fn is_known(number: u16) -> bool
+    ensures { result ≡ layout.is_known number }
 {
-    1 <= version && version <= VERSION
+    1 <= number && number <= 3
+}
+
+// The number of a version, as a header is written.
+fn version_number(version: Version) -> u16
+    ensures { result ≡ layout.version_number version }
+{
+    match version {
+        Version::Two => 2,
+        Version::Three => 3,
+    }
+}
+
+// The version of a header's number, as it is read: 3, and each other one is read as 2.
+fn version_from(number: u16) -> Version
+    ensures { result ≡ layout.version_from number }
+{
+    if number == 3 {
+        Version::Three
+    } else {
+        Version::Two
+    }
 }
 
 /// The gate's block, open (0) or shut (1).
@@ -42,22 +60,23 @@ pub fn gate_page(shut: u8) -> [u8; 4096]
 pub fn header_page(header: &Header) -> [u8; 4096]
     ensures is { result ≡ header_block header.now }
     ensures reads { IsHeader header.now result }
-    ensures version { layout.version_of result ≡ 2 }
+    ensures version { layout.header_version result ≡ layout.version_number header.now.version }
 {
     let mut page = zero_block();
     write_u64(&mut page, 0, HEADER_TEXT);
-    write_u16(&mut page, 8, VERSION);
+    write_u16(&mut page, 8, version_number(header.version));
     write_u32(&mut page, 12, header.next);
     write_u32(&mut page, 16, header.first);
     write_u32(&mut page, 20, header.count);
     page
 }
 
-/// The numbers of a header's block.
+/// What a header's block says.
 pub fn read_header(page: &[u8; 4096]) -> Header
     ensures { result ≡ header_of_block page.now }
 {
     Header {
+        version: version_from(read_u16(page, 8)),
         next: read_u32(page, 12),
         first: read_u32(page, 16),
         count: read_u32(page, 20),

@@ -13,4 +13,5 @@ mod opening;
 
 pub use fault::Fault;
 pub use file::{PageFile, create_pages, open_pages};
+pub use header::Version;
 pub use opening::opening_fault;

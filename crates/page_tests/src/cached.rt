@@ -11,7 +11,7 @@ mod reused;
 use block_device::{BlockDevice, FuseDevice, FuseMode, MemoryDevice};
 use page_cache::PageCache;
 use page_cache::laws::a_page_is_lent_and_comes_back;
-use page_file::{Fault, create_pages, open_pages};
+use page_file::{Fault, Version, create_pages, open_pages};
 use refusing::Refusing;
 use std::alloc::Global;
 use std::test::Fail;
@@ -105,6 +105,23 @@ fn pages_are_put_and_lent(rt: HostRuntime) -> Result<(), Fail> {
     assert!(rt; lends(&mut cache, 3, 2)?);
     assert!(rt; lends(&mut cache, 4, 3)?);
     assert_eq!(rt; cache.looks(), 6);
+    Ok(())
+}
+
+#[test]
+fn a_version_is_raised_behind_what_is_put(rt: HostRuntime) -> Result<(), Fail> {
+    let mut cache = cache_on(rt.alloc(), scene(rt.alloc())?)?;
+    put_first(&mut cache, 3, 1)?;
+    cache.raise_version();
+    assert!(rt; lends(&mut cache, 3, 1)?);
+    put(&mut cache, 4, 2)?;
+    let Ok(device) = cache.close() else {
+        return Err(Fail::from("close"));
+    };
+    let mut again = cache_on(rt.alloc(), device)?;
+    assert_eq!(rt; again.version(), Version::Three);
+    assert!(rt; lends(&mut again, 3, 1)?);
+    assert!(rt; lends(&mut again, 4, 2)?);
     Ok(())
 }
 

@@ -5,7 +5,7 @@ ghost use Rattle.page_file.specs.File.{gate_of};
 ghost use Rattle.page_file.specs.declared.gate.Gate.TheVariants.{Open};
 
 use block_device::{BlockDevice, FuseDevice, FuseMode, Left, MemoryDevice};
-use page_file::{Fault, PageFile, create_pages, open_pages};
+use page_file::{Fault, PageFile, Version, create_pages, open_pages};
 use std::alloc::Global;
 use std::test::Fail;
 
@@ -183,14 +183,15 @@ fn opening_answers_the_first_check_that_fails(rt: HostRuntime) -> Result<(), Fai
         Some(Fault::NotAStore)
     );
     assert_eq!(rt; refusal(scene(rt.alloc(), false)?), None);
-    let table: [(u32, usize, &[u8], Option<Fault>); 15] = [
+    let table: [(u32, usize, &[u8], Option<Fault>); 16] = [
         (0, 0, b"r", Some(Fault::NotAStore)),
         (0, 8, b"\x00", Some(Fault::NotClosed)),
         (0, 8, b"\x02", Some(Fault::NotClosed)),
         (1, 7, b"r", Some(Fault::NotAStore)),
         (1, 8, b"\x00\x00", Some(Fault::WrongVersion)),
         (1, 8, b"\x00\x01", None),
-        (1, 8, b"\x00\x03", Some(Fault::WrongVersion)),
+        (1, 8, b"\x00\x03", None),
+        (1, 8, b"\x00\x04", Some(Fault::WrongVersion)),
         (1, 15, b"\x02", Some(Fault::Damaged(1))),
         (1, 15, b"\x06", Some(Fault::Damaged(1))),
         (
@@ -256,6 +257,32 @@ fn a_file_keeps_its_version_until_it_is_changed(rt: HostRuntime) -> Result<(), F
     let mut device = change(device);
     let header = block_of(&mut device, 1)?;
     assert!(rt; begins(&header, b"RSTARHDR\x00\x02"));
+    Ok(())
+}
+
+#[test]
+fn a_raised_version_is_written_and_read_again(rt: HostRuntime) -> Result<(), Fail> {
+    let mut file = new_file(rt.alloc())?;
+    assert_eq!(rt; file.version(), Version::Two);
+    file.raise_version();
+    assert_eq!(rt; file.version(), Version::Three);
+    filled(&mut file)?;
+    file.settle()?;
+    let Ok(mut device) = file.close() else {
+        return Err(Fail::from("close"));
+    };
+    let header = block_of(&mut device, 1)?;
+    assert!(rt; begins(&header, b"RSTARHDR\x00\x03\x00\x00\x00\x00\x00\x04"));
+    // A later change leaves it.
+    let mut device = change(device);
+    let header = block_of(&mut device, 1)?;
+    assert!(rt; begins(&header, b"RSTARHDR\x00\x03\x00\x00\x00\x00\x00\x05"));
+    let Ok(mut again) = open_pages(device) else {
+        return Err(Fail::from("open"));
+    };
+    assert_eq!(rt; again.version(), Version::Three);
+    assert!(rt; reads(&mut again, 3, 7)?);
+    assert!(rt; reads(&mut again, 4, 7)?);
     Ok(())
 }
 

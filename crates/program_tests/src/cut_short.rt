@@ -3,7 +3,7 @@
 use block_device::BlockDevice;
 use file_device::{OpenError, open_file};
 use journaled_file::{end_journaled, open_journaled};
-use layer_store::{RawBox, Refusal, create_store, open_store};
+use layer_store::{RawBox, Refusal, Version, create_store, open_store};
 use std::fs;
 use std::test::Fail;
 
@@ -24,7 +24,7 @@ fn cut_short(rt: &HostRuntime, path: &str) -> Result<(), Fail> {
     if unended || device.blocks() != 0 {
         return Err(Fail::from("no new file"));
     }
-    let Ok(mut store) = create_store(rt.alloc(), device, 8) else {
+    let Ok(mut store) = create_store(rt.alloc(), device, 8, Version::Three) else {
         return Err(Fail::from("no store"));
     };
     sure(store.create(b"a", 2, 8).is_ok())?;
@@ -38,7 +38,7 @@ fn cut_short(rt: &HostRuntime, path: &str) -> Result<(), Fail> {
 // How many objects layer `a` of the file has, and whether the last run had not ended. It is ended then.
 fn objects(rt: &HostRuntime, path: &str) -> Result<(u64, bool), Fail> {
     let (device, unended) = open_journaled(rt, rt.alloc(), path, false)?;
-    let Ok(mut store) = open_store(rt.alloc(), device, 8) else {
+    let Ok(mut store) = open_store(rt.alloc(), device, 8, Version::Three) else {
         return Err(Fail::from("no store"));
     };
     let Ok(count) = store.count(b"a") else {
@@ -68,7 +68,7 @@ fn a_file_is_not_read_without_its_journal(rt: HostRuntime) -> Result<(), Fail> {
     let journal = "program_tests_alone-journal";
     let _ = fs::remove_file(&rt, path);
     cut_short(&rt, path)?;
-    match open_store(rt.alloc(), open_file(&rt, path, false)?, 8) {
+    match open_store(rt.alloc(), open_file(&rt, path, false)?, 8, Version::Three) {
         Err((refusal, _)) => assert!(rt; refusal == Refusal::NotClosed),
         Ok(_) => return Err(Fail::from("opened")),
     }

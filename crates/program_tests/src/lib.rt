@@ -5,6 +5,10 @@
 #[cfg(test)]
 mod cut_short;
 #[cfg(test)]
+mod imports;
+#[cfg(test)]
 mod runs;
 #[cfg(test)]
 mod shows;
+#[cfg(test)]
+mod strict;

@@ -1,6 +1,6 @@
 //! Runs of the program: its words, its file, its texts and its status.
 
-use command_line::{greet, serve};
+use command_line::{ProgressLine, greet, serve};
 use command_shell::CountedReader;
 use file_device::{
     FileDevice, FileReader, HostFile, HostReader, OpenError, open_file, open_reader,
@@ -35,7 +35,13 @@ pub(crate) fn run<I: Read, W: Write, E: Write>(
         &mut counted,
         output,
         errors,
+        &mut untold(),
     )
+}
+
+// A line of progress that is told to no one.
+pub(crate) fn untold() -> ProgressLine<Vec<u8>> {
+    ProgressLine::to(None)
 }
 
 // The status of a run with these words and this text, and whether it wrote these replies and said this.
@@ -315,6 +321,7 @@ fn each_refusal_of_a_file_is_told(rt: HostRuntime) -> Result<(), Fail> {
                 &mut counted,
                 &mut output,
                 &mut errors,
+                &mut untold(),
             );
             assert_eq!(rt; status, 1);
             assert!(rt; output.is_empty() && errors.as_slice() == said.as_bytes());

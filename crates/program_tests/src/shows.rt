@@ -1,5 +1,5 @@
-//! Runs that show something of a file, and read no line: a layer's tree as a picture, and what one tunes layers
-//! by.
+//! Runs that show something of a file, and read no line: a layer's tree as a picture, and what one tunes
+//! layers by.
 
 use crate::runs::{run, runs, says};
 use std::fs;
@@ -34,7 +34,7 @@ stroke=\"#0072b2\" stroke-width=\"8\"/>
 const TABLE: &str = "layer a: 2 axes, fanout 4, objects 2, height 1
    level       nodes     entries   fill %   overlap of siblings
        0           1           2     50.0   0
-   pages: 1 of the tree, 3 of identifiers; 8192 bytes an object
+   pages: 1 of the tree, 2 of identifiers; 6144 bytes an object
 layer b: 3 axes, fanout 100, objects 0, height 1
    level       nodes     entries   fill %   overlap of siblings
        0           1           0      0.0   0
@@ -43,15 +43,16 @@ layer b: 3 axes, fanout 100, objects 0, height 1
 
 const JSON: &str =
     "{\"layers\":[{\"name\":\"a\",\"axes\":2,\"fanout\":4,\"objects\":2,\"height\":1,\
-\"tree_pages\":1,\"identifier_pages\":3,\"bytes_per_object\":8192,\"levels\":[{\"level\":0,\"nodes\":1,\
+\"tree_pages\":1,\"identifier_pages\":2,\"bytes_per_object\":6144,\"levels\":[{\"level\":0,\"nodes\":1,\
 \"entries\":2,\"fill_per_mille\":500,\"overlap\":0}]},
 {\"name\":\"b\",\"axes\":3,\"fanout\":100,\"objects\":0,\"height\":1,\"tree_pages\":1,\"identifier_pages\":1,\
 \"bytes_per_object\":null,\"levels\":[{\"level\":0,\"nodes\":1,\"entries\":0,\"fill_per_mille\":0,\
 \"overlap\":0}]}]}
 ";
 
-const MISUSED: &str =
-    "rstore: --draw LAYER or --stats is for a FILE that is there, and --json for --stats\n";
+pub(crate) const MISUSED: &str =
+    "rstore: --draw LAYER or --stats is for a FILE that is there, --json for --stats, and --strict for \
+neither\n";
 
 #[test]
 fn a_file_is_shown_and_stays(rt: HostRuntime) -> Result<(), Fail> {

@@ -13,6 +13,7 @@ use Rattle.tree_node.specs.Nodes.{Item, item_of}
 use Rattle.node_page.specs.Layout.{IsOfLevel}
 use Rattle.reinsert.specs.declared.settled.Settled.{Settled}
 use Rattle.reinsert.specs.Placed.{items_after, items_beside, set_box}
+use Rattle.reinsert.specs.Steps.{HasLower}
 use Rattle.reinsert.proofs.WaitLemmas.{All-one}
 
 drop_whole : {A : Type 0} (k : ℕ) (xs : List A) → length xs ≤ k → drop k xs ≡ []
@@ -100,14 +101,6 @@ mapped-All {D} level (x ∷ xs) h k d lt =
     subst (λ (y : Item). IsOfLevel level y.reference y.tag) (sym (get_or-map item_of (x ∷ xs) k x d within))
     (h k x within)
 
--- the node's entries are those with the settled child, and as many, or one more
-pub record Above {D : ℕ} (level : ℕ) (entries : List (Entry D)) (at : ℕ) (lower : Settled D)
-    (new : List (Entry D)) : Type 0 where
-  pub items : map item_of new ≡ items_after (map item_of entries) at lower
-  pub some : 0 < length new
-  pub few : length new ≤ length entries + 1
-  pub refers : All (λ (e : Entry D). IsOfLevel level e.reference e.tag) new
-
 beside_refers : {D : ℕ} (level : ℕ) (o : Option (Entry D))
     → IfSome o (λ e. IsOfLevel level e.reference e.tag)
     → All (λ (item : Item). IsOfLevel level item.reference item.tag) (items_beside o)
@@ -123,7 +116,7 @@ above_of : {D : ℕ} (level : ℕ) (entries : List (Entry D)) (at : ℕ) (lower 
     → at < length entries
     → All (λ (e : Entry D). IsOfLevel level e.reference e.tag) entries
     → IfSome lower.beside (λ e. IsOfLevel level e.reference e.tag)
-    → map item_of new ≡ items_after (map item_of entries) at lower → Above level entries at lower new
+    → map item_of new ≡ items_after (map item_of entries) at lower → HasLower level entries at lower new
 above_of {D} level entries at lower new within refers beside are =
     let base = set_box (map item_of entries) at lower.bounds in
     let P : Item → Type 0 = λ item. IsOfLevel level item.reference item.tag in
@@ -177,7 +170,7 @@ module _ {D : ℕ} (level : ℕ) (entries now : List (Entry D)) (at : ℕ) (lowe
       ∙ set_box-is entries at lower.bounds e within
 
   pub above_some : (new : List (Entry D)) (o : Option (Entry D)) (x : Entry D) → o ≡ lower.beside
-      → o ≡ Some x → new ≡ base ++ x ∷ [] → Above level entries at lower new
+      → o ≡ Some x → new ≡ base ++ x ∷ [] → HasLower level entries at lower new
   above_some new o x same some are = above_of level entries at lower new within refers beside
       (ap (map item_of) are ∙ map-append item_of base (x ∷ [])
       ∙ ap (λ (es : List Item). es ++ item_of x ∷ []) base_items
@@ -185,7 +178,7 @@ module _ {D : ℕ} (level : ℕ) (entries now : List (Entry D)) (at : ℕ) (lowe
       (sym some ∙ same))
 
   pub above_none : (new : List (Entry D)) → ((x : Entry D) → lower.beside ≡ Some x → ⊥) → new ≡ base
-      → Above level entries at lower new
+      → HasLower level entries at lower new
   above_none new none are = above_of level entries at lower new within refers beside
       (ap (map item_of) are ∙ base_items ∙ sym (append-nil (set_box (map item_of entries) at lower.bounds))
       ∙ ap (λ (p : Option (Entry D)). set_box (map item_of entries) at lower.bounds ++ items_beside p)

@@ -1,29 +1,16 @@
 //! A lawful insertion: placings, one after the other, until nothing waits.
 
-ghost use Rattle.std.specs.Prelude.{◌≡◌, ◌⊎◌, ◌^◌, ◌+◌, ◌<◌, ◌≤◌, ◌++◌, ◌∷◌, [], ℕ, Err, IfOk, IfErr, OnOk};
-ghost use Rattle.std.specs.Prelude.{true, false};
+ghost use Rattle.std.specs.Prelude.{◌≡◌, ◌^◌, ◌<◌, ◌≤◌, Err};
 ghost use Rattle.box_math.specs.Bounds.{IsDims};
 ghost use Rattle.page_file.specs.declared.fault.Fault.TheVariants as fault;
 ghost use Rattle.page_file.specs.declared.gate.Gate.TheVariants.{Open};
-ghost use Rattle.page_cache.specs.Cache.{Grows, IsPageMap, IsUnchanged, gate_of, given, pages};
-ghost use Rattle.page_cache.specs.Cache.{touched_of};
-ghost use Rattle.page_cache.specs.Calls.{Changes};
-ghost use Rattle.tree_node.specs.Boxes.{RowHasBoxes};
-ghost use Rattle.tree_node.specs.Nodes.{item_of};
-ghost use Rattle.tree_node.specs.Shape.{HasLooseShape};
-ghost use Rattle.tree_node.specs.Trees.{Branch, Tree};
-ghost use Rattle.node_page.specs.Checked.{ComesTo};
+ghost use Rattle.page_cache.specs.Cache.{IsUnchanged, gate_of};
 ghost use Rattle.node_page.specs.Layout.{IsOfLevel};
-ghost use Rattle.node_page.specs.Faults.{IsChangeFault, IsNoDamage, NamesInRange};
-ghost use Rattle.reinsert.specs.Inserted.{CanInsert, InsertsTo, IsAt, IsRootFrom, StepsTo};
-ghost use Rattle.reinsert.specs.Inserted.{most_new_pages, most_placing_pages};
-ghost use Rattle.reinsert.specs.Kept.{EntryHasShape, StateHasShape};
-ghost use Rattle.reinsert.specs.Placed.{measure_of};
-ghost use Rattle.reinsert.specs.Placing.{State};
+ghost use Rattle.reinsert.specs.Steps.{Inserts, PlacesOne};
 
 use crate::grow::grow;
 use crate::place::place;
-use crate::settled::Settled;
+use crate::settled::{Limits, Settled};
 use crate::waiting::{Wait, Waiting};
 use block_device::BlockDevice;
 use page_cache::PageCache;
@@ -54,33 +41,18 @@ pub fn insert_at<const D: usize, B: BlockDevice, A: Allocator + Copy, H: Allocat
     root: Root,
     entry: &Entry<D>,
     level: u8,
-    m_max: usize,
+    fanout: usize,
 ) -> Result<Root, Fault>
     requires dims { IsDims D }
     requires open { gate_of cache.old ≡ Open }
-    requires most { (4 ≤ m_max) × (m_max ≤ 100) }
+    requires most { (4 ≤ fanout) × (fanout ≤ 100) }
     requires levels { (level ≤ root.level) × (root.level ≤ 40) }
     requires root { (3 ≤ root.page) × (root.page < 2 ^ 31) }
     requires refers { IsOfLevel level entry.now.reference entry.now.tag }
-    ensures changes { Changes cache.old cache.new result }
-    ensures grows { Grows most_new_pages cache.old cache.new }
-    ensures root { IfOk result (IsRootFrom root) }
-    ensures inserted { IsPageMap cache.old → (t : Tree) (branch : Branch) (elsewhere : ℕ → ℕ)
-        → CanInsert D (pages cache.old) root (item_of entry.now) level t branch elsewhere →
-        IfOk result (λ after. IsPageMap cache.new
-        × InsertsTo D m_max (pages cache.old) (pages cache.new) level t branch elsewhere after) }
-    ensures faults { IsPageMap cache.old → (t : Tree) (branch : Branch) (elsewhere : ℕ → ℕ)
-        → CanInsert D (pages cache.old) root (item_of entry.now) level t branch elsewhere
-        → HasLooseShape D m_max t → RowHasBoxes D t.row → EntryHasShape D m_max level branch →
-        IfErr result (IsNoDamage cache.new) }
-    ensures damage { IsPageMap cache.old → touched_of cache.new ≡ false
-        → IfErr result (λ f. (n : ℕ) → f ≡ fault.Damaged n → ComesTo D (given cache.old) root.page n) }
-    ensures sound { IsPageMap cache.old → OnOk result (IsPageMap cache.new) }
-    ensures number { IsPageMap cache.old → IfErr result NamesInRange }
-    ensures other_faults { IfErr result IsChangeFault }
+    ensures { Inserts fanout root entry.now level cache.old cache.new result }
 {
     let mut waiting = Waiting::make(alloc)?;
-    insert_with(cache, root, entry, level, m_max, &mut waiting)
+    insert_with(cache, root, entry, level, fanout, &mut waiting)
 }
 
 /// Inserts an entry as `insert_at` does, and takes no memory but what the cache takes. The `Waiting` serves
@@ -90,33 +62,18 @@ pub fn insert_with<const D: usize, B: BlockDevice, A: Allocator + Copy>(
     root: Root,
     entry: &Entry<D>,
     level: u8,
-    m_max: usize,
+    fanout: usize,
     waiting: &mut Waiting<D>,
 ) -> Result<Root, Fault>
     requires dims { IsDims D }
     requires open { gate_of cache.old ≡ Open }
-    requires most { (4 ≤ m_max) × (m_max ≤ 100) }
+    requires most { (4 ≤ fanout) × (fanout ≤ 100) }
     requires levels { (level ≤ root.level) × (root.level ≤ 40) }
     requires root { (3 ≤ root.page) × (root.page < 2 ^ 31) }
     requires refers { IsOfLevel level entry.now.reference entry.now.tag }
-    ensures changes { Changes cache.old cache.new result }
-    ensures grows { Grows most_new_pages cache.old cache.new }
-    ensures root { IfOk result (IsRootFrom root) }
-    ensures inserted { IsPageMap cache.old → (t : Tree) (branch : Branch) (elsewhere : ℕ → ℕ)
-        → CanInsert D (pages cache.old) root (item_of entry.now) level t branch elsewhere →
-        IfOk result (λ after. IsPageMap cache.new
-        × InsertsTo D m_max (pages cache.old) (pages cache.new) level t branch elsewhere after) }
-    ensures faults { IsPageMap cache.old → (t : Tree) (branch : Branch) (elsewhere : ℕ → ℕ)
-        → CanInsert D (pages cache.old) root (item_of entry.now) level t branch elsewhere
-        → HasLooseShape D m_max t → RowHasBoxes D t.row → EntryHasShape D m_max level branch →
-        IfErr result (IsNoDamage cache.new) }
+    ensures inserts { Inserts fanout root entry.now level cache.old cache.new result }
     ensures tall { root.level ≡ 40 → (result ≡ Err (fault.Damaged root.page))
         × IsUnchanged cache.old cache.new }
-    ensures damage { IsPageMap cache.old → touched_of cache.new ≡ false
-        → IfErr result (λ f. (n : ℕ) → f ≡ fault.Damaged n → ComesTo D (given cache.old) root.page n) }
-    ensures sound { IsPageMap cache.old → OnOk result (IsPageMap cache.new) }
-    ensures number { IsPageMap cache.old → IfErr result NamesInRange }
-    ensures other_faults { IfErr result IsChangeFault }
 {
     if root.level >= 40 {
         return Err(Fault::Damaged(root.page));
@@ -126,9 +83,9 @@ pub fn insert_with<const D: usize, B: BlockDevice, A: Allocator + Copy>(
         entry: *entry,
         level,
     };
-    let mut now = place_one(cache, root, &first, m_max, waiting)?;
+    let mut now = place_one(cache, root, &first, fanout, waiting)?;
     'placing: while let Some(wait) = waiting.next() {
-        now = place_one(cache, now, &wait, m_max, waiting)?;
+        now = place_one(cache, now, &wait, fanout, waiting)?;
     }
     Ok(now)
 }
@@ -138,46 +95,30 @@ fn place_one<const D: usize, B: BlockDevice, A: Allocator + Copy>(
     cache: &mut PageCache<B, A>,
     root: Root,
     first: &Wait<D>,
-    m_max: usize,
+    fanout: usize,
     waiting: &mut Waiting<D>,
 ) -> Result<Root, Fault>
     requires dims { IsDims D }
     requires open { gate_of cache.old ≡ Open }
-    requires most { (4 ≤ m_max) × (m_max ≤ 100) }
+    requires most { (4 ≤ fanout) × (fanout ≤ 100) }
     requires level { root.level ≤ 40 }
     requires root { (3 ≤ root.page) × (root.page < 2 ^ 31) }
     requires refers { IsOfLevel first.now.level first.now.entry.reference first.now.entry.tag }
-    ensures changes { Changes cache.old cache.new result }
-    ensures grows { Grows most_placing_pages cache.old cache.new }
-    ensures measure { measure_of waiting.new ≤ measure_of waiting.old }
-    ensures root { IfOk result (IsRootFrom root) }
-    ensures placed { IsPageMap cache.old → (s : State) (elsewhere : ℕ → ℕ)
-        → IsAt D (pages cache.old) root (waiting.old.waits.items ++ first.now ∷ []) waiting.old.called
-        elsewhere s →
-        IfOk result (λ after. IsPageMap cache.new
-        × StepsTo D m_max (pages cache.old) (pages cache.new) elsewhere s after waiting.new.waits.items
-        waiting.new.called) }
-    ensures faults { IsPageMap cache.old → (s : State) (elsewhere : ℕ → ℕ)
-        → IsAt D (pages cache.old) root (waiting.old.waits.items ++ first.now ∷ []) waiting.old.called
-        elsewhere s
-        → StateHasShape D m_max s →
-        IfErr result (IsNoDamage cache.new) }
-    ensures sound { IsPageMap cache.old → OnOk result (IsPageMap cache.new) }
-    ensures stays { IfOk result (λ after. (after ≡ root) ⊎ (touched_of cache.new ≡ true)) }
-    ensures damage { IsPageMap cache.old
-        → IfErr result (λ f. (n : ℕ) → f ≡ fault.Damaged n → ComesTo D (given cache.old) root.page n) }
-    ensures other_faults { IfErr result IsChangeFault }
+    ensures { PlacesOne fanout root first.now cache.old cache.new waiting.old waiting.new result }
 {
     if first.level > root.level {
         return Err(Fault::Damaged(root.page));
     }
+    let limits = Limits {
+        fanout,
+        top: root.level,
+    };
     let Settled { bounds, beside } = place(
         cache,
         root,
         &first.entry,
         first.level,
-        root.level,
-        m_max,
+        limits,
         waiting,
     )?;
     let Some(beside) = beside else {

@@ -9,18 +9,17 @@ ghost use Rattle.page_file.specs.declared.gate.Gate.TheVariants.{Open};
 ghost use Rattle.page_cache.specs.Cache.{Grows, IsLive, IsPageMap, gate_of, pages};
 ghost use Rattle.page_cache.specs.Calls.{Changes};
 ghost use Rattle.tree_node.specs.Nodes.{content_of, item_of};
-ghost use Rattle.tree_node.specs.Rows.{item_in};
-ghost use Rattle.tree_node.specs.Trees.{Branch};
 ghost use Rattle.node_page.specs.Layout.{IsOfLevel, IsSpellable};
 ghost use Rattle.node_page.specs.Standing.{PageMap, node_in};
 ghost use Rattle.reinsert.specs.Called.{is_called};
 ghost use Rattle.reinsert.specs.Far;
 ghost use Rattle.node_page.specs.Faults.{IsChangeFault, IsNoDamage};
-ghost use Rattle.reinsert.specs.Placed.{CanSettle, SettlesTo, SplitsOff, measure_of};
+ghost use Rattle.reinsert.specs.Placed.{SplitsOff, measure_of};
+ghost use Rattle.reinsert.specs.Steps.{SettlesAt, SettlesNode};
 ghost use Rattle.reinsert.specs.declared.waiting.Wait.{Wait};
 
 use crate::far::farthest;
-use crate::settled::Settled;
+use crate::settled::{Limits, Settled};
 use crate::waiting::Waiting;
 use block_device::BlockDevice;
 use node_page::write_node;
@@ -31,12 +30,12 @@ use std::alloc::Allocator;
 use tree_node::{Entry, Node, least};
 
 // How many entries a far set has: 30 in a hundred.
-fn far_count(m_max: usize) -> usize
-    requires { (4 ≤ m_max) × (m_max ≤ 100) }
-    ensures value { result ≡ Far.far_count m_max }
-    ensures few { (1 ≤ result) × (result ≤ 30) × (result + 1 ≤ m_max) }
+fn far_count(fanout: usize) -> usize
+    requires { (4 ≤ fanout) × (fanout ≤ 100) }
+    ensures value { result ≡ Far.far_count fanout }
+    ensures few { (1 ≤ result) × (result ≤ 30) × (result + 1 ≤ fanout) }
 {
-    (3 * m_max / 10).max(1)
+    (3 * fanout / 10).max(1)
 }
 
 // Writes a node that may have one entry too many.
@@ -44,39 +43,26 @@ pub(crate) fn settle<const D: usize, B: BlockDevice, A: Allocator + Copy>(
     cache: &mut PageCache<B, A>,
     page: u32,
     node: &Node<D>,
-    top: u8,
-    m_max: usize,
+    limits: Limits,
     waiting: &mut Waiting<D>,
 ) -> Result<Settled<D>, Fault>
     requires dims { IsDims D }
     requires open { gate_of cache.old ≡ Open }
-    requires most { (4 ≤ m_max) × (m_max ≤ 100) }
-    requires top { (node.now.level ≤ top) × (top ≤ 40) }
+    requires most { (4 ≤ limits.fanout) × (limits.fanout ≤ 100) }
+    requires top { (node.now.level ≤ limits.top) × (limits.top ≤ 40) }
     requires some { 0 < array_vec_len node.now.entries }
-    requires few { array_vec_len node.now.entries ≤ m_max + 1 }
+    requires few { array_vec_len node.now.entries ≤ limits.fanout + 1 }
     requires refers { All (λ e. IsOfLevel node.now.level e.reference e.tag) node.now.entries.items }
-    ensures changes { Changes cache.old cache.new result }
-    ensures grows { Grows 1 cache.old cache.new }
-    ensures measure { measure_of waiting.new ≤ measure_of waiting.old }
-    ensures beside { IfOk result
-        (λ s. IfSome s.beside (λ e. IsOfLevel (node.now.level + 1) e.reference e.tag)) }
-    ensures settled { IsPageMap cache.old → (branches : List Branch)
-        → map item_in branches ≡ map item_of node.now.entries.items
-        → CanSettle D (pages cache.old) page node.now.level branches →
-        IfOk result (λ s. IsPageMap cache.new
-        × SettlesTo D m_max top node.now.level waiting.old.called branches (pages cache.old) (pages cache.new)
-        page s waiting.old.waits.items waiting.new.waits.items waiting.new.called) }
-    ensures sound { IsPageMap cache.old → IsLive cache.old page → OnOk result (IsPageMap cache.new) }
-    ensures faults { IsPageMap cache.old → IsLive cache.old page → IfErr result (IsNoDamage cache.new) }
-    ensures other_faults { IfErr result IsChangeFault }
+    ensures { SettlesAt limits.fanout limits.top page node.now.level (map item_of node.now.entries.items)
+        cache.old cache.new waiting.old waiting.new result }
 {
-    if node.entries.len() <= m_max {
+    if node.entries.len() <= limits.fanout {
         return write_fitting(cache, page, node);
     }
-    if node.level < top && !waiting.is_called(node.level) {
-        return take_out_far(cache, page, node, m_max, waiting);
+    if node.level < limits.top && !waiting.is_called(node.level) {
+        return take_out_far(cache, page, node, limits.fanout, waiting);
     }
-    split_off(cache, page, node, m_max, waiting)
+    split_off(cache, page, node, limits.fanout, waiting)
 }
 
 // Writes a node of at most the most entries.
@@ -94,13 +80,9 @@ fn write_fitting<const D: usize, B: BlockDevice, A: Allocator + Copy>(
     ensures grows { Grows 0 cache.old cache.new }
     ensures alone { IfOk result (λ s. s.beside ≡ None) }
     ensures settled { IsPageMap cache.old
-        → (most top : ℕ) (called : List Bool) (waits : List (Wait D)) (branches : List Branch)
-        → array_vec_len node.now.entries ≤ most
-        → map item_in branches ≡ map item_of node.now.entries.items
-        → CanSettle D (pages cache.old) page node.now.level branches →
-        IfOk result (λ s. IsPageMap cache.new
-        × SettlesTo D most top node.now.level called branches (pages cache.old) (pages cache.new) page s waits
-        waits called) }
+        → (most top : ℕ) (called : List Bool) (waits : List (Wait D)) → array_vec_len node.now.entries ≤ most
+        → SettlesNode most top page node.now.level (map item_of node.now.entries.items) cache.old cache.new
+        waits called waits called result }
     ensures sound { IsPageMap cache.old → IsLive cache.old page → OnOk result (IsPageMap cache.new) }
     ensures faults { IsPageMap cache.old → IsLive cache.old page → IfErr result (IsNoDamage cache.new) }
     ensures other_faults { IfErr result IsChangeFault }
@@ -118,32 +100,29 @@ fn take_out_far<const D: usize, B: BlockDevice, A: Allocator + Copy>(
     cache: &mut PageCache<B, A>,
     page: u32,
     node: &Node<D>,
-    m_max: usize,
+    fanout: usize,
     waiting: &mut Waiting<D>,
 ) -> Result<Settled<D>, Fault>
     requires dims { IsDims D }
     requires open { gate_of cache.old ≡ Open }
-    requires most { (4 ≤ m_max) × (m_max ≤ 100) }
+    requires most { (4 ≤ fanout) × (fanout ≤ 100) }
     requires level { node.now.level < 41 }
-    requires many { array_vec_len node.now.entries ≡ m_max + 1 }
+    requires many { array_vec_len node.now.entries ≡ fanout + 1 }
     requires refers { All (λ e. IsOfLevel node.now.level e.reference e.tag) node.now.entries.items }
     requires first { is_called waiting.old.called node.now.level ≡ false }
     ensures changes { Changes cache.old cache.new result }
     ensures grows { Grows 0 cache.old cache.new }
     ensures measure { measure_of waiting.new ≤ measure_of waiting.old }
     ensures alone { IfOk result (λ s. s.beside ≡ None) }
-    ensures settled { IsPageMap cache.old → (top : ℕ) (branches : List Branch) → node.now.level < top
-        → map item_in branches ≡ map item_of node.now.entries.items
-        → CanSettle D (pages cache.old) page node.now.level branches →
-        IfOk result (λ s. IsPageMap cache.new
-        × SettlesTo D m_max top node.now.level waiting.old.called branches (pages cache.old) (pages cache.new)
-        page s waiting.old.waits.items waiting.new.waits.items waiting.new.called) }
+    ensures settled { IsPageMap cache.old → (top : ℕ) → node.now.level < top
+        → SettlesNode fanout top page node.now.level (map item_of node.now.entries.items) cache.old cache.new
+        waiting.old.waits.items waiting.old.called waiting.new.waits.items waiting.new.called result }
     ensures sound { IsPageMap cache.old → IsLive cache.old page → OnOk result (IsPageMap cache.new) }
     ensures faults { IsPageMap cache.old → IsLive cache.old page → IfErr result (IsNoDamage cache.new) }
     ensures other_faults { IfErr result IsChangeFault }
 {
     let level = node.level;
-    let (near, far) = farthest(&node.entries, far_count(m_max));
+    let (near, far) = farthest(&node.entries, far_count(fanout));
     let bounds = least(near.as_slice());
     waiting.wait_again(&far, level);
     let rest = Node {
@@ -162,34 +141,31 @@ fn split_off<const D: usize, B: BlockDevice, A: Allocator + Copy>(
     cache: &mut PageCache<B, A>,
     page: u32,
     node: &Node<D>,
-    m_max: usize,
+    fanout: usize,
     waiting: &mut Waiting<D>,
 ) -> Result<Settled<D>, Fault>
     requires dims { IsDims D }
     requires open { gate_of cache.old ≡ Open }
-    requires most { (4 ≤ m_max) × (m_max ≤ 100) }
+    requires most { (4 ≤ fanout) × (fanout ≤ 100) }
     requires level { node.now.level < 41 }
-    requires many { array_vec_len node.now.entries ≡ m_max + 1 }
+    requires many { array_vec_len node.now.entries ≡ fanout + 1 }
     requires refers { All (λ e. IsOfLevel node.now.level e.reference e.tag) node.now.entries.items }
     ensures changes { Changes cache.old cache.new result }
     ensures grows { Grows 1 cache.old cache.new }
     ensures measure { measure_of waiting.new ≤ measure_of waiting.old }
     ensures beside { IfOk result
         (λ s. IfSome s.beside (λ e. IsOfLevel (node.now.level + 1) e.reference e.tag)) }
-    ensures settled { IsPageMap cache.old → (top : ℕ) (branches : List Branch)
-        → (node.now.level < top → is_called waiting.old.called node.now.level ≡ true)
-        → map item_in branches ≡ map item_of node.now.entries.items
-        → CanSettle D (pages cache.old) page node.now.level branches →
-        IfOk result (λ s. IsPageMap cache.new
-        × SettlesTo D m_max top node.now.level waiting.old.called branches (pages cache.old) (pages cache.new)
-        page s waiting.old.waits.items waiting.new.waits.items waiting.new.called) }
+    ensures settled { IsPageMap cache.old
+        → (top : ℕ) → (node.now.level < top → is_called waiting.old.called node.now.level ≡ true)
+        → SettlesNode fanout top page node.now.level (map item_of node.now.entries.items) cache.old cache.new
+        waiting.old.waits.items waiting.old.called waiting.new.waits.items waiting.new.called result }
     ensures sound { IsPageMap cache.old → IsLive cache.old page → OnOk result (IsPageMap cache.new) }
     ensures faults { IsPageMap cache.old → IsLive cache.old page → IfErr result (IsNoDamage cache.new) }
     ensures other_faults { IfErr result IsChangeFault }
 {
     let level = node.level;
     waiting.call(level);
-    let (first, second) = split(&node.entries, m_max);
+    let (first, second) = split(&node.entries, fanout);
     let bounds = least(first.as_slice());
     let other = least(second.as_slice());
     let first = Node {

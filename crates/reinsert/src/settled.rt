@@ -1,4 +1,4 @@
-//! What a node hands up once it has settled.
+//! What a node is settled by, and what it hands up.
 
 use box_math::BBox;
 use tree_node::Entry;
@@ -8,4 +8,11 @@ use tree_node::Entry;
 pub(crate) struct Settled<const D: usize> {
     pub(crate) bounds: BBox<D>,
     pub(crate) beside: Option<Entry<D>>,
+}
+
+/// The most entries of a node, and the level of the root.
+#[derive(Clone, Copy, Debug)]
+pub(crate) struct Limits {
+    pub(crate) fanout: usize,
+    pub(crate) top: u8,
 }

@@ -111,22 +111,22 @@ pub(crate) fn way_down<const D: usize, B: BlockDevice, A: Allocator + Copy>(
     cache: &mut PageCache<B, A>,
     at: Root,
     bounds: &BBox<D>,
-    m_max: usize,
+    fanout: usize,
 ) -> Result<Way<D>, Fault>
     requires dims { IsDims D }
     requires above { 0 < at.level }
     ensures asks { Asks cache.old cache.new result }
     ensures way { IsHonest cache.old → (c : NodeContent) → node_in D (pages cache.old at.page) ≡ Some c
-        → c.level ≡ at.level → IfOk result (IsWay D m_max at.level c.entries bounds.now) }
+        → c.level ≡ at.level → IfOk result (IsWay D fanout at.level c.entries bounds.now) }
     ensures faults { IsHonest cache.old → (c : NodeContent) → node_in D (pages cache.old at.page) ≡ Some c
-        → c.level ≡ at.level → length c.entries ≤ m_max → IfErr result IsOfDevice }
+        → c.level ≡ at.level → length c.entries ≤ fanout → IfErr result IsOfDevice }
     ensures named { IsHonest cache.old → IfOk result (λ way. (c : NodeContent)
         × (node_in D (given cache.old at.page) ≡ Some c) × Names c way.page) }
     ensures damaged { IsHonest cache.old → IfErr result (λ f. IsOfDevice f ⊎ (f ≡ fault.Damaged at.page)) }
     ensures other_faults { IfErr result (λ f. IsOfDevice f ⊎ IsDamage f) }
 {
     let node = view_node::<D, B, A>(cache, at.page, at.level)?;
-    if node.len() > m_max {
+    if node.len() > fanout {
         return Err(Fault::Damaged(at.page));
     }
     let place = chosen_child(&node, bounds);

@@ -107,19 +107,19 @@ fn least_cut<const D: usize>(
 /// The two groups of the chosen split of a node that has one entry more than the most.
 pub fn split<const D: usize>(
     entries: &ArrayVec<Entry<D>, 101>,
-    m_max: usize,
+    fanout: usize,
 ) -> (ArrayVec<Entry<D>, 101>, ArrayVec<Entry<D>, 101>)
     requires dims { IsDims D }
-    requires most { (4 ≤ m_max) × (m_max ≤ 100) }
-    requires count { array_vec_len entries.now ≡ m_max + 1 }
-    ensures divided { IsDividedBySplit D m_max entries.now.items result.0.items result.1.items }
+    requires most { (4 ≤ fanout) × (fanout ≤ 100) }
+    requires count { array_vec_len entries.now ≡ fanout + 1 }
+    ensures divided { IsDividedBySplit D fanout entries.now.items result.0.items result.1.items }
     ensures all { IsPermutation entries.now.items (result.0.items ++ result.1.items) }
-    ensures whole { array_vec_len result.0 + array_vec_len result.1 ≡ m_max + 1 }
-    ensures full { (least_entries m_max ≤ array_vec_len result.0)
-        × (least_entries m_max ≤ array_vec_len result.1) }
+    ensures whole { array_vec_len result.0 + array_vec_len result.1 ≡ fanout + 1 }
+    ensures full { (least_entries fanout ≤ array_vec_len result.0)
+        × (least_entries fanout ≤ array_vec_len result.1) }
 {
     let all = entries.as_slice();
-    let m = (2 * m_max / 5).max(2);
+    let m = (2 * fanout / 5).max(2);
     let mut room = [0; 101];
     let places = &mut room[..all.len()];
     let mut upper_room = [0; 101];

@@ -1,13 +1,14 @@
-//! The program `rstore`: `rstore [--cache N] [--create | --read-only] [FILE]`, and with `--draw LAYER` or
-//! `--stats` in place of the input (docs/COMMANDS.md, "The program").
+//! The program `rstore`: `rstore [--cache N] [--create | --read-only] [FILE]`, and with `--draw LAYER`,
+//! `--stats` or `--import LAYER` in place of lines (docs/COMMANDS.md, "The program").
 #![tactic(auto)]
 
-use command_line::{greet, serve};
+use command_line::{ProgressLine, ProgressReader, greet, imports, serve};
 use command_shell::{CountedReader, tell_refusal};
 use file_device::open_reader;
 use journaled_file::{end_journaled, open_journaled};
 use layer_store::Refusal;
-use std::io::{BufWriter, IsTerminal, Write};
+use std::alloc::Global;
+use std::io::{BufWriter, IsTerminal, Stderr, Write};
 use std::process::ExitCode;
 use std::{env, io};
 
@@ -30,6 +31,16 @@ fn main(rt: HostRuntime) -> ExitCode {
     }
 }
 
+// Where the progress of an import is told: at a terminal.
+fn progress(rt: &HostRuntime, alloc: Global, words: &[&str]) -> Option<Stderr> {
+    let errors = rt.stderr();
+    if errors.is_terminal() && imports(alloc, words) {
+        Some(errors)
+    } else {
+        None
+    }
+}
+
 // The status of the run. Without memory there is none, and where a word is no text.
 fn run(rt: &HostRuntime) -> io::Result<u8> {
     let alloc = rt.alloc();
@@ -43,7 +54,11 @@ fn run(rt: &HostRuntime) -> io::Result<u8> {
         greet(alloc, words.as_slice(), &mut errors);
     }
     let mut output = BufWriter::new(alloc, io::writer(rt))?;
-    let mut input = CountedReader::over(rt.reader());
+    let mut input = CountedReader::over(ProgressReader::over(
+        rt.reader(),
+        progress(rt, alloc, words.as_slice()),
+    ));
+    let mut line = ProgressLine::to(progress(rt, alloc, words.as_slice()));
     let open = |path: &str, create: bool| {
         let (device, unended) = open_journaled(rt, alloc, path, create)?;
         if unended {
@@ -64,5 +79,6 @@ fn run(rt: &HostRuntime) -> io::Result<u8> {
         &mut input,
         &mut output,
         &mut errors,
+        &mut line,
     ))
 }

@@ -6,7 +6,7 @@ use block_device::{BlockDevice, DeviceError};
 use device_pair::{DevicePair, TwoDevices};
 use file_device::{FileDevice, OpenError};
 use journaled_file::{Found, end_session, judge, judge_and_finish, open_over};
-use layer_store::{Refusal, Store, create_store, open_store};
+use layer_store::{Refusal, Store, Version, create_store, open_store};
 use marked_pair::{MARKED, reads_as};
 use std::alloc::Global;
 use std::rt::{Stdin, Stdout};
@@ -66,9 +66,9 @@ pub fn open(
         Err((error, _)) => return Err(Unopened::File(error)),
     };
     let made = if create && device.blocks() == 0 {
-        create_store(alloc, device, cache)
+        create_store(alloc, device, cache, Version::Three)
     } else {
-        open_store(alloc, device, cache)
+        open_store(alloc, device, cache, Version::Three)
     };
     match made {
         Ok(store) => Ok((store, unended)),
@@ -100,7 +100,7 @@ pub fn open_to_read(
         Ok(device) => device,
         Err((error, _)) => return Err(Unopened::File(error)),
     };
-    match open_store(alloc, device, cache) {
+    match open_store(alloc, device, cache, Version::Three) {
         Ok(store) => Ok((store, false)),
         Err((refusal, _)) => Err(Unopened::Store(refusal)),
     }

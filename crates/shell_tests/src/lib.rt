@@ -17,3 +17,5 @@ mod replies;
 mod sessions;
 #[cfg(test)]
 mod stores;
+#[cfg(test)]
+mod strict;

@@ -4,7 +4,7 @@ use crate::fakes::{FailsOnce, Parts, Short, Unflushed};
 use crate::stores::close_new;
 use block_device::{BlockDevice, FuseDevice, FuseMode, MemoryDevice};
 use command_shell::{CountedReader, RunEnd, answers_to, run, run_and_close, tell_refusal};
-use layer_store::{Refusal, create_store, open_store};
+use layer_store::{Refusal, Version, create_store, open_store};
 use std::alloc::Global;
 use std::cell::Cell;
 use std::test::Fail;
@@ -15,7 +15,7 @@ const FAILED: &[u8] = b"rstore: input or output failed\n";
 
 // Whether the device has a closed store with the layer of the text, and so many objects in it.
 fn is_closed(alloc: Global, device: MemoryDevice, objects: usize) -> Result<bool, Fail> {
-    let Ok(mut store) = open_store(alloc, device, 64) else {
+    let Ok(mut store) = open_store(alloc, device, 64, Version::Three) else {
         return Ok(false);
     };
     let rows = store.window(b"a", layer_store::RawBox::Two([0, 0], [9, 9]), None)?;
@@ -90,7 +90,7 @@ fn a_run_whose_last_flush_fails_did_not_go_well(rt: HostRuntime) -> Result<(), F
 #[test]
 fn a_refused_closing_is_told(rt: HostRuntime) -> Result<(), Fail> {
     let fuse = FuseDevice::new(MemoryDevice::new(rt.alloc()), 13, FuseMode::Onward);
-    let Ok(store) = create_store(rt.alloc(), fuse, 64) else {
+    let Ok(store) = create_store(rt.alloc(), fuse, 64, Version::Three) else {
         return Err(Fail::from("make"));
     };
     let mut input = CountedReader::over(TEXT);
@@ -108,7 +108,7 @@ fn a_refused_closing_is_told(rt: HostRuntime) -> Result<(), Fail> {
 #[test]
 fn a_refused_closing_is_told_before_a_failed_output(rt: HostRuntime) -> Result<(), Fail> {
     let fuse = FuseDevice::new(MemoryDevice::new(rt.alloc()), 13, FuseMode::Onward);
-    let Ok(store) = create_store(rt.alloc(), fuse, 64) else {
+    let Ok(store) = create_store(rt.alloc(), fuse, 64, Version::Three) else {
         return Err(Fail::from("make"));
     };
     let mut input = CountedReader::over(TEXT);
@@ -129,7 +129,7 @@ fn a_refused_closing_is_told_before_a_failed_output(rt: HostRuntime) -> Result<(
 #[test]
 fn a_reopening_reads_what_is_closed(rt: HostRuntime) -> Result<(), Fail> {
     let fuse = FuseDevice::new(MemoryDevice::new(rt.alloc()), 8, FuseMode::Onward);
-    let Ok(mut store) = create_store(rt.alloc(), fuse, 64) else {
+    let Ok(mut store) = create_store(rt.alloc(), fuse, 64, Version::Three) else {
         return Err(Fail::from("make"));
     };
     let mut input = CountedReader::over(b"reopen\nwindow a 0 0 1 1\n".as_slice());

@@ -2,13 +2,13 @@
 
 use block_device::MemoryDevice;
 use command_shell::{CountedReader, RunEnd, run, run_and_close};
-use layer_store::{Refusal, Store, create_store};
+use layer_store::{Refusal, Store, Version, create_store};
 use std::alloc::{Allocator, Global};
 use std::io::{Read, Write};
 
 /// A store without layers in memory.
 pub fn new_store<A: Allocator + Copy>(alloc: A) -> Result<Store<MemoryDevice<A>, A>, Refusal> {
-    create_store(alloc, MemoryDevice::new(alloc), 64).map_err(|(refusal, _)| refusal)
+    create_store(alloc, MemoryDevice::new(alloc), 64, Version::Two).map_err(|(refusal, _)| refusal)
 }
 
 /// Runs a text on such a store.

@@ -5,7 +5,7 @@ ghost use Rattle.std.specs.Prelude.{◌≡◌, ◌<◌, ◌-◌, ◌^◌, length
 use block_device::{BlockDevice, FuseMode, Left, MemoryDevice};
 use device_pair::{FusePair, MemoryPair, TwoDevices};
 use journaled_file::{Found, JournaledOver, end_session, judge_and_finish, open_over};
-use layer_store::{RawBox, Store, create_store, open_store};
+use layer_store::{RawBox, Store, Version, create_store, open_store};
 use std::alloc::Global;
 use std::test::Fail;
 use titled_pair::make_title;
@@ -78,7 +78,7 @@ fn grown<D: BlockDevice>(store: &mut Store<D, Global>, from: u64, to: u64) -> (u
 fn made<D: BlockDevice>(alloc: Global, device: D) -> Result<(D, u64), D>
     requires { length (D.shown device) ≡ 0 }
 {
-    match create_store(alloc, device, 8) {
+    match create_store(alloc, device, 8, Version::Three) {
         Ok(mut store) => {
             let made = store.create(b"a", 2, 4).is_ok();
             let (_, finished) = grown(&mut store, 0, 1);
@@ -107,7 +107,7 @@ fn begun(alloc: Global) -> Result<MemoryPair, Fail> {
 
 // Opens a store of one box, has it grow to three, and gives its device back, with what `grown` tells.
 fn worked<D: BlockDevice>(alloc: Global, device: D) -> (D, (u64, u64)) {
-    match open_store(alloc, device, 8) {
+    match open_store(alloc, device, 8, Version::Three) {
         Ok(mut store) => {
             let told = grown(&mut store, 1, 3);
             (store.abandon(), told)
@@ -152,7 +152,7 @@ fn stop_run(alloc: Global, pair: MemoryPair, passes: u64) -> Stopped
 
 // How many boxes the store over a device has, where it is sound.
 fn counted<D: BlockDevice + Drop>(alloc: Global, device: D) -> Option<u64> {
-    let mut store = open_store(alloc, device, 8).ok()?;
+    let mut store = open_store(alloc, device, 8, Version::Three).ok()?;
     if store.check().is_err() {
         return None;
     }

@@ -1,12 +1,12 @@
 //! Stores made, opened and closed.
 
 use block_device::{BlockDevice, MemoryDevice};
-use layer_store::{Refusal, Store, create_store, open_store};
+use layer_store::{Refusal, Store, Version, create_store, open_store};
 use std::alloc::{Allocator, Global};
 
 /// A new store in memory.
 pub fn new_store(alloc: Global, cache: u32) -> Result<Store<MemoryDevice>, Refusal> {
-    match create_store(alloc, MemoryDevice::new(alloc), cache) {
+    match create_store(alloc, MemoryDevice::new(alloc), cache, Version::Three) {
         Ok(store) => Ok(store),
         Err((refusal, _)) => Err(refusal),
     }
@@ -36,7 +36,7 @@ pub fn opened<D: BlockDevice + Drop, A: Allocator + Copy>(
     device: D,
     cache: u32,
 ) -> Result<Store<D, A>, Refusal> {
-    match open_store(alloc, device, cache) {
+    match open_store(alloc, device, cache, Version::Three) {
         Ok(store) => Ok(store),
         Err((refusal, _)) => Err(refusal),
     }

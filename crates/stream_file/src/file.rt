@@ -87,7 +87,7 @@ impl<I: Read + Drop, O: Write + Drop> StreamFile<I, O> {
     }
 
     // Has the disk take what was written.
-    fn settle(&mut self) -> io::Result<()> {
+    fn ask_sync(&mut self) -> io::Result<()> {
         send(&mut self.output, b'y', self.side, 0)?;
         outcome(&mut self.input)
     }
@@ -100,7 +100,7 @@ impl<I: Read + Drop, O: Write + Drop> StreamFile<I, O> {
         if self.lost {
             return Err(io::Error::from(ErrorKind::BrokenPipe));
         }
-        let answer = self.settle();
+        let answer = self.ask_sync();
         self.lost = answer.is_err();
         answer
     }

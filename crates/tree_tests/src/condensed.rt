@@ -4,8 +4,7 @@ ghost use Rattle.std.specs.Prelude.{◌≡◌, IfOk};
 ghost use Rattle.page_cache.specs.Cache.{gate_of};
 ghost use Rattle.page_file.specs.declared.gate.Gate.TheVariants.{Open};
 
-use crate::scene::{file_with, leaves_are, line, open_cache};
-use box_math::BBox;
+use crate::scene::{file_with, leaves_are, line, open_cache, point};
 use condense::{Kept, free_tree, remove, remove_with};
 use node_page::read_node;
 use page_file::Fault;
@@ -13,7 +12,7 @@ use reinsert::Waiting;
 use std::alloc::Global;
 use std::test::Fail;
 use test_caches::Cache;
-use tree_node::{Node, Root};
+use tree_node::{Entry, Node, Root};
 
 // The root of the tree of five points on a line.
 const FIVE: Root = Root { page: 5, level: 1 };
@@ -31,12 +30,7 @@ fn take(alloc: Global, cache: &mut Cache, id: u64, x: i32) -> Result<Root, Fault
     requires { gate_of cache.old ≡ Open }
     ensures { gate_of cache.new ≡ Open }
 {
-    remove(alloc, cache, FIVE, id, &at(x), 0, 4)
-}
-
-// The box of a point on the line.
-fn at(x: i32) -> BBox<2> {
-    BBox::try_new([x, 0], [x, 0]).unwrap_or_default()
+    remove(alloc, cache, FIVE, &point(id, x, 0), 4)
 }
 
 #[test]
@@ -76,7 +70,11 @@ fn an_object_that_is_not_there_changes_nothing(rt: HostRuntime) -> Result<(), Fa
     let absent = Err(Fault::Damaged(5));
     assert!(rt; take(rt.alloc(), &mut cache, 9, 0) == absent);
     assert!(rt; take(rt.alloc(), &mut cache, 1, 1) == absent);
-    assert!(rt; remove(rt.alloc(), &mut cache, FIVE, 1, &at(0), 1, 4) == absent);
+    let tagged = Entry {
+        tag: 1,
+        ..point(1, 0, 0)
+    };
+    assert!(rt; remove(rt.alloc(), &mut cache, FIVE, &tagged, 4) == absent);
     assert!(rt; !cache.is_touched());
     let are = leaves_are(rt.alloc(), &mut cache, FIVE, &[&[1, 2], &[3, 4, 5]])?;
     assert!(rt; are);
@@ -88,8 +86,22 @@ fn the_room_serves_one_removal_after_the_other(rt: HostRuntime) -> Result<(), Fa
     let mut cache = five_points(rt.alloc())?;
     let mut waiting = Waiting::make(rt.alloc())?;
     let mut kept = Kept::make(rt.alloc())?;
-    let first = remove_with(&mut cache, FIVE, 1, &at(0), 0, 4, &mut waiting, &mut kept)?;
-    let second = remove_with(&mut cache, first, 4, &at(3), 0, 4, &mut waiting, &mut kept)?;
+    let first = remove_with(
+        &mut cache,
+        FIVE,
+        &point(1, 0, 0),
+        4,
+        &mut waiting,
+        &mut kept,
+    )?;
+    let second = remove_with(
+        &mut cache,
+        first,
+        &point(4, 3, 0),
+        4,
+        &mut waiting,
+        &mut kept,
+    )?;
     let are = leaves_are(rt.alloc(), &mut cache, second, &[&[3, 5, 2]])?;
     assert!(rt; are);
     Ok(())

@@ -15,8 +15,8 @@ use test_caches::bare;
 const PART: usize = 1_000;
 
 // Inserts so many boxes, and checks the tree on the way. Then it compares a hundred windows.
-fn grow(rt: &impl Abort, alloc: Global, count: u64, m_max: u8) -> Result<(), Fail>
-    requires { (4 ≤ m_max) × (m_max ≤ 100) }
+fn grow(rt: &impl Abort, alloc: Global, count: u64, fanout: u8) -> Result<(), Fail>
+    requires { (4 ≤ fanout) × (fanout ≤ 100) }
 {
     let entries = boxes(alloc, Spread::Uniform, count)?;
     let mut cache = bare(alloc)?;
@@ -24,10 +24,13 @@ fn grow(rt: &impl Abort, alloc: Global, count: u64, m_max: u8) -> Result<(), Fai
     let mut root = add_tree::<2>(&mut cache)?;
     let mut done: usize = 0;
     'parts: for part in entries.as_slice().chunks(PART) {
-        root = insert_all(&mut cache, &mut waiting, root, part, m_max)?;
+        root = insert_all(&mut cache, &mut waiting, root, part, fanout)?;
         done = done.saturating_add(part.len()).min(entries.len());
         let so_far = &entries.as_slice()[..done];
-        assert!(rt; is_whole(alloc, &mut cache, root, so_far, m_max)?, "{done}");
+        assert!(rt;
+            is_whole(alloc, &mut cache, root, so_far, fanout)?,
+            "{done}"
+        );
     }
     let mut dice = Dice::new(count);
     'windows: for turn in 0..100u32 {

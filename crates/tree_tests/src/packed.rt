@@ -59,14 +59,14 @@ fn load_and_ask(
     alloc: Global,
     spread: Spread,
     count: u64,
-    m_max: u8,
+    fanout: u8,
 ) -> Result<(), Fail>
-    requires { (4 ≤ m_max) × (m_max ≤ 100) }
+    requires { (4 ≤ fanout) × (fanout ≤ 100) }
 {
     let objects = boxes(alloc, spread, count)?;
     let mut cache = bare(alloc)?;
-    let root = load_boxes(alloc, &mut cache, spread, count, m_max)?;
-    assert!(rt; is_whole(alloc, &mut cache, root, objects.as_slice(), m_max)?);
+    let root = load_boxes(alloc, &mut cache, spread, count, fanout)?;
+    assert!(rt; is_whole(alloc, &mut cache, root, objects.as_slice(), fanout)?);
     let mut dice = Dice::new(count);
     let mut found: usize = 0;
     'queries: for turn in 0..200u32 {

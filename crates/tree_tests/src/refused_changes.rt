@@ -53,7 +53,7 @@ fn make<B: BlockDevice, A: Allocator + Copy>(
         Call::FreeTree => free_tree::<2, _, _>(cache, ROOT),
         Call::Remove => {
             let first = point(1, 0, 0);
-            remove(alloc, cache, ROOT, 1, &first.bounds, first.tag, 4).map(|_| ())
+            remove(alloc, cache, ROOT, &first, 4).map(|_| ())
         }
         Call::Insert => {
             let last = point(8, 5, 0);

@@ -22,37 +22,37 @@ const PART: u64 = 1_000;
 struct Scene {
     cache: Cache,
     root: Root,
-    m_max: u8,
+    fanout: u8,
     waiting: Box<Waiting<2>, Global>,
     kept: Box<Kept<2>, Global>,
     objects: Vec<Entry<2>>,
     dice: Dice,
     ghost open: { gate_of cache ≡ Open },
     ghost begins: { (root.level ≤ 40) × (3 ≤ root.page) × (root.page < 2 ^ 31) },
-    ghost most: { (4 ≤ m_max) × (m_max ≤ 100) },
+    ghost most: { (4 ≤ fanout) × (fanout ≤ 100) },
 }
 
 impl Scene {
     // A tree without objects.
-    fn new(alloc: Global, m_max: u8) -> Result<Scene, Fault>
-        requires { (4 ≤ m_max) × (m_max ≤ 100) }
+    fn new(alloc: Global, fanout: u8) -> Result<Scene, Fault>
+        requires { (4 ≤ fanout) × (fanout ≤ 100) }
     {
         let mut cache = bare(alloc)?;
         let root = add_tree::<2>(&mut cache)?;
         Ok(Scene {
             cache,
             root,
-            m_max,
+            fanout,
             waiting: Waiting::make(alloc)?,
             kept: Kept::make(alloc)?,
             objects: Vec::new(alloc),
-            dice: Dice::new(u64::from(m_max)),
+            dice: Dice::new(u64::from(fanout)),
         })
     }
 
     // Inserts an object.
     fn add(&mut self, object: Entry<2>) -> Result<(), Fault> {
-        let most = usize::from(self.m_max);
+        let most = usize::from(self.fanout);
         self.root = insert_with(
             &mut self.cache,
             self.root,
@@ -72,13 +72,11 @@ impl Scene {
             return Ok(None);
         }
         let object = self.objects.swap_remove(place % self.objects.len());
-        let most = usize::from(self.m_max);
+        let most = usize::from(self.fanout);
         self.root = remove_with(
             &mut self.cache,
             self.root,
-            object.reference,
-            &object.bounds,
-            object.tag,
+            &object,
             most,
             &mut self.waiting,
             &mut self.kept,
@@ -126,15 +124,15 @@ impl Scene {
     fn is_whole(&mut self, alloc: Global) -> Result<bool, Fault> {
         let mut objects = Vec::from_slice(alloc, &self.objects)?;
         objects.sort_unstable_by_key(|object| object.reference);
-        is_whole(alloc, &mut self.cache, self.root, &objects, self.m_max)
+        is_whole(alloc, &mut self.cache, self.root, &objects, self.fanout)
     }
 }
 
 // Makes 80,000 changes, and then removes what is there.
-fn change_and_remove(rt: &impl Abort, alloc: Global, m_max: u8) -> Result<(), Fail>
-    requires { (4 ≤ m_max) × (m_max ≤ 100) }
+fn change_and_remove(rt: &impl Abort, alloc: Global, fanout: u8) -> Result<(), Fail>
+    requires { (4 ≤ fanout) × (fanout ≤ 100) }
 {
-    let mut scene = Scene::new(alloc, m_max)?;
+    let mut scene = Scene::new(alloc, fanout)?;
     for part in 0..80u64 {
         scene.changes(part.saturating_mul(PART))?;
         assert!(rt; scene.is_whole(alloc)?, "{part}");

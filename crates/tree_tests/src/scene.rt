@@ -34,24 +34,24 @@ pub fn add_tree<const D: usize>(cache: &mut Cache) -> Result<Root, Fault>
     Ok(Root { page, level: 0 })
 }
 
-/// Inserts the entries one after the other, at most `m_max` to a node, and answers the new root.
+/// Inserts the entries one after the other, at most `fanout` to a node, and answers the new root.
 pub fn insert_all<const D: usize>(
     cache: &mut Cache,
     waiting: &mut Waiting<D>,
     root: Root,
     entries: &[Entry<D>],
-    m_max: u8,
+    fanout: u8,
 ) -> Result<Root, Fault>
     requires open { gate_of cache.old ≡ Open }
     requires dims { (2 ≤ D) × (D ≤ 3) }
-    requires most { (4 ≤ m_max) × (m_max ≤ 100) }
+    requires most { (4 ≤ fanout) × (fanout ≤ 100) }
     requires root { (root.level ≤ 40) × (3 ≤ root.page) × (root.page < 2 ^ 31) }
     ensures open { gate_of cache.new ≡ Open }
     ensures root { IfOk result (λ root. (root.level ≤ 40) × (3 ≤ root.page) × (root.page < 2 ^ 31)) }
 {
     let mut now = root;
     'entries: for entry in entries {
-        now = insert_with(cache, now, entry, 0, usize::from(m_max), waiting)?;
+        now = insert_with(cache, now, entry, 0, usize::from(fanout), waiting)?;
     }
     Ok(now)
 }
@@ -61,17 +61,17 @@ pub fn insert_tree<const D: usize>(
     alloc: Global,
     cache: &mut Cache,
     entries: &[Entry<D>],
-    m_max: u8,
+    fanout: u8,
 ) -> Result<Root, Fault>
     requires open { gate_of cache.old ≡ Open }
     requires dims { (2 ≤ D) × (D ≤ 3) }
-    requires most { (4 ≤ m_max) × (m_max ≤ 100) }
+    requires most { (4 ≤ fanout) × (fanout ≤ 100) }
     ensures open { gate_of cache.new ≡ Open }
     ensures root { IfOk result (λ root. (root.level ≤ 40) × (3 ≤ root.page) × (root.page < 2 ^ 31)) }
 {
     let mut waiting = Waiting::make(alloc)?;
     let root = add_tree::<D>(cache)?;
-    insert_all(cache, &mut waiting, root, entries, m_max)
+    insert_all(cache, &mut waiting, root, entries, fanout)
 }
 
 /// The device of a file whose one tree was made by inserting these entries, four to a node, and its root.
@@ -101,14 +101,14 @@ pub fn load_boxes(
     cache: &mut Cache,
     spread: Spread,
     count: u64,
-    m_max: u8,
+    fanout: u8,
 ) -> Result<Root, Fault>
     requires open { gate_of cache.old ≡ Open }
-    requires most { (4 ≤ m_max) × (m_max ≤ 100) }
+    requires most { (4 ≤ fanout) × (fanout ≤ 100) }
     ensures open { gate_of cache.new ≡ Open }
 {
     let mut objects = boxes(alloc, spread, count)?;
-    load(alloc, cache, objects.as_mut_slice(), m_max)
+    load(alloc, cache, objects.as_mut_slice(), fanout)
 }
 
 /// Whether a tree of the shape stands at the root, with these objects, whose references ascend.
@@ -117,12 +117,12 @@ pub fn is_whole<const D: usize, B: BlockDevice, A: Allocator + Copy>(
     cache: &mut PageCache<B, A>,
     root: Root,
     objects: &[Entry<D>],
-    m_max: u8,
+    fanout: u8,
 ) -> Result<bool, Fault>
     requires dims { (2 ≤ D) × (D ≤ 3) }
     ensures gate { gate_of cache.new ≡ gate_of cache.old }
 {
-    let mut facts = check_tree::<D, _, _, _>(alloc, cache, root, m_max)?;
+    let mut facts = check_tree::<D, _, _, _>(alloc, cache, root, fanout)?;
     facts.pairs.sort_unstable_by_key(|pair| pair.0);
     Ok(are_rows(facts.pairs.as_slice(), objects, &Asked::All, None))
 }

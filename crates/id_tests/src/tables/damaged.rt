@@ -9,7 +9,7 @@ use block_bytes::{
     write_u64,
 };
 use block_device::MemoryDevice;
-use id_table::check_table;
+use id_chains::check_table;
 use page_file::Fault;
 use std::alloc::Global;
 use std::test::Fail;

@@ -5,7 +5,7 @@ ghost use Rattle.page_file.specs.declared.gate.Gate.TheVariants.{Open};
 ghost use Rattle.page_cache.specs.Cache.{gate_of};
 
 use super::{new_table, point, put, take};
-use id_table::{check_table, get};
+use id_chains::{check_table, get};
 use page_file::Fault;
 use std::alloc::Global;
 use std::collections::BTreeMap;

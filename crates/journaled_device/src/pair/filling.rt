@@ -18,7 +18,7 @@ use block_device::DeviceError;
 use device_pair::DevicePair;
 use std::alloc::Allocator;
 
-const MAX_BLOCKS: usize = 1 << 31;
+const MOST_BLOCKS: usize = 1 << 31;
 
 impl<P: DevicePair, A: Allocator + Copy> JournaledPair<P, A> {
     // Writes a block of the journal, not its gate.
@@ -37,7 +37,7 @@ impl<P: DevicePair, A: Allocator + Copy> JournaledPair<P, A> {
         ensures honest { IsHonest self.old ↔ IsHonest self.new }
         ensures faults { Counts (P.faults (pair_of self.old)) (P.faults (pair_of self.new)) result }
     {
-        if at > self.pair.journal_blocks() as usize || at >= MAX_BLOCKS {
+        if at > self.pair.journal_blocks() as usize || at >= MOST_BLOCKS {
             return Err(DeviceError::Memory);
         }
         self.pair.write_journal(at as u32, bytes)

@@ -16,14 +16,14 @@ ghost use Rattle.plain_table.specs.declared.refusal.Refusal.TheVariants as refus
 ghost use Rattle.store_law.specs.States.StoreState.{Alive};
 ghost use Rattle.layer_store.specs.Faults.{IsMemoryOrDevice};
 ghost use Rattle.layer_store.specs.Representation.{BeginsWith, IsInState, IsSettled, SpellsRecords};
-ghost use Rattle.layer_store.specs.Representation.{blocks_in, device_in, layers_in};
+ghost use Rattle.layer_store.specs.Representation.{blocks_in, device_in, layers_in, newest_in};
 ghost use Rattle.layer_store.specs.Starting.{OpeningRefusesAs, is_cache};
 
 use crate::store::Store;
 use block_device::BlockDevice;
 use live_layers::{Layers, Rooms, as_refusal};
 use page_cache::PageCache;
-use page_file::{Fault, PageFile, create_pages, open_pages};
+use page_file::{Fault, PageFile, Version, create_pages, open_pages};
 use plain_table::Refusal;
 use std::alloc::Allocator;
 
@@ -35,7 +35,9 @@ fn is_cache(pages: u32) -> bool
 }
 
 /// Makes a store without layers on a device without blocks, which takes its memory from this allocator and
-/// holds at most so many pages in memory (8 to 4096). Its blocks are an image of the empty table.
+/// holds at most so many pages in memory (8 to 4096). Its blocks are an image of the empty table. Layers that
+/// are made are such as files of the newest version may have: with `Version::Two` programs that do not know
+/// version 3 read the file.
 ///
 /// Refused by `BadCache`, before any call of the device. On an honest device any other refusal is `Memory` or
 /// `Device`. The device comes back.
@@ -43,6 +45,7 @@ pub fn create_store<D: BlockDevice, A: Allocator + Copy>(
     alloc: A,
     device: D,
     cache: u32,
+    newest: Version,
 ) -> Result<Store<D, A>, (Refusal, D)>
     requires { length (D.shown device) ≡ 0 }
     ensures bad_cache { is_cache cache ≡ false → result ≡ Err (refusal.BadCache, device) }
@@ -68,6 +71,7 @@ pub fn create_store<D: BlockDevice, A: Allocator + Copy>(
         Only (blocks_in store) (D.may_leave (device_in store))) }
 
     ensures refused { is_cache cache ≡ true → IfErr result (λ e. D.honest device → IsMemoryOrDevice e.0) }
+    ensures newest { IfOk result (λ store. newest_in store ≡ newest) }
     ensures no_fault { IfOk result (λ store. D.faults (device_in store) ≡ D.faults device) }
     ensures cause { IfErr result (λ e. D.faults e.1 ≡ faults_after_refusal e.0 (D.faults device)) }
     ensures honest { IfOk result (λ store. D.honest device → D.honest (device_in store)) }
@@ -77,14 +81,15 @@ pub fn create_store<D: BlockDevice, A: Allocator + Copy>(
         return Err((Refusal::BadCache, device));
     }
     match create_pages(device) {
-        Ok(file) => begin(alloc, file, cache),
+        Ok(file) => begin(alloc, file, cache, newest),
         Err((fault, device)) => Err((as_refusal(fault), device)),
     }
 }
 
 /// Opens the store that lies on a device: gate, header and catalog are read and checked (docs/FORMAT.md,
 /// "Opening"), no other page is read, and nothing is written. The store takes its memory from this allocator
-/// and holds at most so many pages in memory (8 to 4096).
+/// and holds at most so many pages in memory (8 to 4096). Layers that are made are such as files of the newest
+/// version may have; those that are there stay as they are.
 ///
 /// On an honest device an image of a table is opened as a store of that table and of its trees, but for
 /// `Memory` and `Device`; and blocks are opened only where no check refuses them.
@@ -95,6 +100,7 @@ pub fn open_store<D: BlockDevice, A: Allocator + Copy>(
     alloc: A,
     device: D,
     cache: u32,
+    newest: Version,
 ) -> Result<Store<D, A>, (Refusal, D)>
     ensures bad_cache { is_cache cache ≡ false → result ≡ Err (refusal.BadCache, device) }
     ensures image { (t : Table) → D.honest device → IsImage (D.shown device) t →
@@ -126,6 +132,7 @@ pub fn open_store<D: BlockDevice, A: Allocator + Copy>(
     ensures spelled { IfOk result (λ store. D.honest device → SpellsRecords store) }
     ensures blocks { IfOk result (λ store. D.honest device → blocks_in store ≡ D.shown device) }
     ensures refused_blocks { IfErr result (λ e. D.honest device → D.shown e.1 ≡ D.shown device) }
+    ensures newest { IfOk result (λ store. newest_in store ≡ newest) }
     ensures no_fault { IfOk result (λ store. D.faults (device_in store) ≡ D.faults device) }
     ensures cause { IfErr result (λ e. D.faults e.1 ≡ faults_after_refusal e.0 (D.faults device)) }
     ensures honest { IfOk result (λ store. D.honest device → D.honest (device_in store)) }
@@ -135,7 +142,7 @@ pub fn open_store<D: BlockDevice, A: Allocator + Copy>(
         return Err((Refusal::BadCache, device));
     }
     match open_pages(device) {
-        Ok(file) => begin(alloc, file, cache),
+        Ok(file) => begin(alloc, file, cache, newest),
         Err((fault, device)) => Err((as_refusal(fault), device)),
     }
 }
@@ -146,6 +153,7 @@ fn begin<D: BlockDevice, A: Allocator + Copy>(
     alloc: A,
     file: PageFile<D>,
     capacity: u32,
+    newest: Version,
 ) -> Result<Store<D, A>, (Refusal, D)>
     requires shut { gate_of file ≡ Shut }
     requires capacity { is_cache capacity ≡ true }
@@ -168,6 +176,7 @@ fn begin<D: BlockDevice, A: Allocator + Copy>(
         AddsOnly D.moment D.left_since D.recovery (device_of file) e.1 (StopSince Shut (blocks_of file))) }
     ensures blocks { IfOk result (λ store. IsHonest file → blocks_in store ≡ blocks_of file) }
     ensures refused_blocks { IfErr result (λ e. IsHonest file → D.shown e.1 ≡ blocks_of file) }
+    ensures newest { IfOk result (λ store. newest_in store ≡ newest) }
     ensures no_fault { IfOk result (λ store. D.faults (device_in store) ≡ D.faults (device_of file)) }
     ensures cause { IfErr result (λ e. D.faults e.1 ≡ faults_after_refusal e.0 (D.faults (device_of file))) }
     ensures honest { IfOk result (λ store. IsHonest file → D.honest (device_in store)) }
@@ -177,7 +186,7 @@ fn begin<D: BlockDevice, A: Allocator + Copy>(
         Ok(cache) => cache,
         Err((fault, device)) => return Err((as_refusal(fault), device)),
     };
-    match Layers::open(alloc, cache) {
+    match Layers::open(alloc, cache, newest) {
         Ok(layers) => Ok(Store {
             layers,
             rooms: Rooms::new(),

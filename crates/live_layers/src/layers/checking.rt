@@ -46,13 +46,15 @@ impl<B: BlockDevice, A: Allocator + Copy> Layers<B, A> {
     /// breaks, one that a walk through a layer comes to, or one that does not stand in just one of these. Layers that are sound are refused by `Memory` or
     /// `Device` alone.
     ///
-    /// It makes at most two looks for each layer and number below the next one, and one at the catalog.
+    /// It makes at most two looks for each layer and number below the next one, one more for each layer, and one
+    /// at the catalog.
     pub fn check(&mut self) -> Result<(), Refusal>
         ensures answered { (t : Table) → IsSound self.old t →
             IsAnswered self.old self.new t Check (done_answer result) }
         ensures sound { IsHonest (cache_of self.old) → OnOk result (IsFoundSound self.new) }
         ensures looks { looks_of (cache_of self.new) ≤ looks_of (cache_of self.old) +
-            (1 + 2 * (length (records_in self.old) * next_of (cache_of self.old))) }
+            (1 + length (records_in self.old)
+            + 2 * (length (records_in self.old) * next_of (cache_of self.old))) }
         ensures refused { IfErr result IsCheckRefusal }
         ensures damage { IsHonest (cache_of self.old) →
             IfErr result (λ r. (n : ℕ) → r ≡ refusal.Damaged n → IsNamedDamaged self.old n) }
@@ -71,7 +73,8 @@ impl<B: BlockDevice, A: Allocator + Copy> Layers<B, A> {
         ensures stands { (t : Table) → IsSound self.old t → IfErr result IsOfDevice }
         ensures sound { (t : Table) → IsSound self.old t → IsSound self.new t }
         ensures looks { looks_of (cache_of self.new) ≤ looks_of (cache_of self.old) +
-            (1 + 2 * (length (records_in self.old) * next_of (cache_of self.old))) }
+            (1 + length (records_in self.old)
+            + 2 * (length (records_in self.old) * next_of (cache_of self.old))) }
         ensures trees { KeepsPagesAndRecords self.old self.new }
         ensures damage { IsHonest (cache_of self.old) →
             IfErr result (λ f. (n : ℕ) → f ≡ Damaged n → IsNamedDamaged self.old n) }
@@ -111,7 +114,8 @@ fn check_pages<B: BlockDevice, A: Allocator + Copy>(
         FindsLayers (pages cache.old) (each record_of records.now)) }
     ensures stands { IsPageMap cache.old → (hs : List Reading) → each row_of hs ≡ each record_of records.now →
         LayersStand (pages cache.old) hs → IsAllOf (pages cache.old) (in_use hs) → IfErr result IsOfDevice }
-    ensures looks { looks_of cache.new ≤ looks_of cache.old + 2 * (length records.now * next_of cache.old) }
+    ensures looks { looks_of cache.new ≤ looks_of cache.old + 2 * (length records.now * next_of cache.old)
+        + length records.now }
     ensures damage { IsHonest cache.old → IfErr result (λ f. (n : ℕ) → f ≡ Damaged n →
         IsFoundDamaged cache.old (each record_of records.now) n) }
     ensures faults { IfErr result (λ f. IsOfDevice f ⊎ IsDamage f) }

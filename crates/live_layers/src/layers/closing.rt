@@ -121,6 +121,7 @@ impl<B: BlockDevice, A: Allocator + Copy> Layers<B, A> {
             records: _,
             object_count: _,
             written: _,
+            newest: _,
         } = self;
         cache.abandon()
     }

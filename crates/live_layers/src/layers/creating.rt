@@ -7,8 +7,9 @@ ghost use Rattle.plain_table.specs.Step.{refusal_of};
 ghost use Rattle.plain_table.specs.Table.{Table};
 ghost use Rattle.live_layers.specs.Faults.{is_plain};
 ghost use Rattle.live_layers.specs.Changes.{IsChangeBy};
-ghost use Rattle.live_layers.specs.Creating.{BringsTree, MayBeLayer};
-ghost use Rattle.live_layers.specs.Keeping.{Belongs, IsSound, records_in};
+ghost use Rattle.live_layers.specs.Creating.{BringsTree, MayBeLayer, version_after};
+ghost use Rattle.live_layers.specs.Keeping.{Belongs, IsSound, cache_of, newest_of, records_in};
+ghost use Rattle.page_cache.specs.Cache.{version_of};
 
 mod add_layer;
 
@@ -20,13 +21,16 @@ use plain_table::{MOST_LAYERS, Refusal, is_dims, is_fanout, is_layer_name};
 use std::alloc::Allocator;
 
 impl<B: BlockDevice, A: Allocator + Copy> Layers<B, A> {
-    /// Makes a layer without objects: its tree is an empty leaf, and all other trees stay.
+    /// Makes a layer without objects: its tree is an empty leaf, and all other trees stay. In files that may be
+    /// of version 3 its identifier table is a tree, and the version of the file is raised.
     ///
     /// Refused, in this order, by BadName, BadDims, BadFanout, LayerExists and TooManyLayers.
     pub fn create(&mut self, name: &[u8], dims: u64, fanout: u64) -> Result<(), Unmade>
         ensures change { IsChangeBy self.old self.new (Create name.now dims fanout) result }
         ensures tree { (t : Table) → IsSound self.old t →
             OnOk result (BringsTree self.old self.new name.now IsEmptyLeaf) }
+        ensures version { (t : Table) → IsSound self.old t → OnOk result (version_of (cache_of self.new)
+            ≡ version_after (newest_of self.old) (version_of (cache_of self.old))) }
     {
         match self.check_layer(name, dims, fanout) {
             Ok(place) => change_of(self.add_layer(place, name, dims as u8, fanout as u8)),

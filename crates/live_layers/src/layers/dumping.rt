@@ -108,11 +108,11 @@ fn objects_at<const D: usize, B: BlockDevice, A: Allocator + Copy>(
 ) -> Result<Vec<(u64, (BBox<D>, u32)), A>, Fault>
     requires { IsDims D }
     ensures asks { Asks cache.old cache.new result }
-    ensures rows { IsHonest cache.old → (most directory : ℕ) (l : LayerPages) (objects : Objects) →
-        IsLayerAt D most (pages cache.old) root directory l objects →
+    ensures rows { IsHonest cache.old → (most ids_root : ℕ) (l : LayerPages) (objects : Objects) →
+        IsLayerAt D most (pages cache.old) root ids_root l objects →
         IfOk result (λ rows. rows.items ≡ entries objects) }
-    ensures stands { IsHonest cache.old → (most directory : ℕ) (l : LayerPages) (objects : Objects) →
-        IsLayerAt D most (pages cache.old) root directory l objects → IfErr result IsOfDevice }
+    ensures stands { IsHonest cache.old → (most ids_root : ℕ) (l : LayerPages) (objects : Objects) →
+        IsLayerAt D most (pages cache.old) root ids_root l objects → IfErr result IsOfDevice }
 {
     let all = BBox::new([i32::MIN; D], [i32::MAX; D]);
     window(alloc, cache, root, &all, None)

@@ -14,7 +14,7 @@ use crate::broken::Broken;
 use crate::layers::Layers;
 use block_device::BlockDevice;
 use box_math::BBox;
-use layer_pages::load;
+use layer_pages::{Layer, load};
 use std::alloc::Allocator;
 
 impl<B: BlockDevice, A: Allocator + Copy> Layers<B, A> {
@@ -47,14 +47,12 @@ impl<B: BlockDevice, A: Allocator + Copy> Layers<B, A> {
         self.begin()?;
         let located = self.locate(place);
         let count = objects.len() as u64;
-        let root = match load(
-            self.alloc,
-            &mut self.cache,
-            located.root,
-            located.directory,
-            objects,
-            located.fanout,
-        ) {
+        let layer = Layer {
+            root: located.root,
+            ids_root: located.ids_root,
+            fanout: located.fanout,
+        };
+        let root = match load(self.alloc, &mut self.cache, layer, objects) {
             Ok(root) => root,
             Err(fault) => return Err(self.broken_by(fault)),
         };

@@ -33,7 +33,7 @@ impl<D: BlockDevice, A: Allocator> Layers<D, A> {
                 page: record.root,
                 level: record.level,
             },
-            directory: record.directory,
+            ids_root: record.ids_root,
         }
     }
 }

@@ -14,7 +14,7 @@ ghost use Rattle.page_cache.specs.Calls.{Asks, AsksUntil};
 ghost use Rattle.plain_table.specs.Table.{Table, most_objects};
 ghost use Rattle.live_layers.specs.Catalog.{is_good_catalog, objects_named};
 ghost use Rattle.live_layers.specs.Image.{HasNoCatalog, IsImage};
-ghost use Rattle.live_layers.specs.Keeping.{IsSound, IsWritten, cache_of, records_in};
+ghost use Rattle.live_layers.specs.Keeping.{IsSound, IsWritten, cache_of, newest_of, records_in};
 ghost use Rattle.live_layers.specs.Layers.{catalog_in};
 ghost use Rattle.live_layers.specs.Staying.{FindsTreesIn};
 
@@ -24,17 +24,22 @@ use arrayvec::ArrayVec;
 use block_device::BlockDevice;
 use catalog_page::{LayerRecord, decode};
 use page_cache::PageCache;
-use page_file::Fault;
+use page_file::{Fault, Version};
 use std::alloc::Allocator;
 
 impl<B: BlockDevice, A: Allocator + Copy> Layers<B, A> {
     /// The layers that the catalog of a file names. Its page is read and checked, and no other: `Damaged`
-    /// with its number where it holds no good catalog.
+    /// with its number where it holds no good catalog. Layers that are made are such as files of the newest
+    /// version may have.
     ///
     /// On an honest device any other refusal is `Memory` or `Device`, and an image of a table is opened as
     /// layers that are sound with it, and have its trees. The device comes back, with its blocks as they
     /// were.
-    pub fn open(alloc: A, cache: PageCache<B, A>) -> Result<Layers<B, A>, (Fault, B)>
+    pub fn open(
+        alloc: A,
+        cache: PageCache<B, A>,
+        newest: Version,
+    ) -> Result<Layers<B, A>, (Fault, B)>
         ensures image { (t : Table) (blocks : Blocks) → IsHonest cache → LiesIn cache blocks →
             IsImage blocks t →
             IfOk result (λ layers. IsSound layers t) }
@@ -51,6 +56,7 @@ impl<B: BlockDevice, A: Allocator + Copy> Layers<B, A> {
             ((e.0 ≡ fault.Damaged 2) × HasNoCatalog (pages cache) (next_of cache))) }
         ensures only { IfErr result (λ e. IsOfDevice e.0 ⊎ IsDamage e.0) }
         ensures written { IfOk result IsWritten }
+        ensures newest { IfOk result (λ layers. newest_of layers ≡ newest) }
         ensures asks { IfOk result (λ layers. AsksUntil cache (cache_of layers) None) }
         ensures refused_stops { IfErr result (λ e. IsHonest cache →
             AddsOnly B.moment B.left_since B.recovery (device_of cache) e.1
@@ -70,6 +76,7 @@ impl<B: BlockDevice, A: Allocator + Copy> Layers<B, A> {
                     records,
                     object_count,
                     written: true,
+                    newest,
                 })
             }
             Err(fault) => Err((fault, cache.abandon())),

@@ -39,7 +39,7 @@ impl<B: BlockDevice, A: Allocator + Copy> Layers<B, A> {
         }
     }
 
-    /// How many pages the identifier table of a layer has, with that of its directory.
+    /// How many pages the identifier table of a layer has.
     ///
     /// Refused, in this order, by BadName and NoLayer.
     pub fn id_pages(&mut self, name: &[u8]) -> Result<u64, Refusal>
@@ -87,7 +87,7 @@ impl<B: BlockDevice, A: Allocator + Copy> Layers<B, A> {
         ensures keeps { KeepsInQuestion self.old self.new result }
     {
         let alloc = self.alloc;
-        match check_table::<D, B, A, &A>(&alloc, &mut self.cache, located.directory) {
+        match check_table::<D, B, A, &A>(&alloc, &mut self.cache, located.ids_root) {
             Ok(facts) => Ok(facts.pages.len() as u64),
             Err(fault) => Err(as_refusal(fault)),
         }

@@ -1,4 +1,4 @@
-//! The gate opened for a change, and what was put synced.
+//! The gate opened for a change, the version raised in one, and what was put synced.
 ghost use Rattle.std.specs.Prelude.{◌≡◌, ◌⊎◌, ◌↔◌, ℕ, false, IsOk, IfErr, OnOk, OnErr};
 ghost use Rattle.block_device.specs.Device.{LeavesOnly, Only};
 ghost use Rattle.page_file.specs.Fault.{HasCause, IsDamage, IsOfDevice};
@@ -8,7 +8,7 @@ ghost use Rattle.page_cache.specs.Cache.{IsHeld, IsHonest, IsUnchanged, IsWritte
 ghost use Rattle.page_cache.specs.Cache.{blocks_of};
 ghost use Rattle.page_cache.specs.Cache.{capacity_of, device_of, gate_of, looks_of, touched_of};
 ghost use Rattle.page_cache.specs.Calls.{Asks};
-ghost use Rattle.page_cache.specs.GateSteps.{BeginsChange};
+ghost use Rattle.page_cache.specs.GateSteps.{BeginsChange, RaisesVersion};
 
 use crate::cache::PageCache;
 use block_device::BlockDevice;
@@ -25,6 +25,18 @@ impl<D: BlockDevice, A: Allocator + Copy> PageCache<D, A> {
     {
         self.touched = false;
         self.file.begin_change()
+    }
+
+    /// Makes version 3 that of the file: its pages may then be all that those of such a file are. The gate
+    /// has to be open.
+    ///
+    /// It is no call of the device, and is never refused: the header says the version once the cache is
+    /// settled. Map, counts and what is held stay, and no page is touched.
+    pub fn raise_version(&mut self)
+        requires { gate_of self.old ≡ Open }
+        ensures { RaisesVersion self.old self.new }
+    {
+        self.file.raise_version();
     }
 
     /// Writes what was put and is not yet on the device, and syncs: after an `Ok` a stop leaves the blocks as

@@ -22,7 +22,7 @@ impl<D: BlockDevice, A: Allocator + Copy> PageCache<D, A> {
     /// nothing is written. The cache stays usable, and what is held stays held.
     ///
     /// After a refusal the gate is unsure, or open as before. On an honest device that is `Memory` or
-    /// `Device`. The map stays.
+    /// `Device`. The map and the version stay.
     pub fn settle(&mut self) -> Result<(), Fault>
         ensures { Settles self.old self.new result }
     {
@@ -30,7 +30,7 @@ impl<D: BlockDevice, A: Allocator + Copy> PageCache<D, A> {
         self.file.settle()
     }
 
-    /// Settles the cache, and hands the device back. Opened again, it has the same map.
+    /// Settles the cache, and hands the device back. Opened again, it has the same map and the same version.
     ///
     /// After a refusal, which on an honest device is `Memory` or `Device`, the device comes back; a stop
     /// leaves of it what one during the call leaves.

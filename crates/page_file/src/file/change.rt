@@ -1,8 +1,8 @@
-//! The gate opened for a change.
+//! The gate opened for a change, and the version raised in one.
 ghost use Rattle.std.specs.Prelude.{◌≡◌, ◌↔◌, IsOk, IfErr, OnOk, OnErr};
 ghost use Rattle.block_device.specs.Device.{LeavesOnly};
 ghost use Rattle.page_file.specs.Fault.{HasCause, IsOfDevice};
-ghost use Rattle.page_file.specs.File.{device_of, blocks_of, IsHonest, gate_of, KeepsMap};
+ghost use Rattle.page_file.specs.File.{device_of, blocks_of, IsHonest, gate_of, KeepsMap, RaisesVersion};
 ghost use Rattle.page_file.specs.Stops.{SameButGate};
 ghost use Rattle.page_file.specs.declared.gate.Gate.TheVariants.{Open, Unsure};
 
@@ -10,6 +10,7 @@ use crate::Fault;
 use crate::blocks::write_gate;
 use crate::file::PageFile;
 use crate::gate::Gate;
+use crate::header::Version;
 use block_device::BlockDevice;
 
 impl<D: BlockDevice> PageFile<D> {
@@ -39,5 +40,17 @@ impl<D: BlockDevice> PageFile<D> {
         write_gate(&mut self.device, 0)?;
         self.gate = Gate::Open;
         Ok(())
+    }
+
+    /// Makes version 3 that of the file: its pages may then be all that those of such a file are. The gate
+    /// has to be open.
+    ///
+    /// It is no call of the device, and is never refused: the header says the version once the file is
+    /// settled. A file of that version is left as it is.
+    pub fn raise_version(&mut self)
+        requires { gate_of self.old ≡ Open }
+        ensures { RaisesVersion self.old self.new }
+    {
+        self.header.version = Version::Three;
     }
 }

@@ -2,14 +2,14 @@
 ghost use Rattle.std.specs.Prelude.{◌≡◌, ◌⊎◌, ◌↔◌, ◌≤◌, ◌<◌, ℕ, Some, None, length, IfOk, IfErr};
 ghost use Rattle.block_device.specs.Device.{Only, LeavesOnly};
 ghost use Rattle.page_file.specs.Fault.{HasCause, IsOfDevice, IsDamage, faults_after};
-ghost use Rattle.page_file.specs.File.{device_of, blocks_of, gate_of, next_of, pages, IsHonest, IsNewFile};
-ghost use Rattle.page_file.specs.File.{IsPageMap};
-ghost use Rattle.page_file.specs.File.{KeepsGate, KeepsMap, LiesIn};
-ghost use Rattle.page_file.specs.Layout.{catalog_block, version_in};
+ghost use Rattle.page_file.specs.File.{device_of, blocks_of, gate_of, next_of, pages, version_of, IsHonest};
+ghost use Rattle.page_file.specs.File.{IsNewFile, IsPageMap, KeepsGate, KeepsMap, LiesIn};
+ghost use Rattle.page_file.specs.Layout.{catalog_block, opened_version, version_in};
 ghost use Rattle.page_file.specs.Opening.{IsRefused, failed_check};
 ghost use Rattle.page_file.specs.Stops.{SameButGate};
 ghost use Rattle.page_file.specs.declared.fault.Fault.TheVariants as fault;
 ghost use Rattle.page_file.specs.declared.gate.Gate.TheVariants.{Shut};
+ghost use Rattle.page_file.specs.declared.header.Version.TheVariants.{Two};
 
 use crate::Fault;
 use crate::creation::{NEW_HEADER, create};
@@ -26,6 +26,11 @@ use block_device::BlockDevice;
 pub fn open_pages<D: BlockDevice>(device: D) -> Result<PageFile<D>, (Fault, D)>
     ensures shut { IfOk result (λ file. gate_of file ≡ Shut) }
     ensures lies { IfOk result (λ file. D.honest device → LiesIn file (D.shown device)) }
+
+    // That is 3 where the header says 3, and else 2.
+    ensures version { IfOk result (λ file. D.honest device →
+        version_of file ≡ opened_version (D.shown device)) }
+
     ensures refused { IfErr result (λ e. D.honest device →
         IsOfDevice e.0 ⊎ (failed_check (D.shown device) ≡ Some e.0)) }
 
@@ -79,8 +84,8 @@ impl<D: BlockDevice> PageFile<D> {
     }
 }
 
-/// Makes a file of pages on a device without blocks: its gate is shut, and page 2, a catalog of no layers,
-/// is its one page.
+/// Makes a file of pages on a device without blocks: its gate is shut, page 2, a catalog of no layers, is its
+/// one page, and its version is 2.
 ///
 /// On an honest device a refusal is `Memory` or `Device`. The device comes back with it.
 pub fn create_pages<D: BlockDevice>(device: D) -> Result<PageFile<D>, (Fault, D)>
@@ -90,7 +95,8 @@ pub fn create_pages<D: BlockDevice>(device: D) -> Result<PageFile<D>, (Fault, D)
     ensures catalog { IfOk result (λ file. D.honest device → pages file 2 ≡ Some catalog_block) }
     ensures others { IfOk result (λ file. D.honest device → (k : ℕ) → ¬ (k ≡ 2) → pages file k ≡ None) }
     ensures sound { IfOk result (λ file. D.honest device → IsPageMap file) }
-    ensures version { IfOk result (λ file. D.honest device → version_in (blocks_of file) ≡ 2) }
+    ensures version { IfOk result (λ file. version_of file ≡ Two) }
+    ensures header { IfOk result (λ file. D.honest device → version_in (blocks_of file) ≡ 2) }
     ensures lies { IfOk result (λ file. D.honest device → LiesIn file (blocks_of file)) }
 
     // A stop leaves blocks that opening refuses, or a new file: what is read afterwards, the gate aside.

@@ -24,7 +24,7 @@ use block_bytes::zero_block;
 use block_device::BlockDevice;
 use std::alloc::Allocator;
 
-const MAX_PAGES: u32 = 1 << 31;
+const MOST_PAGES: u32 = 1 << 31;
 
 impl<D: BlockDevice> PageFile<D> {
     /// Gives out a page of zeros that was not live: the first free page where there is one, and else one of a
@@ -117,7 +117,7 @@ impl<D: BlockDevice> PageFile<D> {
         ensures cause { HasCause (D.faults (device_of self.old)) (D.faults (device_of self.new)) result }
     {
         let n = self.header.next;
-        if n >= MAX_PAGES {
+        if n >= MOST_PAGES {
             return Err(Fault::NoPages);
         }
         write_block(&mut self.device, n, &zero_block())?;
@@ -153,6 +153,7 @@ impl<D: BlockDevice> PageFile<D> {
         let n = self.header.first;
         let link = self.read_link(n, self.header.count)?;
         self.header = Header {
+            version: self.header.version,
             next: self.header.next,
             first: link,
             count: self.header.count - 1,

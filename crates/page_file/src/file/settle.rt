@@ -2,8 +2,8 @@
 ghost use Rattle.std.specs.Prelude.{◌≡◌, ◌⊎◌, ◌↔◌, ◌≤◌, Ok, IsOk, IfOk, IfErr, OnOk, OnErr};
 ghost use Rattle.block_device.specs.Device.{LeavesOnly, Only};
 ghost use Rattle.page_file.specs.Fault.{HasCause, IsOfDevice, faults_after};
-ghost use Rattle.page_file.specs.File.{device_of, blocks_of, IsHonest, gate_of, KeepsMap, LiesIn};
-ghost use Rattle.page_file.specs.Layout.{version_in};
+ghost use Rattle.page_file.specs.File.{device_of, blocks_of, IsHonest, gate_of, version_of, KeepsMap, LiesIn};
+ghost use Rattle.page_file.specs.Layout.{version_in, version_number};
 ghost use Rattle.page_file.specs.Opening.{IsRefused};
 ghost use Rattle.page_file.specs.Stops.{SameButGate};
 ghost use Rattle.page_file.specs.declared.fault.Fault.TheVariants as fault;
@@ -18,11 +18,11 @@ use block_device::BlockDevice;
 impl<D: BlockDevice> PageFile<D> {
     /// Shuts the gate after all that was written. With the gate open the header is written and synced
     /// with all blocks before it, and then the gate is written shut and synced; with it unsure the gate
-    /// alone; with it shut nothing is written. So the version of a file stays that in which it was opened
-    /// until a change of it is settled. The file stays usable.
+    /// alone; with it shut nothing is written. So a header of version 1 stays until a change of the file is
+    /// settled, and then has the version of the file, 2 or 3. The file stays usable.
     ///
     /// After a refusal the gate is unsure, or open as before. On an honest device that is `Memory` or
-    /// `Device`. The map stays.
+    /// `Device`. The map and the version stay.
     pub fn settle(&mut self) -> Result<(), Fault>
         ensures shut { OnOk result (gate_of self.new ≡ Shut) }
         ensures lies { IsHonest self.old → OnOk result (LiesIn self.new (blocks_of self.new)) }
@@ -30,7 +30,7 @@ impl<D: BlockDevice> PageFile<D> {
             ((gate_of self.new ≡ Open) × (gate_of self.old ≡ Open))) }
         ensures was_shut { gate_of self.old ≡ Shut → (self.new ≡ self.old) × IsOk result }
         ensures version { IsHonest self.old → gate_of self.old ≡ Open →
-            OnOk result (version_in (blocks_of self.new) ≡ 2) }
+            OnOk result (version_in (blocks_of self.new) ≡ version_number (version_of self.old)) }
         ensures was_unsure { IsHonest self.old → gate_of self.old ≡ Unsure →
             SameButGate (blocks_of self.new) (blocks_of self.old) }
         ensures map { KeepsMap self.old self.new }
@@ -53,7 +53,7 @@ impl<D: BlockDevice> PageFile<D> {
         self.shut()
     }
 
-    /// Settles the file, and hands its device back. Opened again, it has the same map.
+    /// Settles the file, and hands its device back. Opened again, it has the same map and the same version.
     ///
     /// After a refusal, which on an honest device is `Memory` or `Device`, the device comes back; a stop
     /// leaves of it what one during the call leaves.
@@ -61,6 +61,8 @@ impl<D: BlockDevice> PageFile<D> {
         ensures lies { IfOk result (λ device. IsHonest self → LiesIn self (D.shown device)) }
         ensures durable { IfOk result (λ device. IsHonest self → Only (D.shown device) (D.may_leave device)) }
         ensures was_shut { gate_of self ≡ Shut → result ≡ Ok (device_of self) }
+        ensures version { IfOk result (λ device. IsHonest self → gate_of self ≡ Open →
+            version_in (D.shown device) ≡ version_number (version_of self)) }
 
         // A stop leaves blocks that opening refuses, or those that are read afterwards, the gate aside, in
         // which the file lies.
@@ -95,7 +97,8 @@ impl<D: BlockDevice> PageFile<D> {
     fn settle_blocks(&mut self) -> Result<(), Fault>
         requires { gate_of self.old ≡ Open }
         ensures unsure { OnOk result (gate_of self.new ≡ Unsure) }
-        ensures version { IsHonest self.old → OnOk result (version_in (blocks_of self.new) ≡ 2) }
+        ensures version { IsHonest self.old →
+            OnOk result (version_in (blocks_of self.new) ≡ version_number (version_of self.old)) }
         ensures refused { OnErr result (gate_of self.new ≡ Open) }
         ensures map { KeepsMap self.old self.new }
         ensures stops { IsHonest self.old →

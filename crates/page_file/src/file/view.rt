@@ -1,8 +1,9 @@
-//! What a file says of its numbers, and its device given back as it is.
+//! What a file says of its numbers and its version, and its device given back as it is.
 ghost use Rattle.std.specs.Prelude.{◌≡◌};
-ghost use Rattle.page_file.specs.File.{device_of, free_count_of, next_of};
+ghost use Rattle.page_file.specs.File.{device_of, free_count_of, next_of, version_of};
 
 use crate::file::PageFile;
+use crate::header::Version;
 use block_device::BlockDevice;
 
 impl<D: BlockDevice> PageFile<D> {
@@ -18,6 +19,13 @@ impl<D: BlockDevice> PageFile<D> {
         ensures { result ≡ free_count_of self.now }
     {
         self.header.count
+    }
+
+    /// What its pages may be.
+    pub fn version(&self) -> Version
+        ensures { result ≡ version_of self.now }
+    {
+        self.header.version
     }
 
     /// The device as it is, without a call of it.

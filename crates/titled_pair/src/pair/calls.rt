@@ -8,7 +8,7 @@ use crate::pair::TitledPair;
 use block_device::DeviceError;
 use device_pair::DevicePair;
 
-const MAX_BLOCKS: u32 = 1 << 31;
+const MOST_BLOCKS: u32 = 1 << 31;
 
 impl<P: DevicePair + Drop> DevicePair for TitledPair<P> {
     ghost base = { λ d. P.base (pair_of d) };
@@ -48,7 +48,7 @@ impl<P: DevicePair + Drop> DevicePair for TitledPair<P> {
     // A journal of 2^31 blocks has no room for one more.
     fn write_journal(&mut self, i: u32, bytes: &[u8; 4096]) -> Result<(), DeviceError> {
         let at = i + TITLE_BLOCKS;
-        if at >= MAX_BLOCKS || at > self.pair.journal_blocks() {
+        if at >= MOST_BLOCKS || at > self.pair.journal_blocks() {
             return Err(DeviceError::Memory);
         }
         self.pair.write_journal(at, bytes)

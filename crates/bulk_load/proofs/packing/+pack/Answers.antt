@@ -17,7 +17,7 @@ use Rattle.bulk_load.proofs.packing.+pack.Goals as goal
 
 pub returns-then-entries-from-clause-packed : goal.returns-then-entries-from-clause-packed
 returns-then-entries-from-clause-packed g t c = λ sound bs waits.
-    root_written g.row.D c.args.m_max c.args.level (pages c.args.cache.now) (pages c.write_new.new.cache)
+    root_written g.row.D c.args.fanout c.args.level (pages c.args.cache.now) (pages c.write_new.new.cache)
     (items_of c.args.entries.now) bs (record { page = c.in_ok-page.page; level = c.args.level }) waits
     (omega (arith, length-map c.args.entries.now item_of, c.if-entries-from.true, c.from.ensures)) refl
     (c.in_ok-page.ensures.fresh sound) (c.in_ok-page.ensures.others sound) (c.in_ok-page.ensures.node sound)
@@ -87,7 +87,7 @@ returns-clause-packed g t c = λ sound bs waits.
     (subst (λ (level : ℕ). WaitFor g.row.D level (pages c.pack_level.new.cache)
     (items_of c.in_ok-parents.parents.items) l.parents) one l.wait) in
     if_ok_map c.pack.result (c.pack.ensures.packed (c.in_ok-parents.ensures.sound sound) l.parents wait)
-    (λ root packs. level_packed g.row.D c.args.m_max c.args.level (pages c.args.cache.now) (pages c.pack_level.new.cache)
+    (λ root packs. level_packed g.row.D c.args.fanout c.args.level (pages c.args.cache.now) (pages c.pack_level.new.cache)
     (pages c.pack.new.cache) bs l.runs l.parents root
     (omega (
       arith,
@@ -97,5 +97,5 @@ returns-clause-packed g t c = λ sound bs waits.
       c.if-entries-from.false,
       c.from.ensures,
     )) l.tiled l.made l.moves
-    (subst (λ (level : ℕ). PackedAt g.row.D c.args.m_max level (pages c.pack_level.new.cache)
+    (subst (λ (level : ℕ). PackedAt g.row.D c.args.fanout level (pages c.pack_level.new.cache)
     (pages c.pack.new.cache) l.parents root) (sym one) packs))

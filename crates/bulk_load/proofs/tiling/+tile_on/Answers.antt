@@ -13,23 +13,23 @@ use Rattle.bulk_load.proofs.tiling.+tile_on.Goals as goal
 
 pub returns-then-axis-clause-tiled : goal.returns-then-axis-clause-tiled
 returns-then-axis-clause-tiled g t c =
-    subst (λ (sizes : List ℕ). AddsRuns item_of g.row.D c.args.m_max (g.row.D - c.args.axis)
+    subst (λ (sizes : List ℕ). AddsRuns item_of g.row.D c.args.fanout (g.row.D - c.args.axis)
     c.args.entries.now c.args.entries.now c.args.sizes.now.items sizes) (sym c.in_ok-push.ensures.items)
-    (none_left item_of g.row.D c.args.m_max (g.row.D - c.args.axis) c.args.entries.now c.args.sizes.now.items
+    (none_left item_of g.row.D c.args.fanout (g.row.D - c.args.axis) c.args.entries.now c.args.sizes.now.items
     (omega arith))
 
-pub returns-then-count-m_max-clause-tiled : goal.returns-then-count-m_max-clause-tiled
-returns-then-count-m_max-clause-tiled g t c = on_ok c.add_one.result
+pub returns-then-count-fanout-clause-tiled : goal.returns-then-count-fanout-clause-tiled
+returns-then-count-fanout-clause-tiled g t c = on_ok c.add_one.result
     (λ added. subst
-    (λ (sizes : List ℕ). AddsRuns item_of g.row.D c.args.m_max (g.row.D - c.args.axis) c.args.entries.now
+    (λ (sizes : List ℕ). AddsRuns item_of g.row.D c.args.fanout (g.row.D - c.args.axis) c.args.entries.now
     c.args.entries.now c.args.sizes.now.items sizes) (sym added)
-    (one_node item_of g.row.D c.args.m_max (g.row.D - c.args.axis) c.args.entries.now c.args.sizes.now.items
-    (omega (arith, c.if-axis.false, c.requires.within)) c.if-count-m_max.true))
+    (one_node item_of g.row.D c.args.fanout (g.row.D - c.args.axis) c.args.entries.now c.args.sizes.now.items
+    (omega (arith, c.if-axis.false, c.requires.within)) c.if-count-fanout.true))
     c.add_one.ensures.added
 
 pub slabs-init : goal.slabs-init
 slabs-init g t c =
-    none_yet item_of g.row.D c.args.m_max (g.row.D - (c.args.axis + 1)) c.args.entries.now
+    none_yet item_of g.row.D c.args.fanout (g.row.D - (c.args.axis + 1)) c.args.entries.now
     c.sort_on.new.entries (length c.args.entries.now) c.least_root-slabs.result c.args.sizes.now.items
     (subst (λ (ys : List (Entry g.row.D)). IsPermutation c.args.entries.now ys)
     (sym c.in_ok-sort_on.ensures.sorted) (sorted_permutes item_of g.row.D c.args.axis c.args.entries.now))
@@ -86,7 +86,7 @@ slabs-preserved g t c =
 pub returns-clause-tiled : goal.returns-clause-tiled
 returns-clause-tiled g t c =
     all_done c.slabs.invariant c.args.axis (omega (arith, c.slabs-test.false, c.slabs.auto.slab-end))
-    c.requires.some refl (omega (arith, c.if-axis.false, c.requires.within)) refl c.if-count-m_max.false
+    c.requires.some refl (omega (arith, c.if-axis.false, c.requires.within)) refl c.if-count-fanout.false
     c.in_ok-sort_on.ensures.sorted
     (subst (λ (cells : ℕ). IsLeastRoot (g.row.D - c.args.axis) cells c.least_root-slabs.result)
     c.div_ceil.ensures c.least_root-slabs.ensures)

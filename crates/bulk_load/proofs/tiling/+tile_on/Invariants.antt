@@ -10,5 +10,5 @@ decreases-tile_on g l = g.row.D - l.axis
 
 abbrev pub invariant-slabs : goal.invariant-slabs
 invariant-slabs g l =
-    Progress item_of g.row.D l.m_max (g.row.D - (l.axis + 1)) l.fn.entries l.initial.entries l.count l.slabs
+    Progress item_of g.row.D l.fanout (g.row.D - (l.axis + 1)) l.fn.entries l.initial.entries l.count l.slabs
     l.slab l.from l.entries l.fn.sizes.items l.sizes.items

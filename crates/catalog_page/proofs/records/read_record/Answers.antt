@@ -13,7 +13,7 @@ returns-in-Some-clause-value c =
       fanout = c.read_u8-in-Some.result;
       level = c.read_u8-in-Some-2.result;
       root = c.read_u32.result;
-      directory = c.read_u32-in-Some.result;
+      ids_root = c.read_u32-in-Some.result;
       count = c.read_u64.result;
     } in
     sym (record_is c.place_of-at.result page layer (sym c.in-Some.ensures.value) (record {
@@ -21,7 +21,7 @@ returns-in-Some-clause-value c =
       fanout_is = sym c.read_u8-in-Some.ensures;
       level_is = sym c.read_u8-in-Some-2.ensures;
       root_is = sym c.read_u32.ensures;
-      directory_is = sym c.read_u32-in-Some.ensures;
+      ids_root_is = sym c.read_u32-in-Some.ensures;
       count_is = sym c.read_u64.ensures;
     })) ∙ ap (λ (at : ℕ). record_from at page) c.place_of-at.ensures.value
 

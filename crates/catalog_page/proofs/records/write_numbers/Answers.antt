@@ -11,7 +11,7 @@ returns-clause-written c =
     let fanout : layer.fanout < 256 = omega arith in
     let level : layer.level < 256 = omega arith in
     let root : layer.root < 2 ^ 32 = omega arith in
-    let directory : layer.directory < 2 ^ 32 = omega arith in
+    let ids_root : layer.ids_root < 2 ^ 32 = omega arith in
     let count : layer.count < 2 ^ 64 = omega arith in
     rw (
       c.write_u64.ensures,
@@ -22,7 +22,7 @@ returns-clause-written c =
       c.write_u8.ensures,
     )
     (numbers_written c.args.at (record_of layer) c.args.page.now c.told-page c.requires dims fanout level
-    root directory count)
+    root ids_root count)
 
 pub returns-clause-others : goal.returns-clause-others
 returns-clause-others c =

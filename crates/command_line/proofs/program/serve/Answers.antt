@@ -1,28 +1,56 @@
 -- The words lead to a store in memory, whose device has no fault, or to the file that they name.
-use Rattle.std.proofs.Common.{◌≡◌, ◌∙◌, ◌⊎◌, Bool, ℕ, List, Option, None, Some, ap, inl, inr, refl, subst}
-use Rattle.std.proofs.Common.{sym}
-use Rattle.std.specs.Prelude.{IfNone, IfSome, option_map}
+use Rattle.std.proofs.Common.{◌≡◌, ◌∙◌, ◌⊎◌, ◌≤◌, Bool, ℕ, List, Option, None, Some, ap, inl, inr, refl, subst}
+use Rattle.std.proofs.Common.{sym, arith}
+use Rattle.std.specs.Prelude.{IfNone, IfSome, false, option_map, true}
 use Rattle.clap.specs.Walk.{texts}
 use Rattle.command_line.specs.Serving.{IsMisused}
-use Rattle.command_line.specs.Words.{AsksToMake, AsksToRead, AsksToShow}
-use Rattle.command_line.proofs.Starts.{begun_or_answered}
+use Rattle.command_line.specs.Words.{AsksForLines, AsksToBeStrict, AsksToImport, AsksToMake, AsksToRead}
+use Rattle.command_line.specs.Words.{AsksToShow}
 use Rattle.command_line.proofs.program.serve.Goals as goal
 
-or_else : {S A B C : Type 0} → S → A ⊎ B → A ⊎ ((S × B) ⊎ C)
-or_else s (inl a) = inl a
-or_else s (inr b) = inr (inl (s, b))
+or_answered : {A C L : Type 0} (S B : Bool → Type 0) (strict : Bool) → L → S strict → A ⊎ B strict
+    → A ⊎ (((b : Bool) × L × S b × B b) ⊎ C)
+or_answered S B strict lines asks (inl a) = inl a
+or_answered S B strict lines asks (inr b) = inr (inl (strict, lines, asks, b))
 
--- the words ask for nothing to be shown, or for something
-shown_so : (words : List (List ℕ)) (asked show now : Bool) → AsksToShow words asked → show ≡ asked
-    → show ≡ now → AsksToShow words now
-shown_so words asked show now asks is tested = subst (AsksToShow words) (sym is ∙ tested) asks
+-- with status 3 the words ask for a strict run
+status_so : (words : List (List ℕ)) (strict : Bool) (status : ℕ) → AsksToBeStrict words strict
+    → (status ≤ 1) ⊎ ((status ≤ 3) × (strict ≡ true))
+    → (status ≤ 2) ⊎ ((status ≤ 3) × AsksToBeStrict words true)
+status_so words strict status asks (inl few) = inl (omega (arith, few))
+status_so words strict status asks (inr (few, is)) = inr (few, subst (AsksToBeStrict words) is asks)
+
+-- what was asked and what was tested are one
+now_so : (P : Bool → Type 0) (asked is now : Bool) → P asked → is ≡ asked → is ≡ now → P now
+now_so P asked is now asks same tested = subst P (sym same ∙ tested) asks
+
+-- nothing is to be shown, and nothing imported
+lines_so : (words : List (List ℕ)) (shows show imports import : Bool) → AsksToShow words shows
+    → show ≡ shows → show ≡ false → AsksToImport words imports → import ≡ imports → import ≡ false
+    → AsksForLines words
+lines_so words shows show imports import asks is none asks_import is_import none_import = record {
+  shows_none = now_so (AsksToShow words) shows show false asks is none;
+  imports_none = now_so (AsksToImport words) imports import false asks_import is_import none_import;
+}
 
 pub returns-in_default-clause-in_memory : goal.returns-in_default-clause-in_memory
 returns-in_default-clause-in_memory g c = λ taken none.
-    let shown =
-    shown_so (texts c.args.words.now) _ c.show.result _ c.in-Ok.ensures.shown c.show.ensures c.if-show.false in
-    or_else shown (begun_or_answered _ _ _ _ _ _ _ _ _ _ _ _ _ _ _ _ _ _ c.serve_new.result
-    (c.serve_new.ensures.serves c.new-device.ensures.honest) refl)
+    let lines =
+    lines_so (texts c.args.words.now) _ c.show.result _ c.any.result c.in-Ok.ensures.shown c.show.ensures
+    c.if-show.false c.in-Ok.ensures.imports c.any.ensures c.if-any.false in
+    or_answered _ _ c.in-Ok.options.strict lines c.in-Ok.ensures.strict c.serve_memory.ensures.answered
+
+pub returns-in_default-clause-status : goal.returns-in_default-clause-status
+returns-in_default-clause-status g c =
+    status_so (texts c.args.words.now) c.in-Ok.options.strict _ c.in-Ok.ensures.strict c.serve_memory.ensures.status
+
+pub returns-in-Ok-serve_path-clause-status : goal.returns-in-Ok-serve_path-clause-status
+returns-in-Ok-serve_path-clause-status g c =
+    status_so (texts c.args.words.now) c.in-Ok.options.strict _ c.in-Ok.ensures.strict c.in-Ok-serve_path.ensures.status
+
+pub returns-then-options-2-clause-status : goal.returns-then-options-2-clause-status
+returns-then-options-2-clause-status g c =
+    status_so (texts c.args.words.now) c.in-Ok.options.strict _ c.in-Ok.ensures.strict c.read_path.ensures.status
 
 same_path : (a b : List ℕ) → Some a ≡ Some b → a ≡ b
 same_path a b e = cc
@@ -33,16 +61,19 @@ returns-in-Ok-serve_path-clause-in_file g c = λ path taken named.
     let served = c.in-Ok-serve_path.ensures.served in
     let is = ap (option_map (λ f. f.now)) (sym c.in-Some.is) ∙ asked.file_is ∙ named in
     let read = subst (AsksToRead (texts c.args.words.now)) c.if-options-2.false asked.read_is in
-    let shown =
-    shown_so (texts c.args.words.now) _ c.show.result _ c.in-Ok.ensures.shown c.show.ensures c.if-show.false in
+    let lines =
+    lines_so (texts c.args.words.now) _ c.show.result _ c.any.result c.in-Ok.ensures.shown c.show.ensures
+    c.if-show.false c.in-Ok.ensures.imports c.any.ensures c.if-any.false in
     inr (inr
     (inl (
       c.in-Some.path,
       c.in-Ok.options.create,
+      c.in-Ok.options.strict,
       same_path _ _ is,
-      shown,
+      lines,
       asked.create_is,
       read,
+      c.in-Ok.ensures.strict,
       inr (served.0, c.in-Ok-serve_path.served, served.1, refl, served.2),
     )))
 
@@ -63,56 +94,108 @@ pub returns-then-show-clause-in_memory : goal.returns-then-show-clause-in_memory
 returns-then-show-clause-in_memory g c = λ taken none.
     let asked = c.in-Ok.ensures.asked in
     let shown =
-    shown_so (texts c.args.words.now) _ c.show.result _ c.in-Ok.ensures.shown c.show.ensures c.if-show.true in
+    now_so (AsksToShow (texts c.args.words.now)) _ c.show.result true c.in-Ok.ensures.shown c.show.ensures
+    c.if-show.true in
     let two = none_so (λ f. f.now) c.in-Ok.options.file _ c.show_asked.ensures.nameless (asked.file_is ∙ none) in
-    inr (inr (inr (shown, record { failed = two; unread = refl; unwritten = c.show_asked.ensures.misused two })))
+    let same = c.show_asked.ensures.misused two in
+    inr (inr (inr (inl (shown, record { failed = two; unread = refl; unwritten = same }))))
 
 pub returns-then-show-clause-in_file : goal.returns-then-show-clause-in_file
 returns-then-show-clause-in_file g c = λ path taken named.
     let asked = c.in-Ok.ensures.asked in
     let shown =
-    shown_so (texts c.args.words.now) _ c.show.result _ c.in-Ok.ensures.shown c.show.ensures c.if-show.true in
+    now_so (AsksToShow (texts c.args.words.now)) _ c.show.result true c.in-Ok.ensures.shown c.show.ensures
+    c.if-show.true in
     let it = some_so (λ f. f.now) c.in-Ok.options.file _ path c.show_asked.ensures.shown (asked.file_is ∙ named) in
-    inr (inr (inr (inr (it.0, it.1, shown, refl, it.2))))
+    inr (inr (inr (inr (inl (it.0, it.1, shown, refl, it.2)))))
 
 pub returns-then-options-3-clause-in_file : goal.returns-then-options-3-clause-in_file
 returns-then-options-3-clause-in_file g c = λ path taken named.
     let asked = c.in-Ok.ensures.asked in
-    let shown =
-    shown_so (texts c.args.words.now) _ c.show.result _ c.in-Ok.ensures.shown c.show.ensures c.if-show.false in
+    let lines =
+    lines_so (texts c.args.words.now) _ c.show.result _ c.any.result c.in-Ok.ensures.shown c.show.ensures
+    c.if-show.false c.in-Ok.ensures.imports c.any.ensures c.if-any.false in
     let read = subst (AsksToRead (texts c.args.words.now)) c.if-options-2.true asked.read_is in
     let make = subst (AsksToMake (texts c.args.words.now)) c.if-options-3.true asked.create_is in
-    inr (inl (shown, make, read, misused_so _ _ _ c.misused-then-options-3.ensures))
+    inr (inl (lines, make, read, misused_so _ _ _ c.misused-then-options-3.ensures))
 
 pub returns-then-options-2-clause-in_file : goal.returns-then-options-2-clause-in_file
 returns-then-options-2-clause-in_file g c = λ path taken named.
     let asked = c.in-Ok.ensures.asked in
     let is = ap (option_map (λ f. f.now)) (sym c.in-Some.is) ∙ asked.file_is ∙ named in
-    let shown =
-    shown_so (texts c.args.words.now) _ c.show.result _ c.in-Ok.ensures.shown c.show.ensures c.if-show.false in
+    let lines =
+    lines_so (texts c.args.words.now) _ c.show.result _ c.any.result c.in-Ok.ensures.shown c.show.ensures
+    c.if-show.false c.in-Ok.ensures.imports c.any.ensures c.if-any.false in
     let read = subst (AsksToRead (texts c.args.words.now)) c.if-options-2.true asked.read_is in
     let make = subst (AsksToMake (texts c.args.words.now)) c.if-options-3.false asked.create_is in
-    inr (inr (inr (inl (c.in-Some.path, same_path _ _ is, shown, make, read, c.read_path.ensures.served))))
+    inr (inr
+    (inr (inl (
+      c.in-Some.path,
+      c.in-Ok.options.strict,
+      same_path _ _ is,
+      lines,
+      make,
+      read,
+      c.in-Ok.ensures.strict,
+      c.read_path.ensures.served,
+    ))))
 
 pub returns-clause-in_file : goal.returns-clause-in_file
 returns-clause-in_file g c = λ path taken named.
     let asked = c.in-Ok.ensures.asked in
     let is = ap (option_map (λ f. f.now)) (sym c.in-Some.is) ∙ asked.file_is ∙ named in
-    let shown =
-    shown_so (texts c.args.words.now) _ c.show.result _ c.in-Ok.ensures.shown c.show.ensures c.if-show.false in
+    let lines =
+    lines_so (texts c.args.words.now) _ c.show.result _ c.any.result c.in-Ok.ensures.shown c.show.ensures
+    c.if-show.false c.in-Ok.ensures.imports c.any.ensures c.if-any.false in
     let read = subst (AsksToRead (texts c.args.words.now)) c.if-options-2.false asked.read_is in
     let refused = c.in-Err-serve_path.ensures.refused in
     inr (inr
     (inl (
       c.in-Some.path,
       c.in-Ok.options.create,
+      c.in-Ok.options.strict,
       same_path _ _ is,
-      shown,
+      lines,
       asked.create_is,
       read,
+      c.in-Ok.ensures.strict,
       inl (
         c.in-Err-serve_path.field-0,
         refused.0,
         record { failed = refl; unread = refused.1; unwritten = refused.2 },
       ),
     )))
+
+pub returns-then-any-clause-in_memory : goal.returns-then-any-clause-in_memory
+returns-then-any-clause-in_memory g c = λ taken none.
+    let asked = c.in-Ok.ensures.asked in
+    let imports =
+    now_so (AsksToImport (texts c.args.words.now)) _ c.any.result true c.in-Ok.ensures.imports c.any.ensures
+    c.if-any.true in
+    let two = none_so (λ f. f.now) c.in-Ok.options.file _ c.import_asked.ensures.nameless
+    (asked.file_is ∙ none) in
+    let same = c.import_asked.ensures.misused two in
+    inr (inr (inr (inr (imports, record { failed = two; unread = same.0; unwritten = same.1 }))))
+
+pub returns-then-any-clause-in_file : goal.returns-then-any-clause-in_file
+returns-then-any-clause-in_file g c = λ path taken named.
+    let asked = c.in-Ok.ensures.asked in
+    let imports =
+    now_so (AsksToImport (texts c.args.words.now)) _ c.any.result true c.in-Ok.ensures.imports c.any.ensures
+    c.if-any.true in
+    let it =
+    some_so (λ f. f.now) c.in-Ok.options.file _ path c.import_asked.ensures.imported
+    (asked.file_is ∙ named) in
+    inr (inr
+    (inr (inr
+    (inr (
+      it.0,
+      c.in-Ok.options.create,
+      option_map (λ w. w.now) c.in-Ok.options.import.layer,
+      it.1,
+      c.in-Ok.ensures.target,
+      imports,
+      asked.create_is,
+      c.import_asked.ensures.unwritten,
+      it.2,
+    )))))

@@ -28,7 +28,7 @@ returns-in-Ok-clause-served g c =
           (c.in-Ok.ensures.honest (subst g.B.BlockReader.honest is honest)) in
           inr (record {
             end = run.end;
-            runs = runs_so _ _ (λ rs xs once. once_checked_so _ _ (λ s ends. tt) rs xs once) run.end _ _ _ _
+            runs = runs_so _ _ (λ text rs xs once. once_checked_so _ _ (λ s ends. tt) rs xs once) run.end _ _ _ _
                 run.runs;
             well = λ zero. run.well (sym c.status_of.ensures.is ∙ ap (λ n. n == 0) zero);
           });

@@ -7,8 +7,8 @@ use Rattle.clap.specs.Walk.{Rule, rule_of}
 use Rattle.clap.specs.Words.{app_of, new_app, new_rule, with_rule}
 use Rattle.clap.specs.declared.builder.value_parser.ValueParser.{ValueParser}
 use Rattle.clap.specs.declared.builder.value_parser.ValueParser.TheVariants.{Signed}
-use Rattle.command_line.specs.Words.{cache_rule, create_rule, draw_rule, file_rule, json_rule}
-use Rattle.command_line.specs.Words.{read_only_rule, stats_rule}
+use Rattle.command_line.specs.Words.{cache_rule, create_rule, file_rule, import_rules, read_only_rule}
+use Rattle.command_line.specs.Words.{show_rules, strict_rule}
 use Rattle.command_line.proofs.words.command.Goals as goal
 
 pub returns : goal.returns
@@ -30,30 +30,28 @@ returns c =
     let own : c.default_value-cache.result.global ≡ false = rw (c.default_value-cache.ensures, parsed) here in
     let create_is : rule_of c.flag-create.result ≡ create_rule = c.flag-create.ensures.rule in
     let read_is : rule_of c.flag-read_only.result ≡ read_only_rule = c.flag-read_only.ensures.rule in
-    let draw_is : rule_of c.help-draw.result ≡ draw_rule =
-    rw (c.help-draw.ensures, c.value_name-2.ensures, c.long-2.ensures)
-    (ap (λ (r : Rule). record r { long = Some (codes "draw"); value_names = 1 }) c.new-3.ensures.rule) in
-    let draws : c.help-draw.result.global ≡ false =
-    rw (c.help-draw.ensures, c.value_name-2.ensures, c.long-2.ensures) c.new-3.ensures.optional.1 in
-    let stats_is : rule_of c.flag-stats.result ≡ stats_rule = c.flag-stats.ensures.rule in
-    let json_is : rule_of c.flag-json.result ≡ json_rule = c.flag-json.ensures.rule in
-    let file_is : rule_of c.help-file.result ≡ file_rule = search rules in
+    let strict_is : rule_of c.flag-strict.result ≡ strict_rule = c.flag-strict.ensures.rule in
+    let file_is : rule_of c.help-file.result ≡ file_rule =
+    rw (c.help-file.ensures, c.value_name-2.ensures)
+    (ap (λ (r : Rule). record r { value_names = 1 }) c.new-3.ensures.rule) in
+    let files : c.help-file.result.global ≡ false =
+    rw (c.help-file.ensures, c.value_name-2.ensures) c.new-3.ensures.optional.1 in
     let named : app_of c.after_help-rstore.result ≡ on_top (λ s. record s { has_version = true }) (new_app (codes "rstore")) =
     rw (c.after_help-rstore.ensures, c.about.ensures, c.version.ensures)
-    (ap (on_top (λ s. record s { has_version = true })) c.new-5.ensures.app) in
-    IfOk-weaker c.arg-7.result _ _
+    (ap (on_top (λ s. record s { has_version = true })) c.new-4.ensures.app) in
+    IfOk-weaker c.arg-5.result _ _
     (λ r h.
-    h.shape (search rules)
+    h.shape files
     ∙ ap₂ with_rule
-    (c.in_ok-arg-6.ensures.shape c.flag-json.ensures.own
-    ∙ ap₂ with_rule
-    (c.in_ok-arg-5.ensures.shape c.flag-stats.ensures.own
-    ∙ ap₂ with_rule
-    (c.in_ok-arg-4.ensures.shape draws
+    (c.in_ok-with_import.ensures
+    ∙ ap import_rules
+    (c.in_ok-with_shows.ensures
+    ∙ ap show_rules
+    (c.in_ok-plain.ensures.shape c.flag-strict.ensures.own
     ∙ ap₂ with_rule
     (c.in_ok-arg-3.ensures.shape c.flag-read_only.ensures.own
     ∙ ap₂ with_rule
     (c.in_ok-arg-2.ensures.shape c.flag-create.ensures.own
-    ∙ ap₂ with_rule (c.in_ok-arg.ensures.shape own ∙ ap₂ with_rule named cache_is) create_is) read_is) draw_is)
-    stats_is) json_is) file_is)
-    c.arg-7.ensures
+    ∙ ap₂ with_rule (c.in_ok-arg.ensures.shape own ∙ ap₂ with_rule named cache_is) create_is) read_is)
+    strict_is))) file_is)
+    c.arg-5.ensures

@@ -10,5 +10,5 @@ returns-in-None g c =
 pub returns-in-Some : goal.returns-in-Some
 returns-in-Some g c =
     written (said c.args.line) _ (g.W.Write.contents c.args.output.now)
-    (g.W.Write.contents c.write_reply.new.writer) c.in-Some.reply c.write_reply.result
-    c.in-Some.ensures.replies c.write_reply.ensures
+    (g.W.Write.contents c.give.new.output) c.in-Some.reply c.give.result
+    c.in-Some.ensures.replies c.give.ensures.written c.give.ensures.tells

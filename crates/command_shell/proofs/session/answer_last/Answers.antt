@@ -15,10 +15,10 @@ returns-in-Load g c = λ text is. let k =
       requests = k.request ∷ [];
       asked = k.asked;
       answers = reply_answer c.last_load_reply-reply.result ∷ [];
-      lawful = (_, k.step, refl);
+      lawful = record { lawful = (_, k.step, refl); tells = c.give.ensures.tells };
       written =
           wrote_reply c.last_load_reply-reply.result (g.W.Write.contents c.args.output.now)
-          (g.W.Write.contents c.write_reply.new.writer) c.write_reply.result c.write_reply.ensures;
+          (g.W.Write.contents c.give.new.output) c.give.result c.give.ensures.written;
     }
 
 pub returns : goal.returns

@@ -9,26 +9,27 @@ use Rattle.command_shell.proofs.LoadLemmas.{loads_broken, loads_full, loads_shor
 use Rattle.command_shell.proofs.session.load.Goals as goal
 
 pub returns-in-Full-clause-steps : goal.returns-in-Full-clause-steps
-returns-in-Full-clause-steps g c = λ before unread first layer one means gathered reads.
+returns-in-Full-clause-steps g c = λ before unread first layer one front means gathered reads.
     let t = c.in-Full.ensures.gathers in
     loads_full _ before (g.R.Read.remaining c.args.input.now) (g.R.Read.remaining c.gather.new.input)
     (g.W.Write.contents c.args.output.now) (g.W.Write.contents c.gather.new.output)
-    (g.W.Write.contents c.write_reply.new.writer)
+    (g.W.Write.contents c.give-written.new.output)
     unread (pending c.args.lines.now) (pending c.gather.new.lines) first t.text layer c.args.count
-    c.in-Full.ended c.end_after.result c.write_reply.result c.load_reply-reply.result c.end_after.ensures
-    one means reads t.reads t.count_is c.in-Full.ensures.kept c.write_reply.ensures
-    (_, c.load_reply-reply.ensures layer (lines_of t.text) (t.gathers layer gathered), refl)
+    c.saturating_add.result c.args.front c.in-Full.ended c.step_of.result c.give-written.result
+    c.load_reply.result c.step_of.ensures c.saturating_add.ensures one front means reads t.reads t.count_is
+    c.in-Full.ensures.kept c.give-written.ensures.written c.give-written.ensures.tells
+    (_, c.load_reply.ensures layer (lines_of t.text) (t.gathers layer gathered), refl)
 
 pub returns-in-Short-clause-steps : goal.returns-in-Short-clause-steps
-returns-in-Short-clause-steps g c = λ before unread first layer one means gathered reads.
+returns-in-Short-clause-steps g c = λ before unread first layer one front means gathered reads.
     let t = c.in-Short.ensures.gathers in
     loads_short _ before (g.R.Read.remaining c.args.input.now) (g.R.Read.remaining c.gather.new.input)
     (g.W.Write.contents c.args.output.now) (g.W.Write.contents c.gather.new.output)
-    (g.W.Write.contents c.write_reply-in-Short.new.writer)
+    (g.W.Write.contents c.give.new.output)
     unread (pending c.args.lines.now) (pending c.gather.new.lines) first t.text layer c.args.count
-    c.end_after-in-Short.result c.write_reply-in-Short.result c.bad_reply.result
-    c.end_after-in-Short.ensures one means reads t.reads t.few c.in-Short.ensures.kept
-    c.write_reply-in-Short.ensures (
+    c.args.count c.args.front c.step_of-in-Short.result c.give.result c.bad_reply.result
+    c.step_of-in-Short.ensures one front means reads t.reads t.few c.in-Short.ensures.kept
+    c.give.ensures.written c.give.ensures.tells (
       _,
       asked_badly c.args.store.now _
           (λ honest b left. g.met.D.BlockDevice.only_now (device_in c.args.store.now) b honest left)
@@ -37,7 +38,7 @@ returns-in-Short-clause-steps g c = λ before unread first layer one means gathe
     )
 
 pub returns-clause-steps : goal.returns-clause-steps
-returns-clause-steps g c = λ before unread first layer one means gathered reads.
+returns-clause-steps g c = λ before unread first layer one front means gathered reads.
     loads_broken _ refl before (g.R.Read.remaining c.args.input.now) (g.R.Read.remaining c.gather.new.input)
     (g.W.Write.contents c.args.output.now) (g.W.Write.contents c.gather.new.output)
     unread (pending c.args.lines.now) (pending c.gather.new.lines) first layer c.args.count c.in-Broken.end

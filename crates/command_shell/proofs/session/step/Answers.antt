@@ -1,17 +1,20 @@
 -- The goals of `step` that are proved by hand.
 use Rattle.std.proofs.Common.{◌≡◌, ℕ, List, Option, [], ◌∷◌, ◌++◌, true, false, refl, subst, ap, sym, ◌∙◌}
 use Rattle.std.specs.Io.KnownBytes.{IsAtEnd}
+use Rattle.layer_store.specs.Calls.{Calls}
 use Rattle.command_shell.specs.Lines.{newline}
 use Rattle.command_shell.specs.Meanings.{meaning_of}
 use Rattle.command_shell.specs.Pending.{Finds, pending}
 use Rattle.command_shell.specs.Reading.{BeginsLine, Reads, ReadsTo}
+use Rattle.command_shell.specs.Strict.{IsFrontOf}
 use Rattle.command_shell.specs.TextCommands.{AreCommands}
 use Rattle.command_shell.specs.declared.lines.Found.TheVariants as Found
 use Rattle.command_shell.specs.TextCommands.IsUnfinished.{in_line}
 use Rattle.command_shell.proofs.CommandLemmas.{lines_of-line, long_meaning}
 use Rattle.command_shell.proofs.ReadLemmas.{begun_read, last_read, last_front, last_left, last_line}
 use Rattle.command_shell.proofs.ReadLemmas.{long_read, long_last_read, long_last_line, end_read}
-use Rattle.command_shell.proofs.SessionLemmas.{ends_there, fails_there, steps_after, steps_line}
+use Rattle.command_shell.proofs.SessionLemmas.{ends_there, fails_there, last_refused, steps_after, steps_line}
+use Rattle.command_shell.proofs.StrictLemmas.{one_request}
 use Rattle.command_shell.proofs.session.step.Goals as goal
 
 -- what was found is pending
@@ -48,14 +51,20 @@ returns-in-Ok-Last-clause-steps g c =
     let at_end = IsAtEnd r' in
     let found = rw c.in-Ok-Last.field-0-is at c.in-Ok-Last.ensures.found in
     let line = last_line r r' bytes mid n at_end found in
+    let whole = last_front r r' bytes mid n at_end found in
     let reads =
     last_read r r' bytes mid left n found
     (c.take.ensures.pending ∙ last_left r r' bytes mid n at_end found) in
-    let a = c.answer_last-written.ensures mid
-    (c.parse_line.ensures ∙ ap meaning_of (c.front.ensures ∙ last_front r r' bytes mid n at_end found)) in
-    steps_after _ r r' w w' bytes left mid a.requests a.answers true c.end_after.result
-    c.answer_last-written.result c.end_after.ensures reads
-    (subst (λ (ls : List (List ℕ)). AreCommands true ls a.requests) (sym line) a.asked) a.lawful a.written
+    let means = c.parse_line.ensures ∙ ap meaning_of (c.front-in-Ok-Last.ensures ∙ whole) in
+    let a = c.answer_last-written.ensures mid means in
+    let begins = subst (IsFrontOf c.of-front.result) (c.front.ensures ∙ whole) c.of-front.ensures in
+    let So = Calls c.args.store.now c.answer_last-written.new.store in
+    steps_after So r r' w w' bytes left mid a.requests a.answers c.of-front.result 1 true c.step_of.result
+    c.answer_last-written.result c.step_of.ensures reads
+    (subst (λ (ls : List (List ℕ)). AreCommands true ls a.requests) (sym line) a.asked) a.lawful.lawful
+    a.written a.lawful.tells (λ more. absurd (cc))
+    (last_refused So (one_request c.args.store.now c.answer_last-written.new.store) c.of-front.result mid
+    a.requests a.answers line begins a.asked a.lawful.lawful)
 
 pub returns-in-Ok-TooLong-clause-steps : goal.returns-in-Ok-TooLong-clause-steps
 returns-in-Ok-TooLong-clause-steps g c =
@@ -63,14 +72,15 @@ returns-in-Ok-TooLong-clause-steps g c =
     let bytes = pending c.args.lines.now in
     let at_end = IsAtEnd (g.R.Read.remaining c.find.new.reader) in
     let found = rw c.in-Ok-TooLong.field-0-is at c.in-Ok-TooLong.ensures.found in
-    steps_line _ (g.R.Read.remaining c.args.input.now) (g.R.Read.remaining c.find.new.reader)
-    (g.W.Write.contents c.args.output.now) (g.W.Write.contents c.answer.new.output) bytes left
-    (found.so.0 ++ newline ∷ []) found.so.0 _ false c.end_after-in-Ok-TooLong.result c.answer.result
-    c.end_after-in-Ok-TooLong.ensures
+    steps_line _ (one_request c.args.store.now c.answer-written.new.store)
+    (g.R.Read.remaining c.args.input.now) (g.R.Read.remaining c.find.new.reader)
+    (g.W.Write.contents c.args.output.now) (g.W.Write.contents c.answer-written.new.output) bytes left
+    (found.so.0 ++ newline ∷ []) found.so.0 _ c.of_too_long.result false c.step_of-in-Ok-TooLong.result
+    c.answer-written.result c.step_of-in-Ok-TooLong.ensures
     (long_read (g.R.Read.remaining c.args.input.now) (g.R.Read.remaining c.find.new.reader) bytes left at_end
     found)
     (lines_of-line found.so.0 found.so.2)
-    (long_meaning found.so.0 found.so.1) c.answer.ensures
+    (long_meaning found.so.0 found.so.1) (c.of_too_long.ensures found.so.0 found.so.1) c.answer-written.ensures
 
 pub returns-in-Ok-LastTooLong-clause-steps : goal.returns-in-Ok-LastTooLong-clause-steps
 returns-in-Ok-LastTooLong-clause-steps g c =
@@ -78,14 +88,16 @@ returns-in-Ok-LastTooLong-clause-steps g c =
     let bytes = pending c.args.lines.now in
     let found = rw c.in-Ok-LastTooLong.field-0-is at c.in-Ok-LastTooLong.ensures.found in
     let line = bytes ++ found.more in
-    steps_line _ (g.R.Read.remaining c.args.input.now) (g.R.Read.remaining c.find.new.reader)
-    (g.W.Write.contents c.args.output.now) (g.W.Write.contents c.answer-in-Ok-LastTooLong.new.output)
-    bytes left line line _ true c.end_after-in-Ok-LastTooLong.result c.answer-in-Ok-LastTooLong.result
-    c.end_after-in-Ok-LastTooLong.ensures
+    steps_line _ (one_request c.args.store.now c.answer-written-in-Ok-LastTooLong.new.store)
+    (g.R.Read.remaining c.args.input.now) (g.R.Read.remaining c.find.new.reader)
+    (g.W.Write.contents c.args.output.now) (g.W.Write.contents c.answer-written-in-Ok-LastTooLong.new.output)
+    bytes left line line _ c.of_too_long-in-Ok-LastTooLong.result true c.step_of-in-Ok-LastTooLong.result
+    c.answer-written-in-Ok-LastTooLong.result c.step_of-in-Ok-LastTooLong.ensures
     (long_last_read (g.R.Read.remaining c.args.input.now) (g.R.Read.remaining c.find.new.reader) bytes left
     found)
     (long_last_line line found.so.0 found.so.1)
-    (long_meaning line found.so.0) c.answer-in-Ok-LastTooLong.ensures
+    (long_meaning line found.so.0) (c.of_too_long-in-Ok-LastTooLong.ensures line found.so.0)
+    c.answer-written-in-Ok-LastTooLong.ensures
 
 pub returns-in-Ok-End-clause-steps : goal.returns-in-Ok-End-clause-steps
 returns-in-Ok-End-clause-steps g c =

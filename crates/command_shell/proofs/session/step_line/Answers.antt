@@ -6,10 +6,12 @@ use Rattle.command_shell.specs.Meanings.{meaning_of}
 use Rattle.command_shell.specs.Pending.{Finds, pending}
 use Rattle.command_shell.specs.Reading.{BeginsLine, ReadsTo}
 use Rattle.command_shell.specs.Said.{said}
+use Rattle.command_shell.specs.Strict.{IsFrontOf}
 use Rattle.command_shell.specs.declared.lines.Found.TheVariants as Found
 use Rattle.command_shell.proofs.CommandLemmas.{lines_of-line}
 use Rattle.command_shell.proofs.ReadLemmas.{line_read, one_line}
 use Rattle.command_shell.proofs.SessionLemmas.{steps_line}
+use Rattle.command_shell.proofs.StrictLemmas.{one_request}
 use Rattle.command_shell.proofs.session.step_line.Goals as goal
 
 -- the line that is pending was found there
@@ -31,7 +33,8 @@ returns-in-Load-clause-steps g c = λ before unread reads.
     let found = found_line before r (IsAtEnd r) unread mid n reads c.requires in
     c.load.ensures.steps before unread (take n mid) c.in-Load.layer.now
     (one_line before r unread mid (pending c.take.new.self) n (IsAtEnd r) found)
-    (sym (c.parse_line-line.ensures ∙ ap meaning_of c.front.ensures) ∙ ap said c.in-Load.is)
+    (subst (IsFrontOf c.of-front.result) c.front.ensures c.of-front.ensures)
+    (sym (c.parse_line-line.ensures ∙ ap meaning_of c.front-2.ensures) ∙ ap said c.in-Load.is)
     c.new-gathered.ensures
     (line_read before r unread mid (pending c.take.new.self) n (IsAtEnd r) found c.take.ensures.pending)
 
@@ -42,9 +45,11 @@ returns-clause-steps g c = λ before unread reads.
     let n = c.args.len in
     let left = pending c.take-2.new.self in
     let found = found_line before r (IsAtEnd r) unread mid n reads c.requires in
-    steps_line _ before r (g.W.Write.contents c.args.output.now)
+    steps_line _ (one_request c.args.store.now c.answer-written.new.store) before r
+    (g.W.Write.contents c.args.output.now)
     (g.W.Write.contents c.answer-written.new.output) unread left (take n mid ++ newline ∷ [])
-    (take n mid) _ false c.end_after.result c.answer-written.result c.end_after.ensures
+    (take n mid) _ c.of-front.result false c.step_of.result c.answer-written.result c.step_of.ensures
     (line_read before r unread mid left n (IsAtEnd r) found c.take-2.ensures.pending)
     (lines_of-line (take n mid) (one_line before r unread mid left n (IsAtEnd r) found))
-    (c.parse_line-line.ensures ∙ ap meaning_of c.front.ensures) c.answer-written.ensures
+    (c.parse_line-line.ensures ∙ ap meaning_of c.front-2.ensures)
+    (subst (IsFrontOf c.of-front.result) c.front.ensures c.of-front.ensures) c.answer-written.ensures

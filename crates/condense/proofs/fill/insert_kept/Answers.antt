@@ -25,7 +25,7 @@ inserting-init g c = (
   omega arith,
   λ h t ws elsewhere can. (
     h,
-    filled_first g.row.D c.args.m_max (pages c.args.cache.now) t ws elsewhere c.args.root
+    filled_first g.row.D c.args.fanout (pages c.args.cache.now) t ws elsewhere c.args.root
         (held_now c.args.kept.now) can,
   ),
   λ none. (none, refl, no_call_asks c.args.cache.now),
@@ -38,13 +38,13 @@ returns-then-orphan-now-clause-faults g c = λ h t ws elsewhere can shaped.
     let m : PageMap = pages c.args.cache.now in
     let m1 : PageMap = pages c.inserting.cache in
     let so_far = c.inserting.invariant.4 h t ws elsewhere can in
-    let f = subst (λ (hs : List Held). Filled D c.args.m_max m m1 t ws elsewhere c.inserting.now hs)
+    let f = subst (λ (hs : List Held). Filled D c.args.fanout m m1 t ws elsewhere c.inserting.now hs)
     c.in-Some.ensures.some so_far.1 in
     let item = item_of c.in-Some.orphan.entry in
     let level = c.in-Some.orphan.level in
     let held = held_now c.next.new.self in
-    let k = comes D c.args.m_max m m1 t ws elsewhere c.inserting.now item level held f in
-    let s = comes_shaped D c.args.m_max m m1 t ws elsewhere c.inserting.now item level held f k shaped in
+    let k = comes D c.args.fanout m m1 t ws elsewhere c.inserting.now item level held f in
+    let s = comes_shaped D c.args.fanout m m1 t ws elsewhere c.inserting.now item level held f k shaped in
     absurd (omega (arith, s.0, f.can.at.level, c.if-orphan-now.true))
 
 pub insert_with-requires : goal.insert_with-requires
@@ -75,62 +75,63 @@ returns-in_err-now-clause-faults g c = λ h t ws elsewhere can shaped.
     let m : PageMap = pages c.args.cache.now in
     let m1 : PageMap = pages c.inserting.cache in
     let so_far = c.inserting.invariant.4 h t ws elsewhere can in
-    let f = subst (λ (hs : List Held). Filled D c.args.m_max m m1 t ws elsewhere c.inserting.now hs)
+    let f = subst (λ (hs : List Held). Filled D c.args.fanout m m1 t ws elsewhere c.inserting.now hs)
     c.in-Some.ensures.some so_far.1 in
     let item = item_of c.in-Some.orphan.entry in
     let level = c.in-Some.orphan.level in
     let held = held_now c.next.new.self in
-    let k = comes D c.args.m_max m m1 t ws elsewhere c.inserting.now item level held f in
-    let s = comes_shaped D c.args.m_max m m1 t ws elsewhere c.inserting.now item level held f k shaped in
+    let k = comes D c.args.fanout m m1 t ws elsewhere c.inserting.now item level held f in
+    let s = comes_shaped D c.args.fanout m m1 t ws elsewhere c.inserting.now item level held f k shaped in
     at_error c.from_residual.result c.in_err-now.field-0.0 (IsNoDamage c.insert_with.new.cache)
     c.from_residual.ensures.1
-    (c.in_err-now.ensures.faults so_far.0 f.mid k.w.branch
+    (c.in_err-now.ensures.inserts.faults so_far.0 f.mid k.w.branch
     (λ n. occurs_waiting n k.ws' + elsewhere n)
-    (can_insert D c.args.m_max m m1 t ws elsewhere c.inserting.now item level held f k
+    (can_insert D c.args.fanout m m1 t ws elsewhere c.inserting.now item level held f k
     (omega (arith, c.if-orphan-now.false))) s.1 s.2 s.3)
 
 pub inserting-preserved : goal.inserting-preserved
 inserting-preserved g c = (
   changes_in_turn c.args.cache.now c.inserting.cache c.insert_with.new.cache None c.inserting.invariant.0
-      c.in_ok-now.ensures.changes,
-  record { low = c.in_ok-now.ensures.root.low; page = c.in_ok-now.ensures.root.page },
+      c.in_ok-now.ensures.inserts.changes,
+  record { low = c.in_ok-now.ensures.inserts.root.low; page = c.in_ok-now.ensures.inserts.root.page },
   omega (arith, c.inserting.invariant.2, c.in-Some.ensures.fewer),
   omega (
     arith,
     c.inserting.invariant.2,
     c.inserting.invariant.3,
     c.in-Some.ensures.fewer,
-    c.in_ok-now.ensures.grows,
+    c.in_ok-now.ensures.inserts.grows,
   ),
   λ h t ws elsewhere can.
       let D = g.row.D in
       let m : PageMap = pages c.args.cache.now in
       let m1 : PageMap = pages c.inserting.cache in
       let so_far = c.inserting.invariant.4 h t ws elsewhere can in
-      let f = subst (λ (hs : List Held). Filled D c.args.m_max m m1 t ws elsewhere c.inserting.now hs)
+      let f = subst (λ (hs : List Held). Filled D c.args.fanout m m1 t ws elsewhere c.inserting.now hs)
       c.in-Some.ensures.some so_far.1 in
       let item = item_of c.in-Some.orphan.entry in
       let level = c.in-Some.orphan.level in
       let held = held_now c.next.new.self in
-      let k = comes D c.args.m_max m m1 t ws elsewhere c.inserting.now item level held f in
+      let k = comes D c.args.fanout m m1 t ws elsewhere c.inserting.now item level held f in
       let done =
-      c.in_ok-now.ensures.inserted so_far.0 f.mid k.w.branch (λ n. occurs_waiting n k.ws' + elsewhere n)
-      (can_insert D c.args.m_max m m1 t ws elsewhere c.inserting.now item level held f k
+      c.in_ok-now.ensures.inserts.inserted so_far.0 f.mid k.w.branch
+      (λ n. occurs_waiting n k.ws' + elsewhere n)
+      (can_insert D c.args.fanout m m1 t ws elsewhere c.inserting.now item level held f k
       (omega (arith, c.if-orphan-now.false))) in (
         done.0,
-        filled_more D c.args.m_max m m1 t ws elsewhere c.inserting.now item level held f k
-            (pages c.insert_with.new.cache) c.in_ok-now.now c.in_ok-now.ensures.root.rises
+        filled_more D c.args.fanout m m1 t ws elsewhere c.inserting.now item level held f k
+            (pages c.insert_with.new.cache) c.in_ok-now.now c.in_ok-now.ensures.inserts.root.rises
             (omega (arith, c.requires.most)) done.1,
       ),
   λ none. absurd (omega (arith, c.in-Some.ensures.fewer, ap length (c.inserting.invariant.5 none).0)),
-  λ h. c.in_ok-now.ensures.sound (c.inserting.invariant.6 h),
+  λ h. c.in_ok-now.ensures.inserts.sound (c.inserting.invariant.6 h),
 )
 
 pub returns-clause-filled : goal.returns-clause-filled
 returns-clause-filled g c = λ h t ws elsewhere can.
     let so_far = c.inserting.invariant.4 h t ws elsewhere can in (
       so_far.0,
-      filled_end g.row.D c.args.m_max (pages c.args.cache.now) (pages c.inserting.cache) t ws elsewhere
+      filled_end g.row.D c.args.fanout (pages c.args.cache.now) (pages c.inserting.cache) t ws elsewhere
           c.inserting.now (held_now c.inserting.kept) so_far.1
           (ap (map (orphan_held {D = g.row.D})) (c.in_default.ensures.none refl)),
     )
@@ -139,7 +140,7 @@ pub returns-in_err-now-clause-changes : goal.returns-in_err-now-clause-changes
 returns-in_err-now-clause-changes g c =
     changes_and_refuses c.args.cache.now c.inserting.cache c.insert_with.new.cache
     c.in_err-now.field-0.0 c.from_residual.result c.from_residual.ensures.1
-    c.inserting.invariant.0 c.in_err-now.ensures.changes
+    c.inserting.invariant.0 c.in_err-now.ensures.inserts.changes
 
 pub returns-then-orphan-now-clause-none : goal.returns-then-orphan-now-clause-none
 returns-then-orphan-now-clause-none g c = λ none.
@@ -162,7 +163,7 @@ returns-then-orphan-now-clause-number g c = λ h n damaged.
 pub returns-in_err-now-clause-number : goal.returns-in_err-now-clause-number
 returns-in_err-now-clause-number g c = λ h.
     at_error c.from_residual.result c.in_err-now.field-0.0 NamesInRange
-    c.from_residual.ensures.1 (c.in_err-now.ensures.number (c.inserting.invariant.6 h))
+    c.from_residual.ensures.1 (c.in_err-now.ensures.inserts.number (c.inserting.invariant.6 h))
 
 pub returns-clause-sound : goal.returns-clause-sound
 returns-clause-sound g c = c.inserting.invariant.6

@@ -13,7 +13,7 @@ use Rattle.tree_node.specs.Nodes.{Item, content_of, item_of}
 use Rattle.node_page.specs.Layout.{IsOfLevel, IsSpellable}
 use Rattle.node_page.specs.Standing.{PageMap}
 use Rattle.node_page.specs.Faults.{IsChangeFault, IsNoDamage, NamesInRange}
-use Rattle.reinsert.proofs.FaultLemmas.{one_more}
+use Rattle.reinsert.proofs.FaultLemmas.{damaged_asks, one_more}
 use Rattle.condense.specs.Filled.{GivesWayTo}
 use Rattle.condense.specs.Removed.{RemovesTo}
 use Rattle.condense.specs.Taken.{held_now}
@@ -21,23 +21,23 @@ use Rattle.condense.proofs.CutLemmas.{length-items}
 use Rattle.node_page.proofs.DamageLemmas.{comes_in_range, damaged_read}
 use Rattle.node_page.proofs.NodeLemmas.{at_error}
 use Rattle.condense.proofs.DamageLemmas.{device_names_none}
-use Rattle.condense.proofs.RemoveLemmas.{damaged_asks, map_err, map_ok, no_damage}
+use Rattle.condense.proofs.RemoveLemmas.{map_err, map_ok, no_damage}
 use Rattle.condense.proofs.RootLemmas.{can_fill, cut_root, removes_to, root_stays_live}
 use Rattle.condense.proofs.ShapeLemmas.{cut_shaped}
 use Rattle.condense.proofs.removal.put_root.Goals as goal
 
 pub settle-requires : goal.settle-requires
 settle-requires g c =
-    let spells : IsSpellable (content_of c.args.node.now) = record {
+    let spells : IsSpellable (content_of c.args.hand.now.node) = record {
       few = c.requires.cut.few;
       some = λ high. omega (
         arith,
         c.lacks_entries.ensures.no c.if-lacks_entries.false high,
-        length-map c.args.node.now.entries.items (item_of {D = g.row.D}),
+        length-map c.args.hand.now.node.entries.items (item_of {D = g.row.D}),
       );
       refers =
           subst (λ l. All (λ (item : Item). IsOfLevel l item.reference item.tag)
-          (map (item_of {D = g.row.D}) c.args.node.now.entries.items)) (sym c.requires.cut.level_is)
+          (map (item_of {D = g.row.D}) c.args.hand.now.node.entries.items)) (sym c.requires.cut.level_is)
           c.requires.cut.refers;
     } in
     search (rules, spells)
@@ -50,7 +50,7 @@ returns-then-lacks_entries-clause-changes g c =
 
 pub returns-then-lacks_entries-clause-faults : goal.returns-then-lacks_entries-clause-faults
 returns-then-lacks_entries-clause-faults g c = λ h m t elsewhere id removed took is shape boxes.
-    let s = cut_shaped g.row.D c.args.m_max id removed t took.taken.out shape boxes took.taken.takes_out in
+    let s = cut_shaped g.row.D c.args.fanout id removed t took.taken.out shape boxes took.taken.takes_out in
     let lacks = c.lacks_entries.ensures.yes c.if-lacks_entries.true in
     let some = s.tree.some (omega (arith, lacks.0, c.requires.cut.level_is, took.can.at.level)) in
     absurd (omega (
@@ -58,15 +58,15 @@ returns-then-lacks_entries-clause-faults g c = λ h m t elsewhere id removed too
       some,
       lacks.1,
       ap length took.taken.entries,
-      length-map c.args.node.now.entries.items (item_of {D = g.row.D}),
+      length-map c.args.hand.now.node.entries.items (item_of {D = g.row.D}),
       length-items took.taken.out.row,
     ))
 
 pub returns-in_err-settle-clause-faults : goal.returns-in_err-settle-clause-faults
 returns-in_err-settle-clause-faults g c = λ h m t elsewhere id removed took is shape boxes.
     let live =
-    root_stays_live g.row.D c.args.m_max m (pages c.args.cache.now) c.args.root t elsewhere id removed
-    (held_now c.args.kept.now) (map (item_of {D = g.row.D}) c.args.node.now.entries.items) took in
+    root_stays_live g.row.D c.args.fanout m (pages c.args.cache.now) c.args.root t elsewhere id removed
+    (held_now c.args.kept.now) (map (item_of {D = g.row.D}) c.args.hand.now.node.entries.items) took in
     at_error c.from_residual.result c.in_err-settle.field-0.0 (IsNoDamage c.settle.new.cache)
     c.from_residual.ensures.1 (inl (c.in_err-settle.ensures.faults h.honest live))
 
@@ -75,15 +75,15 @@ returns-in_err-filled-clause-faults g c = λ h m t elsewhere id removed took is 
     let D = g.row.D in
     let m1 : PageMap = pages c.args.cache.now in
     let m2 : PageMap = pages c.settle.new.cache in
-    let items = map (item_of {D = D}) c.args.node.now.entries.items in
+    let items = map (item_of {D = D}) c.args.hand.now.node.entries.items in
     let held = held_now c.args.kept.now in
-    let live = root_stays_live D c.args.m_max m m1 c.args.root t elsewhere id removed held items took in
+    let live = root_stays_live D c.args.fanout m m1 c.args.root t elsewhere id removed held items took in
     let can =
-    can_fill D c.args.m_max m m1 c.args.root t elsewhere id removed held items took m2
-    c.args.node.now.level c.requires.cut.level_is (c.in_ok-settle.ensures.written h.honest live is)
+    can_fill D c.args.fanout m m1 c.args.root t elsewhere id removed held items took m2
+    c.args.hand.now.node.level c.requires.cut.level_is (c.in_ok-settle.ensures.written h.honest live is)
     (c.in_ok-settle.ensures.others h.honest live) in
     let sound = c.in_ok-settle.ensures.sound h live in
-    let s = cut_shaped D c.args.m_max id removed t took.taken.out shape boxes took.taken.takes_out in
+    let s = cut_shaped D c.args.fanout id removed t took.taken.out shape boxes took.taken.takes_out in
     at_error c.from_residual-in_err-filled.result c.in_err-filled.field-0.0
     (IsNoDamage c.insert_kept.new.cache) c.from_residual-in_err-filled.ensures.1
     (c.in_err-filled.ensures.faults sound (cut_root took) took.taken.out.kept elsewhere can s)
@@ -93,21 +93,21 @@ returns-clause-removed g c = λ h m t elsewhere id removed took is.
     let D = g.row.D in
     let m1 : PageMap = pages c.args.cache.now in
     let m2 : PageMap = pages c.settle.new.cache in
-    let items = map (item_of {D = D}) c.args.node.now.entries.items in
+    let items = map (item_of {D = D}) c.args.hand.now.node.entries.items in
     let held = held_now c.args.kept.now in
-    let live = root_stays_live D c.args.m_max m m1 c.args.root t elsewhere id removed held items took in
+    let live = root_stays_live D c.args.fanout m m1 c.args.root t elsewhere id removed held items took in
     let can =
-    can_fill D c.args.m_max m m1 c.args.root t elsewhere id removed held items took m2
-    c.args.node.now.level c.requires.cut.level_is (c.in_ok-settle.ensures.written h.honest live is)
+    can_fill D c.args.fanout m m1 c.args.root t elsewhere id removed held items took m2
+    c.args.hand.now.node.level c.requires.cut.level_is (c.in_ok-settle.ensures.written h.honest live is)
     (c.in_ok-settle.ensures.others h.honest live) in
     let sound = c.in_ok-settle.ensures.sound h live in
     let filled = c.in_ok-filled.ensures.filled sound (cut_root took) took.taken.out.kept elsewhere can in
     map_ok c.give_way.result (IsPageMap c.give_way.new.cache)
     (GivesWayTo D (pages c.insert_kept.new.cache) (pages c.give_way.new.cache) filled.1.new)
-    (RemovesTo D c.args.m_max m (pages c.give_way.new.cache) elsewhere id removed t)
+    (RemovesTo D c.args.fanout m (pages c.give_way.new.cache) elsewhere id removed t)
     (c.give_way.ensures.lowered filled.0 filled.1.new filled.1.at filled.1.stands)
-    (λ after gives. removes_to D c.args.m_max m m1 c.args.root t elsewhere id removed held items took m2
-    c.args.node.now.level c.requires.cut.level_is (c.in_ok-settle.ensures.written h.honest live is)
+    (λ after gives. removes_to D c.args.fanout m m1 c.args.root t elsewhere id removed held items took m2
+    c.args.hand.now.node.level c.requires.cut.level_is (c.in_ok-settle.ensures.written h.honest live is)
     (c.in_ok-settle.ensures.others h.honest live)
     (pages c.insert_kept.new.cache) (pages c.give_way.new.cache) c.in_ok-filled.filled after filled.1 gives)
 
@@ -116,12 +116,12 @@ returns-clause-faults g c = λ h m t elsewhere id removed took is shape boxes.
     let D = g.row.D in
     let m1 : PageMap = pages c.args.cache.now in
     let m2 : PageMap = pages c.settle.new.cache in
-    let items = map (item_of {D = D}) c.args.node.now.entries.items in
+    let items = map (item_of {D = D}) c.args.hand.now.node.entries.items in
     let held = held_now c.args.kept.now in
-    let live = root_stays_live D c.args.m_max m m1 c.args.root t elsewhere id removed held items took in
+    let live = root_stays_live D c.args.fanout m m1 c.args.root t elsewhere id removed held items took in
     let can =
-    can_fill D c.args.m_max m m1 c.args.root t elsewhere id removed held items took m2
-    c.args.node.now.level c.requires.cut.level_is (c.in_ok-settle.ensures.written h.honest live is)
+    can_fill D c.args.fanout m m1 c.args.root t elsewhere id removed held items took m2
+    c.args.hand.now.node.level c.requires.cut.level_is (c.in_ok-settle.ensures.written h.honest live is)
     (c.in_ok-settle.ensures.others h.honest live) in
     let sound = c.in_ok-settle.ensures.sound h live in
     let filled = c.in_ok-filled.ensures.filled sound (cut_root took) took.taken.out.kept elsewhere can in

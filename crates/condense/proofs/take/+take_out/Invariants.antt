@@ -20,11 +20,11 @@ invariant-children g l =
     AsksUntil l.fn.cache l.cache None
     × (l.kept.orphans.items ≡ l.fn.kept.orphans.items)
     × (IsPageMap l.fn.cache → (row : Row) → Stands g.row.D (pages l.fn.cache) (tree_at l.fn.at row)
-    → LeadsTo g.row.D l.fn.id (l.fn.bounds, l.fn.tag) row
-    → LeadsTo g.row.D l.fn.id (l.fn.bounds, l.fn.tag) (row_drop l.place row))
-    × (l.node.level ≡ l.fn.at.level)
-    × IsSpellable (content_of l.node)
+    → LeadsTo g.row.D l.fn.object.reference (l.fn.object.bounds, l.fn.object.tag) row
+    → LeadsTo g.row.D l.fn.object.reference (l.fn.object.bounds, l.fn.object.tag) (row_drop l.place row))
+    × (l.hand.node.level ≡ l.fn.at.level)
+    × IsSpellable (content_of l.hand.node)
     × (IsHonest l.fn.cache → IsLive l.fn.cache l.fn.at.page
-    → node_in g.row.D (pages l.fn.cache l.fn.at.page) ≡ Some (content_of l.node))
-    × (l.node ≡ l.initial.node)
-    × (IsHonest l.fn.cache → node_in g.row.D (given l.fn.cache l.fn.at.page) ≡ Some (content_of l.node))
+    → node_in g.row.D (pages l.fn.cache l.fn.at.page) ≡ Some (content_of l.hand.node))
+    × (l.hand.node ≡ l.initial.hand.node)
+    × (IsHonest l.fn.cache → node_in g.row.D (given l.fn.cache l.fn.at.page) ≡ Some (content_of l.hand.node))

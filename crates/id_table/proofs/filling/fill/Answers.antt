@@ -1,152 +1,77 @@
--- The goals of `fill` that are proved by hand.
-use Rattle.std.proofs.Common.{◌≡◌, ◌∙◌, ◌⊎◌, ◌-◌, ℕ, List, drop, ◌<◌, ◌≤◌, ap, arith, false, length, ⊎_elim}
-use Rattle.std.proofs.Common.{inl, inr, refl}
-use Rattle.std.proofs.Common.{length-drop, subst, sym, take}
-use Rattle.bucket_page.specs.Layout.{Entry}
-use Rattle.std.proofs.lemmas.List.{take_rest}
-use Rattle.page_file.specs.declared.fault.Fault.TheVariants as fault
-use Rattle.page_cache.specs.Cache.{Grows, IsPageMap, given, pages, touched_of}
-use Rattle.page_cache.specs.Calls.{changes_and_refuses, no_call_changes}
+-- Objects are added to a table of its kind, in its order.
+use Rattle.std.proofs.Common.{IfErr, OnOk, ◌+◌, ◌/◌, length, arith}
+use Rattle.std.specs.FinMap as map
+use Rattle.page_cache.specs.Cache.{IsPageMap, pages}
+use Rattle.page_cache.specs.Cache.{Grows}
 use Rattle.node_page.specs.Faults.{IsNoDamage}
-use Rattle.node_page.proofs.NodeLemmas.{at_error}
-use Rattle.id_table.specs.Changes.{AreNew, Fills}
-use Rattle.id_table.specs.Pages.{IsWholeRun, first_class}
+use Rattle.id_words.specs.Objects.{AreNew}
+use Rattle.id_table.specs.Changes.{Fills, most_filled_pages}
 use Rattle.id_table.specs.Table.{objects_of}
-use Rattle.id_table.specs.Walks.{BeginsInTable, MayBreakAt}
-use Rattle.id_table.proofs.FillLemmas.{all_filled, filling_begins, fills_on, next_is_low, next_of_some}
-use Rattle.id_table.proofs.FillLemmas.{run_takes}
-use Rattle.id_table.proofs.FirstLemmas.{begins_before, begins_untouched, kept_in_turn, nothing_added}
+use Rattle.id_table.specs.Table.IdTable.{treed}
+use Rattle.id_table.proofs.StepLemmas.{chains_filled, of_chains, of_tree, on_ok, same_pages, tree_filled}
 use Rattle.id_table.proofs.filling.fill.Goals as goal
 
-pub loop-filled-init : goal.loop-filled-init
-loop-filled-init g c = record {
-  filling =
-      filling_begins g.row.D c.args.directory c.args.cache.now c.args.objects.now
-      (no_call_changes c.args.cache.now);
-  within = omega arith;
-  grows = omega arith;
-  takes = λ _. omega arith;
-  untouched = inl refl;
-  kept = λ map. nothing_added g.row.D c.args.directory c.args.cache.now map;
-}
+pub returns-in-Chains-clause-sound : goal.returns-in-Chains-clause-sound
+returns-in-Chains-clause-sound g c = λ sound t at s new.
+    of_chains g.row.D c.args.page c.args.cache.now c.kind_at.new.cache c.in_ok-kind_at.ensures.asks
+    (λ t. AreNew (objects_of t) c.sort_by_chain.new.objects → IsPageMap c.fill.new.cache)
+    sound.honest t at s c.in_ok-kind_at.field-0 (c.in_ok-kind_at.ensures.kind sound.honest t at s)
+    c.in-Chains.is
+    (λ ch there stands new. c.fill.ensures.sound (c.in_ok-kind_at.ensures.asks.map.sound.0 sound) ch there stands new) new
 
-pub loop-filled-preserved : goal.loop-filled-preserved
-loop-filled-preserved g c =
-    let so_far = c.loop-filled.invariant in
-    let objects = c.args.objects.now in
-    let filled = c.loop-filled.filled in
-    let count = c.in_ok-filled.field-0 in
-    let rest : take (length objects - filled) (drop filled objects) ≡ drop filled objects =
-    take_rest objects filled in
-    let few : count ≤ length (drop filled objects) =
-    subst (λ (es : List Entry). count ≤ length es) rest c.in_ok-filled.ensures.count.1 in
-    record {
-      filling =
-          fills_on so_far.filling count c.add_run.new.cache c.in_ok-filled.ensures.changes
-          c.in_ok-filled.ensures.sound (λ map t at stands new.
-          subst (λ (es : List Entry). Fills g.row.D (pages c.loop-filled.cache) (pages c.add_run.new.cache) t
-          (take count es)) rest
-          (c.in_ok-filled.ensures.added map t at stands
-          (subst (λ (es : List Entry). AreNew (objects_of t) es) (sym rest) new)))
-          c.in_ok-filled.ensures.tidy;
-      within = omega (arith, so_far.within, few, length-drop filled objects);
-      grows = omega (arith, so_far.grows, c.in_ok-filled.ensures.grows, c.in_ok-filled.ensures.count.0);
-      takes = λ sorted. run_takes c.args.cache.now c.loop-filled.cache c.add_run.new.cache objects filled
-          count sorted (omega (arith, c.loop-filled-test.true)) (so_far.takes sorted)
-          c.in_ok-filled.ensures.grows
-          (subst (λ (es : List Entry). Grows 0 c.loop-filled.cache c.add_run.new.cache ⊎ IsWholeRun es count)
-          rest c.in_ok-filled.ensures.whole);
-      untouched = inr c.in_ok-filled.ensures.touched;
-      kept = λ map.
-          let kept = so_far.kept map in
-          kept_in_turn g.row.D c.args.directory c.args.cache.now c.loop-filled.cache c.add_run.new.cache kept
-          (c.in_ok-filled.ensures.kept kept.sound);
-    }
+pub returns-in-Chains-clause-filled : goal.returns-in-Chains-clause-filled
+returns-in-Chains-clause-filled g c = λ sound t at s new.
+    of_chains g.row.D c.args.page c.args.cache.now c.kind_at.new.cache c.in_ok-kind_at.ensures.asks
+    (λ t. AreNew (objects_of t) c.sort_by_chain.new.objects → OnOk c.fill.result (Fills g.row.D (pages c.args.cache.now) (pages c.fill.new.cache) t c.sort_by_chain.new.objects))
+    sound.honest t at s c.in_ok-kind_at.field-0 (c.in_ok-kind_at.ensures.kind sound.honest t at s)
+    c.in-Chains.is
+    (λ ch there stands new. on_ok c.fill.result
+    (chains_filled g.row.D (pages c.args.cache.now) (pages c.kind_at.new.cache) (pages c.fill.new.cache)
+    (same_pages g.row.D c.args.page c.args.cache.now c.kind_at.new.cache c.in_ok-kind_at.ensures.asks sound.honest) ch c.sort_by_chain.new.objects)
+    (c.fill.ensures.filled (c.in_ok-kind_at.ensures.asks.map.sound.0 sound) ch there stands new)) new
 
-pub returns-in_err-filled-clause-damage : goal.returns-in_err-filled-clause-damage
-returns-in_err-filled-clause-damage g c = λ h either.
-    let D = g.row.D in
-    let old = c.args.cache.now in
-    let now = c.loop-filled.cache in
-    let new = c.add_run.new.cache in
-    let so_far = c.loop-filled.invariant in
-    let objects = c.args.objects.now in
-    let filled = c.loop-filled.filled in
-    let d = c.args.directory in
-    let rest : take (length objects - filled) (drop filled objects) ≡ drop filled objects =
-    take_rest objects filled in
-    let some : 0 < length (drop filled objects) =
-    omega (arith, c.loop-filled-test.true, length-drop filled objects) in
-    let low = next_of_some (drop filled objects) some in
-    let same = ap (λ (es : List Entry). first_class es) rest in
-    let class = first_class (take (length objects - filled) (drop filled objects)) in
-    let small : class < 1000 = omega (arith, low.0, low.1, same) in
-    at_error c.from_residual.result c.in_err-filled.field-0.0
-    (λ f. (n : ℕ) → f ≡ fault.Damaged n → BeginsInTable D (given old) d n ⊎ MayBreakAt old n)
-    c.from_residual.ensures.1
-    (λ n damaged.
-    let names = c.in_err-filled.ensures.damage (so_far.filling.changes.gate.honest.0 h) n damaged in
-    ⊎_elim
-    (λ (map : IsPageMap old). inl (
-      class,
-      small,
-      begins_before D d class n old now (so_far.kept map) names
-          (c.in_err-filled.ensures.spelled (so_far.kept map).sound n damaged),
-    ))
-    (λ (none : touched_of new ≡ false). begins_untouched D d class n old now new small so_far.untouched
-    c.in_err-filled.ensures.changes.touched none names)
-    either)
+pub returns-in-Chains-clause-faults : goal.returns-in-Chains-clause-faults
+returns-in-Chains-clause-faults g c = λ sound t at s new.
+    of_chains g.row.D c.args.page c.args.cache.now c.kind_at.new.cache c.in_ok-kind_at.ensures.asks
+    (λ t. AreNew (objects_of t) c.sort_by_chain.new.objects → IfErr c.fill.result (IsNoDamage c.fill.new.cache))
+    sound.honest t at s c.in_ok-kind_at.field-0 (c.in_ok-kind_at.ensures.kind sound.honest t at s)
+    c.in-Chains.is
+    (λ ch there stands new. c.fill.ensures.faults (c.in_ok-kind_at.ensures.asks.map.sound.0 sound) ch there stands new) new
 
-pub returns-in_err-filled-clause-changes : goal.returns-in_err-filled-clause-changes
-returns-in_err-filled-clause-changes g c =
-    changes_and_refuses c.args.cache.now c.loop-filled.cache c.add_run.new.cache c.in_err-filled.field-0.0
-    c.from_residual.result c.from_residual.ensures.1 c.loop-filled.invariant.filling.changes
-    c.in_err-filled.ensures.changes
+pub returns-in-Tree-clause-sound : goal.returns-in-Tree-clause-sound
+returns-in-Tree-clause-sound g c = λ sound t at s new.
+    of_tree g.row.D c.args.page c.args.cache.now c.kind_at.new.cache c.in_ok-kind_at.ensures.asks
+    (λ t. AreNew (objects_of t) c.sort_by_identifier.new.objects → IsPageMap c.fill-in-Tree.new.cache)
+    sound.honest t at s c.in_ok-kind_at.field-0 (c.in_ok-kind_at.ensures.kind sound.honest t at s)
+    c.in-Tree.is
+    (λ ch there stands new. c.fill-in-Tree.ensures.sound (c.in_ok-kind_at.ensures.asks.map.sound.0 sound) ch there stands new) new
 
-pub returns-in_err-filled-clause-sound : goal.returns-in_err-filled-clause-sound
-returns-in_err-filled-clause-sound g c = λ map t at stands new.
-    let f = c.loop-filled.invariant.filling.left map t at stands new in
-    c.in_err-filled.ensures.sound f.map_is f.table (f.page ∙ at) f.stands
+pub returns-in-Tree-clause-filled : goal.returns-in-Tree-clause-filled
+returns-in-Tree-clause-filled g c = λ sound t at s new.
+    of_tree g.row.D c.args.page c.args.cache.now c.kind_at.new.cache c.in_ok-kind_at.ensures.asks
+    (λ t. AreNew (objects_of t) c.sort_by_identifier.new.objects → OnOk c.fill-in-Tree.result (Fills g.row.D (pages c.args.cache.now) (pages c.fill-in-Tree.new.cache) t c.sort_by_identifier.new.objects))
+    sound.honest t at s c.in_ok-kind_at.field-0 (c.in_ok-kind_at.ensures.kind sound.honest t at s)
+    c.in-Tree.is
+    (λ ch there stands new. on_ok c.fill-in-Tree.result
+    (tree_filled g.row.D (pages c.args.cache.now) (pages c.kind_at.new.cache) (pages c.fill-in-Tree.new.cache)
+    (same_pages g.row.D c.args.page c.args.cache.now c.kind_at.new.cache c.in_ok-kind_at.ensures.asks sound.honest) ch c.sort_by_identifier.new.objects)
+    (c.fill-in-Tree.ensures.filled (c.in_ok-kind_at.ensures.asks.map.sound.0 sound) ch there stands new)) new
 
-pub returns-in_err-filled-clause-faults : goal.returns-in_err-filled-clause-faults
-returns-in_err-filled-clause-faults g c = λ map t at stands new.
-    let f = c.loop-filled.invariant.filling.left map t at stands new in
-    at_error c.from_residual.result c.in_err-filled.field-0.0 (IsNoDamage c.add_run.new.cache)
-    c.from_residual.ensures.1 (c.in_err-filled.ensures.faults f.map_is f.table (f.page ∙ at) f.stands)
+pub returns-in-Tree-clause-faults : goal.returns-in-Tree-clause-faults
+returns-in-Tree-clause-faults g c = λ sound t at s new.
+    of_tree g.row.D c.args.page c.args.cache.now c.kind_at.new.cache c.in_ok-kind_at.ensures.asks
+    (λ t. AreNew (objects_of t) c.sort_by_identifier.new.objects → IfErr c.fill-in-Tree.result (IsNoDamage c.fill-in-Tree.new.cache))
+    sound.honest t at s c.in_ok-kind_at.field-0 (c.in_ok-kind_at.ensures.kind sound.honest t at s)
+    c.in-Tree.is
+    (λ ch there stands new. c.fill-in-Tree.ensures.faults (c.in_ok-kind_at.ensures.asks.map.sound.0 sound) ch there stands new) new
 
-pub returns-in_err-filled-clause-grows_in_order : goal.returns-in_err-filled-clause-grows_in_order
-returns-in_err-filled-clause-grows_in_order g c = λ sorted.
-    let objects = c.args.objects.now in
-    let filled = c.loop-filled.filled in
-    let some : 0 < length (drop filled objects) =
-    omega (arith, c.loop-filled-test.true, length-drop filled objects) in
-    omega (
-      arith,
-      c.loop-filled.invariant.takes sorted,
-      c.in_err-filled.ensures.grows,
-      c.loop-filled.invariant.within,
-      (next_of_some (drop filled objects) some).1,
-    )
-
-pub returns-clause-grows_in_order : goal.returns-clause-grows_in_order
-returns-clause-grows_in_order g c = λ sorted.
-    omega (
-      arith,
-      c.loop-filled.invariant.takes sorted,
-      c.loop-filled.invariant.within,
-      next_is_low (drop c.loop-filled.filled c.args.objects.now),
-    )
-
-pub returns-clause-filled : goal.returns-clause-filled
-returns-clause-filled g c = λ map t at stands new.
-    let all : length c.args.objects.now ≤ c.loop-filled.filled = omega (arith, c.loop-filled-test.false) in
-    all_filled g.row.D c.args.directory c.args.cache.now c.loop-filled.cache c.args.objects.now
-    c.loop-filled.filled all c.loop-filled.invariant.filling map t at stands new
-
-pub returns-clause-sound : goal.returns-clause-sound
-returns-clause-sound g c =
-    λ map t at stands new. (c.loop-filled.invariant.filling.left map t at stands new).map_is
-
-pub returns-clause-tidy : goal.returns-clause-tidy
-returns-clause-tidy g c =
-    λ map t at stands new. (c.loop-filled.invariant.filling.left map t at stands new).tidy
+pub returns-in-Tree-clause-grows_few : goal.returns-in-Tree-clause-grows_few
+returns-in-Tree-clause-grows_few g c = λ sound t at s new.
+    of_tree g.row.D c.args.page c.args.cache.now c.kind_at.new.cache c.in_ok-kind_at.ensures.asks
+    (λ t. AreNew (objects_of t) c.sort_by_identifier.new.objects → Grows (most_filled_pages (map.len (objects_of t) + length c.sort_by_identifier.new.objects)) c.args.cache.now c.fill-in-Tree.new.cache)
+    sound.honest t at s c.in_ok-kind_at.field-0 (c.in_ok-kind_at.ensures.kind sound.honest t at s)
+    c.in-Tree.is
+    (λ ch there stands new.
+    let few : Grows ((map.len (objects_of (treed ch)) + length c.sort_by_identifier.new.objects) / 28 + 14) c.kind_at.new.cache c.fill-in-Tree.new.cache =
+    c.fill-in-Tree.ensures.grows_few (c.in_ok-kind_at.ensures.asks.map.sound.0 sound) ch there stands new in
+    omega (arith, few, c.in_ok-kind_at.ensures.asks.map.next, c.in_ok-kind_at.ensures.asks.map.free_count)) new

@@ -5,11 +5,11 @@ use Rattle.page_file.specs.Fault.{IsOfDevice}
 use Rattle.page_cache.specs.Cache.{given, pages}
 use Rattle.page_cache.specs.Calls.{asks_and_refuses, asks_in_turn}
 use Rattle.node_page.proofs.NodeLemmas.{at_error}
-use Rattle.id_table.proofs.BucketLemmas.{if_err}
-use Rattle.id_table.proofs.FreeLemmas.{stands_same}
+use Rattle.id_table.proofs.TableLemmas.{ids_stay}
 use Rattle.layer_pages.specs.Checked.{ComesInLayer}
 use Rattle.layer_pages.proofs.CheckLemmas.{comes_oddly, comes_on}
-use Rattle.layer_pages.proofs.CheckLemmas.{all_checked, layer_given, listed_there, pairs_there, quiet_asks}
+use Rattle.layer_pages.proofs.CheckLemmas.{all_checked, if_err, layer_given, listed_there, pairs_there}
+use Rattle.layer_pages.proofs.CheckLemmas.{quiet_asks}
 use Rattle.layer_pages.proofs.CheckLemmas.{table_on}
 use Rattle.layer_pages.proofs.checking.check.Goals as goal
 
@@ -24,9 +24,9 @@ returns-in_err-table-clause-stands g c = λ h l objects is count_is.
     let a = c.in_ok-tree.ensures.asks in
     at_error c.from_residual-in_err-table.result c.in_err-table.field-0.0 IsOfDevice
     c.from_residual-in_err-table.ensures.1
-    (c.in_err-table.ensures.stands (a.gate.honest.0 h) l.ids is.directory_is
-    (stands_same g.row.D (pages c.args.cache.now) (pages c.check_tree.new.cache) l.ids
-    (λ n. a.map.pages_stay h n) is.ids))
+    (c.in_err-table.ensures.stands (a.gate.honest.0 h) l.ids is.ids_root_is
+    (ids_stay g.row.D (pages c.args.cache.now) (pages c.check_tree.new.cache) l.ids
+    (λ n p. a.map.pages_stay h n) is.ids))
 
 pub returns-clause-asks : goal.returns-clause-asks
 returns-clause-asks g c =
@@ -40,9 +40,9 @@ returns-clause-layer g c = λ sound.
     let old = pages c.args.cache.now in
     let held = c.in_ok-tree.tree in
     let listed = c.in_ok-table.table in
-    all_checked g.row.D c.args.m_max old c.args.root c.args.directory c.args.count held.pairs.items
+    all_checked g.row.D c.args.fanout old c.args.root c.args.ids_root c.args.count held.pairs.items
     listed.pairs.items held.pages.items listed.pages.items (c.in_ok-tree.ensures.tree sound)
-    (table_on g.row.D (pages c.check_tree.new.cache) old c.args.directory listed.pairs.items
+    (table_on g.row.D (pages c.check_tree.new.cache) old c.args.ids_root listed.pairs.items
     listed.pages.items (λ n. sym (a.map.pages_stay sound.honest n))
     (c.in_ok-table.ensures.table (a.map.sound.0 sound)))
     c.pages_of_both.result (λ (v : Vec ℕ (Bor g.row.H.Denot)). v.items) c.pages_of_both.ensures.joined
@@ -53,9 +53,9 @@ returns-clause-given_layer g c = λ h.
     let old = given c.args.cache.now in
     let held = c.in_ok-tree.tree in
     let listed = c.in_ok-table.table in
-    all_checked g.row.D c.args.m_max old c.args.root c.args.directory c.args.count held.pairs.items
+    all_checked g.row.D c.args.fanout old c.args.root c.args.ids_root c.args.count held.pairs.items
     listed.pairs.items held.pages.items listed.pages.items (c.in_ok-tree.ensures.given_tree h)
-    (table_on g.row.D (given c.check_tree.new.cache) old c.args.directory listed.pairs.items
+    (table_on g.row.D (given c.check_tree.new.cache) old c.args.ids_root listed.pairs.items
     listed.pages.items (λ n. sym (a.map.given_stay h n))
     (c.in_ok-table.ensures.given_table (a.gate.honest.0 h)))
     c.pages_of_both.result (λ (v : Vec ℕ (Bor g.row.H.Denot)). v.items) c.pages_of_both.ensures.joined
@@ -67,24 +67,24 @@ returns-clause-stands g c = λ h l objects is count_is.
     let held = c.in_ok-tree.tree in
     let listed = c.in_ok-table.table in
     let given_is =
-    layer_given g.row.D c.args.m_max c.args.cache.now c.args.root c.args.directory l objects is in
+    layer_given g.row.D c.args.fanout c.args.cache.now c.args.root c.args.ids_root l objects is in
     let tree = c.in_ok-tree.ensures.given_tree h in
     let table =
-    table_on g.row.D (given c.check_tree.new.cache) old c.args.directory listed.pairs.items
+    table_on g.row.D (given c.check_tree.new.cache) old c.args.ids_root listed.pairs.items
     listed.pages.items (λ n. sym (a.map.given_stay h n))
     (c.in_ok-table.ensures.given_table (a.gate.honest.0 h)) in
     if_err c.pages_of_both.result (λ f. f ≡ fault.Memory) IsOfDevice (λ f is. inl is)
     (c.pages_of_both.ensures.stands objects count_is
-    (pairs_there g.row.D c.args.m_max old c.args.root c.args.directory held.pairs.items listed.pairs.items
+    (pairs_there g.row.D c.args.fanout old c.args.root c.args.ids_root held.pairs.items listed.pairs.items
     held.pages.items listed.pages.items tree table l objects given_is)
-    (listed_there g.row.D c.args.m_max old c.args.root c.args.directory held.pairs.items listed.pairs.items
+    (listed_there g.row.D c.args.fanout old c.args.root c.args.ids_root held.pairs.items listed.pairs.items
     held.pages.items listed.pages.items tree table l objects given_is))
 
 pub returns-in_err-tree-clause-damage : goal.returns-in_err-tree-clause-damage
 returns-in_err-tree-clause-damage g c = λ h.
     at_error c.from_residual.result c.in_err-tree.field-0.0
     (λ f. (n : ℕ) → f ≡ fault.Damaged n
-    → ComesInLayer g.row.D (given c.args.cache.now) c.args.root c.args.directory n) c.from_residual.ensures.1
+    → ComesInLayer g.row.D (given c.args.cache.now) c.args.root c.args.ids_root n) c.from_residual.ensures.1
     (λ n is. inr (inl (c.in_err-tree.ensures.damage h n is)))
 
 pub returns-in_err-table-clause-damage : goal.returns-in_err-table-clause-damage
@@ -92,12 +92,12 @@ returns-in_err-table-clause-damage g c = λ h.
     let a = c.in_ok-tree.ensures.asks in
     at_error c.from_residual-in_err-table.result c.in_err-table.field-0.0
     (λ f. (n : ℕ) → f ≡ fault.Damaged n
-    → ComesInLayer g.row.D (given c.args.cache.now) c.args.root c.args.directory n)
+    → ComesInLayer g.row.D (given c.args.cache.now) c.args.root c.args.ids_root n)
     c.from_residual-in_err-table.ensures.1
     (λ n is. inr (inr (comes_on g.row.D (given c.check_tree.new.cache) (given c.args.cache.now)
-    c.args.directory n (λ k. a.map.given_stay h k) (c.in_err-table.ensures.damage (a.gate.honest.0 h) n is))))
+    c.args.ids_root n (λ k. a.map.given_stay h k) (c.in_err-table.ensures.damage (a.gate.honest.0 h) n is))))
 
 pub returns-clause-damage : goal.returns-clause-damage
 returns-clause-damage g c = λ h.
-    comes_oddly g.row.D (given c.args.cache.now) c.args.root c.args.directory c.args.count
+    comes_oddly g.row.D (given c.args.cache.now) c.args.root c.args.ids_root c.args.count
     c.in_ok-tree.tree.pairs.items c.pages_of_both.result c.pages_of_both.ensures.damage

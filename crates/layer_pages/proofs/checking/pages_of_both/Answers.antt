@@ -36,14 +36,14 @@ pub returns-then-len-count-clause-damage : goal.returns-then-len-count-clause-da
 returns-then-len-count-clause-damage g c =
     let other : ¬ (length c.args.tree.pairs.items ≡ c.args.count) =
     λ same. c.if-len-count.true (omega (arith, c.len.ensures, c.args.tree.pairs.ok.0, same)) in
-    let odd : 2 ≡ odd_page c.args.directory c.args.count c.args.tree.pairs.items = grind (arith, nat_tests) in
+    let odd : 2 ≡ odd_page c.args.ids_root c.args.count c.args.tree.pairs.items = grind (arith, nat_tests) in
     inr (ap fault.Damaged odd)
 
 pub returns-then-not-have_same-clause-damage : goal.returns-then-not-have_same-clause-damage
 returns-then-not-have_same-clause-damage g c =
     let same : length c.args.tree.pairs.items ≡ c.args.count = sym c.args.tree.pairs.ok.0 ∙ sym c.len.ensures
     ∙ c.if-len-count.false in
-    let odd : c.args.directory ≡ odd_page c.args.directory c.args.count c.args.tree.pairs.items =
+    let odd : c.args.ids_root ≡ odd_page c.args.ids_root c.args.count c.args.tree.pairs.items =
     grind (arith, nat_tests) in
     inr (ap fault.Damaged odd)
 

@@ -6,7 +6,7 @@ use Rattle.page_cache.specs.Cache.{pages}
 use Rattle.page_cache.specs.Calls.{changes_and_refuses, changes_in_turn}
 use Rattle.node_page.proofs.NodeLemmas.{at_error}
 use Rattle.node_page.proofs.RootedLemmas.{loose}
-use Rattle.id_table.specs.Table.{part_of}
+use Rattle.id_table.specs.Table.{kind_of, part_of}
 use Rattle.node_page.specs.Faults.{IsChangeFault, IsNoDamage}
 use Rattle.layer_pages.specs.Changes.{BecomesLayer, HasInserted}
 use Rattle.layer_pages.specs.Layers.{IsLayerAt, part_of_layer}
@@ -21,21 +21,22 @@ returns-in_err-after-clause-faults g c = λ sound l objects at.
     let id = c.args.object.now.reference in
     let kept : Object = (c.args.object.now.bounds, c.args.object.now.tag) in
     let is =
-    subst (λ (most : ℕ). IsLayerAt D most m c.args.root c.args.directory l objects) (sym c.from.ensures)
+    subst (λ (most : ℕ). IsLayerAt D most m c.args.layer.root c.args.layer.ids_root l objects)
+    (sym c.from.ensures)
     at in
     at_error c.from_residual.result c.in_err-after.field-0.0
     (IsNoDamage c.insert_with.new.cache) c.from_residual.ensures.1
-    (c.in_err-after.ensures.faults sound l.tree
-    (branch D c.from.result m c.args.root c.args.directory l objects is id kept) (part_of l.ids)
-    (can_insert D c.from.result m c.args.root c.args.directory l objects is id kept)
+    (c.in_err-after.ensures.inserts.faults sound l.tree
+    (branch D c.from.result m c.args.layer.root c.args.layer.ids_root l objects is id kept) (part_of l.ids)
+    (can_insert D c.from.result m c.args.layer.root c.args.layer.ids_root l objects is id kept)
     (loose D c.from.result l.tree is.tree.shape) is.boxes
-    (entry_has_shape D c.from.result m c.args.root c.args.directory l objects is id kept
+    (entry_has_shape D c.from.result m c.args.layer.root c.args.layer.ids_root l objects is id kept
     c.low.ensures.is_box))
 
 pub returns-clause-changes : goal.returns-clause-changes
 returns-clause-changes g c =
     changes_in_turn c.args.cache.now c.insert_with.new.cache c.add.new.cache None
-    c.in_ok-after.ensures.changes c.in_ok-add.ensures.changes
+    c.in_ok-after.ensures.inserts.changes c.in_ok-add.ensures.changes
 
 pub returns-clause-sound : goal.returns-clause-sound
 returns-clause-sound g c = λ sound l objects at.
@@ -44,14 +45,15 @@ returns-clause-sound g c = λ sound l objects at.
     let id = c.args.object.now.reference in
     let kept : Object = (c.args.object.now.bounds, c.args.object.now.tag) in
     let is =
-    subst (λ (most : ℕ). IsLayerAt D most m c.args.root c.args.directory l objects) (sym c.from.ensures)
+    subst (λ (most : ℕ). IsLayerAt D most m c.args.layer.root c.args.layer.ids_root l objects)
+    (sym c.from.ensures)
     at in
     let to =
-    c.in_ok-after.ensures.inserted sound l.tree
-    (branch D c.from.result m c.args.root c.args.directory l objects is id kept) (part_of l.ids)
-    (can_insert D c.from.result m c.args.root c.args.directory l objects is id kept) in
-    c.in_ok-add.ensures.sound to.0 l.ids is.directory_is
-    (ids_meanwhile D c.from.result m c.args.root c.args.directory l objects is id kept
+    c.in_ok-after.ensures.inserts.inserted sound l.tree
+    (branch D c.from.result m c.args.layer.root c.args.layer.ids_root l objects is id kept) (part_of l.ids)
+    (can_insert D c.from.result m c.args.layer.root c.args.layer.ids_root l objects is id kept) in
+    c.in_ok-add.ensures.sound to.0 l.ids is.ids_root_is
+    (ids_meanwhile D c.from.result m c.args.layer.root c.args.layer.ids_root l objects is id kept
     (pages c.insert_with.new.cache) c.in_ok-after.after to.1)
 
 pub returns-clause-inserted : goal.returns-clause-inserted
@@ -62,22 +64,23 @@ returns-clause-inserted g c = λ sound l objects at absent.
     let id = c.args.object.now.reference in
     let kept : Object = (c.args.object.now.bounds, c.args.object.now.tag) in
     let is =
-    subst (λ (most : ℕ). IsLayerAt D most m c.args.root c.args.directory l objects) (sym c.from.ensures)
+    subst (λ (most : ℕ). IsLayerAt D most m c.args.layer.root c.args.layer.ids_root l objects)
+    (sym c.from.ensures)
     at in
     let to =
-    c.in_ok-after.ensures.inserted sound l.tree
-    (branch D c.from.result m c.args.root c.args.directory l objects is id kept) (part_of l.ids)
-    (can_insert D c.from.result m c.args.root c.args.directory l objects is id kept) in
+    c.in_ok-after.ensures.inserts.inserted sound l.tree
+    (branch D c.from.result m c.args.layer.root c.args.layer.ids_root l objects is id kept) (part_of l.ids)
+    (can_insert D c.from.result m c.args.layer.root c.args.layer.ids_root l objects is id kept) in
     let stand =
-    ids_meanwhile D c.from.result m c.args.root c.args.directory l objects is id kept mid
+    ids_meanwhile D c.from.result m c.args.layer.root c.args.layer.ids_root l objects is id kept mid
     c.in_ok-after.after to.1 in
     let none =
-    absent_meanwhile D c.from.result m c.args.root c.args.directory l objects is id kept mid
+    absent_meanwhile D c.from.result m c.args.layer.root c.args.layer.ids_root l objects is id kept mid
     c.in_ok-after.after to.1 absent in
-    let added = c.in_ok-add.ensures.added to.0 l.ids is.directory_is stand none in
-    subst (λ (most : ℕ). BecomesLayer D most m (pages c.add.new.cache) (part_of_layer l) c.in_ok-after.after
-    c.args.directory (map.insert objects id kept) (HasInserted D most l id kept)) c.from.ensures
-    (layer_inserted D c.from.result m c.args.root c.args.directory l objects is id kept mid
+    let added = c.in_ok-add.ensures.added to.0 l.ids is.ids_root_is stand none in
+    subst (λ (most : ℕ). BecomesLayer D most m (pages c.add.new.cache) (part_of_layer l)
+    (kind_of l.ids) c.in_ok-after.after c.args.layer.ids_root (map.insert objects id kept) (HasInserted D most l id kept)) c.from.ensures
+    (layer_inserted D c.from.result m c.args.layer.root c.args.layer.ids_root l objects is id kept mid
     c.in_ok-after.after to.1 (pages c.add.new.cache) added
     (omega (arith, c.requires.most.0, c.from.ensures)) c.low.ensures.is_box absent)
 
@@ -85,7 +88,7 @@ pub returns-in_err-add-clause-changes : goal.returns-in_err-add-clause-changes
 returns-in_err-add-clause-changes g c =
     changes_and_refuses c.args.cache.now c.insert_with.new.cache c.add.new.cache
     c.in_err-add.field-0.0 c.from_residual-in_err-add.result c.from_residual-in_err-add.ensures.1
-    c.in_ok-after.ensures.changes c.in_err-add.ensures.changes
+    c.in_ok-after.ensures.inserts.changes c.in_err-add.ensures.changes
 
 pub returns-in_err-add-clause-faults : goal.returns-in_err-add-clause-faults
 returns-in_err-add-clause-faults g c = λ sound l objects at.
@@ -94,18 +97,19 @@ returns-in_err-add-clause-faults g c = λ sound l objects at.
     let id = c.args.object.now.reference in
     let kept : Object = (c.args.object.now.bounds, c.args.object.now.tag) in
     let is =
-    subst (λ (most : ℕ). IsLayerAt D most m c.args.root c.args.directory l objects) (sym c.from.ensures)
+    subst (λ (most : ℕ). IsLayerAt D most m c.args.layer.root c.args.layer.ids_root l objects)
+    (sym c.from.ensures)
     at in
     let to =
-    c.in_ok-after.ensures.inserted sound l.tree
-    (branch D c.from.result m c.args.root c.args.directory l objects is id kept) (part_of l.ids)
-    (can_insert D c.from.result m c.args.root c.args.directory l objects is id kept) in
+    c.in_ok-after.ensures.inserts.inserted sound l.tree
+    (branch D c.from.result m c.args.layer.root c.args.layer.ids_root l objects is id kept) (part_of l.ids)
+    (can_insert D c.from.result m c.args.layer.root c.args.layer.ids_root l objects is id kept) in
     let stand =
-    ids_meanwhile D c.from.result m c.args.root c.args.directory l objects is id kept
+    ids_meanwhile D c.from.result m c.args.layer.root c.args.layer.ids_root l objects is id kept
     (pages c.insert_with.new.cache) c.in_ok-after.after to.1 in
     at_error c.from_residual-in_err-add.result c.in_err-add.field-0.0 (IsNoDamage c.add.new.cache)
     c.from_residual-in_err-add.ensures.1
-    (c.in_err-add.ensures.faults to.0 l.ids is.directory_is stand)
+    (c.in_err-add.ensures.faults to.0 l.ids is.ids_root_is stand)
 
 pub returns-in_err-add-clause-other_faults : goal.returns-in_err-add-clause-other_faults
 returns-in_err-add-clause-other_faults g c =

@@ -8,7 +8,7 @@ use Rattle.page_file.specs.declared.fault.Fault.TheVariants as fault
 use Rattle.page_cache.specs.Cache.{pages}
 use Rattle.page_cache.specs.Calls.{changes_and_refuses, changes_in_turn}
 use Rattle.node_page.proofs.NodeLemmas.{at_error}
-use Rattle.id_table.specs.Table.{part_of}
+use Rattle.id_table.specs.Table.{kind_of, part_of}
 use Rattle.node_page.specs.Faults.{IsChangeFault, IsNoDamage}
 use Rattle.reinsert.proofs.FaultLemmas.{one_more}
 use Rattle.condense.proofs.RemoveLemmas.{refused_so}
@@ -27,16 +27,19 @@ returns-in_err-after-clause-absent g c = λ sound l objects at absent.
     let D = g.row.D in
     let m = pages c.args.cache.now in
     let is =
-    subst (λ (most : ℕ). IsLayerAt D most m c.args.root c.args.directory l objects) (sym c.from.ensures)
+    subst (λ (most : ℕ). IsLayerAt D most m c.args.layer.root c.args.layer.ids_root l objects)
+    (sym c.from-most.ensures)
     at in
     let refused =
     c.in_err-after.ensures.absent sound l.tree (part_of l.ids)
-    (can_remove D c.from.result m c.args.root c.args.directory l objects is)
-    (in_no_leaf D c.from.result m c.args.root c.args.directory l objects is c.args.id
-    (c.args.bounds.now, c.args.tag) absent) in (
+    (can_remove D c.from-most.result m c.args.layer.root c.args.layer.ids_root l objects is)
+    (in_no_leaf D c.from-most.result m c.args.layer.root c.args.layer.ids_root l objects is
+    c.args.object.now.reference
+    (c.args.object.now.bounds, c.args.object.now.tag) absent) in (
       refused.0,
       refused_so c.from_residual.result c.in_err-after.field-0.0
-          (λ f. IsOfDevice f ⊎ (f ≡ fault.Damaged c.args.root.page)) c.from_residual.ensures.1 refused.1,
+          (λ f. IsOfDevice f ⊎ (f ≡ fault.Damaged c.args.layer.root.page)) c.from_residual.ensures.1
+          refused.1,
     )
 
 pub returns-in_err-after-clause-faults : goal.returns-in_err-after-clause-faults
@@ -44,14 +47,17 @@ returns-in_err-after-clause-faults g c = λ sound l objects at there.
     let D = g.row.D in
     let m = pages c.args.cache.now in
     let is =
-    subst (λ (most : ℕ). IsLayerAt D most m c.args.root c.args.directory l objects) (sym c.from.ensures)
+    subst (λ (most : ℕ). IsLayerAt D most m c.args.layer.root c.args.layer.ids_root l objects)
+    (sym c.from-most.ensures)
     at in
     at_error c.from_residual.result c.in_err-after.field-0.0
     (IsNoDamage c.remove_with.new.cache) c.from_residual.ensures.1
     (c.in_err-after.ensures.faults sound l.tree (part_of l.ids)
-    (can_remove D c.from.result m c.args.root c.args.directory l objects is) is.tree.shape is.boxes
-    (in_a_leaf D c.from.result m c.args.root c.args.directory l objects is c.args.id
-    (c.args.bounds.now, c.args.tag) there))
+    (can_remove D c.from-most.result m c.args.layer.root c.args.layer.ids_root l objects is) is.tree.shape
+    is.boxes
+    (in_a_leaf D c.from-most.result m c.args.layer.root c.args.layer.ids_root l objects is
+    c.args.object.now.reference
+    (c.args.object.now.bounds, c.args.object.now.tag) there))
 
 pub returns-clause-changes : goal.returns-clause-changes
 returns-clause-changes g c =
@@ -63,52 +69,58 @@ returns-clause-sound g c = λ sound l objects at.
     let D = g.row.D in
     let m = pages c.args.cache.now in
     let is =
-    subst (λ (most : ℕ). IsLayerAt D most m c.args.root c.args.directory l objects) (sym c.from.ensures)
+    subst (λ (most : ℕ). IsLayerAt D most m c.args.layer.root c.args.layer.ids_root l objects)
+    (sym c.from-most.ensures)
     at in
     let to =
     c.in_ok-after.ensures.removed sound l.tree (part_of l.ids)
-    (can_remove D c.from.result m c.args.root c.args.directory l objects is) in
-    c.in_ok-remove.ensures.sound to.0 l.ids is.directory_is
-    (ids_between D c.from.result m c.args.root c.args.directory l objects is c.args.id
-    (c.args.bounds.now, c.args.tag) (pages c.remove_with.new.cache) c.in_ok-after.after to.1)
+    (can_remove D c.from-most.result m c.args.layer.root c.args.layer.ids_root l objects is) in
+    c.in_ok-remove.ensures.sound to.0 l.ids is.ids_root_is
+    (ids_between D c.from-most.result m c.args.layer.root c.args.layer.ids_root l objects is
+    c.args.object.now.reference
+    (c.args.object.now.bounds, c.args.object.now.tag) (pages c.remove_with.new.cache) c.in_ok-after.after
+    to.1)
 
 pub returns-clause-removed : goal.returns-clause-removed
 returns-clause-removed g c = λ sound l objects at there.
     let D = g.row.D in
     let m = pages c.args.cache.now in
     let mid = pages c.remove_with.new.cache in
-    let id = c.args.id in
-    let kept : Object = (c.args.bounds.now, c.args.tag) in
+    let id = c.args.object.now.reference in
+    let kept : Object = (c.args.object.now.bounds, c.args.object.now.tag) in
     let is =
-    subst (λ (most : ℕ). IsLayerAt D most m c.args.root c.args.directory l objects) (sym c.from.ensures)
+    subst (λ (most : ℕ). IsLayerAt D most m c.args.layer.root c.args.layer.ids_root l objects)
+    (sym c.from-most.ensures)
     at in
     let to =
     c.in_ok-after.ensures.removed sound l.tree (part_of l.ids)
-    (can_remove D c.from.result m c.args.root c.args.directory l objects is) in
+    (can_remove D c.from-most.result m c.args.layer.root c.args.layer.ids_root l objects is) in
     let stand =
-    ids_between D c.from.result m c.args.root c.args.directory l objects is id kept mid
+    ids_between D c.from-most.result m c.args.layer.root c.args.layer.ids_root l objects is id kept mid
     c.in_ok-after.after to.1 in
     let removed =
-    c.in_ok-remove.ensures.removed to.0 l.ids is.directory_is stand
-    (in_table D c.from.result m c.args.root c.args.directory l objects is id kept there) in
+    c.in_ok-remove.ensures.removed to.0 l.ids is.ids_root_is stand
+    (in_table D c.from-most.result m c.args.layer.root c.args.layer.ids_root l objects is id kept there) in
     subst (λ (most : ℕ). BecomesLayer D most m (pages c.remove.new.cache) (part_of_layer l)
-    c.in_ok-after.after c.args.directory (map.remove objects id) (HasRemoved D most l id kept))
-    c.from.ensures
-    (layer_removed D c.from.result m c.args.root c.args.directory l objects is id kept mid
+    (kind_of l.ids) c.in_ok-after.after c.args.layer.ids_root (map.remove objects id) (HasRemoved D most l id kept))
+    c.from-most.ensures
+    (layer_removed D c.from-most.result m c.args.layer.root c.args.layer.ids_root l objects is id kept mid
     c.in_ok-after.after to.1 (pages c.remove.new.cache) removed
-    (omega (arith, c.requires.most.0, c.from.ensures)) there)
+    (omega (arith, c.requires.most.0, c.from-most.ensures)) there)
 
 pub returns-clause-absent : goal.returns-clause-absent
 returns-clause-absent g c = λ sound l objects at absent.
     let D = g.row.D in
     let m = pages c.args.cache.now in
     let is =
-    subst (λ (most : ℕ). IsLayerAt D most m c.args.root c.args.directory l objects) (sym c.from.ensures)
+    subst (λ (most : ℕ). IsLayerAt D most m c.args.layer.root c.args.layer.ids_root l objects)
+    (sym c.from-most.ensures)
     at in
     made_so_not_refused (c.in_ok-after.ensures.absent sound l.tree (part_of l.ids)
-    (can_remove D c.from.result m c.args.root c.args.directory l objects is)
-    (in_no_leaf D c.from.result m c.args.root c.args.directory l objects is c.args.id
-    (c.args.bounds.now, c.args.tag) absent))
+    (can_remove D c.from-most.result m c.args.layer.root c.args.layer.ids_root l objects is)
+    (in_no_leaf D c.from-most.result m c.args.layer.root c.args.layer.ids_root l objects is
+    c.args.object.now.reference
+    (c.args.object.now.bounds, c.args.object.now.tag) absent))
 
 pub returns-in_err-remove-clause-changes : goal.returns-in_err-remove-clause-changes
 returns-in_err-remove-clause-changes g c =
@@ -121,33 +133,36 @@ returns-in_err-remove-clause-absent g c = λ sound l objects at absent.
     let D = g.row.D in
     let m = pages c.args.cache.now in
     let is =
-    subst (λ (most : ℕ). IsLayerAt D most m c.args.root c.args.directory l objects) (sym c.from.ensures)
+    subst (λ (most : ℕ). IsLayerAt D most m c.args.layer.root c.args.layer.ids_root l objects)
+    (sym c.from-most.ensures)
     at in
     made_so_not_refused (c.in_ok-after.ensures.absent sound l.tree (part_of l.ids)
-    (can_remove D c.from.result m c.args.root c.args.directory l objects is)
-    (in_no_leaf D c.from.result m c.args.root c.args.directory l objects is c.args.id
-    (c.args.bounds.now, c.args.tag) absent))
+    (can_remove D c.from-most.result m c.args.layer.root c.args.layer.ids_root l objects is)
+    (in_no_leaf D c.from-most.result m c.args.layer.root c.args.layer.ids_root l objects is
+    c.args.object.now.reference
+    (c.args.object.now.bounds, c.args.object.now.tag) absent))
 
 pub returns-in_err-remove-clause-faults : goal.returns-in_err-remove-clause-faults
 returns-in_err-remove-clause-faults g c = λ sound l objects at there.
     let D = g.row.D in
     let m = pages c.args.cache.now in
-    let id = c.args.id in
-    let kept : Object = (c.args.bounds.now, c.args.tag) in
+    let id = c.args.object.now.reference in
+    let kept : Object = (c.args.object.now.bounds, c.args.object.now.tag) in
     let is =
-    subst (λ (most : ℕ). IsLayerAt D most m c.args.root c.args.directory l objects) (sym c.from.ensures)
+    subst (λ (most : ℕ). IsLayerAt D most m c.args.layer.root c.args.layer.ids_root l objects)
+    (sym c.from-most.ensures)
     at in
     let to =
     c.in_ok-after.ensures.removed sound l.tree (part_of l.ids)
-    (can_remove D c.from.result m c.args.root c.args.directory l objects is) in
+    (can_remove D c.from-most.result m c.args.layer.root c.args.layer.ids_root l objects is) in
     let stand =
-    ids_between D c.from.result m c.args.root c.args.directory l objects is id kept
+    ids_between D c.from-most.result m c.args.layer.root c.args.layer.ids_root l objects is id kept
     (pages c.remove_with.new.cache) c.in_ok-after.after to.1 in
     at_error c.from_residual-in_err-remove.result c.in_err-remove.field-0.0 (IsNoDamage c.remove.new.cache)
     c.from_residual-in_err-remove.ensures.1
     (inl
-    (c.in_err-remove.ensures.faults to.0 l.ids is.directory_is stand
-    (in_table D c.from.result m c.args.root c.args.directory l objects is id kept there)))
+    (c.in_err-remove.ensures.faults to.0 l.ids is.ids_root_is stand
+    (in_table D c.from-most.result m c.args.layer.root c.args.layer.ids_root l objects is id kept there)))
 
 pub returns-in_err-remove-clause-other_faults : goal.returns-in_err-remove-clause-other_faults
 returns-in_err-remove-clause-other_faults g c =

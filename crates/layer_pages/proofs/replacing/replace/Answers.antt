@@ -10,7 +10,7 @@ use Rattle.tree_node.specs.Trees.{object}
 use Rattle.node_page.proofs.NodeLemmas.{at_error}
 use Rattle.node_page.specs.Faults.{IsChangeFault, IsNoDamage}
 use Rattle.node_page.proofs.RootedLemmas.{loose}
-use Rattle.id_table.specs.Table.{part_of}
+use Rattle.id_table.specs.Table.{kind_of, part_of}
 use Rattle.reinsert.proofs.FaultLemmas.{one_more}
 use Rattle.condense.proofs.RemoveLemmas.{refused_so}
 use Rattle.layer_pages.specs.Changes.{BecomesLayer, HasReplaced}
@@ -30,16 +30,18 @@ returns-in_err-between-clause-absent g c = λ sound l objects at absent.
     let D = g.row.D in
     let m = pages c.args.cache.now in
     let is =
-    subst (λ (most : ℕ). IsLayerAt D most m c.args.root c.args.directory l objects)
+    subst (λ (most : ℕ). IsLayerAt D most m c.args.layer.root c.args.layer.ids_root l objects)
     (sym c.from-most.ensures) at in
     let refused =
     c.in_err-between.ensures.absent sound l.tree (part_of l.ids)
-    (can_remove D c.from-most.result m c.args.root c.args.directory l objects is)
-    (in_no_leaf D c.from-most.result m c.args.root c.args.directory l objects is c.args.id
-    (c.args.old.now, c.args.tag) absent) in (
+    (can_remove D c.from-most.result m c.args.layer.root c.args.layer.ids_root l objects is)
+    (in_no_leaf D c.from-most.result m c.args.layer.root c.args.layer.ids_root l objects is
+    c.args.object.now.reference
+    (c.args.object.now.bounds, c.args.object.now.tag) absent) in (
       refused.0,
       refused_so c.from_residual.result c.in_err-between.field-0.0
-          (λ f. IsOfDevice f ⊎ (f ≡ fault.Damaged c.args.root.page)) c.from_residual.ensures.1 refused.1,
+          (λ f. IsOfDevice f ⊎ (f ≡ fault.Damaged c.args.layer.root.page)) c.from_residual.ensures.1
+          refused.1,
     )
 
 pub returns-in_err-between-clause-faults : goal.returns-in_err-between-clause-faults
@@ -47,124 +49,149 @@ returns-in_err-between-clause-faults g c = λ sound l objects at there.
     let D = g.row.D in
     let m = pages c.args.cache.now in
     let is =
-    subst (λ (most : ℕ). IsLayerAt D most m c.args.root c.args.directory l objects)
+    subst (λ (most : ℕ). IsLayerAt D most m c.args.layer.root c.args.layer.ids_root l objects)
     (sym c.from-most.ensures) at in
     at_error c.from_residual.result c.in_err-between.field-0.0
     (IsNoDamage c.remove_with.new.cache) c.from_residual.ensures.1
     (c.in_err-between.ensures.faults sound l.tree (part_of l.ids)
-    (can_remove D c.from-most.result m c.args.root c.args.directory l objects is) is.tree.shape is.boxes
-    (in_a_leaf D c.from-most.result m c.args.root c.args.directory l objects is c.args.id
-    (c.args.old.now, c.args.tag) there))
+    (can_remove D c.from-most.result m c.args.layer.root c.args.layer.ids_root l objects is) is.tree.shape
+    is.boxes
+    (in_a_leaf D c.from-most.result m c.args.layer.root c.args.layer.ids_root l objects is
+    c.args.object.now.reference
+    (c.args.object.now.bounds, c.args.object.now.tag) there))
 
 pub returns-in_err-after-clause-changes : goal.returns-in_err-after-clause-changes
 returns-in_err-after-clause-changes g c =
     changes_and_refuses c.args.cache.now c.remove_with.new.cache c.insert_with.new.cache
     c.in_err-after.field-0.0 c.from_residual-in_err-after.result c.from_residual-in_err-after.ensures.1
-    c.in_ok-between.ensures.changes c.in_err-after.ensures.changes
+    c.in_ok-between.ensures.changes c.in_err-after.ensures.inserts.changes
 
 pub returns-in_err-after-clause-absent : goal.returns-in_err-after-clause-absent
 returns-in_err-after-clause-absent g c = λ sound l objects at absent.
     let D = g.row.D in
     let m = pages c.args.cache.now in
     let is =
-    subst (λ (most : ℕ). IsLayerAt D most m c.args.root c.args.directory l objects)
+    subst (λ (most : ℕ). IsLayerAt D most m c.args.layer.root c.args.layer.ids_root l objects)
     (sym c.from-most.ensures) at in
     made_so_not_refused (c.in_ok-between.ensures.absent sound l.tree (part_of l.ids)
-    (can_remove D c.from-most.result m c.args.root c.args.directory l objects is)
-    (in_no_leaf D c.from-most.result m c.args.root c.args.directory l objects is c.args.id
-    (c.args.old.now, c.args.tag) absent))
+    (can_remove D c.from-most.result m c.args.layer.root c.args.layer.ids_root l objects is)
+    (in_no_leaf D c.from-most.result m c.args.layer.root c.args.layer.ids_root l objects is
+    c.args.object.now.reference
+    (c.args.object.now.bounds, c.args.object.now.tag) absent))
 
 pub returns-in_err-after-clause-faults : goal.returns-in_err-after-clause-faults
 returns-in_err-after-clause-faults g c = λ sound l objects at there.
     let D = g.row.D in
     let m = pages c.args.cache.now in
     let is =
-    subst (λ (most : ℕ). IsLayerAt D most m c.args.root c.args.directory l objects)
+    subst (λ (most : ℕ). IsLayerAt D most m c.args.layer.root c.args.layer.ids_root l objects)
     (sym c.from-most.ensures) at in
     let four : 4 ≤ c.from-most.result = omega (arith, c.requires.most.0, c.from-most.ensures) in
     let to =
     c.in_ok-between.ensures.removed sound l.tree (part_of l.ids)
-    (can_remove D c.from-most.result m c.args.root c.args.directory l objects is) in
+    (can_remove D c.from-most.result m c.args.layer.root c.args.layer.ids_root l objects is) in
     let shape =
-    shape_between D c.from-most.result m c.args.root c.args.directory l objects is four c.args.id
-    (c.args.old.now, c.args.tag) (c.args.new.now, c.args.tag) (pages c.remove_with.new.cache)
+    shape_between D c.from-most.result m c.args.layer.root c.args.layer.ids_root l objects is four
+    c.args.object.now.reference
+    (c.args.object.now.bounds, c.args.object.now.tag) (c.args.new.now, c.args.object.now.tag)
+    (pages c.remove_with.new.cache)
     c.in_ok-between.between to.1 in
     at_error c.from_residual-in_err-after.result c.in_err-after.field-0.0 (IsNoDamage c.insert_with.new.cache)
     c.from_residual-in_err-after.ensures.1
-    (c.in_err-after.ensures.faults to.0 to.1.new (object (c.args.new.now, c.args.tag) c.args.id)
+    (c.in_err-after.ensures.inserts.faults to.0 to.1.new (object (c.args.new.now, c.args.object.now.tag)
+    c.args.object.now.reference)
     (part_of l.ids)
-    (can_insert_between D c.from-most.result m c.args.root c.args.directory l objects is four c.args.id
-    (c.args.old.now, c.args.tag) (c.args.new.now, c.args.tag) (pages c.remove_with.new.cache)
+    (can_insert_between D c.from-most.result m c.args.layer.root c.args.layer.ids_root l objects is four
+    c.args.object.now.reference
+    (c.args.object.now.bounds, c.args.object.now.tag) (c.args.new.now, c.args.object.now.tag)
+    (pages c.remove_with.new.cache)
     c.in_ok-between.between to.1) (loose D c.from-most.result to.1.new shape.0) shape.1
-    (entry_has_shape D c.from-most.result m c.args.root c.args.directory l objects is c.args.id
-    (c.args.new.now, c.args.tag) c.low.ensures.is_box))
+    (entry_has_shape D c.from-most.result m c.args.layer.root c.args.layer.ids_root l objects is
+    c.args.object.now.reference
+    (c.args.new.now, c.args.object.now.tag) c.low.ensures.is_box))
 
 pub returns-in_err-after-clause-other_faults : goal.returns-in_err-after-clause-other_faults
 returns-in_err-after-clause-other_faults g c =
     at_error c.from_residual-in_err-after.result c.in_err-after.field-0.0 IsChangeFault
-    c.from_residual-in_err-after.ensures.1 c.in_err-after.ensures.other_faults
+    c.from_residual-in_err-after.ensures.1 c.in_err-after.ensures.inserts.other_faults
 
 pub returns-clause-changes : goal.returns-clause-changes
 returns-clause-changes g c =
     changes_in_turn c.args.cache.now c.insert_with.new.cache c.update.new.cache None
     (changes_in_turn c.args.cache.now c.remove_with.new.cache c.insert_with.new.cache None
-    c.in_ok-between.ensures.changes c.in_ok-after.ensures.changes) c.in_ok-update.ensures.changes
+    c.in_ok-between.ensures.changes c.in_ok-after.ensures.inserts.changes) c.in_ok-update.ensures.changes
 
 pub returns-clause-sound : goal.returns-clause-sound
 returns-clause-sound g c = λ sound l objects at there.
     let D = g.row.D in
     let m = pages c.args.cache.now in
     let is =
-    subst (λ (most : ℕ). IsLayerAt D most m c.args.root c.args.directory l objects)
+    subst (λ (most : ℕ). IsLayerAt D most m c.args.layer.root c.args.layer.ids_root l objects)
     (sym c.from-most.ensures) at in
     let four : 4 ≤ c.from-most.result = omega (arith, c.requires.most.0, c.from-most.ensures) in
     let to =
     c.in_ok-between.ensures.removed sound l.tree (part_of l.ids)
-    (can_remove D c.from-most.result m c.args.root c.args.directory l objects is) in
+    (can_remove D c.from-most.result m c.args.layer.root c.args.layer.ids_root l objects is) in
     let into =
-    c.in_ok-after.ensures.inserted to.0 to.1.new (object (c.args.new.now, c.args.tag) c.args.id)
+    c.in_ok-after.ensures.inserts.inserted to.0 to.1.new (object (c.args.new.now, c.args.object.now.tag)
+    c.args.object.now.reference)
     (part_of l.ids)
-    (can_insert_between D c.from-most.result m c.args.root c.args.directory l objects is four c.args.id
-    (c.args.old.now, c.args.tag) (c.args.new.now, c.args.tag) (pages c.remove_with.new.cache)
+    (can_insert_between D c.from-most.result m c.args.layer.root c.args.layer.ids_root l objects is four
+    c.args.object.now.reference
+    (c.args.object.now.bounds, c.args.object.now.tag) (c.args.new.now, c.args.object.now.tag)
+    (pages c.remove_with.new.cache)
     c.in_ok-between.between to.1) in
     let stand =
-    ids_unchanged D c.from-most.result m c.args.root c.args.directory l objects is four c.args.id
-    (c.args.old.now, c.args.tag) (c.args.new.now, c.args.tag) (pages c.remove_with.new.cache)
+    ids_unchanged D c.from-most.result m c.args.layer.root c.args.layer.ids_root l objects is four
+    c.args.object.now.reference
+    (c.args.object.now.bounds, c.args.object.now.tag) (c.args.new.now, c.args.object.now.tag)
+    (pages c.remove_with.new.cache)
     c.in_ok-between.between to.1 (pages c.insert_with.new.cache) c.in_ok-after.after into.1 in
-    c.in_ok-update.ensures.sound into.0 l.ids is.directory_is stand
+    c.in_ok-update.ensures.sound into.0 l.ids is.ids_root_is stand
 
 pub returns-clause-replaced : goal.returns-clause-replaced
 returns-clause-replaced g c = λ sound l objects at there.
     let D = g.row.D in
     let m = pages c.args.cache.now in
     let is =
-    subst (λ (most : ℕ). IsLayerAt D most m c.args.root c.args.directory l objects)
+    subst (λ (most : ℕ). IsLayerAt D most m c.args.layer.root c.args.layer.ids_root l objects)
     (sym c.from-most.ensures) at in
     let four : 4 ≤ c.from-most.result = omega (arith, c.requires.most.0, c.from-most.ensures) in
     let to =
     c.in_ok-between.ensures.removed sound l.tree (part_of l.ids)
-    (can_remove D c.from-most.result m c.args.root c.args.directory l objects is) in
+    (can_remove D c.from-most.result m c.args.layer.root c.args.layer.ids_root l objects is) in
     let into =
-    c.in_ok-after.ensures.inserted to.0 to.1.new (object (c.args.new.now, c.args.tag) c.args.id)
+    c.in_ok-after.ensures.inserts.inserted to.0 to.1.new (object (c.args.new.now, c.args.object.now.tag)
+    c.args.object.now.reference)
     (part_of l.ids)
-    (can_insert_between D c.from-most.result m c.args.root c.args.directory l objects is four c.args.id
-    (c.args.old.now, c.args.tag) (c.args.new.now, c.args.tag) (pages c.remove_with.new.cache)
+    (can_insert_between D c.from-most.result m c.args.layer.root c.args.layer.ids_root l objects is four
+    c.args.object.now.reference
+    (c.args.object.now.bounds, c.args.object.now.tag) (c.args.new.now, c.args.object.now.tag)
+    (pages c.remove_with.new.cache)
     c.in_ok-between.between to.1) in
     let stand =
-    ids_unchanged D c.from-most.result m c.args.root c.args.directory l objects is four c.args.id
-    (c.args.old.now, c.args.tag) (c.args.new.now, c.args.tag) (pages c.remove_with.new.cache)
+    ids_unchanged D c.from-most.result m c.args.layer.root c.args.layer.ids_root l objects is four
+    c.args.object.now.reference
+    (c.args.object.now.bounds, c.args.object.now.tag) (c.args.new.now, c.args.object.now.tag)
+    (pages c.remove_with.new.cache)
     c.in_ok-between.between to.1 (pages c.insert_with.new.cache) c.in_ok-after.after into.1 in
     let set =
-    c.in_ok-update.ensures.updated into.0 l.ids is.directory_is stand (c.args.old.now, c.args.tag)
-    (kept_in_table D c.from-most.result m c.args.root c.args.directory l objects is c.args.id
-    (c.args.old.now, c.args.tag) there) in
+    c.in_ok-update.ensures.updated into.0 l.ids is.ids_root_is stand
+    (c.args.object.now.bounds, c.args.object.now.tag)
+    (kept_in_table D c.from-most.result m c.args.layer.root c.args.layer.ids_root l objects is
+    c.args.object.now.reference
+    (c.args.object.now.bounds, c.args.object.now.tag) there) in
     subst (λ (most : ℕ). BecomesLayer D most m (pages c.update.new.cache) (part_of_layer l)
-    c.in_ok-after.after
-    c.args.directory (map.insert objects c.args.id (c.args.new.now, c.args.tag))
-    (HasReplaced D most l c.args.id (c.args.old.now, c.args.tag) (c.args.new.now, c.args.tag)))
+    (kind_of l.ids) c.in_ok-after.after
+    c.args.layer.ids_root (map.insert objects c.args.object.now.reference
+    (c.args.new.now, c.args.object.now.tag))
+    (HasReplaced D most l c.args.object.now.reference (c.args.object.now.bounds, c.args.object.now.tag)
+    (c.args.new.now, c.args.object.now.tag)))
     c.from-most.ensures
-    (layer_replaced D c.from-most.result m c.args.root c.args.directory l objects is four c.args.id
-    (c.args.old.now, c.args.tag) (c.args.new.now, c.args.tag) (pages c.remove_with.new.cache)
+    (layer_replaced D c.from-most.result m c.args.layer.root c.args.layer.ids_root l objects is four
+    c.args.object.now.reference
+    (c.args.object.now.bounds, c.args.object.now.tag) (c.args.new.now, c.args.object.now.tag)
+    (pages c.remove_with.new.cache)
     c.in_ok-between.between to.1 (pages c.insert_with.new.cache) c.in_ok-after.after into.1
     (pages c.update.new.cache) set c.low.ensures.is_box there)
 
@@ -173,58 +200,66 @@ returns-clause-absent g c = λ sound l objects at absent.
     let D = g.row.D in
     let m = pages c.args.cache.now in
     let is =
-    subst (λ (most : ℕ). IsLayerAt D most m c.args.root c.args.directory l objects)
+    subst (λ (most : ℕ). IsLayerAt D most m c.args.layer.root c.args.layer.ids_root l objects)
     (sym c.from-most.ensures) at in
     made_so_not_refused (c.in_ok-between.ensures.absent sound l.tree (part_of l.ids)
-    (can_remove D c.from-most.result m c.args.root c.args.directory l objects is)
-    (in_no_leaf D c.from-most.result m c.args.root c.args.directory l objects is c.args.id
-    (c.args.old.now, c.args.tag) absent))
+    (can_remove D c.from-most.result m c.args.layer.root c.args.layer.ids_root l objects is)
+    (in_no_leaf D c.from-most.result m c.args.layer.root c.args.layer.ids_root l objects is
+    c.args.object.now.reference
+    (c.args.object.now.bounds, c.args.object.now.tag) absent))
 
 pub returns-in_err-update-clause-changes : goal.returns-in_err-update-clause-changes
 returns-in_err-update-clause-changes g c =
     changes_and_refuses c.args.cache.now c.insert_with.new.cache c.update.new.cache
     c.in_err-update.field-0.0 c.from_residual-in_err-update.result c.from_residual-in_err-update.ensures.1
     (changes_in_turn c.args.cache.now c.remove_with.new.cache c.insert_with.new.cache None
-    c.in_ok-between.ensures.changes c.in_ok-after.ensures.changes) c.in_err-update.ensures.changes
+    c.in_ok-between.ensures.changes c.in_ok-after.ensures.inserts.changes) c.in_err-update.ensures.changes
 
 pub returns-in_err-update-clause-absent : goal.returns-in_err-update-clause-absent
 returns-in_err-update-clause-absent g c = λ sound l objects at absent.
     let D = g.row.D in
     let m = pages c.args.cache.now in
     let is =
-    subst (λ (most : ℕ). IsLayerAt D most m c.args.root c.args.directory l objects)
+    subst (λ (most : ℕ). IsLayerAt D most m c.args.layer.root c.args.layer.ids_root l objects)
     (sym c.from-most.ensures) at in
     made_so_not_refused (c.in_ok-between.ensures.absent sound l.tree (part_of l.ids)
-    (can_remove D c.from-most.result m c.args.root c.args.directory l objects is)
-    (in_no_leaf D c.from-most.result m c.args.root c.args.directory l objects is c.args.id
-    (c.args.old.now, c.args.tag) absent))
+    (can_remove D c.from-most.result m c.args.layer.root c.args.layer.ids_root l objects is)
+    (in_no_leaf D c.from-most.result m c.args.layer.root c.args.layer.ids_root l objects is
+    c.args.object.now.reference
+    (c.args.object.now.bounds, c.args.object.now.tag) absent))
 
 pub returns-in_err-update-clause-faults : goal.returns-in_err-update-clause-faults
 returns-in_err-update-clause-faults g c = λ sound l objects at there.
     let D = g.row.D in
     let m = pages c.args.cache.now in
     let is =
-    subst (λ (most : ℕ). IsLayerAt D most m c.args.root c.args.directory l objects)
+    subst (λ (most : ℕ). IsLayerAt D most m c.args.layer.root c.args.layer.ids_root l objects)
     (sym c.from-most.ensures) at in
     let four : 4 ≤ c.from-most.result = omega (arith, c.requires.most.0, c.from-most.ensures) in
     let to =
     c.in_ok-between.ensures.removed sound l.tree (part_of l.ids)
-    (can_remove D c.from-most.result m c.args.root c.args.directory l objects is) in
+    (can_remove D c.from-most.result m c.args.layer.root c.args.layer.ids_root l objects is) in
     let into =
-    c.in_ok-after.ensures.inserted to.0 to.1.new (object (c.args.new.now, c.args.tag) c.args.id)
+    c.in_ok-after.ensures.inserts.inserted to.0 to.1.new (object (c.args.new.now, c.args.object.now.tag)
+    c.args.object.now.reference)
     (part_of l.ids)
-    (can_insert_between D c.from-most.result m c.args.root c.args.directory l objects is four c.args.id
-    (c.args.old.now, c.args.tag) (c.args.new.now, c.args.tag) (pages c.remove_with.new.cache)
+    (can_insert_between D c.from-most.result m c.args.layer.root c.args.layer.ids_root l objects is four
+    c.args.object.now.reference
+    (c.args.object.now.bounds, c.args.object.now.tag) (c.args.new.now, c.args.object.now.tag)
+    (pages c.remove_with.new.cache)
     c.in_ok-between.between to.1) in
     let stand =
-    ids_unchanged D c.from-most.result m c.args.root c.args.directory l objects is four c.args.id
-    (c.args.old.now, c.args.tag) (c.args.new.now, c.args.tag) (pages c.remove_with.new.cache)
+    ids_unchanged D c.from-most.result m c.args.layer.root c.args.layer.ids_root l objects is four
+    c.args.object.now.reference
+    (c.args.object.now.bounds, c.args.object.now.tag) (c.args.new.now, c.args.object.now.tag)
+    (pages c.remove_with.new.cache)
     c.in_ok-between.between to.1 (pages c.insert_with.new.cache) c.in_ok-after.after into.1 in
     at_error c.from_residual-in_err-update.result c.in_err-update.field-0.0 (IsNoDamage c.update.new.cache)
     c.from_residual-in_err-update.ensures.1
-    (inl (c.in_err-update.ensures.faults into.0 l.ids is.directory_is stand
-    (in_table D c.from-most.result m c.args.root c.args.directory l objects is c.args.id
-    (c.args.old.now, c.args.tag) there)))
+    (inl (c.in_err-update.ensures.faults into.0 l.ids is.ids_root_is stand
+    (in_table D c.from-most.result m c.args.layer.root c.args.layer.ids_root l objects is
+    c.args.object.now.reference
+    (c.args.object.now.bounds, c.args.object.now.tag) there)))
 
 pub returns-in_err-update-clause-other_faults : goal.returns-in_err-update-clause-other_faults
 returns-in_err-update-clause-other_faults g c =

@@ -34,7 +34,8 @@ pub fn list_layers<B: BlockDevice, A: Allocator + Copy>(
         found.old.items found.new.items) }
     ensures stands { IsHonest cache.old → (hs : List Reading) → each row_of hs ≡ each record_of records.now →
         LayersStand (pages cache.old) hs → IfErr result IsOfDevice }
-    ensures looks { looks_of cache.new ≤ looks_of cache.old + 2 * (length records.now * next_of cache.old) }
+    ensures looks { looks_of cache.new ≤ looks_of cache.old + 2 * (length records.now * next_of cache.old)
+        + length records.now }
     ensures damage { IsHonest cache.old → IfErr result (λ f. (n : ℕ) → f ≡ Damaged n →
         ComesInLayers (given cache.old) (each record_of records.now) n) }
     ensures faults { IfErr result (λ f. IsOfDevice f ⊎ IsDamage f) }
@@ -58,9 +59,9 @@ fn list_layer<B: BlockDevice, A: Allocator + Copy>(
         found.old.items found.new.items) }
     ensures stands { IsHonest cache.old → (h : Reading) → h.row ≡ record_of layer.now →
         LayerStands (pages cache.old) h → IfErr result IsOfDevice }
-    ensures looks { looks_of cache.new ≤ looks_of cache.old + 2 * next_of cache.old }
+    ensures looks { looks_of cache.new ≤ looks_of cache.old + 2 * next_of cache.old + 1 }
     ensures damage { IsHonest cache.old → IfErr result (λ f. (n : ℕ) → f ≡ Damaged n →
-        ComesInLayer layer.now.dims (given cache.old) (root_of (record_of layer.now)) layer.now.directory n) }
+        ComesInLayer layer.now.dims (given cache.old) (root_of (record_of layer.now)) layer.now.ids_root n) }
     ensures faults { IfErr result (λ f. IsOfDevice f ⊎ IsDamage f) }
 {
     if layer.dims == 2 {
@@ -84,9 +85,9 @@ fn list_pages<const D: usize, B: BlockDevice, A: Allocator + Copy>(
         found.old.items found.new.items) }
     ensures stands { IsHonest cache.old → (h : Reading) → h.row ≡ record_of layer.now →
         LayerStands (pages cache.old) h → IfErr result IsOfDevice }
-    ensures looks { looks_of cache.new ≤ looks_of cache.old + 2 * next_of cache.old }
+    ensures looks { looks_of cache.new ≤ looks_of cache.old + 2 * next_of cache.old + 1 }
     ensures damage { IsHonest cache.old → IfErr result (λ f. (n : ℕ) → f ≡ Damaged n →
-        ComesInLayer layer.now.dims (given cache.old) (root_of (record_of layer.now)) layer.now.directory n) }
+        ComesInLayer layer.now.dims (given cache.old) (root_of (record_of layer.now)) layer.now.ids_root n) }
     ensures faults { IfErr result (λ f. IsOfDevice f ⊎ IsDamage f) }
 {
     let root = Root {
@@ -97,7 +98,7 @@ fn list_pages<const D: usize, B: BlockDevice, A: Allocator + Copy>(
         &alloc,
         cache,
         root,
-        layer.directory,
+        layer.ids_root,
         layer.fanout,
         layer.count,
     )?;

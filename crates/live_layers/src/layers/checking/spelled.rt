@@ -61,5 +61,5 @@ fn is_same(layer: &LayerRecord, other: &LayerRecord) -> bool
 {
     layer.name.as_slice() == other.name.as_slice()
         && (layer.dims, layer.fanout, layer.level) == (other.dims, other.fanout, other.level)
-        && (layer.root, layer.directory, layer.count) == (other.root, other.directory, other.count)
+        && (layer.root, layer.ids_root, layer.count) == (other.root, other.ids_root, other.count)
 }

@@ -15,7 +15,8 @@ use crate::rooms::{Room, take_kept, take_waiting};
 use block_device::BlockDevice;
 use box_math::BBox;
 use condense::Kept;
-use layer_pages::remove;
+use layer_pages::{Layer, remove};
+use node_page::Entry;
 use reinsert::Waiting;
 use std::alloc::Allocator;
 
@@ -48,17 +49,17 @@ impl<B: BlockDevice, A: Allocator + Copy> Layers<B, A> {
         let mut kept = take_kept(kept_room, self.alloc)?;
         self.begin()?;
         let located = self.locate(place);
-        let root = match remove(
-            &mut self.cache,
-            located.root,
-            located.directory,
-            id,
-            bounds,
+        let layer = Layer {
+            root: located.root,
+            ids_root: located.ids_root,
+            fanout: located.fanout,
+        };
+        let object = Entry {
+            bounds: *bounds,
+            reference: id,
             tag,
-            located.fanout,
-            &mut waiting,
-            &mut kept,
-        ) {
+        };
+        let root = match remove(&mut self.cache, layer, &object, &mut waiting, &mut kept) {
             Ok(root) => root,
             Err(fault) => return Err(self.broken_by(fault)),
         };

@@ -60,18 +60,18 @@ fn free_pages<B: BlockDevice, A: Allocator + Copy>(
     requires root { CanBeRoot located.now.root }
     ensures changes { Changes cache.old cache.new result }
     ensures sound { IsPageMap cache.old → (l : LayerPages) (most : ℕ) (objects : Objects)
-        → IsLayerAt located.now.dims most (pages cache.old) located.now.root located.now.directory l objects
+        → IsLayerAt located.now.dims most (pages cache.old) located.now.root located.now.ids_root l objects
         → IsPageMap cache.new }
     ensures freed { IsPageMap cache.old → (l : LayerPages) (most : ℕ) (objects : Objects)
-        → IsLayerAt located.now.dims most (pages cache.old) located.now.root located.now.directory l objects
+        → IsLayerAt located.now.dims most (pages cache.old) located.now.root located.now.ids_root l objects
         → OnOk result (Moves (pages cache.old) (pages cache.new) (part_of_layer l) no_page) }
     ensures faults { IsPageMap cache.old → (l : LayerPages) (most : ℕ) (objects : Objects)
-        → IsLayerAt located.now.dims most (pages cache.old) located.now.root located.now.directory l objects
+        → IsLayerAt located.now.dims most (pages cache.old) located.now.root located.now.ids_root l objects
         → IfErr result IsOfDevice }
 {
     if located.dims == 2 {
-        free::<2, B, A>(cache, located.root, located.directory)
+        free::<2, B, A>(cache, located.root, located.ids_root)
     } else {
-        free::<3, B, A>(cache, located.root, located.directory)
+        free::<3, B, A>(cache, located.root, located.ids_root)
     }
 }

@@ -14,7 +14,7 @@ use crate::layers::Layers;
 use crate::rooms::{Room, take_waiting};
 use block_device::BlockDevice;
 use box_math::BBox;
-use layer_pages::insert;
+use layer_pages::{Layer, insert};
 use node_page::Entry;
 use reinsert::Waiting;
 use std::alloc::Allocator;
@@ -53,14 +53,12 @@ impl<B: BlockDevice, A: Allocator + Copy> Layers<B, A> {
             reference: id,
             tag,
         };
-        let root = match insert(
-            &mut self.cache,
-            located.root,
-            located.directory,
-            &object,
-            located.fanout,
-            &mut waiting,
-        ) {
+        let layer = Layer {
+            root: located.root,
+            ids_root: located.ids_root,
+            fanout: located.fanout,
+        };
+        let root = match insert(&mut self.cache, layer, &object, &mut waiting) {
             Ok(root) => root,
             Err(fault) => return Err(self.broken_by(fault)),
         };

@@ -46,7 +46,7 @@ impl<B: BlockDevice, A: Allocator + Copy> Layers<B, A> {
         let Some(bounds) = BBox::try_new(low, high) else {
             return Err(Refusal::BadBox);
         };
-        let known = match get::<D, B, A>(&mut self.cache, located.directory, id) {
+        let known = match get::<D, B, A>(&mut self.cache, located.ids_root, id) {
             Ok(known) => known,
             Err(fault) => return Err(as_refusal(fault)),
         };

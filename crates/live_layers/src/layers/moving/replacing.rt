@@ -15,7 +15,8 @@ use crate::rooms::{Room, take_kept, take_waiting};
 use block_device::BlockDevice;
 use box_math::BBox;
 use condense::Kept;
-use layer_pages::replace;
+use layer_pages::{Layer, replace};
+use node_page::Entry;
 use reinsert::Waiting;
 use std::alloc::Allocator;
 
@@ -50,15 +51,21 @@ impl<B: BlockDevice, A: Allocator + Copy> Layers<B, A> {
         let mut kept = take_kept(kept_room, self.alloc)?;
         self.begin()?;
         let located = self.locate(place);
+        let layer = Layer {
+            root: located.root,
+            ids_root: located.ids_root,
+            fanout: located.fanout,
+        };
+        let object = Entry {
+            bounds: *known,
+            reference: id,
+            tag,
+        };
         let root = match replace(
             &mut self.cache,
-            located.root,
-            located.directory,
-            id,
-            known,
-            tag,
+            layer,
+            &object,
             bounds,
-            located.fanout,
             &mut waiting,
             &mut kept,
         ) {

@@ -34,7 +34,7 @@ impl<B: BlockDevice, A: Allocator + Copy> Layers<B, A> {
             (Boxes (object_row (layer_at t name) id ∷ [])) (kept_answer id result) }
         ensures keeps { KeepsInQuestion self.old self.new result }
     {
-        match get::<D, B, A>(&mut self.cache, located.directory, id) {
+        match get::<D, B, A>(&mut self.cache, located.ids_root, id) {
             Ok(Some(kept)) => Ok(kept),
             Ok(None) => Err(Refusal::NoObject),
             Err(fault) => Err(as_refusal(fault)),

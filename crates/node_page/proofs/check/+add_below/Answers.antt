@@ -26,7 +26,7 @@ use Rattle.node_page.proofs.check.+add_below.Goals as goal
 pub returns-then-node-eq0-clause-found : goal.returns-then-node-eq0-clause-found
 returns-then-node-eq0-clause-found g t c = λ h.
     on_ok c.add_pairs.result
-    (λ added. leaf_adds g.row.D c.args.m_max (given c.args.cache.now) (content_of c.args.node.now)
+    (λ added. leaf_adds g.row.D c.args.fanout (given c.args.cache.now) (content_of c.args.node.now)
     c.args.pairs.now.items c.add_pairs.new.pairs.items c.args.visits.now.pages.items c.if-node-eq0.true
     added)
     c.add_pairs.ensures.pairs
@@ -35,7 +35,7 @@ pub loop-entry-init : goal.loop-entry-init
 loop-entry-init g t c = record {
   asks = no_call_asks c.args.cache.now;
   checked =
-      λ h. checked_none g.row.D c.args.m_max (given c.args.cache.now) c.args.node.now.level
+      λ h. checked_none g.row.D c.args.fanout (given c.args.cache.now) c.args.node.now.level
       (map item_of c.as_slice-entry-items.result.now) c.args.pairs.now.items c.args.visits.now.pages.items;
   numbers = omega arith;
   looks = omega arith;
@@ -53,7 +53,7 @@ overflow_cast-page g t c =
 
 pub returns-clause-found : goal.returns-clause-found
 returns-clause-found g t c = λ h.
-    checked_all g.row.D c.args.m_max (given c.args.cache.now) c.args.node.now.level
+    checked_all g.row.D c.args.fanout (given c.args.cache.now) c.args.node.now.level
     (map item_of c.as_slice-entry-items.result.now) c.args.pairs.now.items c.args.visits.now.pages.items
     c.loop-entry.entry-index
     (content_of c.args.node.now) c.loop-entry.pairs.items c.loop-entry.visits.pages.items
@@ -124,13 +124,13 @@ returns-in_err-visit-clause-stands g t c = λ h row is stands shape once.
     entry_item c.as_slice-entry-items.result.now c.loop-entry.entry-index entry
     (omega (arith, c.loop-entry-test.true)) c.entry-item.is in
     let next =
-    next_here g.row.D c.args.m_max (given c.args.cache.now) c.args.node.now.level items
+    next_here g.row.D c.args.fanout (given c.args.cache.now) c.args.node.now.level items
     c.args.pairs.now.items c.loop-entry.pairs.items c.args.visits.now.pages.items
     c.loop-entry.visits.pages.items c.loop-entry.entry-index x row
     (omega (arith, c.if-node-eq0.false)) within here (inv.checked h) (is ∙ same) stands shape once in
     let out = node_was_given_out g.row.D c.args.cache.now entry.reference _ next.node in
     let free : times_in entry.reference c.loop-entry.visits.pages.items ≡ 0 =
-    next_unvisited g.row.D c.args.m_max (given c.args.cache.now) (c.args.node.now.level - 1) x
+    next_unvisited g.row.D c.args.fanout (given c.args.cache.now) (c.args.node.now.level - 1) x
     c.loop-entry.visits.pages.items next in
     at_error c.from_residual.result c.in_err-visit.field-0.0 IsOfDevice c.from_residual.ensures.1
     (inl (c.in_err-visit.ensures.first free (omega (arith, out.1, inv.numbers, c.requires.numbers))))
@@ -148,7 +148,7 @@ returns-in_err-below-clause-stands g t c = λ h row is stands shape once.
     entry_item c.as_slice-entry-items.result.now c.loop-entry.entry-index entry
     (omega (arith, c.loop-entry-test.true)) c.entry-item.is in
     let next =
-    next_here g.row.D c.args.m_max (given c.args.cache.now) c.args.node.now.level items
+    next_here g.row.D c.args.fanout (given c.args.cache.now) c.args.node.now.level items
     c.args.pairs.now.items c.loop-entry.pairs.items c.args.visits.now.pages.items
     c.loop-entry.visits.pages.items c.loop-entry.entry-index x row
     (omega (arith, c.if-node-eq0.false)) within here (inv.checked h) (is ∙ same) stands shape once in
@@ -170,7 +170,7 @@ returns-then-not-fits_below-clause-stands g t c = λ h row is stands shape once.
     entry_item c.as_slice-entry-items.result.now c.loop-entry.entry-index entry
     (omega (arith, c.loop-entry-test.true)) c.entry-item.is in
     let next =
-    next_here g.row.D c.args.m_max (given c.args.cache.now) c.args.node.now.level items
+    next_here g.row.D c.args.fanout (given c.args.cache.now) c.args.node.now.level items
     c.args.pairs.now.items c.loop-entry.pairs.items c.args.visits.now.pages.items
     c.loop-entry.visits.pages.items c.loop-entry.entry-index x row
     (omega (arith, c.if-node-eq0.false)) within here (inv.checked h) (is ∙ same) stands shape once in
@@ -178,7 +178,7 @@ returns-then-not-fits_below-clause-stands g t c = λ h row is stands shape once.
     ∙ c.in_ok-below.ensures.given_node (inv.asks.gate.honest.0 h) in
     let fits =
     c.fits_below.ensures.1
-    (next_fits g.row.D c.args.m_max (given c.args.cache.now) (c.args.node.now.level - 1) x
+    (next_fits g.row.D c.args.fanout (given c.args.cache.now) (c.args.node.now.level - 1) x
     c.loop-entry.visits.pages.items (content_of c.in_ok-below.below) next there
     c.in_ok-below.ensures.boxes) in
     absurd (cc)
@@ -196,14 +196,14 @@ returns-in_err-add_below-clause-stands g t c = λ h row is stands shape once.
     entry_item c.as_slice-entry-items.result.now c.loop-entry.entry-index entry
     (omega (arith, c.loop-entry-test.true)) c.entry-item.is in
     let next =
-    next_here g.row.D c.args.m_max (given c.args.cache.now) c.args.node.now.level items
+    next_here g.row.D c.args.fanout (given c.args.cache.now) c.args.node.now.level items
     c.args.pairs.now.items c.loop-entry.pairs.items c.args.visits.now.pages.items
     c.loop-entry.visits.pages.items c.loop-entry.entry-index x row
     (omega (arith, c.if-node-eq0.false)) within here (inv.checked h) (is ∙ same) stands shape once in
     let there = ap (node_in g.row.D) (sym (inv.asks.map.given_stay h entry.reference))
     ∙ c.in_ok-below.ensures.given_node (inv.asks.gate.honest.0 h) in
     let node =
-    next_node g.row.D c.args.m_max (given c.args.cache.now) (c.args.node.now.level - 1) x
+    next_node g.row.D c.args.fanout (given c.args.cache.now) (c.args.node.now.level - 1) x
     c.loop-entry.visits.pages.items (content_of c.in_ok-below.below) next there in
     let a = asks_in_turn c.args.cache.now c.loop-entry.cache c.read_node.new.cache None inv.asks
     c.in_ok-below.ensures.asks in
@@ -215,7 +215,7 @@ returns-in_err-add_below-clause-stands g t c = λ h row is stands shape once.
     next.below (λ n some. a.map.given_stay h n)
     (subst (λ (l : ℕ). RowStands g.row.D (given c.args.cache.now) l next.below) level next.stands))
     next.shape
-    (next_visited g.row.D c.args.m_max (given c.args.cache.now) (c.args.node.now.level - 1) x
+    (next_visited g.row.D c.args.fanout (given c.args.cache.now) (c.args.node.now.level - 1) x
     c.loop-entry.visits.pages.items c.visit.new.self.pages.items next c.in_ok-visit.ensures.added))
 
 pub loop-entry-preserved : goal.loop-entry-preserved
@@ -243,7 +243,7 @@ loop-entry-preserved g t c =
       checked = λ h.
           let there = ap (node_in g.row.D) (sym (inv.asks.map.given_stay h entry.reference))
           ∙ c.in_ok-below.ensures.given_node (inv.asks.gate.honest.0 h) in
-          checked_more g.row.D c.args.m_max (given c.args.cache.now) c.args.node.now.level items
+          checked_more g.row.D c.args.fanout (given c.args.cache.now) c.args.node.now.level items
           c.args.pairs.now.items c.args.visits.now.pages.items c.loop-entry.entry-index x
           (content_of c.in_ok-below.below)
           c.loop-entry.pairs.items c.add_below.new.pairs.items c.loop-entry.visits.pages.items
@@ -258,7 +258,7 @@ loop-entry-preserved g t c =
             few = fits.1;
             box = fits.2;
           })
-          (adds_on g.row.D c.args.m_max (given c.read_node.new.cache) (given c.args.cache.now)
+          (adds_on g.row.D c.args.fanout (given c.read_node.new.cache) (given c.args.cache.now)
           (content_of c.in_ok-below.below) c.loop-entry.pairs.items c.add_below.new.pairs.items
           c.visit.new.self.pages.items c.add_below.new.visits.pages.items
           (λ n. sym (a.map.given_stay h n)) (c.in_ok-add_below.ensures.found (a.gate.honest.0 h)));

@@ -10,6 +10,6 @@ decreases-add_below g l = l.node.now.level
 -- the trees below the entries so far are checked
 abbrev pub invariant-loop-entry : goal.invariant-loop-entry
 invariant-loop-entry g l =
-    Walk g.row.D l.fn.m_max l.fn.cache l.cache l.fn.node.level l.entry-items l.entry-index l.fn.pairs.items
+    Walk g.row.D l.fn.fanout l.fn.cache l.cache l.fn.node.level l.entry-items l.entry-index l.fn.pairs.items
     l.pairs.items l.fn.visits.pages.items l.visits.pages.items (length l.fn.visits.marks.items)
     (length l.visits.marks.items)

@@ -59,7 +59,7 @@ returns-then-not-is_root_count-clause-stands g c = λ h t page level stands shap
     let at =
     live_tree_is_given g.row.D c.args.cache.now t c.args.root.page c.args.root.level page level stands in
     let count =
-    root_count g.row.D c.args.m_max (given c.args.cache.now) t c.args.root.page c.args.root.level
+    root_count g.row.D c.args.fanout (given c.args.cache.now) t c.args.root.page c.args.root.level
     (content_of c.in_ok-node.node) level at shape (c.in_ok-node.ensures.given_node h) in
     let many = length-map c.in_ok-node.node.entries.items item_of in
     let good =
@@ -108,7 +108,7 @@ returns-clause-given_tree g c = λ h.
     let counts = c.is_root_count.ensures.0 c.if-not-is_root_count.false in
     let many = length-map c.in_ok-node.node.entries.items item_of in
     let checked =
-    tree_checked g.row.D c.args.m_max (given old) c.args.root.page c.args.root.level
+    tree_checked g.row.D c.args.fanout (given old) c.args.root.page c.args.root.level
     (content_of c.in_ok-node.node) c.new-pairs.result.items c.add_below.new.pairs.items
     c.visit.new.self.pages.items
     c.add_below.new.visits.pages.items (c.in_ok-node.ensures.given_node h) c.in_ok-node.ensures.level (
@@ -116,16 +116,16 @@ returns-clause-given_tree g c = λ h.
       λ above. omega (arith, many, c.len.ensures.value, counts.1 above),
     ) c.new-pairs.ensures.items list
     c.add_below.new.visits.marked.once
-    (adds_on g.row.D c.args.m_max (given c.read_node.new.cache) (given old) (content_of c.in_ok-node.node)
+    (adds_on g.row.D c.args.fanout (given c.read_node.new.cache) (given old) (content_of c.in_ok-node.node)
     c.new-pairs.result.items c.add_below.new.pairs.items c.visit.new.self.pages.items
     c.add_below.new.visits.pages.items
     (λ n. sym (a.map.given_stay h n)) (c.in_ok-add_below.ensures.found (a.gate.honest.0 h))) in
-    subst (λ (v : Vec ℕ g.row.H.Denot). IsCheckedTree g.row.D c.args.m_max (given old) c.args.root.page
+    subst (λ (v : Vec ℕ g.row.H.Denot). IsCheckedTree g.row.D c.args.fanout (given old) c.args.root.page
     c.args.root.level c.add_below.new.pairs.items v.items) (sym c.into_pages-pages.ensures) checked
 
 pub returns-clause-tree : goal.returns-clause-tree
 returns-clause-tree g c =
-    λ sound. checked_live g.row.D c.args.m_max c.args.cache.now c.args.root.page c.args.root.level
+    λ sound. checked_live g.row.D c.args.fanout c.args.cache.now c.args.root.page c.args.root.level
     c.add_below.new.pairs.items c.into_pages-pages.result.items sound
     (returns-clause-given_tree g c sound.honest)
 

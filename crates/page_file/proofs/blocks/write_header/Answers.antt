@@ -4,7 +4,7 @@ use Rattle.block_device.specs.Device.{block_at}
 use Rattle.block_device.specs.Written.{block_at-written, block_at-written_other, length-written_within}
 use Rattle.block_device.specs.Written.{torn_other}
 use Rattle.page_file.proofs.Moments.{torn_leaves}
-use Rattle.page_file.specs.Layout.{version_of, IsHeader}
+use Rattle.page_file.specs.Layout.{header_version, IsHeader}
 use Rattle.page_file.specs.Written.{torn_size}
 use Rattle.page_file.proofs.blocks.write_header.Goals as goal
 
@@ -40,7 +40,7 @@ returns-clause-header g c = λ h. subst (IsHeader c.args.header.now)
 
 pub returns-clause-version : goal.returns-clause-version
 returns-clause-version g c =
-    λ h. ap version_of
+    λ h. ap header_version
     (ap (block_at 1) (c.sync.ensures.shown (c.write.ensures.honest.0 h))
     ∙ ap (block_at 1) (c.in_ok-write.ensures.written h) ∙ block_at-written 1 _ _ c.requires.room)
     ∙ c.header_page-page.ensures.version

@@ -1,6 +1,6 @@
 -- The goals of `header_page` that are proved by hand.
 use Rattle.std.proofs.Common.{◌∙◌, ap, sym, subst, arith, rules}
-use Rattle.page_file.specs.Layout.{header_block, version_of, IsHeader}
+use Rattle.page_file.specs.Layout.{header_block, header_version, IsHeader}
 use Rattle.page_file.specs.Reading.{header_reads, version_written}
 use Rattle.page_file.proofs.layout.header_page.Goals as goal
 
@@ -14,4 +14,4 @@ returns-clause-reads c =
     (header_reads c.args.header.now (omega arith) (omega arith) (omega arith))
 
 pub returns-clause-version : goal.returns-clause-version
-returns-clause-version c = ap version_of (returns-clause-is c) ∙ version_written c.args.header.now
+returns-clause-version c = ap header_version (returns-clause-is c) ∙ version_written c.args.header.now

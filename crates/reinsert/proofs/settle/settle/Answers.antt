@@ -1,34 +1,60 @@
 -- The goals of `settle` that are proved by hand.
-use Rattle.std.proofs.Common.{◌≡◌, ◌+◌, ◌<◌, true, sym, arith}
+use Rattle.std.proofs.Common.{rules, ◌≡◌, ◌+◌, ◌<◌, true, sym, arith}
 use Rattle.tree_node.specs.declared.node.Entry.{Entry}
 use Rattle.node_page.specs.Layout.{IsOfLevel}
 use Rattle.reinsert.specs.Called.{is_called}
 use Rattle.reinsert.proofs.SettledLemmas.{none_refers}
 use Rattle.reinsert.proofs.settle.settle.Goals as goal
-use Rattle.reinsert.proofs.settle.settle.Goals.{else-node-top-via-then-node-top+else-not-is_called}
-use Rattle.reinsert.proofs.settle.settle.Goals.{else-node-top-via-else-node-top}
+use Rattle.reinsert.proofs.settle.settle.Goals.{else-node-limits-via-then-node-limits+else-not-is_called}
+use Rattle.reinsert.proofs.settle.settle.Goals.{else-node-limits-via-else-node-limits}
 
-pub returns-then-len-m_max-clause-settled : goal.returns-then-len-m_max-clause-settled
-returns-then-len-m_max-clause-settled g c = λ h branches are can.
-    c.write_fitting.ensures.settled h c.args.m_max c.args.top c.args.waiting.now.called
-    c.args.waiting.now.waits.items branches (omega (arith, c.if-len-m_max.true, c.len.ensures.value)) are
-    can
+pub returns-then-len-limits : goal.returns-then-len-limits
+returns-then-len-limits g c = record {
+  changes = c.write_fitting.ensures.changes;
+  grows = search rules;
+  measure = search rules;
+  beside = none_refers c.write_fitting.result
+      (λ (e : Entry g.row.D). IsOfLevel (c.args.node.now.level + 1) e.reference e.tag)
+      c.write_fitting.ensures.alone;
+  settled = λ h branches are can.
+      c.write_fitting.ensures.settled h c.args.limits.fanout c.args.limits.top c.args.waiting.now.called
+      c.args.waiting.now.waits.items (omega (arith, c.if-len-limits.true, c.len.ensures.value)) branches are
+      can;
+  sound = c.write_fitting.ensures.sound;
+  faults = c.write_fitting.ensures.faults;
+  other_faults = c.write_fitting.ensures.other_faults;
+}
 
-pub returns-then-not-is_called-clause-beside : goal.returns-then-not-is_called-clause-beside
-returns-then-not-is_called-clause-beside g c =
-    none_refers c.take_out_far.result
-    (λ (e : Entry g.row.D). IsOfLevel (c.args.node.now.level + 1) e.reference e.tag)
-    c.take_out_far.ensures.alone
+pub returns-then-not-is_called : goal.returns-then-not-is_called
+returns-then-not-is_called g c = record {
+  changes = c.take_out_far.ensures.changes;
+  grows = search rules;
+  measure = c.take_out_far.ensures.measure;
+  beside = none_refers c.take_out_far.result
+      (λ (e : Entry g.row.D). IsOfLevel (c.args.node.now.level + 1) e.reference e.tag)
+      c.take_out_far.ensures.alone;
+  settled = λ h branches are can. c.take_out_far.ensures.settled h c.args.limits.top c.if-node-limits.true
+      branches are can;
+  sound = c.take_out_far.ensures.sound;
+  faults = c.take_out_far.ensures.faults;
+  other_faults = c.take_out_far.ensures.other_faults;
+}
 
-pub returns-then-not-is_called-clause-settled : goal.returns-then-not-is_called-clause-settled
-returns-then-not-is_called-clause-settled g c =
-    λ h branches are can. c.take_out_far.ensures.settled h c.args.top branches c.if-node-top.true are can
-
-pub returns-clause-settled : goal.returns-clause-settled
-returns-clause-settled g c = λ h branches are can.
-    let held : c.args.node.now.level < c.args.top
-    → is_called c.args.waiting.now.called c.args.node.now.level ≡ true = elim c.else-node-top.branch [
-      | else-node-top-via-then-node-top+else-not-is_called w ↦ λ _. sym w.if-not-is_called.ensures
-      | else-node-top-via-else-node-top w ↦ λ below. absurd (omega (arith, below, w.if-node-top.false))
-    ] in
-    c.split_off.ensures.settled h c.args.top branches held are can
+pub returns : goal.returns
+returns g c = record {
+  changes = c.split_off.ensures.changes;
+  grows = c.split_off.ensures.grows;
+  measure = c.split_off.ensures.measure;
+  beside = c.split_off.ensures.beside;
+  settled = λ h branches are can.
+      let held : c.args.node.now.level < c.args.limits.top
+      → is_called c.args.waiting.now.called c.args.node.now.level ≡ true = elim c.else-node-limits.branch [
+        | else-node-limits-via-then-node-limits+else-not-is_called w ↦ λ _. sym w.if-not-is_called.ensures
+        | else-node-limits-via-else-node-limits w ↦ λ below. absurd
+            (omega (arith, below, w.if-node-limits.false))
+      ] in
+      c.split_off.ensures.settled h c.args.limits.top held branches are can;
+  sound = c.split_off.ensures.sound;
+  faults = c.split_off.ensures.faults;
+  other_faults = c.split_off.ensures.other_faults;
+}

@@ -32,7 +32,7 @@ write_both-requires g c = (
 )
 
 pub returns-clause-settled : goal.returns-clause-settled
-returns-clause-settled g c = λ h top branches held are can.
+returns-clause-settled g c = λ h top held branches are can.
     let first = c.split-first.result.0.items in
     let second = c.split-first.result.1.items in
     let other : c.least-other.result ≡ least_box g.row.D (map item_of second) =
@@ -50,7 +50,7 @@ returns-clause-settled g c = λ h top branches held are can.
     c.from.ensures in
     let written = c.in_ok-number.ensures.written h can.live in (
       written.0,
-      split_settled c.args.m_max top c.args.node.now.level c.args.waiting.now.called branches
+      split_settled c.args.fanout top c.args.node.now.level c.args.waiting.now.called branches
           c.args.node.now.entries.items _ _ c.args.page _ _ _ _ are can
           c.in_ok-number.number
           (record { bounds = c.least-other.result; reference = c.from.result; tag = 0 }) first second

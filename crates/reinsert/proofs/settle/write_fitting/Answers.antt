@@ -23,7 +23,7 @@ write_node-requires g c = (
 )
 
 pub returns-clause-settled : goal.returns-clause-settled
-returns-clause-settled g c = λ h most top called waits branches few are can. (
+returns-clause-settled g c = λ h most top called waits few branches are can. (
   c.write_node.ensures.sound h can.live,
   fits_settled most top c.args.node.now.level called branches c.args.node.now.entries.items _ _ c.args.page _
       _ _ _ are can few

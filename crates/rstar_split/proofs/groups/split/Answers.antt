@@ -72,7 +72,7 @@ returns-clause-divided g c =
     let axis = c.best_axis.result in
     let cut = c.least_cut-cut.result in
     let cuts = c.least_cut-cut.ensures axis c.best_axis.ensures.sorts in
-    let m : c.max-m.result ≡ least_entries c.args.m_max = search rules in
+    let m : c.max-m.result ≡ least_entries c.args.fanout = search rules in
     let o : List ℕ = order_of (items_of es) axis cut.bound in
     let places : c.least_cut-cut.new.places ≡ o = cuts.order
     ∙ ap (λ xs. order_of (items_of xs) axis cut.bound) is in
@@ -105,4 +105,4 @@ returns-clause-divided g c =
     }
 
 pub returns-clause-all : goal.returns-clause-all
-returns-clause-all g c = divided_whole g.row.D c.args.m_max _ _ _ (returns-clause-divided g c)
+returns-clause-all g c = divided_whole g.row.D c.args.fanout _ _ _ (returns-clause-divided g c)

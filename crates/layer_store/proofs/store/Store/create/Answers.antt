@@ -22,3 +22,8 @@ returns-clause-changes g c =
 pub returns-clause-tree : goal.returns-clause-tree
 returns-clause-tree g c =
     λ t alive. on_told _ c.tell.ensures (c.create-made.ensures.tree t (is_alive c.args.self.now t alive).1)
+
+pub returns-clause-version : goal.returns-clause-version
+returns-clause-version g c =
+    λ t alive. on_told _ c.tell.ensures
+    (c.create-made.ensures.version t (is_alive c.args.self.now t alive).1)

@@ -18,7 +18,7 @@ returns-in-Ok-clause-made g c = ok_case c.begin.result (λ store is honest.
     let file = c.in-Ok.file in
     let inside = made.honest.0 honest in
     let image =
-    made_image file (made.lies honest) made.next (made.catalog honest) (made.others honest)
+    made_image file (made.lies honest) made.version made.next (made.catalog honest) (made.others honest)
     (made.sound honest) in
     let settled = at_ok _ c.begin.result store is c.begin.ensures.settled in
     let there =
@@ -45,7 +45,7 @@ returns-in-Ok-clause-begins g c = ok_case c.begin.result (λ store is honest non
     let file = c.in-Ok.file in
     let inside = made.honest.0 honest in
     let image =
-    made_image file (made.lies honest) made.next (made.catalog honest) (made.others honest)
+    made_image file (made.lies honest) made.version made.next (made.catalog honest) (made.others honest)
     (made.sound honest) in
     let settled = at_ok _ c.begin.result store is c.begin.ensures.settled in
     let there =
@@ -72,7 +72,7 @@ returns-in-Ok-clause-closed g c = ok_case c.begin.result (λ store is honest.
     let made = c.in-Ok.ensures in
     let file = c.in-Ok.file in
     let image =
-    made_image file (made.lies honest) made.next (made.catalog honest) (made.others honest)
+    made_image file (made.lies honest) made.version made.next (made.catalog honest) (made.others honest)
     (made.sound honest) in
     subst (λ (b : Blocks). IsImage b empty)
     (sym (at_ok _ c.begin.result store is c.begin.ensures.blocks (made.honest.0 honest))) image)
@@ -83,7 +83,7 @@ returns-in-Ok-clause-stops g c = ok_case c.begin.result (λ store is honest.
     let made = c.in-Ok.ensures in
     let file = c.in-Ok.file in
     let image =
-    made_image file (made.lies honest) made.next (made.catalog honest) (made.others honest)
+    made_image file (made.lies honest) made.version made.next (made.catalog honest) (made.others honest)
     (made.sound honest) in
     then_read d.moment d.left_since d.recovery c.args.device (device_of file) (device_in store)
     (blocks_of file) (λ b. IsRefused b ⊎ IsImage b empty) (inr image)
@@ -96,7 +96,7 @@ returns-in-Ok-clause-refused_stops g c = λ cache. err_case c.begin.result (λ e
     let made = c.in-Ok.ensures in
     let file = c.in-Ok.file in
     let image =
-    made_image file (made.lies honest) made.next (made.catalog honest) (made.others honest)
+    made_image file (made.lies honest) made.version made.next (made.catalog honest) (made.others honest)
     (made.sound honest) in
     then_read d.moment d.left_since d.recovery c.args.device (device_of file) e.1 (blocks_of file)
     (λ b. IsRefused b ⊎ IsImage b empty) (inr image)
@@ -108,7 +108,7 @@ returns-in-Ok-clause-refused g c = λ cache. err_case c.begin.result (λ e is ho
     let made = c.in-Ok.ensures in
     let file = c.in-Ok.file in
     let image =
-    made_image file (made.lies honest) made.next (made.catalog honest) (made.others honest)
+    made_image file (made.lies honest) made.version made.next (made.catalog honest) (made.others honest)
     (made.sound honest) in
     at_err _ c.begin.result e is
     (c.begin.ensures.not_refused empty (blocks_of file) (made.honest.0 honest) (made.lies honest) image))

@@ -1,15 +1,16 @@
 -- The pages are made, and the record is in its place; or the change was refused, or broke off.
-use Rattle.std.proofs.Common.{Err, length, refl, ap, arith, subst, sym}
+use Rattle.std.proofs.Common.{◌∙◌, Err, length, refl, ap, arith, subst, sym}
 use Rattle.catalog_page.specs.Layout.{records_of}
 use Rattle.catalog_page.specs.declared.layer_record.LayerRecord.{LayerRecord}
 use Rattle.layer_pages.specs.Changes.{IsEmptyLeaf}
+use Rattle.page_cache.specs.Cache.{pages, version_of}
 use Rattle.page_cache.specs.Laws.{numbers_are_few}
 use Rattle.page_file.specs.Fault.{IsOfDevice}
 use Rattle.live_layers.specs.declared.broken.Broken.{Broken}
 use Rattle.live_layers.proofs.CountLemmas.{no_page_wanted}
-use Rattle.live_layers.proofs.BegunLemmas.{broke_behind, made_behind, not_opened}
+use Rattle.live_layers.proofs.BegunLemmas.{broke_behind, made_and_admitted, not_opened}
 use Rattle.live_layers.proofs.CreateLemmas.{brings_before, made_record, one_more_may_be, put_in, sound_made}
-use Rattle.live_layers.proofs.CreateLemmas.{tree_made}
+use Rattle.live_layers.proofs.CreateLemmas.{made_still, tree_made, version_made}
 use Rattle.live_layers.proofs.Results.{the_err}
 use Rattle.live_layers.proofs.layers.Layers.add_layer.Goals as goal
 
@@ -43,7 +44,7 @@ pub invariant_of-self-2 : goal.invariant_of-self-2
 invariant_of-self-2 g c =
     let items = c.begin.new.self.records.items in
     let root = c.in-Ok.made.0 in
-    let directory = c.in-Ok.made.1 in
+    let ids_root = c.in-Ok.made.1 in
     let r : LayerRecord =
     record {
       name = c.name_of.result;
@@ -51,13 +52,13 @@ invariant_of-self-2 g c =
       fanout = c.args.fanout;
       level = root.level;
       root = root.page;
-      directory = directory;
+      ids_root = ids_root;
       count = 0;
     } in
-    let row = made_record c.args.name.now c.args.dims c.args.fanout root directory in
+    let row = made_record c.args.name.now c.args.dims c.args.fanout root ids_root in
     let records =
     put_in items c.insert.new.self.items c.args.place r row c.insert.ensures.items
-    (λ i. made_record (c.name_of.ensures i) c.args.dims c.args.fanout root directory) in
+    (λ i. made_record (c.name_of.ensures i) c.args.dims c.args.fanout root ids_root) in
     let made = c.in-Ok.ensures.places in
     let few = numbers_are_few c.make_pages.new.cache in
     record {
@@ -73,7 +74,7 @@ returns-clause-added g c = λ t sound belongs.
     let before = c.begin.ensures.sound t sound in
     let items = c.begin.new.self.records.items in
     let root = c.in-Ok.made.0 in
-    let directory = c.in-Ok.made.1 in
+    let ids_root = c.in-Ok.made.1 in
     let r : LayerRecord =
     record {
       name = c.name_of.result;
@@ -81,18 +82,20 @@ returns-clause-added g c = λ t sound belongs.
       fanout = c.args.fanout;
       level = root.level;
       root = root.page;
-      directory = directory;
+      ids_root = ids_root;
       count = 0;
     } in
-    let row = made_record c.args.name.now c.args.dims c.args.fanout root directory in
+    let row = made_record c.args.name.now c.args.dims c.args.fanout root ids_root in
     let records =
     put_in items c.insert.new.self.items c.args.place r row c.insert.ensures.items
-    (λ i. made_record (c.name_of.ensures i) c.args.dims c.args.fanout root directory) in
+    (λ i. made_record (c.name_of.ensures i) c.args.dims c.args.fanout root ids_root) in
     sound_made kept _ t c.args.name.now c.args.place before belongs c.args.dims c.args.fanout
-    c.requires.may_be c.in-Ok.made.0 c.in-Ok.made.1
-    (c.in-Ok.ensures.made before.map c.args.fanout)
-    c.in-Ok.ensures.places.0 c.in-Ok.ensures.changes.next records
-    (c.in-Ok.ensures.sound before.map) refl refl
+    c.requires.may_be c.in-Ok.made.0 c.in-Ok.made.1 c.kind_in-kind.result
+    (made_still (pages kept.cache) (pages c.make_pages.new.cache) (pages c.admit.new.cache) c.args.dims
+    c.args.fanout c.kind_in-kind.result root ids_root c.admit.ensures.pages_stay
+    (c.in-Ok.ensures.made before.map c.args.fanout))
+    c.in-Ok.ensures.places.0 (omega (arith, c.in-Ok.ensures.changes.next, c.admit.ensures.next)) records
+    (c.admit.ensures.sound (c.in-Ok.ensures.sound before.map)) refl refl
 
 pub returns-clause-tree : goal.returns-clause-tree
 returns-clause-tree g c = λ t sound belongs.
@@ -100,7 +103,7 @@ returns-clause-tree g c = λ t sound belongs.
     let before = c.begin.ensures.sound t sound in
     let items = c.begin.new.self.records.items in
     let root = c.in-Ok.made.0 in
-    let directory = c.in-Ok.made.1 in
+    let ids_root = c.in-Ok.made.1 in
     let r : LayerRecord =
     record {
       name = c.name_of.result;
@@ -108,21 +111,31 @@ returns-clause-tree g c = λ t sound belongs.
       fanout = c.args.fanout;
       level = root.level;
       root = root.page;
-      directory = directory;
+      ids_root = ids_root;
       count = 0;
     } in
-    let row = made_record c.args.name.now c.args.dims c.args.fanout root directory in
+    let row = made_record c.args.name.now c.args.dims c.args.fanout root ids_root in
     let records =
     put_in items c.insert.new.self.items c.args.place r row c.insert.ensures.items
-    (λ i. made_record (c.name_of.ensures i) c.args.dims c.args.fanout root directory) in
+    (λ i. made_record (c.name_of.ensures i) c.args.dims c.args.fanout root ids_root) in
     brings_before c.args.self.now kept _ c.args.name.now IsEmptyLeaf
     (c.begin.ensures.keeps.map.pages_stay sound.map.honest) c.begin.ensures.keeps.records
     (tree_made kept _ t c.args.name.now c.args.place before belongs c.args.dims c.args.fanout
-    c.requires.may_be c.in-Ok.made.0 c.in-Ok.made.1
-    (c.in-Ok.ensures.made before.map c.args.fanout)
-    c.in-Ok.ensures.places.0 c.in-Ok.ensures.changes.next records)
+    c.requires.may_be c.in-Ok.made.0 c.in-Ok.made.1 c.kind_in-kind.result
+    (made_still (pages kept.cache) (pages c.make_pages.new.cache) (pages c.admit.new.cache) c.args.dims
+    c.args.fanout c.kind_in-kind.result root ids_root c.admit.ensures.pages_stay
+    (c.in-Ok.ensures.made before.map c.args.fanout))
+    c.in-Ok.ensures.places.0 (omega (arith, c.in-Ok.ensures.changes.next, c.admit.ensures.next)) records)
 
 pub returns-clause-begins : goal.returns-clause-begins
 returns-clause-begins g c =
-    made_behind c.args.self.now c.begin.new.self _ c.make_pages.new.cache refl c.in_ok-begin.ensures.begins
-    c.in-Ok.ensures.changes
+    made_and_admitted c.args.self.now c.begin.new.self _ c.make_pages.new.cache c.admit.ensures.device
+    c.admit.ensures.gate c.admit.ensures.next c.in_ok-begin.ensures.begins c.in-Ok.ensures.changes
+
+pub returns-clause-version : goal.returns-clause-version
+returns-clause-version g c = λ honest.
+    version_made c.args.self.now.newest (version_of c.args.self.now.cache)
+    (version_of c.make_pages.new.cache) (version_of c.admit.new.cache) c.kind_in-kind.result c.kind_in-kind.ensures
+    c.admit.ensures.chains c.admit.ensures.tree
+    (c.in-Ok.ensures.changes.gate.version (c.begin.ensures.begins.honest.0 honest)
+    ∙ c.begin.ensures.keeps.map.version honest)

@@ -1,10 +1,12 @@
 -- The records, the catalog and the pages are checked in turn.
-use Rattle.std.proofs.Common.{◌≡◌, ◌∙◌, ℕ, List, true, Some, inl, inr, map, refl, sym, subst, ⊎_elim}
+use Rattle.std.proofs.Common.{◌≡◌, ◌∙◌, ℕ, ◌+◌, ◌*◌, ◌≤◌, List, true, Some, inl, inr, length, map, ap, arith}
+use Rattle.std.proofs.Common.{refl, sym, subst, ⊎_elim}
+use Rattle.std.proofs.lemmas.List.{length-map}
 use Rattle.catalog_page.specs.Layout.{record_of, records_of}
 use Rattle.catalog_page.specs.declared.layer_record.LayerRecord.{LayerRecord}
 use Rattle.node_page.specs.Parts.{IsAllOf}
 use Rattle.node_page.specs.Standing.{PageMap}
-use Rattle.page_cache.specs.Cache.{next_of, pages}
+use Rattle.page_cache.specs.Cache.{looks_of, next_of, pages}
 use Rattle.page_cache.specs.Calls.{asks_in_turn, fault_in}
 use Rattle.page_cache.specs.Laws.{the_map_is_kept_in_turn}
 use Rattle.live_layers.specs.Catalog.{is_good_catalog, objects_named}
@@ -107,3 +109,29 @@ returns-clause-damage g c = λ honest.
       subst (λ (xs : List LayerRecord). IsFoundDamaged mid (map record_of xs) n) c.deref-3.ensures.0
           (damage n is),
     )) (c.check_pages.ensures.damage (asked.gate.honest.0 honest))
+
+pub returns-clause-looks : goal.returns-clause-looks
+returns-clause-looks g c =
+    let old = c.args.self.now.cache in
+    let mid = c.check_catalog.new.cache in
+    let new = c.check_pages.new.cache in
+    let items = c.args.self.now.records.items in
+    let many : length c.deref-3.result.now ≡ length (map record_of items) =
+    ap length c.deref-3.ensures.0 ∙ sym (length-map items record_of) in
+    let bound =
+    subst (λ (n : ℕ). looks_of new ≤ looks_of mid + 2 * (n * next_of mid) + n) many
+    c.check_pages.ensures.looks in
+    let bounded =
+    subst (λ (k : ℕ). looks_of new ≤ looks_of mid + 2 * (length (map record_of items) * k)
+    + length (map record_of items)) c.in_ok-check_catalog.ensures.asks.map.next bound in
+    omega (arith, bounded, c.check_catalog.ensures.looks)
+
+pub returns-clause-trees : goal.returns-clause-trees
+returns-clause-trees g c =
+    let asked = c.in_ok-check_catalog.ensures.asks in
+    record {
+      map = the_map_is_kept_in_turn c.args.self.now.cache c.check_catalog.new.cache c.check_pages.new.cache
+          asked.gate.honest.0 asked.map c.check_pages.ensures.asks.map;
+      records = refl;
+      written = λ was. was;
+    }

@@ -47,7 +47,7 @@ returns-in-Err-clause-allowed g c = λ t name box sound located axes given.
     let new = record old { cache = c.get.new.cache } in
     inr (subst (λ (x : Refusal). IsFault (Rose old new) x) (sym c.as_refusal.ensures)
     (device_refuses (Rose old new) c.in-Err.fault
-    (c.in-Err.ensures.stands sound.map.honest located.layer.ids located.stands.directory_is stand)
+    (c.in-Err.ensures.stands sound.map.honest located.layer.ids located.stands.ids_root_is stand)
     (risen_of _ _ c.in-Err.fault c.in-Err.ensures.asks.faults)))
 
 pub returns-then-is_some-clause-allowed : goal.returns-then-is_some-clause-allowed
@@ -64,7 +64,7 @@ returns-then-is_some-clause-allowed g c = λ t name box sound located axes given
     (λ i. is_ordered (axes i) (given i)) ∙ sym c.try_new.ensures.test in
     let stand : IdsStand g.row.D (pages old.cache) located.layer.ids =
     subst (λ (k : ℕ). IdsStand k (pages old.cache) located.layer.ids) its located.stands.ids in
-    let found = c.in-Ok.ensures.found sound.map.honest located.layer.ids located.stands.directory_is stand in
+    let found = c.in-Ok.ensures.found sound.map.honest located.layer.ids located.stands.ids_root_is stand in
     let has : contains_key layer.objects id ≡ c.is_some.result =
     ap (λ (o : Objects). is_some (find_in o id)) (sym located.stands.table) ∙ ap is_some (sym found)
     ∙ sym c.is_some.ensures in
@@ -84,7 +84,7 @@ returns-then-self-ge-MOST_OBJECTS-clause-allowed g c = λ t name box sound locat
     (λ i. is_ordered (axes i) (given i)) ∙ sym c.try_new.ensures.test in
     let stand : IdsStand g.row.D (pages old.cache) located.layer.ids =
     subst (λ (k : ℕ). IdsStand k (pages old.cache) located.layer.ids) its located.stands.ids in
-    let found = c.in-Ok.ensures.found sound.map.honest located.layer.ids located.stands.directory_is stand in
+    let found = c.in-Ok.ensures.found sound.map.honest located.layer.ids located.stands.ids_root_is stand in
     let has : contains_key layer.objects id ≡ c.is_some.result =
     ap (λ (o : Objects). is_some (find_in o id)) (sym located.stands.table) ∙ ap is_some (sym found)
     ∙ sym c.is_some.ensures in
@@ -105,7 +105,7 @@ returns-clause-allowed g c = λ t name box sound located axes given.
     (λ i. is_ordered (axes i) (given i)) ∙ sym c.try_new.ensures.test in
     let stand : IdsStand g.row.D (pages old.cache) located.layer.ids =
     subst (λ (k : ℕ). IdsStand k (pages old.cache) located.layer.ids) its located.stands.ids in
-    let found = c.in-Ok.ensures.found sound.map.honest located.layer.ids located.stands.directory_is stand in
+    let found = c.in-Ok.ensures.found sound.map.honest located.layer.ids located.stands.ids_root_is stand in
     let has : contains_key layer.objects id ≡ c.is_some.result =
     ap (λ (o : Objects). is_some (find_in o id)) (sym located.stands.table) ∙ ap is_some (sym found)
     ∙ sym c.is_some.ensures in

@@ -32,6 +32,11 @@ returns-in-Ok-clause-tree g c =
     λ t sound. made_so _ c.add_layer.result c.change_of.result c.change_of.ensures
     (c.add_layer.ensures.tree t sound (c.in-Ok.ensures.belongs t sound))
 
+pub returns-in-Ok-clause-version : goal.returns-in-Ok-clause-version
+returns-in-Ok-clause-version g c =
+    λ t sound. made_so _ c.add_layer.result c.change_of.result c.change_of.ensures
+    (c.add_layer.ensures.version sound.map.honest)
+
 pub returns-in-Err-clause-change : goal.returns-in-Err-clause-change
 returns-in-Err-clause-change g c =
     refused_by c.args.self.now (Create c.args.name.now c.args.dims c.args.fanout) c.in-Err.refusal

@@ -19,7 +19,7 @@ returns-in-Ok-clause-counted g c = λ t name sound located.
       stands = located;
       pairs = facts.pairs.items;
       list = facts.pages.items;
-      table = subst (λ d. IsCheckedTable d (pages c.args.self.now.cache) there.directory facts.pairs.items
+      table = subst (λ d. IsCheckedTable d (pages c.args.self.now.cache) there.ids_root facts.pairs.items
           facts.pages.items) (sym c.requires.axes) (c.in-Ok.ensures.table sound.map);
       many = omega (arith, c.len.ensures);
     }
@@ -34,7 +34,7 @@ returns-in-Err-clause-fault g c = λ t name sound located.
     (g.B.BlockDevice.faults (device_of c.check_table.new.cache)) in
     subst (λ (x : Refusal). IsFault rose x) (sym c.as_refusal.ensures)
     (device_refuses rose c.in-Err.fault
-    (c.in-Err.ensures.stands sound.map.honest located.layer.ids at.directory_is at.ids)
+    (c.in-Err.ensures.stands sound.map.honest located.layer.ids at.ids_root_is at.ids)
     (risen_of _ _ c.in-Err.fault c.in-Err.ensures.asks.faults))
 
 pub returns-in-Ok-clause-keeps : goal.returns-in-Ok-clause-keeps

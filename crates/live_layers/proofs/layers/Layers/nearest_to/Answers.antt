@@ -31,7 +31,7 @@ returns-in-Ok-clause-replied g c = λ t name sound located.
     let at = stands_with old t name there located g.row.D axes in
     let nearest : c.in-Ok.rows.items ≡ take c.args.k (by_distance layer.dims point objects) =
     c.in-Ok.ensures.rows sound.map.honest located.layer.tree there.fanout at.tree
-    ∙ nearest_are_objects g.row.D there.fanout (pages old.cache) there.root there.directory located.layer
+    ∙ nearest_are_objects g.row.D there.fanout (pages old.cache) there.root there.ids_root located.layer
     layer.objects c.args.k point at
     ∙ ap (λ (d : ℕ). take c.args.k (by_distance d point objects)) (sym axes ∙ sym located.dims) in
     let right = tested_same g.row.D layer.dims there.dims located.dims axes in
@@ -52,7 +52,7 @@ returns-in-Ok-clause-looks g c = λ t name sound located.
     let tree = located.layer.tree in
     let nearest : nearest_rows g.row.D c.args.k point tree ≡ take c.args.k
     (by_distance layer.dims point objects) =
-    nearest_are_objects g.row.D there.fanout (pages old.cache) there.root there.directory located.layer
+    nearest_are_objects g.row.D there.fanout (pages old.cache) there.root there.ids_root located.layer
     layer.objects c.args.k point at
     ∙ ap (λ (d : ℕ). take c.args.k (by_distance d point objects)) (sym axes ∙ sym located.dims) in
     record {

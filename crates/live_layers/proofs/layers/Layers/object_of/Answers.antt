@@ -17,7 +17,7 @@ pub returns-in-Ok-None-clause-replied : goal.returns-in-Ok-None-clause-replied
 returns-in-Ok-None-clause-replied g c = λ t name sound located.
     let there = c.args.located.now in
     let at = stands_with c.args.self.now t name there located g.row.D c.requires.axes in
-    let found = c.in-Ok-None.ensures.found sound.map.honest located.layer.ids at.directory_is at.ids in
+    let found = c.in-Ok-None.ensures.found sound.map.honest located.layer.ids at.ids_root_is at.ids in
     object_missing
     (HasRisen (g.B.BlockDevice.faults (device_of c.args.self.now.cache))
     (g.B.BlockDevice.faults (device_of c.get.new.cache))) (layer_at t name) c.args.id
@@ -34,7 +34,7 @@ returns-in-Err-clause-replied g c = λ t name sound located.
     reply_failed rose (first_refusal (missing_refusals layer c.args.id))
     (Boxes (object_row layer c.args.id ∷ [])) _ _
     (device_refuses rose c.in-Err.fault
-    (c.in-Err.ensures.stands sound.map.honest located.layer.ids at.directory_is at.ids)
+    (c.in-Err.ensures.stands sound.map.honest located.layer.ids at.ids_root_is at.ids)
     (risen_of _ _ c.in-Err.fault c.in-Err.ensures.asks.faults))
     (ap Refused c.as_refusal.ensures)
 

@@ -20,7 +20,7 @@ returns-in-Ok-clause-pairs g c = λ t first second sound located other.
     let at = stands_with old t first left located g.row.D c.requires.left in
     let at' = stands_with old t second right other g.row.D c.requires.right in
     pairs_are g.row.D c.args.within left.fanout right.fanout (pages old.cache) left.root right.root
-    left.directory right.directory located.layer other.layer (layer_at t first) (layer_at t second)
+    left.ids_root right.ids_root located.layer other.layer (layer_at t first) (layer_at t second)
     c.in-Ok.pairs.items
     (located.dims ∙ c.requires.left) at at'
     (c.in-Ok.ensures.pairs sound.map.honest located.layer.tree other.layer.tree left.fanout right.fanout

@@ -17,7 +17,7 @@ returns-in-Ok-clause-rows g c = λ t name sound located.
     let there = c.args.located.now in
     let old = c.args.self.now in
     let at = stands_with old t name there located g.row.D c.requires.axes in
-    ranges_answer_objects g.row.D there.fanout (pages old.cache) there.root there.directory located.layer
+    ranges_answer_objects g.row.D there.fanout (pages old.cache) there.root there.ids_root located.layer
     (layer_at t name).objects (seeks c.args.query.now) c.args.tag c.in-Ok.rows.items at
     (c.in-Ok.ensures.rows sound.map.honest located.layer.tree there.fanout at.tree)
 

@@ -15,7 +15,7 @@ returns-in_err-objects-clause-stands g c = λ honest h row stands.
     let r = record_of c.args.layer.now in
     the_err c.from_residual-in_err-objects.result c.in_err-objects.field-0.0 IsOfDevice
     c.from_residual-in_err-objects.ensures.1
-    (c.in_err-objects.ensures.stands honest r.fanout r.directory h.pages h.layer.objects
+    (c.in_err-objects.ensures.stands honest r.fanout r.ids_root h.pages h.layer.objects
     (layer_of_row 2 (pages c.args.cache.now) r h row c.if-layer-eq2.true stands))
 
 pub returns-in_err-objects-2-clause-stands : goal.returns-in_err-objects-2-clause-stands
@@ -24,7 +24,7 @@ returns-in_err-objects-2-clause-stands g c = λ honest h row stands.
     let axes : r.dims ≡ 3 = omega (arith, c.requires, c.if-layer-eq2.false) in
     the_err c.from_residual-in_err-objects-2.result c.in_err-objects-2.field-0.0 IsOfDevice
     c.from_residual-in_err-objects-2.ensures.1
-    (c.in_err-objects-2.ensures.stands honest r.fanout r.directory h.pages h.layer.objects
+    (c.in_err-objects-2.ensures.stands honest r.fanout r.ids_root h.pages h.layer.objects
     (layer_of_row 3 (pages c.args.cache.now) r h row axes stands))
 
 pub returns-in_ok-add_objects-clause-rows : goal.returns-in_ok-add_objects-clause-rows
@@ -32,7 +32,7 @@ returns-in_ok-add_objects-clause-rows g c = λ honest h row stands.
     let r = record_of c.args.layer.now in
     let old = pages c.args.cache.now in
     let found : c.in_ok-objects.objects.items ≡ entries h.layer.objects =
-    c.in_ok-objects.ensures.rows honest r.fanout r.directory h.pages h.layer.objects
+    c.in_ok-objects.ensures.rows honest r.fanout r.ids_root h.pages h.layer.objects
     (layer_of_row 2 old r h row c.if-layer-eq2.true stands) in
     let same : c.deref-then-layer-eq2.result.now ≡ c.in_ok-objects.objects.items =
     c.deref-then-layer-eq2.ensures.value in
@@ -47,7 +47,7 @@ returns-in_ok-add_objects-2-clause-rows g c = λ honest h row stands.
     let old = pages c.args.cache.now in
     let axes : r.dims ≡ 3 = omega (arith, c.requires, c.if-layer-eq2.false) in
     let found : c.in_ok-objects-2.objects.items ≡ entries h.layer.objects =
-    c.in_ok-objects-2.ensures.rows honest r.fanout r.directory h.pages h.layer.objects
+    c.in_ok-objects-2.ensures.rows honest r.fanout r.ids_root h.pages h.layer.objects
     (layer_of_row 3 old r h row axes stands) in
     let same : c.deref-else-layer-eq2.result.now ≡ c.in_ok-objects-2.objects.items =
     c.deref-else-layer-eq2.ensures.value in

@@ -11,16 +11,16 @@ use Rattle.live_layers.proofs.Results.{if_ok}
 use Rattle.live_layers.proofs.layers.dumping.objects_at.Goals as goal
 
 pub returns-clause-rows : goal.returns-clause-rows
-returns-clause-rows g c = λ honest most directory l objects at.
+returns-clause-rows g c = λ honest most ids_root l objects at.
     let dims = g.row.D in
     let all = c.new-all.result in
     let old = pages c.args.cache.now in
     if_ok c.window.result
     (λ rows answer.
-    ranges_answer_objects dims most old c.args.root directory l objects (λ b. meets_test dims b all) None
+    ranges_answer_objects dims most old c.args.root ids_root l objects (λ b. meets_test dims b all) None
     rows.items at answer
     ∙ ap (λ (w : Bounds). filter
     (λ (o : ℕ × Object). meets_test dims (bounds_of o.1) w && has_tag None o.1)
     (entries objects)) c.new-all.ensures
-    ∙ all_objects_meet dims most old c.args.root directory l objects at)
+    ∙ all_objects_meet dims most old c.args.root ids_root l objects at)
     (c.window.ensures.rows honest l.tree most at.tree)

@@ -98,10 +98,10 @@ module _ {D A : Type 0} {m : _} (old mid : PageCache D A m) (file : PageFile D m
 module _ {D A : Type 0} {m : _} (old mid new : PageCache D A m) (keeps : KeepsBlocks old mid) (first : ℕ)
     (is : first ≡ mid.file.header.first) (gone : frame_at mid.frames.entries first ≡ None)
     (behind : blocks_behind new ≡ after old mid new.file keeps first is gone) where
-  map_stays : new.file.header.next ≡ mid.file.header.next → (IsHonest mid ↔ IsHonest new)
+  map_stays : new.file.header.next ≡ mid.file.header.next → below.KeepsGate mid.file new.file
       → (IsHonest mid → MayHaveGiven (blocks_of mid) (blocks_of new) mid.file.header new.file.header)
       → new.file.header.count ≡ old.file.header.count → KeepsMap old new
-  map_stays next honest gave count =
+  map_stays next gate gave count =
       let X = blocks_behind old in let Y = after old mid new.file keeps first is gone in
       let roomy : IsHonest old → old.file.header.next ≤ length X =
       room old mid new.file keeps first is gone in
@@ -110,18 +110,19 @@ module _ {D A : Type 0} {m : _} (old mid new : PageCache D A m) (keeps : KeepsBl
       record {
         next = next ∙ ap (λ (x : Header). x.next) keeps.header;
         free_count = count;
+        version = λ h. gate.version (keeps.gate.honest.0 h) ∙ keeps.gate.version h;
         pages_stay = λ h n. ap (λ (b : Blocks). page_of b new.file.header n) behind
             ∙ pages_unchanged X Y old.file.header new.file.header old.file.sound (roomy h) (may_of h) count n;
         given_stay = λ h n. ap (λ (b : Blocks). given_pages b new.file.header.next n) behind
             ∙ given_unchanged X Y old.file.header new.file.header old.file.sound (roomy h) (may_of h) count n;
         sound = (
           λ p. record {
-            honest = honest.0 (keeps.gate.honest.0 p.honest);
+            honest = gate.honest.0 (keeps.gate.honest.0 p.honest);
             free = subst (λ (b : Blocks). HasFreeChain b new.file.header) (sym behind)
                 (chain_refused X Y old.file.header new.file.header old.file.sound (roomy p.honest) p.free
                 (may_of p.honest));
           },
-          λ p. let h = keeps.gate.honest.1 (honest.1 p.honest) in record {
+          λ p. let h = keeps.gate.honest.1 (gate.honest.1 p.honest) in record {
             honest = h;
             free = chain_unchanged X Y old.file.header new.file.header old.file.sound (roomy h) (may_of h)
                 count (subst (λ (b : Blocks). HasFreeChain b new.file.header) behind p.free);
@@ -181,7 +182,7 @@ returns g c =
         untouched = λ none.
             none_lost mid.touched c.is_ok.result c.free_count.result left r c.is_ok.ensures.value none
             (on_err_given r did.refused_next did.may_give (λ next may. λ same.
-            map_stays old mid _ k at first gone refl next did.gate.honest may
+            map_stays old mid _ k at first gone refl next did.gate may
             (sym c.free_count.ensures ∙ same ∙ c.free_count-free.ensures ∙ counts)));
         faults = counted_by_end _ _ r did.cause
             ∙ ap (faults_behind (fault_in r)) c.in_ok-release.ensures.cause.ok;
@@ -222,7 +223,7 @@ returns g c =
       kept = on_err_and r did.refused_next did.may_give
           (stays_unless_lost mid.touched c.is_ok.result c.free_count.result left r c.is_ok.ensures.value)
           (λ next may stays. λ count. (
-            map_stays old mid _ k at first gone refl next did.gate.honest may count,
+            map_stays old mid _ k at first gone refl next did.gate may count,
             stays (c.free_count.ensures ∙ count ∙ sym counts ∙ sym c.free_count-free.ensures) ∙ k.touched,
           ));
       touched = search rules;

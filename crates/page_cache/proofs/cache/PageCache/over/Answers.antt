@@ -23,6 +23,7 @@ returns-in-Ok g c =
     record {
       device = refl;
       gate = refl;
+      version = refl;
       next = refl;
       pages = pages_below cache none;
       given = given_below cache none;

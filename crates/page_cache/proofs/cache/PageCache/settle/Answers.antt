@@ -1,8 +1,10 @@
 -- The goals of `PageCache::settle` that are proved by hand.
 use Rattle.std.proofs.Common.{inl, inr, ◌≡◌, ◌∙◌, ◌⊎◌, rules, sym, subst, ⊎_elim}
+use Rattle.std.specs.Prelude.{OnOk}
 use Rattle.page_file.specs.Fault.{HasCause, IsDamage, IsOfDevice}
 use Rattle.page_file.specs.File as below
 use Rattle.page_file.specs.Laws.{is_open}
+use Rattle.page_file.specs.Layout.{version_in, version_number}
 use Rattle.page_file.specs.Stops.{SameButGate}
 use Rattle.page_file.specs.declared.file.PageFile.{PageFile}
 use Rattle.page_file.specs.declared.gate.Gate.{Gate}
@@ -38,6 +40,7 @@ returns-in_err-write_all g c =
       refused = on_err_all r (inr (kept.gate.gate ∙ opened, opened));
       was_shut = λ shut. absurd (shut_not_open (gate_of old) shut opened);
       was_unsure = λ h unsure. absurd (unsure_not_open (gate_of old) unsure opened);
+      version = λ h _. no_success r f _ refused;
       map = map_kept old new kept;
       holds = c.write_all.ensures.holds;
       stops = λ h. stops_refused old new h opened
@@ -75,6 +78,10 @@ returns g c =
           subst (λ (f : PageFile _ _). SameButGate (below.blocks_of c.settle.new.self) (below.blocks_of f))
           (quiet (unsure_not_open (gate_of old) unsure)).0
           (settled.was_unsure (honest.0 h) (kept.gate.gate ∙ unsure));
+      version = λ h opened.
+          subst
+          (λ v. OnOk c.settle.result (version_in (below.blocks_of c.settle.new.self) ≡ version_number v))
+          (kept.gate.version h) (settled.version (honest.0 h) (kept.gate.gate ∙ opened));
       map = the_map_is_kept_in_turn old mid _ honest.0 (map_kept old mid kept)
           (map_by_file mid _ none none settled.map);
       holds = c.write_all.ensures.holds;

@@ -1,6 +1,7 @@
 -- The goals of `PageFile::begin_change` that are proved by hand.
 use Rattle.std.proofs.Common.{refl}
 use Rattle.page_file.specs.Frames.{map_kept_aside}
+use Rattle.page_file.proofs.Moments.{aside_while_closed}
 use Rattle.page_file.proofs.file.PageFile.begin_change.Goals as goal
 
 pub returns-in_err-write_gate-clause-map : goal.returns-in_err-write_gate-clause-map
@@ -9,3 +10,13 @@ returns-in_err-write_gate-clause-map g c =
 
 pub returns-clause-map : goal.returns-clause-map
 returns-clause-map g c = map_kept_aside _ _ refl c.write_gate.ensures.honest c.write_gate.ensures.same
+
+pub returns-in_err-write_gate-clause-stops : goal.returns-in_err-write_gate-clause-stops
+returns-in_err-write_gate-clause-stops g c =
+    λ h closed. aside_while_closed c.args.self.now c.write_gate.new.device h closed
+    (c.write_gate.ensures.stops h)
+
+pub returns-clause-stops : goal.returns-clause-stops
+returns-clause-stops g c =
+    λ h closed. aside_while_closed c.args.self.now c.write_gate.new.device h closed
+    (c.write_gate.ensures.stops h)

@@ -28,6 +28,7 @@ pub returns-in_err-write_block-clause-gate : goal.returns-in_err-write_block-cla
 returns-in_err-write_block-clause-gate g c = let file = c.args.self.now in let d = g.D.BlockDevice in record {
   gate = refl;
   honest = c.write_block.ensures.honest;
+  version = λ h. refl;
   blocks = λ h ne. absurd (ne c.requires);
   stops = λ h. adds_behind d.moment d.left_since d.recovery file.device c.write_block.new.device file.gate
       (d.shown file.device) (d.may_leave file.device) file.header.next c.requires
@@ -41,7 +42,7 @@ invariant_of-self-2 g c =
     let was : d.honest c.write_block.new.device → d.honest file.device = c.write_block.ensures.honest.1 in
     record {
       sound = more_given file.header file.sound;
-      few = omega (arith, c.if-n-ge-MAX_PAGES.false);
+      few = omega (arith, c.if-n-ge-MOST_PAGES.false);
       room = λ h2. let h = was h2 in
           omega (
             arith,
@@ -61,6 +62,7 @@ pub returns-clause-gate : goal.returns-clause-gate
 returns-clause-gate g c = let file = c.args.self.now in let d = g.D.BlockDevice in record {
   gate = refl;
   honest = c.write_block.ensures.honest;
+  version = λ h. refl;
   blocks = λ h ne. absurd (ne c.requires);
   stops = λ h. adds_behind d.moment d.left_since d.recovery file.device c.write_block.new.device file.gate
       (d.shown file.device) (d.may_leave file.device) file.header.next c.requires

@@ -4,6 +4,7 @@ use Rattle.page_file.specs.declared.gate.Gate.TheVariants.{Shut}
 use Rattle.page_file.specs.Layout.{IsShutGate}
 use Rattle.page_file.specs.Frames.{map_kept_aside, shut_lies}
 use Rattle.page_file.specs.Reading.{shut_gate}
+use Rattle.page_file.proofs.Moments.{aside_while_closed}
 use Rattle.page_file.proofs.file.PageFile.shut.Goals as goal
 
 pub returns-in_err-write_gate-clause-map : goal.returns-in_err-write_gate-clause-map
@@ -24,3 +25,13 @@ returns-then-eq-clause-lies g c = λ h. let shut : c.args.self.now.gate ≡ Shut
 
 pub returns-clause-lies : goal.returns-clause-lies
 returns-clause-lies g c = λ h. shut_lies _ (c.write_gate.ensures.honest.0 h) refl
+
+pub returns-in_err-write_gate-clause-stops : goal.returns-in_err-write_gate-clause-stops
+returns-in_err-write_gate-clause-stops g c =
+    λ h. aside_while_closed c.args.self.now c.write_gate.new.device h c.requires
+    (c.write_gate.ensures.stops h)
+
+pub returns-clause-stops : goal.returns-clause-stops
+returns-clause-stops g c =
+    λ h. aside_while_closed c.args.self.now c.write_gate.new.device h c.requires
+    (c.write_gate.ensures.stops h)

@@ -31,6 +31,7 @@ pub returns-clause-gate : goal.returns-clause-gate
 returns-clause-gate g c = let file = c.args.self.now in let d = g.D.BlockDevice in record {
   gate = refl;
   honest = c.write_block.ensures.honest;
+  version = λ h. refl;
   blocks = λ h ne. absurd (ne c.requires);
   stops = λ h. adds_behind d.moment d.left_since d.recovery file.device c.write_block.new.device file.gate
       (d.shown file.device) (d.may_leave file.device) c.args.n c.requires (omega (arith, c.if-n-lt2.false))

@@ -80,7 +80,7 @@ returns-in_err-list_layer-clause-damage g c = λ honest.
     (λ n is. (
       record_of r,
       among_records items c.loop-record.record-index r c.loop-record-test.true c.record-item.is,
-      comes_in_same r.dims (given c.loop-record.cache) old (root_of (record_of r)) r.directory n
+      comes_in_same r.dims (given c.loop-record.cache) old (root_of (record_of r)) r.ids_root n
           (λ k. asks.map.given_stay honest k)
           (c.in_err-list_layer.ensures.damage (asks.gate.honest.0 honest) n is),
     ))

@@ -12,5 +12,6 @@ invariant-loop-record g l = record {
   layers : IsPageMap l.fn.cache
       → AddsLayers (pages l.fn.cache) (map record_of (take l.record-index l.records)) l.fn.found.items
       l.found.items;
-  looks : looks_of l.cache ≤ looks_of l.fn.cache + 2 * (l.record-index * next_of l.fn.cache);
+  looks : looks_of l.cache ≤ looks_of l.fn.cache + 2 * (l.record-index * next_of l.fn.cache)
+      + l.record-index;
 }

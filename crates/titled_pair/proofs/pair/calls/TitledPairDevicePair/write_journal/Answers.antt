@@ -21,5 +21,5 @@ returns-clause-stops g c = λ h.
     untitled_follows c.args.i (p.may_leave d.pair) (p.may_leave c.write_journal.new.self) (d.room h)
     (c.write_journal.ensures.stops h)
 
-pub returns-then-at-ge-MAX_BLOCKS-clause-stops : goal.returns-then-at-ge-MAX_BLOCKS-clause-stops
-returns-then-at-ge-MAX_BLOCKS-clause-stops g c = λ h a b left. (b, left, inl refl)
+pub returns-then-at-ge-MOST_BLOCKS-clause-stops : goal.returns-then-at-ge-MOST_BLOCKS-clause-stops
+returns-then-at-ge-MOST_BLOCKS-clause-stops g c = λ h a b left. (b, left, inl refl)

@@ -1,0 +1,8 @@
+use Rattle.std.proofs.Common.{◌+◌, ◌*◌}
+use Rattle.box_import.proofs.geometry.+geometry.Given as goal
+
+abbrev pub decreases-read_geometry : goal.decreases-read_geometry
+decreases-read_geometry l = 2 * l.nested
+
+abbrev pub decreases-read_collection : goal.decreases-read_collection
+decreases-read_collection l = 2 * l.nested + 1

@@ -1,0 +1,4 @@
+pub mod Decimals
+pub mod Extents
+pub mod NumberErrors
+pub mod Rows

@@ -1,0 +1,18 @@
+-- A file that was opened, and into which objects were put.
+use Rattle.std.proofs.Common.{inr, refl}
+use Rattle.command_line.proofs.importing.import_path.Goals as goal
+
+pub returns-in-Ok-clause-imported : goal.returns-in-Ok-clause-imported
+returns-in-Ok-clause-imported g c = λ said target.
+    inr (
+      c.in-Ok.device,
+      c.import_device-served.result,
+      c.in-Ok.ensures,
+      refl,
+      record {
+        layer = c.args.import.now.layer.now;
+        fanout = c.args.import.now.fanout;
+        target = target;
+        imported = c.import_device-served.ensures.imported;
+      },
+    )

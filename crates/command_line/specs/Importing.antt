@@ -1,0 +1,79 @@
+-- What a run of the program that imports leaves.
+use Rattle.std.specs.Prelude.{ℕ, ◌≡◌, ◌<◌, ◌≤◌, ◌⊎◌, ◌==◌, Bool, true, false, List, length, Option, Result}
+use Rattle.std.specs.Prelude.{Ok}
+use Rattle.std.specs.Prelude.{Err}
+use Rattle.std.specs.FinMap.{empty}
+use Rattle.block_device.specs.Device.{Blocks, LeavesOnly}
+use Rattle.block_device.specs.declared.device.BlockDevice as device
+use Rattle.file_device.specs.declared.open.OpenError.{OpenError}
+use Rattle.page_file.specs.Opening.{IsRefused}
+use Rattle.page_file.specs.declared.fault.Fault.{Fault}
+use Rattle.live_layers.specs.Image.{IsImage, IsRefusedOrImageOf, OpeningRefuses}
+use Rattle.plain_table.specs.Loads.{GivenObjects}
+use Rattle.plain_table.specs.Table.{Table}
+use Rattle.layer_import.specs.Imports.{HasImported, import_commands}
+use Rattle.command_line.specs.Serving.{IsMisused}
+use Rattle.command_line.specs.Targets.{IsTargetOf}
+use Rattle.command_line.specs.declared.program.Served.{Served}
+
+-- Objects were put into this layer, whose boxes have so many axes, in a store that held this table; with
+-- status 0 all of them, and the store was closed.
+pub record PutsInto {D : Type 0} (m : device.Ghosts D) (moment : ℕ) (t : Table) (layer : List ℕ) (fanout : ℕ)
+    (opened : D) (left : Served D) : Type 0 where
+  pub dims : ℕ
+  pub objects : GivenObjects
+  pub imported : HasImported m moment t (import_commands t layer dims fanout objects) (left.status == 0)
+      opened left.device
+
+-- There is no store to import into, and a stop left blocks that have P.
+pub record IsUnopened {D : Type 0} (m : device.Ghosts D) (P : Blocks → Type 0) (device : D)
+    (left : Served D) : Type 0 where
+  pub failed : left.status ≡ 1
+  pub stops : LeavesOnly m.moment m.left_since m.recovery device left.device P
+
+-- A store was made or opened, which held this table, and objects were put into this layer. A stop within its
+-- opening left blocks that have P, and one since then what an import leaves; and one before the run what it
+-- might have left then.
+pub record ImportsInto {D : Type 0} (m : device.Ghosts D) (P : Blocks → Type 0) (t : Table)
+    (layer : List ℕ) (fanout : ℕ) (device : D) (left : Served D) : Type 0 where
+  pub opened : D
+  pub opening : LeavesOnly m.moment m.left_since m.recovery device opened P
+  pub puts : PutsInto m (m.moment opened) t layer fanout opened left
+  pub whole : LeavesOnly m.moment m.left_since m.recovery device left.device
+      (λ c. P c ⊎ IsRefusedOrImageOf puts.imported.tables c)
+
+-- What an import did on a device that was opened. Where a store was to be made and there are blocks, nothing
+-- has begun, and the device is left as it was opened. Where it is honest, a store was made on it, or opened,
+-- and objects were put into this layer; or its making or its opening was refused.
+pub record HasImportedOn {D : Type 0} (m : device.Ghosts D) (create : Bool) (layer : List ℕ) (fanout : ℕ)
+    (device : D) (left : Served D) : Type 0 where
+  pub kept : create ≡ true → 0 < length (m.shown device) → (left.status ≡ 1) × (left.device ≡ device)
+  pub made : create ≡ true → m.honest device → length (m.shown device) ≡ 0 →
+      IsUnopened m (λ c. IsRefused c ⊎ IsImage c empty) device left
+      ⊎ ImportsInto m (λ c. IsRefused c ⊎ IsImage c empty) empty layer fanout device left
+  pub opened : create ≡ false → m.honest device → (t : Table) → IsImage (m.shown device) t →
+      (IsUnopened m (m.may_leave device) device left × (m.shown left.device ≡ m.shown device))
+      ⊎ ImportsInto m (m.may_leave device) t layer fanout device left
+  pub refused : create ≡ false → m.honest device → (f : Fault) → OpeningRefuses (m.shown device) f →
+      IsUnopened m (m.may_leave device) device left × (m.shown left.device ≡ m.shown device)
+
+-- so it is of the layer that this word names, if one is said
+pub record IntoLayerOf {D : Type 0} (m : device.Ghosts D) (create : Bool) (said : Option (List ℕ))
+    (device : D) (left : Served D) : Type 0 where
+  pub layer : List ℕ
+  pub fanout : ℕ
+  pub target : IsTargetOf said layer fanout
+  pub imported : HasImportedOn m create layer fanout device left
+
+-- Objects were to be imported into a file. The words do not go together; or a row was refused, and no file
+-- was
+-- opened; or the file's opening was refused; or it was opened, of which `opens` tells, and with this status
+-- there is left what was done on it: objects were put into the layer that this word names.
+abbrev pub OpensAndImports : {D R W : Type 0} → device.Ghosts D → (Result D OpenError → Type 0) → Bool
+    → Option (List ℕ) → R → R → W → W → ℕ → Type 0
+OpensAndImports {D} m opens create said r r' w w' status =
+    IsMisused r r' w w' status
+    ⊎ ((status ≡ 1)
+    ⊎ (((e : OpenError) × opens (Err e) × (status ≡ 1))
+    ⊎ ((device : D) × (left : Served D) × opens (Ok device) × (left.status ≡ status)
+    × IntoLayerOf m create said device left)))

@@ -1,0 +1,399 @@
+//! A run of the program that imports: objects are read from the input, all of them, and then put into a layer
+//! of a file, all of them or none.
+ghost use Rattle.std.specs.Io.KnownBytes.{Keeps};
+ghost use Rattle.std.specs.Prelude.{◌≡◌, ◌≤◌, ◌⊎◌, ◌==◌, Ok, Err, IfErr, IfNone, IfOk, IfSome, is_ok};
+ghost use Rattle.std.specs.Prelude.{option_map};
+ghost use Rattle.plain_table.specs.Table.{Table};
+ghost use Rattle.layer_store.specs.Representation.{BeginsWith, device_in};
+ghost use Rattle.command_line.specs.Importing.{HasImportedOn, IntoLayerOf, OpensAndImports, PutsInto};
+ghost use Rattle.command_line.specs.Targets.{IsTarget, IsTargetOf, colon_in};
+ghost use Rattle.command_line.specs.declared.program.Served.{Served};
+ghost use Rattle.file_device.specs.declared.open.OpenError.{OpenError};
+
+use crate::program::{
+    FAILED, MISUSED, Served, WENT_WELL, tell_no_store, tell_not_empty, tell_unopened,
+};
+use crate::words::Options;
+use block_device::BlockDevice;
+use box_import::{
+    Axes, Columns, CsvRows, FeatureLines, ImportError, ImportedObject, Properties, Scale,
+    whole_number,
+};
+use command_shell::{FlushedWrite, Reply, tell_refusal, write_reply};
+use file_device::OpenError;
+use layer_import::{Import, PutProgress, Unimported, import_and_close};
+use layer_store::{Refusal, Store, Version, create_store, open_store};
+use std::alloc::Global;
+use std::io::{BufRead, BufReader, Read, Write};
+
+// The fanout of a layer that is made where none is asked for.
+const FANOUT: u64 = 100;
+
+// How many bytes are read at once.
+const READ_BYTES: usize = 65536;
+
+// What an import reads, and where its objects go.
+#[derive(Clone, Copy)]
+struct Task<'a> {
+    layer: &'a [u8],
+    fanout: u64,
+    form: Form<'a>,
+    scale: Scale,
+}
+
+// In which form objects are read.
+#[derive(Clone, Copy)]
+enum Form<'a> {
+    Csv(Columns<'a>),
+    GeoJson(Properties<'a>, Axes),
+}
+
+// All objects of an input, and how many axes their boxes have.
+#[derive(Drop)]
+struct Batch {
+    dims: u64,
+    objects: Vec<ImportedObject>,
+}
+
+/// Imports as the words ask: reads all objects of the input, and then opens or makes the file and puts them
+/// into the layer. Nothing is written to `output`. The status is 2 where the words name no file, or do not
+/// go together, and then nothing is read; 1 where a row is refused, and then no file is opened, or where
+/// the file can't be opened or the store refuses the objects; and else 0.
+pub(crate) fn import_asked<
+    D: BlockDevice,
+    O: FnOnce(&str, bool) -> Result<D, OpenError>,
+    K: FnOnce(&str, D),
+    I: Read,
+    W: FlushedWrite,
+    E: Write,
+    P: PutProgress,
+>(
+    alloc: Global,
+    options: &Options<'_>,
+    open_at: O,
+    end_at: K,
+    input: &mut I,
+    output: &mut W,
+    errors: &mut E,
+    progress: &mut P,
+) -> u8
+    requires opens { O.IsAlwaysCallable open_at }
+    requires ends { K.IsAlwaysCallable end_at }
+    ensures status { result ≤ 2 }
+    ensures quiet { result ≡ 0 → Keeps (E.contents errors.old) (E.contents errors.new) }
+    ensures flushed { result ≡ 0 → W.is_flushed output.new }
+    ensures unwritten { Keeps (W.contents output.old) (W.contents output.new) }
+    ensures misused { result ≡ 2 → (input.new ≡ input.old) × (output.new ≡ output.old) }
+    ensures nameless { IfNone options.now.file (result ≡ 2) }
+    ensures imported { IfSome options.now.file (λ path.
+        OpensAndImports D.BlockDevice (O.post open_at path options.now.create) options.now.create
+        (option_map (λ w. w.now) options.now.import.layer)
+        input.old input.new output.old output.new result) }
+{
+    let Some(path) = options.file else {
+        return tell_misuse(errors);
+    };
+    let Some(task) = task_of(options) else {
+        return tell_misuse(errors);
+    };
+    if output.flush_out().is_err() {
+        let _ = errors.write_all(b"rstore: input or output failed\n");
+        return FAILED;
+    }
+    match read_batch(alloc, &task, input) {
+        Ok(batch) => {
+            let import = Import {
+                layer: task.layer,
+                dims: batch.dims,
+                fanout: task.fanout,
+                objects: batch.objects.as_slice(),
+            };
+            import_path(
+                alloc, path, options, &import, open_at, end_at, errors, progress,
+            )
+        }
+        Err(error) => {
+            let _ = write!(errors, "rstore: {error}\n");
+            FAILED
+        }
+    }
+}
+
+// Says that the words do not go together.
+fn tell_misuse<E: Write>(errors: &mut E) -> u8
+    ensures { result ≡ 2 }
+{
+    let _ = errors.write_all(
+        b"rstore: --import LAYER[:FANOUT] is for a FILE and not for --strict, --columns LIST and --scale N \
+(1 to 1000000000) are for --import, and --axes N (2 or 3) is for --geojson\n",
+    );
+    MISUSED
+}
+
+// What is to be imported, where the words go together.
+fn task_of<'a>(options: &Options<'a>) -> Option<Task<'a>>
+    ensures { IfSome result (λ task.
+        IsTargetOf (option_map (λ w. w.now) options.now.import.layer) task.layer.now task.fanout) }
+{
+    if options.read_only {
+        return None;
+    }
+    if options.strict {
+        return None;
+    }
+    let (layer, fanout) = target_of(options.import.layer?)?;
+    Some(Task {
+        layer,
+        fanout,
+        form: form_of(options)?,
+        scale: scale_of(options.import.scale)?,
+    })
+}
+
+// The layer and the fanout that a word says.
+fn target_of(word: &str) -> Option<(&[u8], u64)>
+    ensures { IfSome result (λ target. IsTarget word.now target.0.now target.1) }
+{
+    let bytes = word.as_bytes();
+    match colon_in(bytes) {
+        None => Some((bytes, FANOUT)),
+        Some(at) => Some((&bytes[..at], whole_number(&bytes[at + 1..])?)),
+    }
+}
+
+// Where the first colon of a word stands.
+fn colon_in(word: &[u8]) -> Option<usize>
+    ensures { result ≡ colon_in word.now }
+{
+    word.iter().position(|byte| *byte == b':')
+}
+
+// In which form objects are to be read.
+fn form_of<'a>(options: &Options<'a>) -> Option<Form<'a>> {
+    let import = options.import;
+    if import.geojson {
+        return Some(Form::GeoJson(properties_of(import.columns)?, axes_of(import.axes)?));
+    }
+    match (import.axes, import.columns) {
+        (Some(_), _) => None,
+        (None, None) => Some(Form::Csv(Columns::Header)),
+        (None, Some(list)) => Some(Form::Csv(Columns::Listed(list.as_bytes()))),
+    }
+}
+
+// How many axes of features are to be read.
+fn axes_of(word: Option<&str>) -> Option<Axes> {
+    match word {
+        None | Some("2") => Some(Axes::Two),
+        Some("3") => Some(Axes::Three),
+        Some(_) => None,
+    }
+}
+
+// What coordinates are to be multiplied by.
+fn scale_of(word: Option<&str>) -> Option<Scale> {
+    match word {
+        None => Some(Scale::ONE),
+        Some(text) => Scale::new(u32::try_from(whole_number(text.as_bytes())?).ok()?),
+    }
+}
+
+// Which properties of features hold identifiers and tags.
+fn properties_of(list: Option<&str>) -> Option<Properties<'_>> {
+    let list = list.unwrap_or("").as_bytes();
+    let at = list
+        .iter()
+        .position(|byte| *byte == b',')
+        .unwrap_or(list.len());
+    let tag = list.get(at + 1..).unwrap_or(b"");
+    if tag.contains(&b',') {
+        return None;
+    }
+    Some(Properties {
+        id: name_of(&list[..at]),
+        tag: name_of(tag),
+    })
+}
+
+// A property's name, where there is one.
+fn name_of(text: &[u8]) -> Option<&[u8]> {
+    let name = text.trim_ascii();
+    if name.is_empty() { None } else { Some(name) }
+}
+
+// Reads all objects.
+fn read_batch<I: Read>(
+    alloc: Global,
+    task: &Task<'_>,
+    input: &mut I,
+) -> Result<Batch, ImportError> {
+    let text = BufReader::with_capacity(alloc, READ_BYTES, input)?;
+    match task.form {
+        Form::Csv(columns) => read_rows(alloc, text, columns, task.scale),
+        Form::GeoJson(properties, axes) => read_lines(alloc, text, properties, axes, task.scale),
+    }
+}
+
+// Reads the rows of CSV.
+fn read_rows<B: BufRead + Drop>(
+    alloc: Global,
+    text: B,
+    columns: Columns<'_>,
+    scale: Scale,
+) -> Result<Batch, ImportError> {
+    let mut rows = CsvRows::new(alloc, text, &columns, scale)?;
+    let mut objects = Vec::new(alloc);
+    for _ in 0..u64::MAX {
+        match rows.next()? {
+            Some(object) => objects.push(object)?,
+            None => break,
+        }
+    }
+    Ok(Batch {
+        dims: rows.dims(),
+        objects,
+    })
+}
+
+// Reads lines of GeoJSON.
+fn read_lines<B: BufRead + Drop>(
+    alloc: Global,
+    text: B,
+    properties: Properties<'_>,
+    axes: Axes,
+    scale: Scale,
+) -> Result<Batch, ImportError> {
+    let mut lines = FeatureLines::new(alloc, text, properties, axes, scale);
+    let mut objects = Vec::new(alloc);
+    for _ in 0..u64::MAX {
+        match lines.next()? {
+            Some(object) => objects.push(object)?,
+            None => break,
+        }
+    }
+    let dims = match axes {
+        Axes::Two => 2,
+        Axes::Three => 3,
+    };
+    Ok(Batch { dims, objects })
+}
+
+// Opens the file at a path as the words ask, imports, and ends the run over it.
+fn import_path<
+    D: BlockDevice,
+    O: FnOnce(&str, bool) -> Result<D, OpenError>,
+    K: FnOnce(&str, D),
+    E: Write,
+    P: PutProgress,
+>(
+    alloc: Global,
+    path: &str,
+    options: &Options<'_>,
+    import: &Import<'_>,
+    open_at: O,
+    end_at: K,
+    errors: &mut E,
+    progress: &mut P,
+) -> u8
+    requires opens { O.IsAlwaysCallable open_at }
+    requires ends { K.IsAlwaysCallable end_at }
+    ensures status { result ≤ 1 }
+    ensures quiet { result ≡ 0 → Keeps (E.contents errors.old) (E.contents errors.new) }
+    ensures imported { (said : _) → IsTargetOf said import.now.layer.now import.now.fanout →
+        ((e : OpenError) × O.post open_at path.entry options.now.create (Err e) × (result ≡ 1))
+        ⊎ ((device : D) × (left : Served D) × O.post open_at path.entry options.now.create (Ok device)
+        × (left.status ≡ result) × IntoLayerOf D.BlockDevice options.now.create said device left) }
+{
+    match open_at(path, options.create) {
+        Ok(device) => {
+            let served = import_device(alloc, device, options, import, errors, progress);
+            let Served { status, device } = served;
+            end_at(path, device);
+            status
+        }
+        Err(error) => {
+            tell_unopened(error, errors);
+            FAILED
+        }
+    }
+}
+
+// Imports on a device as the words ask: makes a store on one without blocks, or opens the one that is there.
+fn import_device<D: BlockDevice, E: Write, P: PutProgress>(
+    alloc: Global,
+    device: D,
+    options: &Options<'_>,
+    import: &Import<'_>,
+    errors: &mut E,
+    progress: &mut P,
+) -> Served<D>
+    ensures status { result.status ≤ 1 }
+    ensures quiet { result.status ≡ 0 → Keeps (E.contents errors.old) (E.contents errors.new) }
+    ensures imported { HasImportedOn D.BlockDevice options.now.create import.now.layer.now import.now.fanout
+        device result }
+{
+    if !options.create {
+        let opened = open_store(alloc, device, options.cache, Version::Three);
+        return import_store(opened, import, errors, progress);
+    }
+    if device.blocks() != 0 {
+        return tell_not_empty(device, errors);
+    }
+    let made = create_store(alloc, device, options.cache, Version::Three);
+    import_store(made, import, errors, progress)
+}
+
+// Imports into a store, or says why there is none.
+fn import_store<D: BlockDevice, E: Write, P: PutProgress>(
+    store: Result<Store<D, Global>, (Refusal, D)>,
+    import: &Import<'_>,
+    errors: &mut E,
+    progress: &mut P,
+) -> Served<D>
+    ensures status { result.status ≤ 1 }
+    ensures quiet { result.status ≡ 0 → Keeps (E.contents errors.old) (E.contents errors.new) }
+    ensures imported { (t : Table) (moment : _) → IfOk store (λ it. BeginsWith it moment t →
+        PutsInto D.BlockDevice moment t import.now.layer.now import.now.fanout (device_in it) result) }
+    ensures refused { IfErr store (λ e. (result.status ≡ 1) × (result.device ≡ e.1)) }
+{
+    match store {
+        Ok(store) => {
+            let imported = import_and_close(store, import, progress);
+            Served {
+                status: tell_outcome(imported.outcome, errors),
+                device: imported.device,
+            }
+        }
+        Err((refusal, device)) => tell_no_store(refusal, device, errors),
+    }
+}
+
+// Says why objects were not imported, if they were not.
+fn tell_outcome<E: Write>(outcome: Result<(), Unimported>, errors: &mut E) -> u8
+    ensures most { result ≤ 1 }
+    ensures is { (result == 0) ≡ is_ok outcome }
+    ensures quiet { result ≡ 0 → Keeps (E.contents errors.old) (E.contents errors.new) }
+{
+    match outcome {
+        Ok(()) => WENT_WELL,
+        Err(
+            Unimported {
+                refusal,
+                object: None,
+            },
+        ) => {
+            let _ = tell_refusal(refusal, errors);
+            FAILED
+        }
+        Err(
+            Unimported {
+                refusal,
+                object: Some(id),
+            },
+        ) => {
+            let _ = write!(errors, "rstore: object {id}: ");
+            let _ = write_reply(&Reply::<Global>::Refused(refusal), errors);
+            FAILED
+        }
+    }
+}

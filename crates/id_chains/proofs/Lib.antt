@@ -1,0 +1,26 @@
+-- The files of lemmas.
+pub mod TableLemmas
+pub mod DirectoryLemmas
+pub mod TidyLemmas
+pub mod BucketLemmas
+pub mod CheckLemmas
+pub mod CheckedLemmas
+pub mod DamageLemmas
+pub mod MeetLemmas
+pub mod FirstLemmas
+pub mod WalkLemmas
+pub mod GetLemmas
+pub mod MakingLemmas
+pub mod ReplaceLemmas
+pub mod AddLemmas
+pub mod ManyLemmas
+pub mod StartLemmas
+pub mod RemoveLemmas
+pub mod HolderLemmas
+pub mod UpdateLemmas
+pub mod ShrinkLemmas
+pub mod PlaceLemmas
+pub mod ReachLemmas
+pub mod FreeLemmas
+pub mod FillLemmas
+pub mod CountLemmas

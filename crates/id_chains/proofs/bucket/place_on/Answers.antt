@@ -1,0 +1,18 @@
+-- The goals of `place_on` that are proved by hand.
+use Rattle.std.proofs.Common.{◌<◌, length, arith}
+use Rattle.bucket_page.proofs.Reading.{no_head}
+use Rattle.id_chains.proofs.BucketLemmas.{passed, some_object}
+use Rattle.id_chains.proofs.bucket.place_on.Goals as goal
+
+pub returns-then-not-has_bucket_head-clause-of_bucket : goal.returns-then-not-has_bucket_head-clause-of_bucket
+returns-then-not-has_bucket_head-clause-of_bucket g c = λ content is. let none =
+    no_head g.row.D c.args.page.now (λ head. let found = c.has_bucket_head.ensures.1 head in absurd (cc)) in
+    absurd (cc (is, none))
+
+pub loop-place-preserved : goal.loop-place-preserved
+loop-place-preserved g c = λ content is.
+    let within : c.loop-place.place < length content.entries =
+    omega (arith, c.loop-place-test.true, c.count_at-place-end.ensures.of_bucket g.row.D content is) in
+    passed c.args.id c.id_at.result c.loop-place.place content.entries within
+    (c.id_at.ensures.of_bucket content some_object is within) c.if-id_at-id.false
+    (c.loop-place.invariant content is)

@@ -1,0 +1,203 @@
+-- The kind of a table is looked up, and then the call of that kind is made.
+use Rattle.std.proofs.Common.{◌≡◌, ◌∙◌, ◌⊎◌, ℕ, List, None, Result, Ok, Err, IfOk, OnOk, sym, subst, refl}
+use Rattle.std.proofs.Common.{inl, inr}
+use Rattle.box_math.specs.Objects.{Object}
+use Rattle.bucket_page.specs.Layout.{Entry}
+use Rattle.page_file.specs.Fault.{IsOfDevice}
+use Rattle.page_file.specs.declared.fault.Fault.{Fault}
+use Rattle.page_file.specs.declared.fault.Fault.TheVariants as fault
+use Rattle.page_cache.specs.Cache.{IsHonest, given, pages}
+use Rattle.page_cache.specs.Calls.{AsksUntil}
+use Rattle.page_cache.specs.declared.cache.PageCache.{PageCache}
+use Rattle.node_page.specs.Parts.{Moves, Part}
+use Rattle.node_page.specs.Standing.{PageMap}
+use Rattle.id_words.proofs.BreakLemmas.{no_damage}
+use Rattle.id_chains.specs.Changes as chains
+use Rattle.id_chains.specs.Checked as checked_chains
+use Rattle.id_chains.specs.Table.{IdChains, IdChainsStand}
+use Rattle.id_tree.specs.Changes as trees
+use Rattle.id_tree.specs.Checked as checked_trees
+use Rattle.id_tree.specs.Tree.{IdTree, TreeStands}
+use Rattle.id_table.specs.Changes.{Fills, Makes, Removes, Sets}
+use Rattle.id_table.specs.Checked.{ComesInTable, IsCheckedTable}
+use Rattle.id_table.specs.Table.{IdTable, IdsStand, kind_of, page_of}
+use Rattle.id_table.specs.Table.IdTable.{chained, treed}
+use Rattle.id_table.specs.declared.kind.TableKind.{TableKind}
+use Rattle.id_table.specs.declared.kind.TableKind.TheVariants.{Chains, Tree}
+
+apart : Chains ≡ Tree → ⊥
+apart same = absurd (cc)
+
+module _ {D A : Type 0} {m : _} (dims page : ℕ) (old mid : PageCache D A m) (asks : AsksUntil old mid None)
+  where
+    -- the look left the pages as they were
+    pub same_pages : IsHonest old → pages mid ≡ pages old
+    same_pages honest = λ i n. asks.map.pages_stay honest n i
+
+    pub same_given : IsHonest old → given mid ≡ given old
+    same_given honest = λ i n. asks.map.given_stay honest n i
+
+    -- so what a call promises of a table of its kind is promised of the table that stands
+    module _ (P : IdTable → Type 0) (honest : IsHonest old) (t : IdTable) (at : page_of t ≡ page)
+        (stands : IdsStand dims (pages old) t) (kind : TableKind) (told : kind ≡ kind_of t) where
+      pub of_chains : kind ≡ Chains
+          → ((c : IdChains) → c.page ≡ page → IdChainsStand dims (pages mid) c → P (chained c)) → P t
+      of_chains is call = case t told at stands
+        where
+          case : (s : IdTable) → kind ≡ kind_of s → page_of s ≡ page → IdsStand dims (pages old) s → P s
+          case (chained c) told at s =
+              call c at (subst (λ (p : PageMap). IdChainsStand dims p c) (sym (same_pages honest)) s)
+          case (treed c) told at s = absurd (apart (sym is ∙ told))
+
+      pub of_tree : kind ≡ Tree
+          → ((c : IdTree) → c.page ≡ page → TreeStands dims (pages mid) c → P (treed c)) → P t
+      of_tree is call = case t told at stands
+        where
+          case : (s : IdTable) → kind ≡ kind_of s → page_of s ≡ page → IdsStand dims (pages old) s → P s
+          case (chained c) told at s = absurd (apart (sym told ∙ is))
+          case (treed c) told at s =
+              call c at (subst (λ (p : PageMap). TreeStands dims p c) (sym (same_pages honest)) s)
+
+-- ---- what the calls of each kind make of a table
+
+pub on_ok : {T E X Y : Type 0} (r : Result T E) → (X → Y) → OnOk r X → OnOk r Y
+on_ok (Ok x) f p = f p
+on_ok (Err e) f p = tt
+
+-- pages that a look left as they were change as they did
+pub moves_on : {old mid new : PageMap} {was now : Part} → mid ≡ old → Moves mid new was now
+    → Moves old new was now
+moves_on {old} {mid} {new} {was} {now} same s = subst (λ (p : PageMap). Moves p new was now) same s
+
+module _ (dims : ℕ) (old mid new : PageMap) (same : mid ≡ old) where
+  pub chains_set : (c : IdChains) (id : ℕ) (kept : Object) → chains.Sets dims mid new c id kept
+      → Sets dims old new (chained c) id kept
+  chains_set c id kept s = record {
+    table = chained s.table;
+    kind_is = refl;
+    page_is = s.page;
+    stands = s.stands;
+    objects = s.objects;
+    moves = moves_on same s.moves;
+  }
+
+  pub tree_set : (c : IdTree) (id : ℕ) (kept : Object) → trees.Sets dims mid new c id kept
+      → Sets dims old new (treed c) id kept
+  tree_set c id kept s = record {
+    table = treed s.table;
+    kind_is = refl;
+    page_is = s.page;
+    stands = s.stands;
+    objects = s.objects;
+    moves = moves_on same s.moves;
+  }
+
+  pub chains_less : (c : IdChains) (id : ℕ) → chains.Removes dims mid new c id
+      → Removes dims old new (chained c) id
+  chains_less c id s = record {
+    table = chained s.table;
+    kind_is = refl;
+    page_is = s.page;
+    stands = s.stands;
+    objects = s.objects;
+    moves = moves_on same s.moves;
+  }
+
+  pub tree_less : (c : IdTree) (id : ℕ) → trees.Removes dims mid new c id → Removes dims old new (treed c) id
+  tree_less c id s = record {
+    table = treed s.table;
+    kind_is = refl;
+    page_is = s.page;
+    stands = s.stands;
+    objects = s.objects;
+    moves = moves_on same s.moves;
+  }
+
+  pub chains_filled : (c : IdChains) (added : List Entry) → chains.Fills dims mid new c added
+      → Fills dims old new (chained c) added
+  chains_filled c added s = record {
+    table = chained s.table;
+    kind_is = refl;
+    page_is = s.page;
+    stands = s.stands;
+    objects = s.objects;
+    moves = moves_on same s.moves;
+  }
+
+  pub tree_filled : (c : IdTree) (added : List Entry) → trees.Fills dims mid new c added
+      → Fills dims old new (treed c) added
+  tree_filled c added s = record {
+    table = treed s.table;
+    kind_is = refl;
+    page_is = s.page;
+    stands = s.stands;
+    objects = s.objects;
+    moves = moves_on same s.moves;
+  }
+
+module _ (dims : ℕ) (old new : PageMap) (kind : TableKind) (page : ℕ) where
+  pub chains_made : kind ≡ Chains → chains.Makes dims old new page → Makes dims old new kind page
+  chains_made is s = record {
+    table = chained s.table;
+    kind_is = sym is;
+    page_is = s.page;
+    stands = s.stands;
+    objects = s.objects;
+    moves = s.moves;
+  }
+
+  pub tree_made : kind ≡ Tree → trees.Makes dims old new page → Makes dims old new kind page
+  tree_made is s = record {
+    table = treed s.table;
+    kind_is = sym is;
+    page_is = s.page;
+    stands = s.stands;
+    objects = s.objects;
+    moves = s.moves;
+  }
+
+-- ---- what a check of each kind finds
+
+pub chains_checked : (dims page : ℕ) (mid old : PageMap) (pairs : List Entry) (list : List ℕ) → mid ≡ old
+    → checked_chains.IsCheckedTable dims mid page pairs list → IsCheckedTable dims old page pairs list
+chains_checked dims page mid old pairs list same s = record {
+  table = chained s.table;
+  page_is = s.page_is;
+  stands = subst (λ (p : PageMap). IdChainsStand dims p s.table) same s.stands;
+  pairs_are = s.pairs_are;
+  pages_are = s.pages_are;
+}
+
+pub tree_checked : (dims page : ℕ) (mid old : PageMap) (pairs : List Entry) (list : List ℕ) → mid ≡ old
+    → checked_trees.IsCheckedTable dims mid page pairs list → IsCheckedTable dims old page pairs list
+tree_checked dims page mid old pairs list same s = record {
+  table = treed s.table;
+  page_is = s.page_is;
+  stands = subst (λ (p : PageMap). TreeStands dims p s.table) same s.stands;
+  pairs_are = s.pairs_are;
+  pages_are = s.pages_are;
+}
+
+pub comes_along_chains : (dims page : ℕ) (mid old : PageMap) (n : ℕ) → mid ≡ old
+    → checked_chains.ComesInTable dims mid page n → ComesInTable dims old page n
+comes_along_chains dims page mid old n same comes =
+    inr (inl (subst (λ (p : PageMap). checked_chains.ComesInTable dims p page n) same comes))
+
+pub comes_down_tree : (dims page : ℕ) (mid old : PageMap) (n : ℕ) → mid ≡ old
+    → checked_trees.ComesInTree dims mid page n → ComesInTable dims old page n
+comes_down_tree dims page mid old n same comes =
+    inr (inr (subst (λ (p : PageMap). checked_trees.ComesInTree dims p page n) same comes))
+
+-- ---- the page that is damaged
+
+-- where the first page could not be looked at
+pub comes_at_once : (dims page : ℕ) (m : PageMap) (f : Fault) → IsOfDevice f ⊎ (f ≡ fault.Damaged page)
+    → (n : ℕ) → f ≡ fault.Damaged n → ComesInTable dims m page n
+comes_at_once dims page m f (inl device) n is = absurd (no_damage f n device is)
+comes_at_once dims page m f (inr damaged) n is =
+    let both : fault.Damaged n ≡ fault.Damaged page = sym is ∙ damaged in
+    let same : n ≡ page = cc in inl same
+
+pub if_made : {T E : Type 0} {P Q : T → Type 0} (r : Result T E) → ((x : T) → P x → Q x) → IfOk r P → IfOk r Q
+if_made (Ok x) f p = f x p
+if_made (Err e) f p = tt

@@ -1,0 +1,63 @@
+-- An object is removed from a table of its kind.
+use Rattle.std.proofs.Common.{◌≡◌, IfErr, OnOk, true}
+use Rattle.std.specs.FinMap as map
+use Rattle.page_cache.specs.Cache.{IsPageMap, pages}
+use Rattle.page_file.specs.Fault.{IsOfDevice}
+use Rattle.id_table.specs.Changes.{Removes}
+use Rattle.id_table.specs.Table.{objects_of}
+use Rattle.id_table.proofs.StepLemmas.{chains_less, of_chains, of_tree, on_ok, same_pages, tree_less}
+use Rattle.id_table.proofs.changing.remove.Goals as goal
+
+pub returns-in-Chains-clause-sound : goal.returns-in-Chains-clause-sound
+returns-in-Chains-clause-sound g c = λ sound t at s.
+    of_chains g.row.D c.args.page c.args.cache.now c.kind_at.new.cache c.in_ok-kind_at.ensures.asks
+    (λ t. IsPageMap c.remove.new.cache)
+    sound.honest t at s c.in_ok-kind_at.field-0 (c.in_ok-kind_at.ensures.kind sound.honest t at s)
+    c.in-Chains.is
+    (λ ch there stands. c.remove.ensures.sound (c.in_ok-kind_at.ensures.asks.map.sound.0 sound) ch there stands)
+
+pub returns-in-Chains-clause-removed : goal.returns-in-Chains-clause-removed
+returns-in-Chains-clause-removed g c = λ sound t at s has.
+    of_chains g.row.D c.args.page c.args.cache.now c.kind_at.new.cache c.in_ok-kind_at.ensures.asks
+    (λ t. map.contains_key (objects_of t) c.args.id ≡ true → OnOk c.remove.result (Removes g.row.D (pages c.args.cache.now) (pages c.remove.new.cache) t c.args.id))
+    sound.honest t at s c.in_ok-kind_at.field-0 (c.in_ok-kind_at.ensures.kind sound.honest t at s)
+    c.in-Chains.is
+    (λ ch there stands has. on_ok c.remove.result
+    (chains_less g.row.D (pages c.args.cache.now) (pages c.kind_at.new.cache) (pages c.remove.new.cache)
+    (same_pages g.row.D c.args.page c.args.cache.now c.kind_at.new.cache c.in_ok-kind_at.ensures.asks sound.honest) ch c.args.id)
+    (c.remove.ensures.removed (c.in_ok-kind_at.ensures.asks.map.sound.0 sound) ch there stands has)) has
+
+pub returns-in-Chains-clause-faults : goal.returns-in-Chains-clause-faults
+returns-in-Chains-clause-faults g c = λ sound t at s has.
+    of_chains g.row.D c.args.page c.args.cache.now c.kind_at.new.cache c.in_ok-kind_at.ensures.asks
+    (λ t. map.contains_key (objects_of t) c.args.id ≡ true → IfErr c.remove.result IsOfDevice)
+    sound.honest t at s c.in_ok-kind_at.field-0 (c.in_ok-kind_at.ensures.kind sound.honest t at s)
+    c.in-Chains.is
+    (λ ch there stands has. c.remove.ensures.faults (c.in_ok-kind_at.ensures.asks.map.sound.0 sound) ch there stands has) has
+
+pub returns-in-Tree-clause-sound : goal.returns-in-Tree-clause-sound
+returns-in-Tree-clause-sound g c = λ sound t at s.
+    of_tree g.row.D c.args.page c.args.cache.now c.kind_at.new.cache c.in_ok-kind_at.ensures.asks
+    (λ t. IsPageMap c.remove-in-Tree.new.cache)
+    sound.honest t at s c.in_ok-kind_at.field-0 (c.in_ok-kind_at.ensures.kind sound.honest t at s)
+    c.in-Tree.is
+    (λ ch there stands. c.remove-in-Tree.ensures.sound (c.in_ok-kind_at.ensures.asks.map.sound.0 sound) ch there stands)
+
+pub returns-in-Tree-clause-removed : goal.returns-in-Tree-clause-removed
+returns-in-Tree-clause-removed g c = λ sound t at s has.
+    of_tree g.row.D c.args.page c.args.cache.now c.kind_at.new.cache c.in_ok-kind_at.ensures.asks
+    (λ t. map.contains_key (objects_of t) c.args.id ≡ true → OnOk c.remove-in-Tree.result (Removes g.row.D (pages c.args.cache.now) (pages c.remove-in-Tree.new.cache) t c.args.id))
+    sound.honest t at s c.in_ok-kind_at.field-0 (c.in_ok-kind_at.ensures.kind sound.honest t at s)
+    c.in-Tree.is
+    (λ ch there stands has. on_ok c.remove-in-Tree.result
+    (tree_less g.row.D (pages c.args.cache.now) (pages c.kind_at.new.cache) (pages c.remove-in-Tree.new.cache)
+    (same_pages g.row.D c.args.page c.args.cache.now c.kind_at.new.cache c.in_ok-kind_at.ensures.asks sound.honest) ch c.args.id)
+    (c.remove-in-Tree.ensures.removed (c.in_ok-kind_at.ensures.asks.map.sound.0 sound) ch there stands has)) has
+
+pub returns-in-Tree-clause-faults : goal.returns-in-Tree-clause-faults
+returns-in-Tree-clause-faults g c = λ sound t at s has.
+    of_tree g.row.D c.args.page c.args.cache.now c.kind_at.new.cache c.in_ok-kind_at.ensures.asks
+    (λ t. map.contains_key (objects_of t) c.args.id ≡ true → IfErr c.remove-in-Tree.result IsOfDevice)
+    sound.honest t at s c.in_ok-kind_at.field-0 (c.in_ok-kind_at.ensures.kind sound.honest t at s)
+    c.in-Tree.is
+    (λ ch there stands has. c.remove-in-Tree.ensures.faults (c.in_ok-kind_at.ensures.asks.map.sound.0 sound) ch there stands has) has

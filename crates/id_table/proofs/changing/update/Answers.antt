@@ -1,0 +1,65 @@
+-- An object of a table of its kind gets another box.
+use Rattle.std.proofs.Common.{◌≡◌, IfErr, OnOk, Some, true}
+use Rattle.std.specs.FinMap as map
+use Rattle.box_math.specs.Objects.{Object}
+use Rattle.page_cache.specs.Cache.{IsPageMap, pages}
+use Rattle.page_file.specs.Fault.{IsOfDevice}
+use Rattle.id_words.specs.Objects.{with_box}
+use Rattle.id_table.specs.Changes.{Sets}
+use Rattle.id_table.specs.Table.{objects_of}
+use Rattle.id_table.proofs.StepLemmas.{chains_set, of_chains, of_tree, on_ok, same_pages, tree_set}
+use Rattle.id_table.proofs.changing.update.Goals as goal
+
+pub returns-in-Chains-clause-sound : goal.returns-in-Chains-clause-sound
+returns-in-Chains-clause-sound g c = λ sound t at s.
+    of_chains g.row.D c.args.page c.args.cache.now c.kind_at.new.cache c.in_ok-kind_at.ensures.asks
+    (λ t. IsPageMap c.update.new.cache)
+    sound.honest t at s c.in_ok-kind_at.field-0 (c.in_ok-kind_at.ensures.kind sound.honest t at s)
+    c.in-Chains.is
+    (λ ch there stands. c.update.ensures.sound (c.in_ok-kind_at.ensures.asks.map.sound.0 sound) ch there stands)
+
+pub returns-in-Chains-clause-updated : goal.returns-in-Chains-clause-updated
+returns-in-Chains-clause-updated g c = λ sound t at s kept is.
+    of_chains g.row.D c.args.page c.args.cache.now c.kind_at.new.cache c.in_ok-kind_at.ensures.asks
+    (λ t. (kept : Object) → map.get (objects_of t) c.args.id ≡ Some kept → OnOk c.update.result (Sets g.row.D (pages c.args.cache.now) (pages c.update.new.cache) t c.args.id (with_box kept c.args.bounds.now)))
+    sound.honest t at s c.in_ok-kind_at.field-0 (c.in_ok-kind_at.ensures.kind sound.honest t at s)
+    c.in-Chains.is
+    (λ ch there stands kept is. on_ok c.update.result
+    (chains_set g.row.D (pages c.args.cache.now) (pages c.kind_at.new.cache) (pages c.update.new.cache)
+    (same_pages g.row.D c.args.page c.args.cache.now c.kind_at.new.cache c.in_ok-kind_at.ensures.asks sound.honest) ch c.args.id (with_box kept c.args.bounds.now))
+    (c.update.ensures.updated (c.in_ok-kind_at.ensures.asks.map.sound.0 sound) ch there stands kept is)) kept is
+
+pub returns-in-Chains-clause-faults : goal.returns-in-Chains-clause-faults
+returns-in-Chains-clause-faults g c = λ sound t at s has.
+    of_chains g.row.D c.args.page c.args.cache.now c.kind_at.new.cache c.in_ok-kind_at.ensures.asks
+    (λ t. map.contains_key (objects_of t) c.args.id ≡ true → IfErr c.update.result IsOfDevice)
+    sound.honest t at s c.in_ok-kind_at.field-0 (c.in_ok-kind_at.ensures.kind sound.honest t at s)
+    c.in-Chains.is
+    (λ ch there stands has. c.update.ensures.faults (c.in_ok-kind_at.ensures.asks.map.sound.0 sound) ch there stands has) has
+
+pub returns-in-Tree-clause-sound : goal.returns-in-Tree-clause-sound
+returns-in-Tree-clause-sound g c = λ sound t at s.
+    of_tree g.row.D c.args.page c.args.cache.now c.kind_at.new.cache c.in_ok-kind_at.ensures.asks
+    (λ t. IsPageMap c.update-in-Tree.new.cache)
+    sound.honest t at s c.in_ok-kind_at.field-0 (c.in_ok-kind_at.ensures.kind sound.honest t at s)
+    c.in-Tree.is
+    (λ ch there stands. c.update-in-Tree.ensures.sound (c.in_ok-kind_at.ensures.asks.map.sound.0 sound) ch there stands)
+
+pub returns-in-Tree-clause-updated : goal.returns-in-Tree-clause-updated
+returns-in-Tree-clause-updated g c = λ sound t at s kept is.
+    of_tree g.row.D c.args.page c.args.cache.now c.kind_at.new.cache c.in_ok-kind_at.ensures.asks
+    (λ t. (kept : Object) → map.get (objects_of t) c.args.id ≡ Some kept → OnOk c.update-in-Tree.result (Sets g.row.D (pages c.args.cache.now) (pages c.update-in-Tree.new.cache) t c.args.id (with_box kept c.args.bounds.now)))
+    sound.honest t at s c.in_ok-kind_at.field-0 (c.in_ok-kind_at.ensures.kind sound.honest t at s)
+    c.in-Tree.is
+    (λ ch there stands kept is. on_ok c.update-in-Tree.result
+    (tree_set g.row.D (pages c.args.cache.now) (pages c.kind_at.new.cache) (pages c.update-in-Tree.new.cache)
+    (same_pages g.row.D c.args.page c.args.cache.now c.kind_at.new.cache c.in_ok-kind_at.ensures.asks sound.honest) ch c.args.id (with_box kept c.args.bounds.now))
+    (c.update-in-Tree.ensures.updated (c.in_ok-kind_at.ensures.asks.map.sound.0 sound) ch there stands kept is)) kept is
+
+pub returns-in-Tree-clause-faults : goal.returns-in-Tree-clause-faults
+returns-in-Tree-clause-faults g c = λ sound t at s has.
+    of_tree g.row.D c.args.page c.args.cache.now c.kind_at.new.cache c.in_ok-kind_at.ensures.asks
+    (λ t. map.contains_key (objects_of t) c.args.id ≡ true → IfErr c.update-in-Tree.result IsOfDevice)
+    sound.honest t at s c.in_ok-kind_at.field-0 (c.in_ok-kind_at.ensures.kind sound.honest t at s)
+    c.in-Tree.is
+    (λ ch there stands has. c.update-in-Tree.ensures.faults (c.in_ok-kind_at.ensures.asks.map.sound.0 sound) ch there stands has) has

@@ -1,0 +1,163 @@
+//! Tables made, changed by one object, and given up.
+
+ghost use Rattle.std.specs.Prelude.{◌≡◌, ◌⊎◌, ◌≤◌, ◌<◌, ℕ, Some, true, false, IfOk, IfErr, OnOk};
+ghost use Rattle.std.specs.FinMap as map;
+ghost use Rattle.box_math.specs.Bounds.{IsDims};
+ghost use Rattle.box_math.specs.Objects.{Object};
+ghost use Rattle.page_file.specs.Fault.{IsDamage, IsOfDevice};
+ghost use Rattle.page_file.specs.declared.gate.Gate.TheVariants.{Open};
+ghost use Rattle.page_cache.specs.Cache.{Grows, IsPageMap, gate_of, next_of, pages};
+ghost use Rattle.page_cache.specs.Calls.{Changes};
+ghost use Rattle.node_page.specs.Faults.{IsNoDamage};
+ghost use Rattle.node_page.specs.Parts.{Moves, no_page};
+ghost use Rattle.id_words.specs.Objects.{with_box};
+ghost use Rattle.id_table.specs.Changes.{Makes, Removes, Sets, most_added_pages};
+ghost use Rattle.id_table.specs.Table.{IdTable, IdsStand, objects_of, page_of, part_of};
+
+use crate::kind::{TableKind, kind_at};
+use block_device::BlockDevice;
+use box_math::BBox;
+use page_cache::PageCache;
+use page_file::Fault;
+use std::alloc::Allocator;
+
+/// Makes a table of this kind and of no objects, and answers its first page, which stays its first. The gate
+/// has to be open, and for a tree the file of version 3 (`PageCache::raise_version`).
+///
+/// With a sound map a refusal is `Memory` or `Device`, or `NoPages` where each page number is live.
+pub fn make<const D: usize, B: BlockDevice, A: Allocator + Copy>(
+    cache: &mut PageCache<B, A>,
+    kind: TableKind,
+) -> Result<u32, Fault>
+    requires dims { IsDims D }
+    requires open { gate_of cache.old ≡ Open }
+    ensures changes { Changes cache.old cache.new result }
+    ensures sound { IsPageMap cache.old → IsPageMap cache.new }
+    ensures made { IsPageMap cache.old
+        → IfOk result (λ page. Makes D (pages cache.old) (pages cache.new) kind page) }
+    ensures number { IfOk result (λ page. (3 ≤ page) × (page < next_of cache.new)) }
+    ensures grows { Grows 1 cache.old cache.new }
+    ensures faults { IsPageMap cache.old → IfErr result (IsNoDamage cache.new) }
+    ensures other_faults { IfErr result (λ f. IsNoDamage cache.new f ⊎ IsDamage f) }
+{
+    match kind {
+        TableKind::Chains => id_chains::make::<D, B, A>(cache),
+        TableKind::Tree => id_tree::make::<D, B, A>(cache),
+    }
+}
+
+/// Adds an object to the table that begins at a page, which does not have its identifier. The gate has to be
+/// open.
+///
+/// With a sound map, where the pages stand for a table there, a refusal is `Memory` or `Device`, or `NoPages`
+/// where each page number is live. Also after a refusal at most `most_added_pages` more pages are live.
+#[tactic(auto, using(page_cache::specs::Calls::changing))]
+pub fn add<const D: usize, B: BlockDevice, A: Allocator + Copy>(
+    cache: &mut PageCache<B, A>,
+    page: u32,
+    id: u64,
+    bounds: &BBox<D>,
+    tag: u32,
+) -> Result<(), Fault>
+    requires dims { IsDims D }
+    requires open { gate_of cache.old ≡ Open }
+    ensures changes { Changes cache.old cache.new result }
+    ensures sound { IsPageMap cache.old → (t : IdTable) → page_of t ≡ page → IdsStand D (pages cache.old) t
+        → IsPageMap cache.new }
+    ensures added { IsPageMap cache.old → (t : IdTable) → page_of t ≡ page → IdsStand D (pages cache.old) t
+        → map.contains_key (objects_of t) id ≡ false
+        → OnOk result (Sets D (pages cache.old) (pages cache.new) t id (bounds.now, tag)) }
+    ensures grows { Grows most_added_pages cache.old cache.new }
+    ensures faults { IsPageMap cache.old → (t : IdTable) → page_of t ≡ page → IdsStand D (pages cache.old) t
+        → IfErr result (IsNoDamage cache.new) }
+    ensures other_faults { IfErr result (λ f. IsNoDamage cache.new f ⊎ IsDamage f) }
+{
+    match kind_at::<D, B, A>(cache, page)? {
+        TableKind::Chains => id_chains::add(cache, page, id, bounds, tag),
+        TableKind::Tree => id_tree::add(cache, page, id, bounds, tag),
+    }
+}
+
+/// Gives the object with that identifier, which the table that begins at a page has, another box, where it
+/// lies: one page is written. Its tag stays. The gate has to be open.
+///
+/// With a sound map, where the pages stand for a table there, a refusal is `Memory` or `Device`.
+#[tactic(auto, using(page_cache::specs::Calls::changing))]
+pub fn update<const D: usize, B: BlockDevice, A: Allocator + Copy>(
+    cache: &mut PageCache<B, A>,
+    page: u32,
+    id: u64,
+    bounds: &BBox<D>,
+) -> Result<(), Fault>
+    requires dims { IsDims D }
+    requires open { gate_of cache.old ≡ Open }
+    ensures changes { Changes cache.old cache.new result }
+    ensures sound { IsPageMap cache.old → (t : IdTable) → page_of t ≡ page → IdsStand D (pages cache.old) t
+        → IsPageMap cache.new }
+    ensures updated { IsPageMap cache.old → (t : IdTable) → page_of t ≡ page → IdsStand D (pages cache.old) t
+        → (kept : Object) → map.get (objects_of t) id ≡ Some kept
+        → OnOk result (Sets D (pages cache.old) (pages cache.new) t id (with_box kept bounds.now)) }
+    ensures grows { Grows 0 cache.old cache.new }
+    ensures faults { IsPageMap cache.old → (t : IdTable) → page_of t ≡ page → IdsStand D (pages cache.old) t
+        → map.contains_key (objects_of t) id ≡ true → IfErr result IsOfDevice }
+    ensures other_faults { IfErr result (λ f. IsOfDevice f ⊎ IsDamage f) }
+{
+    match kind_at::<D, B, A>(cache, page)? {
+        TableKind::Chains => id_chains::update(cache, page, id, bounds),
+        TableKind::Tree => id_tree::update(cache, page, id, bounds),
+    }
+}
+
+/// Removes an object from the table that begins at a page, which has its identifier. The gate has to be open.
+///
+/// With a sound map, where the pages stand for a table there, a refusal is `Memory` or `Device`.
+#[tactic(auto, using(page_cache::specs::Calls::changing))]
+pub fn remove<const D: usize, B: BlockDevice, A: Allocator + Copy>(
+    cache: &mut PageCache<B, A>,
+    page: u32,
+    id: u64,
+) -> Result<(), Fault>
+    requires dims { IsDims D }
+    requires open { gate_of cache.old ≡ Open }
+    ensures changes { Changes cache.old cache.new result }
+    ensures sound { IsPageMap cache.old → (t : IdTable) → page_of t ≡ page → IdsStand D (pages cache.old) t
+        → IsPageMap cache.new }
+    ensures removed { IsPageMap cache.old → (t : IdTable) → page_of t ≡ page → IdsStand D (pages cache.old) t
+        → map.contains_key (objects_of t) id ≡ true
+        → OnOk result (Removes D (pages cache.old) (pages cache.new) t id) }
+    ensures grows { Grows 0 cache.old cache.new }
+    ensures faults { IsPageMap cache.old → (t : IdTable) → page_of t ≡ page → IdsStand D (pages cache.old) t
+        → map.contains_key (objects_of t) id ≡ true → IfErr result IsOfDevice }
+    ensures other_faults { IfErr result (λ f. IsOfDevice f ⊎ IsDamage f) }
+{
+    match kind_at::<D, B, A>(cache, page)? {
+        TableKind::Chains => id_chains::remove::<D, B, A>(cache, page, id),
+        TableKind::Tree => id_tree::remove::<D, B, A>(cache, page, id),
+    }
+}
+
+/// Frees all pages of the table that begins at a page. The gate has to be open.
+///
+/// With a sound map, where the pages stand for a table there, a refusal is `Memory` or `Device`.
+#[tactic(auto, using(page_cache::specs::Calls::changing))]
+pub fn free_all<const D: usize, B: BlockDevice, A: Allocator + Copy>(
+    cache: &mut PageCache<B, A>,
+    page: u32,
+) -> Result<(), Fault>
+    requires dims { IsDims D }
+    requires open { gate_of cache.old ≡ Open }
+    ensures changes { Changes cache.old cache.new result }
+    ensures sound { IsPageMap cache.old → (t : IdTable) → page_of t ≡ page → IdsStand D (pages cache.old) t
+        → IsPageMap cache.new }
+    ensures freed { IsPageMap cache.old → (t : IdTable) → page_of t ≡ page → IdsStand D (pages cache.old) t
+        → OnOk result (Moves (pages cache.old) (pages cache.new) (part_of t) no_page) }
+    ensures grows { Grows 0 cache.old cache.new }
+    ensures faults { IsPageMap cache.old → (t : IdTable) → page_of t ≡ page → IdsStand D (pages cache.old) t
+        → IfErr result IsOfDevice }
+    ensures other_faults { IfErr result (λ f. IsOfDevice f ⊎ IsDamage f) }
+{
+    match kind_at::<D, B, A>(cache, page)? {
+        TableKind::Chains => id_chains::free_all::<D, B, A>(cache, page),
+        TableKind::Tree => id_tree::free_all::<D, B, A>(cache, page),
+    }
+}

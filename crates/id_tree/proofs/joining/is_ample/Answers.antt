@@ -1,0 +1,52 @@
+-- Two fifths are more than a node has to have.
+use Rattle.std.proofs.Common.{◌<◌, arith, ◌≡◌, ◌⊎◌}
+use Rattle.page_cache.specs.Cache.{pages}
+use Rattle.id_tree.proofs.AddLemmas.{fork_counted, leaf_counted}
+use Rattle.id_tree.proofs.CutLemmas.{sizes}
+use Rattle.id_tree.proofs.NodeLemmas.{there_bytes}
+use Rattle.page_file.specs.declared.fault.Fault.TheVariants as fault
+use Rattle.page_file.specs.Fault.{IsOfDevice}
+use Rattle.node_page.proofs.NodeLemmas.{at_error}
+use Rattle.id_tree.proofs.joining.is_ample.Goals as goal
+
+pub are_two_fifths-requires : goal.are_two_fifths-requires
+are_two_fifths-requires g c = omega (arith, c.objects_that_fit.ensures, (sizes g.row.D).few)
+
+pub returns-then-level-eq0-clause-ample : goal.returns-then-level-eq0-clause-ample
+returns-then-level-eq0-clause-ample g c = λ h edge row node yes.
+    let D = g.row.D in
+    let old = pages c.args.cache.now in
+    let low = c.if-level-eq0.true in
+    let there = there_bytes D old c.args.number c.args.level row node in
+    let count = c.in_ok-count.ensures.count h there.0 there.1 in
+    let long = leaf_counted D old c.args.number c.args.level row there.0 node low there.1 in
+    let size = sizes D in
+    let many = c.are_two_fifths.ensures yes in
+    record {
+      leaf = λ is. omega (arith, many, count, long, c.objects_that_fit.ensures, size.ample, size.some);
+      fork = λ up. absurd (omega (arith, up, low));
+      large_leaf = λ is off. omega (arith, many, count, long, c.objects_that_fit.ensures, size.ample);
+      large_fork = λ up off. absurd (omega (arith, up, low));
+    }
+
+pub returns-clause-ample : goal.returns-clause-ample
+returns-clause-ample g c = λ h edge row node yes.
+    let D = g.row.D in
+    let old = pages c.args.cache.now in
+    let up : 0 < c.args.level = omega (arith, c.if-level-eq0.false) in
+    let there = there_bytes D old c.args.number c.args.level row node in
+    let count = c.in_ok-count.ensures.count h there.0 there.1 in
+    let long = fork_counted D old c.args.number c.args.level row there.0 node up there.1 in
+    let many = c.are_two_fifths-2.ensures yes in
+    record {
+      leaf = λ low. absurd (omega (arith, low, up));
+      fork = λ high. omega (arith, many, count, long);
+      large_leaf = λ low off. absurd (omega (arith, low, up));
+      large_fork = λ high off. omega (arith, many, count, long);
+    }
+
+pub returns-in_err-count-clause-damage : goal.returns-in_err-count-clause-damage
+returns-in_err-count-clause-damage g c = λ h.
+    at_error c.from_residual.result c.in_err-count.field-0.0
+    (λ f. IsOfDevice f ⊎ (f ≡ fault.Damaged c.args.number)) c.from_residual.ensures.1
+    (c.in_err-count.ensures.damage h)

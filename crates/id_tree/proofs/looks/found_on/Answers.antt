@@ -1,0 +1,45 @@
+-- The object is read in the place where its identifier was found.
+use Rattle.std.proofs.Common.{◌≡◌, ◌∙◌, ◌<◌, Some, Option, length, get_or, refl, sym, ap, arith}
+use Rattle.bucket_page.specs.Layout.{Entry}
+use Rattle.id_page.proofs.LeafReading.{count_of_leaf, no_leaf}
+use Rattle.id_tree.proofs.ObjectLemmas.{none_in}
+use Rattle.id_tree.proofs.PartingLemmas.{some_object}
+use Rattle.id_tree.proofs.looks.found_on.Goals as goal
+
+same_some : (a b : Entry) → ◌≡◌ {A = Option Entry} (Some a) (Some b) → a ≡ b
+same_some a b e = cc
+
+pub returns-then-not-has_leaf_head : goal.returns-then-not-has_leaf_head
+returns-then-not-has_leaf_head g c = record {
+  of_leaf = λ objects is. let none = no_leaf g.row.D c.args.page.now
+      (λ head. let yes = c.has_leaf_head.ensures.1 head in absurd (cc)) in absurd (cc);
+}
+
+pub returns-in-Some-object_at : goal.returns-in-Some-object_at
+returns-in-Some-object_at g c = record {
+  of_leaf = λ objects is.
+      let within : c.in-Some.place < length objects =
+      omega (arith, c.in-Some.ensures.within, count_of_leaf g.row.D c.args.page.now objects is) in
+      record {
+        within = within;
+        is = λ other.
+            let read = same_some c.in-Some-object_at.object (get_or objects c.in-Some.place other)
+            (c.in-Some-object_at.ensures.of_leaf objects other is within) in
+            let id = c.in-Some.ensures.found objects other is in
+            ap (λ i. (i, (get_or objects c.in-Some.place other).1)) id
+            ∙ ap (λ (o : Entry). (c.args.id, o.1)) (sym read);
+      };
+}
+
+pub returns-in-None-object_at : goal.returns-in-None-object_at
+returns-in-None-object_at g c = record {
+  of_leaf = λ objects is.
+      let within : c.in-Some.place < length objects =
+      omega (arith, c.in-Some.ensures.within, count_of_leaf g.row.D c.args.page.now objects is) in
+      let read = c.in-None-object_at.ensures.of_leaf objects some_object is within in
+      absurd (cc);
+}
+
+pub returns-in-None : goal.returns-in-None
+returns-in-None g c =
+    record { of_leaf = λ objects is. none_in c.args.id objects (c.in-None.ensures.absent objects is refl) }

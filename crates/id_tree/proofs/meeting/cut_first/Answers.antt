@@ -1,0 +1,15 @@
+-- The children from the cut on, and those of the second page behind them.
+use Rattle.std.proofs.Common.{drop, arith}
+use Rattle.id_page.proofs.ForkReading.{count_of_fork}
+use Rattle.id_tree.proofs.meeting.cut_first.Goals as goal
+
+pub returns-clause-key : goal.returns-clause-key
+returns-clause-key g c = λ content other is.
+    let count = count_of_fork g.row.D c.args.one.now content is in
+    c.key_at-key.ensures.of_fork g.row.D content other is (omega (arith, count, c.requires.within))
+
+pub returns-clause-second : goal.returns-clause-second
+returns-clause-second g c = λ content more is two.
+    c.append_links.ensures.appended g.row.D
+    (record { level = c.args.level; links = drop c.args.many content.links }) more
+    (c.fork_beyond-second.ensures.beyond content is) two

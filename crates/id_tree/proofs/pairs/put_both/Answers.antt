@@ -1,0 +1,74 @@
+-- Each of the two pages is written, and the other one stays.
+use Rattle.std.proofs.Common.{◌∙◌, IsSome, subst, sym, ◌≡◌, ◌⊎◌}
+use Rattle.page_cache.specs.Cache.{pages, touched_of, next_of}
+use Rattle.page_cache.specs.Laws.{a_live_page_was_given_out}
+use Rattle.node_page.proofs.NodeLemmas.{on_ok, at_error, page_refused}
+use Rattle.id_tree.proofs.TidyLemmas.{tidy_put, tidy_written}
+use Rattle.id_words.proofs.WriteLemmas.{not_both, touched_so}
+use Rattle.page_file.specs.declared.fault.Fault.TheVariants as fault
+use Rattle.page_file.specs.Fault.{IsOfDevice}
+use Rattle.id_words.proofs.Results.{on_done}
+use Rattle.id_tree.proofs.pairs.put_both.Goals as goal
+
+pub returns-clause-done : goal.returns-clause-done
+returns-clause-done g c = λ map may.
+    let others = c.put.ensures.others map.honest may.first_live in
+    let map1 = c.put.ensures.sound map may.first_live in
+    let live = subst IsSome (sym (others c.args.second (λ is. may.apart (sym is)))) may.second_live in
+    let away = c.put-2.ensures.others map1.honest live in
+    on_ok c.put-2.result (λ there. record {
+      others = λ n off other. away n other ∙ others n off;
+      there_first = away c.args.first may.apart ∙ c.in_ok-put.ensures.written map.honest may.first_live;
+      there_second = there;
+    }) (c.put-2.ensures.written map1.honest live)
+
+pub returns-clause-sound : goal.returns-clause-sound
+returns-clause-sound g c = λ map may.
+    c.put-2.ensures.sound (c.put.ensures.sound map may.first_live)
+    (subst IsSome
+    (sym (c.put.ensures.others map.honest may.first_live c.args.second (λ is. may.apart (sym is))))
+    may.second_live)
+
+pub returns-clause-faults : goal.returns-clause-faults
+returns-clause-faults g c = λ map may.
+    let map1 = c.put.ensures.sound map may.first_live in
+    let live =
+    subst IsSome
+    (sym (c.put.ensures.others map.honest may.first_live c.args.second (λ is. may.apart (sym is))))
+    may.second_live in
+    let out = a_live_page_was_given_out c.put.new.self c.args.second live in
+    c.put-2.ensures.faults map1.honest out.0 out.1
+
+pub returns-clause-tidy : goal.returns-clause-tidy
+returns-clause-tidy g c = λ map may dims node.
+    let old = pages c.args.cache.now in
+    let mid = pages c.put.new.self in
+    let others = c.put.ensures.others map.honest may.first_live in
+    let map1 = c.put.ensures.sound map may.first_live in
+    let live = subst IsSome (sym (others c.args.second (λ is. may.apart (sym is)))) may.second_live in
+    on_ok c.put-2.result (λ there. tidy_put dims old mid (pages c.put-2.new.self) c.args.second c.args.two.now
+    (tidy_written dims old mid c.args.first c.args.one.now others
+    (c.in_ok-put.ensures.written map.honest may.first_live) node.first)
+    (c.put-2.ensures.others map1.honest live) there node.second) (c.put-2.ensures.written map1.honest live)
+
+pub returns-in_err-put-clause-damage : goal.returns-in_err-put-clause-damage
+returns-in_err-put-clause-damage g c = λ h none.
+    let n = c.args.first in
+    at_error c.from_residual.result c.in_err-put.field-0.0 (λ f. IsOfDevice f ⊎ (f ≡ fault.Damaged n))
+    c.from_residual.ensures.1
+    (page_refused n (next_of c.args.cache.now) c.in_err-put.field-0.0 (c.in_err-put.ensures.faults h)
+    (λ out. let is = (c.in_err-put.ensures.outside out).0 in cc))
+
+pub returns-clause-damage : goal.returns-clause-damage
+returns-clause-damage g c =
+    λ h none. absurd
+    (not_both (touched_of c.put-2.new.self)
+    (c.put-2.ensures.changes.touched
+    (touched_so (touched_of c.args.cache.now) (touched_of c.put.new.self)
+    c.in_ok-put.ensures.in_memory.touched)) none)
+
+pub returns-clause-touched : goal.returns-clause-touched
+returns-clause-touched g c = on_done c.put-2.result
+    (λ x done. c.put-2.ensures.changes.touched
+    (touched_so (touched_of c.args.cache.now) (touched_of c.put.new.self)
+    c.in_ok-put.ensures.in_memory.touched))

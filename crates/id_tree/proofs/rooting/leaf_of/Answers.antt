@@ -1,0 +1,14 @@
+-- The object comes into an empty leaf.
+use Rattle.std.proofs.Common.{[], arith, rules}
+use Rattle.id_tree.proofs.CutLemmas.{sizes}
+use Rattle.id_tree.proofs.rooting.leaf_of.Goals as goal
+
+pub push_object-requires : goal.push_object-requires
+push_object-requires g c = let size = sizes g.row.D in
+    (search rules, (c.requires.dims, omega (arith, size.some, size.half, c.start_leaf.ensures.count)))
+
+pub returns-clause-spelled : goal.returns-clause-spelled
+returns-clause-spelled g c = c.push_object.ensures.pushed [] c.start_leaf.ensures.empty
+
+pub returns-clause-tidy : goal.returns-clause-tidy
+returns-clause-tidy g c = c.push_object.ensures.tidy c.start_leaf.ensures.tidy

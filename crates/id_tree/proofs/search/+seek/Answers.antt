@@ -1,0 +1,129 @@
+-- A search goes on in the child where the identifier is.
+use Rattle.std.proofs.Common.{◌∙◌, ◌-◌, ◌<◌, ℕ, subst, sym, arith, ◌≡◌, ◌⊎◌}
+use Rattle.std.specs.Prelude.{IfOk, IfSome}
+use Rattle.page_cache.specs.Cache.{pages, given}
+use Rattle.page_cache.specs.Calls.{asks_in_turn, fault_in}
+use Rattle.id_tree.specs.Rows.{IsFoundBelow, MaySeek}
+use Rattle.id_tree.specs.Tree.{links_of}
+use Rattle.id_tree.proofs.ResultLemmas.{if_ok, if_err}
+use Rattle.id_tree.proofs.SeekLemmas.{found_below, keys_ascend, may_seek_below, nowhere, seek_same}
+use Rattle.id_tree.proofs.WayLemmas.{way_of}
+use Rattle.page_file.specs.Fault.{IsOfDevice}
+use Rattle.page_file.specs.declared.fault.Fault.TheVariants as fault
+use Rattle.node_page.proofs.NodeLemmas.{at_error}
+use Rattle.id_tree.proofs.DamageLemmas.{comes_at, comes_down, found_at, found_under, named_some}
+use Rattle.id_tree.specs.Checked.{ComesInTree, NamesChild}
+use Rattle.id_tree.proofs.GivenLemmas.{comes_so}
+use Rattle.id_tree.proofs.search.+seek.Goals as goal
+
+pub returns-then-level-eq0-clause-found : goal.returns-then-level-eq0-clause-found
+returns-then-level-eq0-clause-found g t c = λ h edge row may.
+    let low = c.if-level-eq0.true in
+    subst (λ (l : ℕ). IfOk c.seek_leaf.result (IsFoundBelow c.args.page l c.args.id row)) (sym low)
+    (c.seek_leaf.ensures.found h edge row
+    (subst (λ (l : ℕ). MaySeek g.row.D (pages c.args.cache.now) c.args.page l edge row) low may))
+
+pub returns-then-level-eq0-clause-stands : goal.returns-then-level-eq0-clause-stands
+returns-then-level-eq0-clause-stands g t c = λ h edge row may.
+    c.seek_leaf.ensures.stands h edge row
+    (subst (λ (l : ℕ). MaySeek g.row.D (pages c.args.cache.now) c.args.page l edge row)
+    c.if-level-eq0.true may)
+
+pub returns-in-Some-clause-asks : goal.returns-in-Some-clause-asks
+returns-in-Some-clause-asks g t c = asks_in_turn c.args.cache.now c.step.new.cache c.seek.new.cache
+    (fault_in c.seek.result) c.in_ok-way.ensures.asks c.seek.ensures.asks
+
+pub returns-in-Some-clause-found : goal.returns-in-Some-clause-found
+returns-in-Some-clause-found g t c = λ h edge row may.
+    let D = g.row.D in
+    let high : 0 < c.args.level = omega (arith, c.if-level-eq0.false) in
+    let old = pages c.args.cache.now in
+    let asks = c.in_ok-way.ensures.asks in
+    let route = c.in_ok-way.ensures.child h (record { level = c.args.level; links = links_of row })
+    (may.stands.node.fork high) (keys_ascend D old c.args.page c.args.level edge row high may.stands) in
+    let way = way_of D old c.args.page c.args.level edge row c.args.id c.in-Some.child high may.stands
+    (sym c.in-Some.is ∙ route) in
+    let below = may_seek_below D old c.args.page c.args.level edge c.args.id c.in-Some.child row high
+    may.stands way may.single in
+    if_ok c.seek.result (IsFoundBelow c.in-Some.child (c.args.level - 1) c.args.id way.below)
+    (IsFoundBelow c.args.page c.args.level c.args.id row)
+    (found_below D old c.args.page c.args.level edge c.args.id c.in-Some.child row high may.stands way)
+    (c.seek.ensures.found (asks.gate.honest.0 h) _ way.below
+    (seek_same D old (pages c.step.new.cache) c.in-Some.child (c.args.level - 1) _ way.below
+    (asks.map.pages_stay h) below))
+
+pub returns-in-Some-clause-stands : goal.returns-in-Some-clause-stands
+returns-in-Some-clause-stands g t c = λ h edge row may.
+    let D = g.row.D in
+    let high : 0 < c.args.level = omega (arith, c.if-level-eq0.false) in
+    let old = pages c.args.cache.now in
+    let asks = c.in_ok-way.ensures.asks in
+    let route = c.in_ok-way.ensures.child h (record { level = c.args.level; links = links_of row })
+    (may.stands.node.fork high) (keys_ascend D old c.args.page c.args.level edge row high may.stands) in
+    let way = way_of D old c.args.page c.args.level edge row c.args.id c.in-Some.child high may.stands
+    (sym c.in-Some.is ∙ route) in
+    let below = may_seek_below D old c.args.page c.args.level edge c.args.id c.in-Some.child row high
+    may.stands way may.single in
+    c.seek.ensures.stands (asks.gate.honest.0 h) _ way.below
+    (seek_same D old (pages c.step.new.cache) c.in-Some.child (c.args.level - 1) _ way.below
+    (asks.map.pages_stay h) below)
+
+pub returns-in-None-clause-found : goal.returns-in-None-clause-found
+returns-in-None-clause-found g t c = λ h edge row may.
+    let D = g.row.D in
+    let high : 0 < c.args.level = omega (arith, c.if-level-eq0.false) in
+    let old = pages c.args.cache.now in
+    let route = c.in_ok-way.ensures.child h (record { level = c.args.level; links = links_of row })
+    (may.stands.node.fork high) (keys_ascend D old c.args.page c.args.level edge row high may.stands) in
+    nowhere D old c.args.level c.args.id row high may.stands.below (sym c.in-None.is ∙ route)
+
+pub returns-then-level-eq0-clause-comes : goal.returns-then-level-eq0-clause-comes
+returns-then-level-eq0-clause-comes g t c = λ h.
+    if_ok c.seek_leaf.result (λ found. IfSome found (λ x. x.0 ≡ c.args.page))
+    (λ found. IfSome found (λ x. ComesInTree g.row.D (given c.args.cache.now) c.args.page x.0))
+    (λ found is. found_at g.row.D (given c.args.cache.now) c.args.page found (λ x. x.0) is)
+    c.seek_leaf.ensures.here
+
+pub returns-then-level-eq0-clause-damage : goal.returns-then-level-eq0-clause-damage
+returns-then-level-eq0-clause-damage g t c = λ h.
+    if_err c.seek_leaf.result (λ f. IsOfDevice f ⊎ (f ≡ fault.Damaged c.args.page))
+    (λ f. (n : ℕ) → f ≡ fault.Damaged n → ComesInTree g.row.D (given c.args.cache.now) c.args.page n)
+    (λ f either n damaged. comes_at g.row.D (given c.args.cache.now) c.args.page n f either damaged)
+    (c.seek_leaf.ensures.damage h)
+
+pub returns-in_err-way-clause-damage : goal.returns-in_err-way-clause-damage
+returns-in_err-way-clause-damage g t c = λ h.
+    at_error c.from_residual.result c.in_err-way.field-0.0
+    (λ f. (n : ℕ) → f ≡ fault.Damaged n → ComesInTree g.row.D (given c.args.cache.now) c.args.page n)
+    c.from_residual.ensures.1 (λ n damaged.
+    comes_at g.row.D (given c.args.cache.now) c.args.page n c.in_err-way.field-0.0
+    (c.in_err-way.ensures.damage h) damaged)
+
+pub returns-in-Some-clause-comes : goal.returns-in-Some-clause-comes
+returns-in-Some-clause-comes g t c = λ h.
+    let names = named_some (NamesChild g.row.D (given c.args.cache.now) c.args.page) c.in_ok-way.way.child
+    c.in-Some.child c.in-Some.is
+    (c.in_ok-way.ensures.names h) in
+    let same = c.in_ok-way.ensures.asks.map.given_stay h in
+    let honest = c.in_ok-way.ensures.asks.gate.honest.0 h in
+    if_ok c.seek.result
+    (λ found. IfSome found (λ x. ComesInTree g.row.D (given c.step.new.cache) c.in-Some.child x.0))
+    (λ found. IfSome found (λ x. ComesInTree g.row.D (given c.args.cache.now) c.args.page x.0))
+    (λ found comes. found_under g.row.D (given c.args.cache.now) (given c.step.new.cache) c.args.page
+    c.in-Some.child same names
+    found (λ x. x.0) comes) (c.seek.ensures.comes honest)
+
+pub returns-in-Some-clause-damage : goal.returns-in-Some-clause-damage
+returns-in-Some-clause-damage g t c = λ h.
+    let names = named_some (NamesChild g.row.D (given c.args.cache.now) c.args.page) c.in_ok-way.way.child
+    c.in-Some.child c.in-Some.is
+    (c.in_ok-way.ensures.names h) in
+    let same = c.in_ok-way.ensures.asks.map.given_stay h in
+    let honest = c.in_ok-way.ensures.asks.gate.honest.0 h in
+    if_err c.seek.result
+    (λ f. (n : ℕ) → f ≡ fault.Damaged n → ComesInTree g.row.D (given c.step.new.cache) c.in-Some.child n)
+    (λ f. (n : ℕ) → f ≡ fault.Damaged n → ComesInTree g.row.D (given c.args.cache.now) c.args.page n)
+    (λ f comes n damaged. comes_down g.row.D (given c.args.cache.now) c.args.page c.in-Some.child n names
+    (comes_so g.row.D (given c.args.cache.now) (given c.step.new.cache) c.in-Some.child n same
+    (comes n damaged)))
+    (c.seek.ensures.damage honest)

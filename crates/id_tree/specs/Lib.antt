@@ -1,0 +1,12 @@
+-- The files of definitions.
+pub mod Tree
+pub mod Tidy
+pub mod Changes
+pub mod Rows
+pub mod Steps
+pub mod Halving
+pub mod Writes
+pub mod Cutting
+pub mod Joining
+pub mod Laws
+pub mod Checked

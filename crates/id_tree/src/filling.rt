@@ -1,0 +1,74 @@
+//! Many objects added.
+
+ghost use Rattle.std.specs.Prelude.{◌≡◌, ◌⊎◌, ◌+◌, ◌*◌, ◌/◌, ℕ, false, length, IfErr, OnOk};
+ghost use Rattle.std.specs.FinMap as map;
+ghost use Rattle.box_math.specs.Bounds.{IsDims};
+ghost use Rattle.page_file.specs.Fault.{IsDamage};
+ghost use Rattle.page_file.specs.declared.fault.Fault.TheVariants as fault;
+ghost use Rattle.page_file.specs.declared.gate.Gate.TheVariants.{Open};
+ghost use Rattle.page_cache.specs.Cache.{Grows, IsHonest, IsPageMap, gate_of, given, pages, touched_of};
+ghost use Rattle.page_cache.specs.Calls.{Changes};
+ghost use Rattle.node_page.specs.Faults.{IsNoDamage};
+ghost use Rattle.id_words.specs.Objects.{AreNew};
+ghost use Rattle.id_words.specs.Damage.{MayBreakAt};
+ghost use Rattle.id_tree.specs.Changes.{Fills, most_added_pages};
+ghost use Rattle.id_tree.specs.Checked.{ComesInTree};
+ghost use Rattle.id_tree.specs.Tidy.{KeepsTidy};
+ghost use Rattle.id_tree.specs.Tree.{IdTree, TreeStands, objects_of};
+
+use crate::adding::add_object;
+use block_device::BlockDevice;
+use box_math::BBox;
+use page_cache::PageCache;
+use page_file::Fault;
+use std::alloc::Allocator;
+
+/// Adds objects to the table, none of which has an identifier that is there or that one before it has. In the
+/// order of their identifiers they leave full leaves. The gate has to be open.
+///
+/// Where the pages stand for a table, it makes at most one page more live for each 28 objects that the table
+/// has
+/// then, and 14 more.
+///
+/// Pages with zeros in all bytes that they do not name stay so, and so are new ones.
+///
+/// With a sound map, where the pages stand for a table at that root, a refusal is `Memory` or `Device`, or
+/// `NoPages` where each page number is live. On other pages it may be `Damaged` too. On an honest device,
+/// where
+/// no page is touched, that comes with the number of a page that a walk down the forks comes to, or, where
+/// the
+/// map is not sound, of a page given out that is not live.
+pub fn fill<const D: usize, B: BlockDevice, A: Allocator + Copy>(
+    cache: &mut PageCache<B, A>,
+    root: u32,
+    objects: &[(u64, (BBox<D>, u32))],
+) -> Result<(), Fault>
+    requires dims { IsDims D }
+    requires open { gate_of cache.old ≡ Open }
+    ensures changes { Changes cache.old cache.new result }
+    ensures sound { IsPageMap cache.old → (t : IdTree) → t.page ≡ root → TreeStands D (pages cache.old) t
+        → AreNew (objects_of t) objects.now → IsPageMap cache.new }
+    ensures tidy { IsPageMap cache.old → (t : IdTree) → t.page ≡ root → TreeStands D (pages cache.old) t
+        → AreNew (objects_of t) objects.now
+        → OnOk result (KeepsTidy D (pages cache.old) (pages cache.new)) }
+    ensures filled { IsPageMap cache.old → (t : IdTree) → t.page ≡ root → TreeStands D (pages cache.old) t
+        → AreNew (objects_of t) objects.now
+        → OnOk result (Fills D (pages cache.old) (pages cache.new) t objects.now) }
+    ensures grows { Grows (most_added_pages * length objects.now) cache.old cache.new }
+    ensures grows_few { IsPageMap cache.old → (t : IdTree) → t.page ≡ root → TreeStands D (pages cache.old) t
+        → AreNew (objects_of t) objects.now
+        → Grows ((map.len (objects_of t) + length objects.now) / 28 + 14) cache.old cache.new }
+    ensures faults { IsPageMap cache.old → (t : IdTree) → t.page ≡ root → TreeStands D (pages cache.old) t
+        → AreNew (objects_of t) objects.now → IfErr result (IsNoDamage cache.new) }
+    ensures damage { IsHonest cache.old → touched_of cache.new ≡ false
+        → IfErr result (λ f. (n : ℕ) → f ≡ fault.Damaged n
+        → ComesInTree D (given cache.old) root n ⊎ MayBreakAt cache.old n) }
+    ensures other_faults { IfErr result (λ f. IsNoDamage cache.new f ⊎ IsDamage f) }
+{
+    let mut filled = 0;
+    while filled < objects.len() {
+        add_object::<D, B, A>(cache, root, &objects[filled])?;
+        filled += 1;
+    }
+    Ok(())
+}

@@ -1,0 +1,5 @@
+pub mod ObjectLemmas
+pub mod SeenLemmas
+pub mod Results
+pub mod BreakLemmas
+pub mod WriteLemmas

@@ -1,0 +1,4 @@
+-- The files of definitions.
+pub mod Objects
+pub mod Seen
+pub mod Damage

@@ -1,0 +1,3 @@
+pub mod CallLemmas
+pub mod DoneLemmas
+pub mod EndLemmas

@@ -1,0 +1,190 @@
+//! Objects put into a layer of a store, which is then closed, or given up.
+ghost use Rattle.std.specs.Prelude.{◌≡◌, true, is_ok, IfOk};
+ghost use Rattle.plain_table.specs.Table.{Table};
+ghost use Rattle.store_law.specs.Sessions.{SessionState};
+ghost use Rattle.store_law.specs.States.StoreState.{Alive};
+ghost use Rattle.layer_store.specs.Calls.{Calls};
+ghost use Rattle.layer_store.specs.Representation.{Represents, closed_since, device_in};
+ghost use Rattle.layer_import.specs.Imports.{HasImported, Inserts, Puts, import_commands};
+
+use block_device::BlockDevice;
+use layer_store::{RawBox, Refusal, Store};
+use std::alloc::Allocator;
+
+/// Objects for a layer.
+#[derive(Clone, Copy, Debug)]
+pub struct Import<'a> {
+    /// The layer's name.
+    pub layer: &'a [u8],
+    /// How many axes the layer has where it is made, 2 or 3.
+    pub dims: u64,
+    /// Its fanout where it is made, 4 to 100.
+    pub fanout: u64,
+    /// The objects: identifiers, boxes and tags.
+    pub objects: &'a [(u64, RawBox, u32)],
+}
+
+/// Why objects were not imported.
+#[derive(Clone, Copy, Debug, PartialEq, Eq)]
+pub struct Unimported {
+    /// What the store answered.
+    pub refusal: Refusal,
+    /// The object that was refused, where they were inserted one by one.
+    pub object: Option<u64>,
+}
+
+/// Who is told how far an import is.
+pub trait PutProgress {
+    /// So many objects are to be put in.
+    fn begin(&mut self, all: usize);
+
+    /// So many more were.
+    fn put(&mut self, more: usize);
+
+    /// No more will be.
+    fn end(&mut self);
+}
+
+impl From<Refusal> for Unimported {
+    fn from(refusal: Refusal) -> Unimported {
+        Unimported {
+            refusal,
+            object: None,
+        }
+    }
+}
+
+/// What is left of an import.
+#[derive(Drop)]
+pub struct Imported<D: BlockDevice> {
+    /// Whether all objects were put in and the store was closed, or why not.
+    pub outcome: Result<(), Unimported>,
+    /// The store's device.
+    pub device: D,
+}
+
+/// Puts objects into a layer of a store and closes it. The layer is made where there is none of that name;
+/// one without objects is loaded, and into another the objects are inserted in turn.
+///
+/// **Where the store holds a table that was closed last, then either each of these commands was done, and the
+/// blocks are an image of the table after them; or one was refused, the store was given up, and nothing was
+/// closed: over a device that commits the table is found as it was.** Where the closing is refused, by
+/// `Memory` or `Device`, the table is found as it was, or as it was to be.
+///
+/// `progress` is told how many objects were put in.
+pub fn import_and_close<D: BlockDevice, A: Allocator + Copy, P: PutProgress>(
+    store: Store<D, A>,
+    import: &Import<'_>,
+    progress: &mut P,
+) -> Imported<D>
+    ensures { (s : SessionState) (t : Table) (moment : _) → Represents store s → s.state ≡ Alive t →
+        s.stops ≡ closed_since moment t →
+        HasImported D.BlockDevice moment t
+        (import_commands t import.now.layer.now import.now.dims import.now.fanout import.now.objects.now)
+        (is_ok result.outcome) (device_in store) result.device }
+{
+    let mut store = store;
+    if let Err(why) = put_all(&mut store, import, progress) {
+        return Imported {
+            outcome: Err(why),
+            device: store.abandon(),
+        };
+    }
+    match store.close() {
+        Ok(device) => Imported {
+            outcome: Ok(()),
+            device,
+        },
+        Err((refusal, device)) => Imported {
+            outcome: Err(Unimported::from(refusal)),
+            device,
+        },
+    }
+}
+
+// Puts objects into a layer of a store, and tells how far it is.
+fn put_all<D: BlockDevice, A: Allocator + Copy, P: PutProgress>(
+    store: &mut Store<D, A>,
+    import: &Import<'_>,
+    progress: &mut P,
+) -> Result<(), Unimported>
+    ensures { Puts (Calls store.old store.new) import.now.layer.now import.now.dims import.now.fanout
+        import.now.objects.now (is_ok result) }
+{
+    progress.begin(import.objects.len());
+    let outcome = put(store, import, progress);
+    progress.end();
+    outcome
+}
+
+// Puts objects into a layer of a store, which is made where it is not there.
+fn put<D: BlockDevice, A: Allocator + Copy, P: PutProgress>(
+    store: &mut Store<D, A>,
+    import: &Import<'_>,
+    progress: &mut P,
+) -> Result<(), Unimported>
+    ensures { Puts (Calls store.old store.new) import.now.layer.now import.now.dims import.now.fanout
+        import.now.objects.now (is_ok result) }
+{
+    match store.count(import.layer) {
+        Ok(count) => {
+            if count > 0 {
+                return insert_each(store, import.layer, import.objects, progress);
+            }
+            told(
+                store.load(import.layer, import.objects),
+                import.objects.len(),
+                progress,
+            )
+        }
+        Err(Refusal::NoLayer) => {
+            if let Err(refusal) = store.create(import.layer, import.dims, import.fanout) {
+                return Err(Unimported::from(refusal));
+            }
+            told(
+                store.load(import.layer, import.objects),
+                import.objects.len(),
+                progress,
+            )
+        }
+        Err(refusal) => Err(Unimported::from(refusal)),
+    }
+}
+
+// What a load of all objects, which are so many, was answered.
+fn told<P: PutProgress>(
+    loaded: Result<(), Refusal>,
+    objects: usize,
+    progress: &mut P,
+) -> Result<(), Unimported>
+    ensures { is_ok result ≡ is_ok loaded }
+{
+    match loaded {
+        Ok(()) => {
+            progress.put(objects);
+            Ok(())
+        }
+        Err(refusal) => Err(Unimported::from(refusal)),
+    }
+}
+
+// Inserts objects in turn.
+fn insert_each<D: BlockDevice, A: Allocator + Copy, P: PutProgress>(
+    store: &mut Store<D, A>,
+    layer: &[u8],
+    objects: &[(u64, RawBox, u32)],
+    progress: &mut P,
+) -> Result<(), Unimported>
+    ensures { Inserts (Calls store.old store.new) layer.now objects.now (is_ok result) }
+{
+    for object in objects {
+        if let Err(refusal) = store.insert(layer, object.0, object.1, object.2) {
+            return Err(Unimported {
+                refusal,
+                object: Some(object.0),
+            });
+        }
+        progress.put(1);
+    }
+    Ok(())
+}

@@ -1,0 +1,9 @@
+-- What holds at each turn of the loop of `offer_all`.
+use Rattle.box_math.specs.Measures.{point_dist2_of}
+use Rattle.node_page.specs.Views.{content_in}
+use Rattle.nearest.proofs.OfferLemmas.{Offering}
+use Rattle.nearest.proofs.objects.offer_all.Given as goal
+
+abbrev pub invariant-objects : goal.invariant-objects
+invariant-objects g l =
+    Offering (λ b. point_dist2_of g.row.D b l.point) l.k l.fn.best l.best (content_in l.view).entries l.place

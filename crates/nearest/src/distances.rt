@@ -1,0 +1,75 @@
+//! The squared distances of the boxes of a node from a point.
+
+ghost use Rattle.std.specs.Prelude.{◌≡◌, ◌^◌, ◌<◌, length, slice_index_or};
+ghost use Rattle.box_math.specs.Bounds.{IsDims};
+ghost use Rattle.box_math.specs.Measures.{point_dist2_of};
+ghost use Rattle.tree_node.specs.Boxes.{no_item};
+ghost use Rattle.node_page.specs.Views.{content_in};
+ghost use Rattle.nearest.specs.Candidates.{AreDistances};
+
+use box_math::BBox;
+use node_page::NodeView;
+
+/// The squared distances of the boxes of a node from a point, by place. 64 bits hold them where no box is
+/// 2^31 or more away on an axis.
+#[derive(Drop)]
+pub(crate) struct Distances {
+    squares: [u64; 100],
+    widest: u32,
+}
+
+impl Distances {
+    /// Those of the boxes of a node. The loop has no branches, so that several boxes are measured at once.
+    pub(crate) fn of<const D: usize>(view: &NodeView<'_, D>, point: &[i32; D]) -> Distances
+        requires { IsDims D }
+        ensures { AreDistances (λ b. point_dist2_of D b point.now) (content_in view.now).entries
+            result.squares result.widest }
+    {
+        let mut squares = [0u64; 100];
+        let mut widest = 0u32;
+        for place in 0..view.len() {
+            let (square, gap) = measured(&view.entry(place).bounds, point);
+            squares[place] = square;
+            widest = widest.max(gap);
+        }
+        Distances { squares, widest }
+    }
+
+    /// That of the box in the place.
+    pub(crate) fn at<const D: usize>(
+        &self,
+        view: &NodeView<'_, D>,
+        place: usize,
+        point: &[i32; D],
+    ) -> u128
+        requires dims { IsDims D }
+        requires within { place < length (content_in view.now).entries }
+        requires measured { AreDistances (λ b. point_dist2_of D b point.now) (content_in view.now).entries
+            self.now.squares self.now.widest }
+        ensures { result
+            ≡ point_dist2_of D (slice_index_or (content_in view.now).entries place no_item).bounds point.now }
+    {
+        if self.widest < 1 << 31 {
+            return u128::from(self.squares[place]);
+        }
+        view.entry(place).bounds.point_dist2(point)
+    }
+}
+
+// The squared distance of the box, where it is less than 2^31 away on each axis, and how far it is on one at
+// the most.
+#[inline]
+fn measured<const D: usize>(bounds: &BBox<D>, point: &[i32; D]) -> (u64, u32)
+    requires { IsDims D }
+    ensures { result.1 < 2 ^ 31 → result.0 ≡ point_dist2_of D bounds.now point.now }
+{
+    let (low, high) = (bounds.low(), bounds.high());
+    let mut square = 0u64;
+    let mut widest = 0u32;
+    'axes: for axis in 0..D {
+        let gap = point[axis].abs_diff(low[axis].max(point[axis].min(high[axis])));
+        square = square.wrapping_add(u64::from(gap) * u64::from(gap));
+        widest = widest.max(gap);
+    }
+    (square, widest)
+}
