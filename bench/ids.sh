@@ -1,20 +1,24 @@
 #!/usr/bin/env bash
-# Measures calls on identifier tables (ids_times.rattle, proved and built in a copy of the crates below it) and a twin of C++
-# with the same pages in one array (ids_times.cpp), in the same run. Prints the nanoseconds of one get, add and remove among
-# 100,000 objects, whose chains are of one page, and of one object of a fill and one get where chains have 10 and 100 pages:
-# the least of five runs without what comes before, all pages asked for held, and their ratio. Both find the same.
+# Measures calls on identifier tables (ids_times.rattle, proved and built in a copy of the crates below it) and on
+# std::unordered_map (ids_times.cpp), in the same run. Prints the nanoseconds of one get, add and remove among 100,000
+# objects, all pages held, and of one object of a fill and one get among a million and among ten million, where 4096 pages
+# are: of a table of chains, of a tree, and of the reference; the least of five runs without what comes before. All find
+# the same.
 set -eu
 here=$(cd "$(dirname "$0")" && pwd)
 work=$(mktemp -d)
 trap 'rm -rf "$work"' EXIT
 g++ -O2 -std=c++17 -o "$work/reference" "$here/ids_times.cpp"
 mkdir -p "$work/crates/ids_times/src"
-for crate in box_math refusing block_device block_bytes page_file page_cache box_bytes bucket_page tree_node node_page id_table; do
+below() { sed -n "s/^$1: //p" "$here/../crates.txt" | tr ' ' '\n' | while read -r crate; do
+    [ ! -e "$here/../crates/$crate" ] || { below "$crate"; echo "$crate"; }
+done; }
+for crate in $(below id_table | awk '!seen[$0]++') id_table; do
     cp -a "$here/../crates/$crate" "$work/crates/$crate"
     grep -E "^$crate:" "$here/../crates.txt" >>"$work/crates.txt"
 done
 cp "$here/ids_times.rattle" "$work/crates/ids_times/src/main.rt"
-for loop in add_all remove_all sum_of three_tables; do
+for loop in add_all remove_all sum_of; do
     mkdir -p "$work/crates/ids_times/proofs/$loop"
     cp "$here/ids_times_$loop.invariants" "$work/crates/ids_times/proofs/$loop/Invariants.antt"
 done
@@ -23,30 +27,30 @@ git -C "$work" init -q
 (cd "$work/crates/ids_times" && rt run) >"$work/log" 2>&1 || { cat "$work/log" >&2; exit 1; }
 program="$work/crates/ids_times/out/ids_times"
 
-# The least processor seconds of five runs.
+# least PROGRAM WORDS..: the least processor seconds of five runs.
 least() {
     for _ in 1 2 3 4 5; do
-        ( TIMEFORMAT='%U %S'; time "$1" $2 >"$3" ) 2>&1 | awk '{ print $1 + $2 }'
+        ( TIMEFORMAT='%U %S'; time "$@" >"$work/answer" ) 2>&1 | awk '{ print $1 + $2 }'
     done | sort -n | head -n 1
 }
 
-printf '%-14s %9s %11s %7s\n' what ours reference ratio
-while read -r name times what before; do
-    ours=$(least "$program" "${what/-/ }" "$work/ours")
-    base=$(least "$program" "${before/-/ }" "$work/base")
-    theirs=$(least "$work/reference" "${what/-/ }" "$work/theirs")
-    bare=$(least "$work/reference" "${before/-/ }" "$work/base")
-    cmp "$work/ours" "$work/theirs"
-    awk -v w="$name" -v n="$times" -v a="$ours" -v b="$base" -v c="$theirs" -v d="$bare" 'BEGIN {
-        a = (a - b) / n * 1e9; c = (c - d) / n * 1e9
-        printf "%-14s %9.1f %11.1f %7.2f\n", w, a, c, a / c
-    }'
+printf '%-14s %9s %9s %9s\n' what chains tree reference
+while read -r name times what before count; do
+    row=$name
+    for column in "$program chains" "$program tree" "$work/reference any"; do
+        bare=$(least $column "$before" $count)
+        whole=$(least $column "$what" $count)
+        row+=" $(awk -v a="$whole" -v b="$bare" -v n="$times" 'BEGIN { print (a - b) / n * 1e9 }')"
+        [ -e "$work/wanted.$name" ] || cp "$work/answer" "$work/wanted.$name"
+        cmp "$work/answer" "$work/wanted.$name"
+    done
+    printf '%-14s %9.0f %9.0f %9.0f\n' $row
 done <<'WHAT'
-add 300000 again remove
-get 1000000 get add
-remove 300000 remove add
-fill_1000000 1000000 fill-1000000 list-1000000
-find_1000000 20000 find-1000000 fill-1000000
-fill_10000000 10000000 fill-10000000 list-10000000
-find_10000000 20000 find-10000000 fill-10000000
+add 100000 again remove 100000
+get 1000000 get add 100000
+remove 100000 remove add 100000
+fill_1000000 1000000 fill list 1000000
+find_1000000 20000 find fill 1000000
+fill_10000000 10000000 fill list 10000000
+find_10000000 20000 find fill 10000000
 WHAT

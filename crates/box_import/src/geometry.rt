@@ -44,22 +44,31 @@ pub(crate) fn read_geometry<'a>(
     };
     for at in 0..line.len() {
         match json.member(at == 0) {
-            Some(Member::Named(key)) => {
-                if spells(key, b"geometries") {
-                    if parts.is_collection {
-                        return Err(MemberFault::new(key, json.rest(), Why::Twice));
-                    }
-                    parts.is_collection = true;
-                    read_collection(json, extent, nested - 1)?;
-                } else {
-                    read_part(json, extent, key, &mut parts)?;
-                }
-            }
+            Some(Member::Named(key)) => read_member(json, extent, key, &mut parts, nested - 1)?,
             Some(Member::End) => return fits(&parts, line),
             None => break,
         }
     }
     Err(no_json(b"geometry", json))
+}
+
+// Reads a member of a geometry, in which others may be nested so deep.
+#[cycle(geometry)]
+fn read_member<'a>(
+    json: &mut Json<'a>,
+    extent: &mut Extent,
+    key: &'a [u8],
+    parts: &mut Parts,
+    nested: u32,
+) -> Result<(), MemberFault<'a>> {
+    if !spells(key, b"geometries") {
+        return read_part(json, extent, key, parts);
+    }
+    if parts.is_collection {
+        return Err(MemberFault::new(key, json.rest(), Why::Twice));
+    }
+    parts.is_collection = true;
+    read_collection(json, extent, nested)
 }
 
 // Reads the geometries of a collection.

@@ -1,6 +1,6 @@
 -- The kind of a table is looked up, and then the call of that kind is made.
-use Rattle.std.proofs.Common.{◌≡◌, ◌∙◌, ◌⊎◌, ℕ, List, None, Result, Ok, Err, IfOk, OnOk, sym, subst, refl}
-use Rattle.std.proofs.Common.{inl, inr}
+use Rattle.std.proofs.Common.{◌≡◌, ◌∙◌, ◌⊎◌, ◌<◌, ℕ, List, [], None, IsSome, Result, Ok, Err, IfOk, OnOk, sym}
+use Rattle.std.proofs.Common.{subst, refl, inl, inr}
 use Rattle.box_math.specs.Objects.{Object}
 use Rattle.bucket_page.specs.Layout.{Entry}
 use Rattle.page_file.specs.Fault.{IsOfDevice}
@@ -12,14 +12,16 @@ use Rattle.page_cache.specs.declared.cache.PageCache.{PageCache}
 use Rattle.node_page.specs.Parts.{Moves, Part}
 use Rattle.node_page.specs.Standing.{PageMap}
 use Rattle.id_words.proofs.BreakLemmas.{no_damage}
+use Rattle.id_words.specs.Damage.{MayBreakAt}
 use Rattle.id_chains.specs.Changes as chains
 use Rattle.id_chains.specs.Checked as checked_chains
 use Rattle.id_chains.specs.Table.{IdChains, IdChainsStand}
+use Rattle.id_chains.specs.Walks as walks
 use Rattle.id_tree.specs.Changes as trees
 use Rattle.id_tree.specs.Checked as checked_trees
 use Rattle.id_tree.specs.Tree.{IdTree, TreeStands}
 use Rattle.id_table.specs.Changes.{Fills, Makes, Removes, Sets}
-use Rattle.id_table.specs.Checked.{ComesInTable, IsCheckedTable}
+use Rattle.id_table.specs.Checked.{ComesInTable, IsCheckedTable, MeetsInTable}
 use Rattle.id_table.specs.Table.{IdTable, IdsStand, kind_of, page_of}
 use Rattle.id_table.specs.Table.IdTable.{chained, treed}
 use Rattle.id_table.specs.declared.kind.TableKind.{TableKind}
@@ -201,3 +203,57 @@ comes_at_once dims page m f (inr damaged) n is =
 pub if_made : {T E : Type 0} {P Q : T → Type 0} (r : Result T E) → ((x : T) → P x → Q x) → IfOk r P → IfOk r Q
 if_made (Ok x) f p = f x p
 if_made (Err e) f p = tt
+
+-- where a call of a kind names a page that its walk meets
+pub met_in_chain : (dims page class : ℕ) (mid old : PageMap) (n : ℕ) → mid ≡ old → class < 1000
+    → walks.MeetsInChain dims mid page class n → MeetsInTable dims old page n
+met_in_chain dims page class mid old n same small meets =
+    inr (inl (subst (λ (p : PageMap). walks.MeetsInTable dims p page n) same (class, (small, meets))))
+
+pub met_in_chains : (dims page : ℕ) (mid old : PageMap) (n : ℕ) → mid ≡ old
+    → walks.MeetsInTable dims mid page n → MeetsInTable dims old page n
+met_in_chains dims page mid old n same meets =
+    inr (inl (subst (λ (p : PageMap). walks.MeetsInTable dims p page n) same meets))
+
+pub met_in_tree : (dims page : ℕ) (mid old : PageMap) (n : ℕ) → mid ≡ old
+    → checked_trees.ComesInTree dims mid page n → MeetsInTable dims old page n
+met_in_tree dims page mid old n same comes =
+    inr (inr (subst (λ (p : PageMap). checked_trees.ComesInTree dims p page n) same comes))
+
+-- the first page of a chain is met at once
+begun_is_met : (dims page class : ℕ) (m : PageMap) (n : ℕ) → walks.BeginsChain dims m page class n
+    → walks.MeetsInChain dims m page class n
+begun_is_met dims page class m n (inl same) = inl same
+begun_is_met dims page class m n (inr begun) = inr (n, (begun.1, (begun.0, ([], refl))))
+
+pub in_some_chain : {Q : Type 0} (dims page class : ℕ) (m : PageMap) (n : ℕ) → class < 1000
+    → walks.BeginsChain dims m page class n ⊎ Q → walks.BeginsInTable dims m page n ⊎ Q
+in_some_chain dims page class m n small (inl begun) = inl (class, (small, begun))
+in_some_chain dims page class m n small (inr other) = inr other
+
+pub met_at_once : (dims page : ℕ) (m : PageMap) (f : Fault) → IsOfDevice f ⊎ (f ≡ fault.Damaged page)
+    → (n : ℕ) → f ≡ fault.Damaged n → MeetsInTable dims m page n
+met_at_once dims page m f (inl device) n is = absurd (no_damage f n device is)
+met_at_once dims page m f (inr damaged) n is =
+    let both : fault.Damaged n ≡ fault.Damaged page = sym is ∙ damaged in
+    let same : n ≡ page = cc in inl same
+
+-- where a page was to be given out, too
+module _ {D A : Type 0} {m : _} (dims page : ℕ) (old mid : PageCache D A m) (asks : AsksUntil old mid None)
+    (honest : IsHonest old) (n : ℕ) where
+  breaks_before : MayBreakAt mid n → MayBreakAt old n
+  breaks_before b = (λ sound. b.0 (asks.map.sound.0 sound)),
+      (subst IsSome (asks.map.given_stay honest n) b.1.0,
+      λ live. b.1.1 (subst IsSome (sym (asks.map.pages_stay honest n)) live))
+
+  pub met_or_broken : {P : Type 0} → (P → MeetsInTable dims (given old) page n) → P ⊎ MayBreakAt mid n
+      → MeetsInTable dims (given old) page n ⊎ MayBreakAt old n
+  met_or_broken f (inl p) = inl (f p)
+  met_or_broken f (inr b) = inr (breaks_before b)
+
+  pub begun_or_broken : walks.BeginsInTable dims (given mid) page n ⊎ MayBreakAt mid n
+      → MeetsInTable dims (given old) page n ⊎ MayBreakAt old n
+  begun_or_broken = met_or_broken
+      (λ begun. met_in_chain dims page begun.0 (given mid) (given old) n
+      (same_given dims page old mid asks honest) begun.1.0
+      (begun_is_met dims page begun.0 (given mid) n begun.1.1))

@@ -2,6 +2,7 @@
 use Rattle.std.specs.Prelude.{◌≡◌, ◌⊎◌, ℕ, List}
 use Rattle.bucket_page.specs.Layout.{Entry}
 use Rattle.id_chains.specs.Checked as chains
+use Rattle.id_chains.specs.Walks as walks
 use Rattle.id_tree.specs.Checked as trees
 use Rattle.node_page.specs.Checked.{named_pages}
 use Rattle.node_page.specs.Standing.{PageMap}
@@ -21,3 +22,9 @@ pub record IsCheckedTable (dims : ℕ) (pages : PageMap) (page : ℕ) (pairs : L
 abbrev pub ComesInTable : ℕ → PageMap → ℕ → ℕ → Type 0
 ComesInTable dims pages page last =
     (last ≡ page) ⊎ (chains.ComesInTable dims pages page last ⊎ trees.ComesInTree dims pages page last)
+
+-- the page is the first one of the table, or one that a search or a change meets: along a chain, where it
+-- looks at the heads of buckets alone, or down a tree
+abbrev pub MeetsInTable : ℕ → PageMap → ℕ → ℕ → Type 0
+MeetsInTable dims pages page last =
+    (last ≡ page) ⊎ (walks.MeetsInTable dims pages page last ⊎ trees.ComesInTree dims pages page last)

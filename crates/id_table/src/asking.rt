@@ -7,7 +7,7 @@ ghost use Rattle.page_file.specs.Fault.{IsDamage, IsOfDevice};
 ghost use Rattle.page_file.specs.declared.fault.Fault.TheVariants as fault;
 ghost use Rattle.page_cache.specs.Cache.{IsHonest, IsPageMap, given, looks_of, next_of, pages};
 ghost use Rattle.page_cache.specs.Calls.{Asks};
-ghost use Rattle.id_table.specs.Checked.{ComesInTable, IsCheckedTable};
+ghost use Rattle.id_table.specs.Checked.{ComesInTable, IsCheckedTable, MeetsInTable};
 ghost use Rattle.id_table.specs.Table.{IdTable, IdsStand, objects_of, page_of};
 
 use crate::kind::{TableKind, kind_at};
@@ -43,6 +43,8 @@ pub fn get<const D: usize, B: BlockDevice, A: Allocator + Copy>(
         → IfOk result (λ kept. kept ≡ map.get (objects_of t) id) }
     ensures stands { IsHonest cache.old → (t : IdTable) → page_of t ≡ page → IdsStand D (pages cache.old) t
         → IfErr result IsOfDevice }
+    ensures damage { IsHonest cache.old
+        → IfErr result (λ f. (n : ℕ) → f ≡ fault.Damaged n → MeetsInTable D (given cache.old) page n) }
     ensures other_faults { IfErr result (λ f. IsOfDevice f ⊎ IsDamage f) }
 {
     match kind_at::<D, B, A>(cache, page)? {

@@ -5,13 +5,17 @@ ghost use Rattle.std.specs.FinMap as map;
 ghost use Rattle.box_math.specs.Bounds.{IsDims};
 ghost use Rattle.box_math.specs.Objects.{Object};
 ghost use Rattle.page_file.specs.Fault.{IsDamage, IsOfDevice};
+ghost use Rattle.page_file.specs.declared.fault.Fault.TheVariants as fault;
 ghost use Rattle.page_file.specs.declared.gate.Gate.TheVariants.{Open};
-ghost use Rattle.page_cache.specs.Cache.{Grows, IsPageMap, gate_of, next_of, pages};
+ghost use Rattle.page_cache.specs.Cache.{BreaksAt, Grows, IsHonest, IsPageMap, gate_of, given, next_of};
+ghost use Rattle.page_cache.specs.Cache.{pages, touched_of};
 ghost use Rattle.page_cache.specs.Calls.{Changes};
 ghost use Rattle.node_page.specs.Faults.{IsNoDamage};
 ghost use Rattle.node_page.specs.Parts.{Moves, no_page};
+ghost use Rattle.id_words.specs.Damage.{MayBreakAt};
 ghost use Rattle.id_words.specs.Objects.{with_box};
 ghost use Rattle.id_table.specs.Changes.{Makes, Removes, Sets, most_added_pages};
+ghost use Rattle.id_table.specs.Checked.{MeetsInTable};
 ghost use Rattle.id_table.specs.Table.{IdTable, IdsStand, objects_of, page_of, part_of};
 
 use crate::kind::{TableKind, kind_at};
@@ -24,7 +28,8 @@ use std::alloc::Allocator;
 /// Makes a table of this kind and of no objects, and answers its first page, which stays its first. The gate
 /// has to be open, and for a tree the file of version 3 (`PageCache::raise_version`).
 ///
-/// With a sound map a refusal is `Memory` or `Device`, or `NoPages` where each page number is live.
+/// With a sound map a refusal is `Memory` or `Device`, or `NoPages` where each page number is live. On an honest
+/// device it may be `Damaged` too, where the chain of free pages breaks.
 pub fn make<const D: usize, B: BlockDevice, A: Allocator + Copy>(
     cache: &mut PageCache<B, A>,
     kind: TableKind,
@@ -38,6 +43,8 @@ pub fn make<const D: usize, B: BlockDevice, A: Allocator + Copy>(
     ensures number { IfOk result (λ page. (3 ≤ page) × (page < next_of cache.new)) }
     ensures grows { Grows 1 cache.old cache.new }
     ensures faults { IsPageMap cache.old → IfErr result (IsNoDamage cache.new) }
+    ensures damage { IsHonest cache.old
+        → IfErr result (λ f. (n : ℕ) → f ≡ fault.Damaged n → BreaksAt cache.old n) }
     ensures other_faults { IfErr result (λ f. IsNoDamage cache.new f ⊎ IsDamage f) }
 {
     match kind {
@@ -50,7 +57,9 @@ pub fn make<const D: usize, B: BlockDevice, A: Allocator + Copy>(
 /// open.
 ///
 /// With a sound map, where the pages stand for a table there, a refusal is `Memory` or `Device`, or `NoPages`
-/// where each page number is live. Also after a refusal at most `most_added_pages` more pages are live.
+/// where each page number is live. On other pages it may be `Damaged` too: where no page was touched, with the
+/// number of a page that a walk meets, or at which the chain of free pages breaks. Also after a refusal at most
+/// `most_added_pages` more pages are live.
 #[tactic(auto, using(page_cache::specs::Calls::changing))]
 pub fn add<const D: usize, B: BlockDevice, A: Allocator + Copy>(
     cache: &mut PageCache<B, A>,
@@ -70,6 +79,9 @@ pub fn add<const D: usize, B: BlockDevice, A: Allocator + Copy>(
     ensures grows { Grows most_added_pages cache.old cache.new }
     ensures faults { IsPageMap cache.old → (t : IdTable) → page_of t ≡ page → IdsStand D (pages cache.old) t
         → IfErr result (IsNoDamage cache.new) }
+    ensures damage { IsHonest cache.old → touched_of cache.new ≡ false
+        → IfErr result (λ f. (n : ℕ) → f ≡ fault.Damaged n
+        → MeetsInTable D (given cache.old) page n ⊎ MayBreakAt cache.old n) }
     ensures other_faults { IfErr result (λ f. IsNoDamage cache.new f ⊎ IsDamage f) }
 {
     match kind_at::<D, B, A>(cache, page)? {
@@ -81,7 +93,8 @@ pub fn add<const D: usize, B: BlockDevice, A: Allocator + Copy>(
 /// Gives the object with that identifier, which the table that begins at a page has, another box, where it
 /// lies: one page is written. Its tag stays. The gate has to be open.
 ///
-/// With a sound map, where the pages stand for a table there, a refusal is `Memory` or `Device`.
+/// With a sound map, where the pages stand for a table there, a refusal is `Memory` or `Device`. On other pages
+/// it may be `Damaged` too, with the number of a page that a walk meets.
 #[tactic(auto, using(page_cache::specs::Calls::changing))]
 pub fn update<const D: usize, B: BlockDevice, A: Allocator + Copy>(
     cache: &mut PageCache<B, A>,
@@ -100,6 +113,8 @@ pub fn update<const D: usize, B: BlockDevice, A: Allocator + Copy>(
     ensures grows { Grows 0 cache.old cache.new }
     ensures faults { IsPageMap cache.old → (t : IdTable) → page_of t ≡ page → IdsStand D (pages cache.old) t
         → map.contains_key (objects_of t) id ≡ true → IfErr result IsOfDevice }
+    ensures damage { IsHonest cache.old
+        → IfErr result (λ f. (n : ℕ) → f ≡ fault.Damaged n → MeetsInTable D (given cache.old) page n) }
     ensures other_faults { IfErr result (λ f. IsOfDevice f ⊎ IsDamage f) }
 {
     match kind_at::<D, B, A>(cache, page)? {
@@ -110,7 +125,8 @@ pub fn update<const D: usize, B: BlockDevice, A: Allocator + Copy>(
 
 /// Removes an object from the table that begins at a page, which has its identifier. The gate has to be open.
 ///
-/// With a sound map, where the pages stand for a table there, a refusal is `Memory` or `Device`.
+/// With a sound map, where the pages stand for a table there, a refusal is `Memory` or `Device`. On other pages
+/// it may be `Damaged` too: where no page was touched, with the number of a page that a walk meets.
 #[tactic(auto, using(page_cache::specs::Calls::changing))]
 pub fn remove<const D: usize, B: BlockDevice, A: Allocator + Copy>(
     cache: &mut PageCache<B, A>,
@@ -128,6 +144,8 @@ pub fn remove<const D: usize, B: BlockDevice, A: Allocator + Copy>(
     ensures grows { Grows 0 cache.old cache.new }
     ensures faults { IsPageMap cache.old → (t : IdTable) → page_of t ≡ page → IdsStand D (pages cache.old) t
         → map.contains_key (objects_of t) id ≡ true → IfErr result IsOfDevice }
+    ensures damage { IsHonest cache.old → touched_of cache.new ≡ false
+        → IfErr result (λ f. (n : ℕ) → f ≡ fault.Damaged n → MeetsInTable D (given cache.old) page n) }
     ensures other_faults { IfErr result (λ f. IsOfDevice f ⊎ IsDamage f) }
 {
     match kind_at::<D, B, A>(cache, page)? {
@@ -138,7 +156,8 @@ pub fn remove<const D: usize, B: BlockDevice, A: Allocator + Copy>(
 
 /// Frees all pages of the table that begins at a page. The gate has to be open.
 ///
-/// With a sound map, where the pages stand for a table there, a refusal is `Memory` or `Device`.
+/// With a sound map, where the pages stand for a table there, a refusal is `Memory` or `Device`. On other pages
+/// it may be `Damaged` too: where no page was touched, with the number of a page that a walk meets.
 #[tactic(auto, using(page_cache::specs::Calls::changing))]
 pub fn free_all<const D: usize, B: BlockDevice, A: Allocator + Copy>(
     cache: &mut PageCache<B, A>,
@@ -154,6 +173,8 @@ pub fn free_all<const D: usize, B: BlockDevice, A: Allocator + Copy>(
     ensures grows { Grows 0 cache.old cache.new }
     ensures faults { IsPageMap cache.old → (t : IdTable) → page_of t ≡ page → IdsStand D (pages cache.old) t
         → IfErr result IsOfDevice }
+    ensures damage { IsHonest cache.old → touched_of cache.new ≡ false
+        → IfErr result (λ f. (n : ℕ) → f ≡ fault.Damaged n → MeetsInTable D (given cache.old) page n) }
     ensures other_faults { IfErr result (λ f. IsOfDevice f ⊎ IsDamage f) }
 {
     match kind_at::<D, B, A>(cache, page)? {

@@ -1,17 +1,20 @@
 //! Many objects added.
 
-ghost use Rattle.std.specs.Prelude.{◌≡◌, ◌⊎◌, ◌+◌, ◌*◌, ◌%◌, ℕ, length, IfErr, IsPermutation, OnOk};
+ghost use Rattle.std.specs.Prelude.{◌≡◌, ◌⊎◌, ◌+◌, ◌*◌, ◌%◌, ℕ, false, length, IfErr, IsPermutation, OnOk};
 ghost use Rattle.std.specs.FinMap as map;
 ghost use Rattle.box_math.specs.Bounds.{IsDims};
 ghost use Rattle.page_file.specs.Fault.{IsDamage};
+ghost use Rattle.page_file.specs.declared.fault.Fault.TheVariants as fault;
 ghost use Rattle.page_file.specs.declared.gate.Gate.TheVariants.{Open};
-ghost use Rattle.page_cache.specs.Cache.{Grows, IsPageMap, gate_of, pages};
+ghost use Rattle.page_cache.specs.Cache.{Grows, IsHonest, IsPageMap, gate_of, given, pages, touched_of};
 ghost use Rattle.page_cache.specs.Calls.{Changes};
 ghost use Rattle.node_page.specs.Faults.{IsNoDamage};
 ghost use Rattle.std.specs.List.Sorted.{IsNonDecreasingBy};
 ghost use Rattle.id_chains.specs.Table.{class_of};
+ghost use Rattle.id_words.specs.Damage.{MayBreakAt};
 ghost use Rattle.id_words.specs.Objects.{AreNew};
 ghost use Rattle.id_table.specs.Changes.{Fills, most_filled_pages};
+ghost use Rattle.id_table.specs.Checked.{MeetsInTable};
 ghost use Rattle.id_table.specs.Table.{IdTable, IdsStand, objects_of, page_of};
 
 use crate::kind::{TableKind, kind_at};
@@ -27,7 +30,8 @@ use std::alloc::Allocator;
 ///
 /// With a sound map, where the pages stand for a table there, a refusal is `Memory` or `Device`, or `NoPages`
 /// where each page number is live; also after a refusal at most `most_filled_pages` of the objects that are
-/// there then more pages are live.
+/// there then more pages are live. On other pages it may be `Damaged` too: where no page was touched, with the
+/// number of a page that a walk meets, or at which the chain of free pages breaks.
 #[tactic(auto, using(page_cache::specs::Calls::changing))]
 pub fn fill<const D: usize, B: BlockDevice, A: Allocator + Copy>(
     cache: &mut PageCache<B, A>,
@@ -49,6 +53,9 @@ pub fn fill<const D: usize, B: BlockDevice, A: Allocator + Copy>(
     ensures grows { Grows (7 * length objects.new) cache.old cache.new }
     ensures faults { IsPageMap cache.old → (t : IdTable) → page_of t ≡ page → IdsStand D (pages cache.old) t
         → AreNew (objects_of t) objects.new → IfErr result (IsNoDamage cache.new) }
+    ensures damage { IsHonest cache.old → touched_of cache.new ≡ false
+        → IfErr result (λ f. (n : ℕ) → f ≡ fault.Damaged n
+        → MeetsInTable D (given cache.old) page n ⊎ MayBreakAt cache.old n) }
     ensures other_faults { IfErr result (λ f. IsNoDamage cache.new f ⊎ IsDamage f) }
 {
     match kind_at::<D, B, A>(cache, page)? {

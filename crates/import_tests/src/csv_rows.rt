@@ -91,44 +91,46 @@ fn columns_are_read_by_a_list(rt: HostRuntime) -> Result<(), Fail> {
     Ok(())
 }
 
+// Rows below a header of id, minx, miny, MaxX and maxy, and what is told of them.
+const BAD_ROWS: [(&str, &str); 12] = [
+    (
+        "1,1,2,\"12,5\",4",
+        "line 2, column MaxX: \"12,5\" is no number",
+    ),
+    (
+        "1,1,2,3,4\n\n\"2\",1,2,3,4.5.6",
+        "line 4, column maxy: \"4.5.6\" is no number",
+    ),
+    (
+        "1,1,2,3,4\n2,\"\n\",2,3,4",
+        "line 3, column minx: \"\" is no number",
+    ),
+    (
+        "1,1,2,3e10,4",
+        "line 2, column MaxX: \"3e10\" is out of range",
+    ),
+    ("-1,1,2,3,4", "line 2, column id: \"-1\" is no identifier"),
+    (
+        "18446744073709551616,1,2,3,4",
+        "line 2, column id: \"18446744073709551616\" is no identifier",
+    ),
+    ("+1,1,2,3,4", "line 2, column id: \"+1\" is no identifier"),
+    ("1,5,2,3,4", "line 2, column minx: \"5\" is above its high"),
+    (
+        "1,1,4.3,3,4.2",
+        "line 2, column miny: \"4.3\" is above its high",
+    ),
+    ("1,1,2,3", "line 2, column maxy: is missing"),
+    ("1,1,2,3,4,5", "line 2, column 6: \"5\" is a field too many"),
+    (
+        "1,1,2,\x1b[31m,4",
+        "line 2, column MaxX: \"\\u{1b}[31m\" is no number",
+    ),
+];
+
 #[test]
 fn a_bad_row_is_told_by_its_line_and_column(rt: HostRuntime) -> Result<(), Fail> {
-    let rows = [
-        (
-            "1,1,2,\"12,5\",4",
-            "line 2, column MaxX: \"12,5\" is no number",
-        ),
-        (
-            "1,1,2,3,4\n\n\"2\",1,2,3,4.5.6",
-            "line 4, column maxy: \"4.5.6\" is no number",
-        ),
-        (
-            "1,1,2,3,4\n2,\"\n\",2,3,4",
-            "line 3, column minx: \"\" is no number",
-        ),
-        (
-            "1,1,2,3e10,4",
-            "line 2, column MaxX: \"3e10\" is out of range",
-        ),
-        ("-1,1,2,3,4", "line 2, column id: \"-1\" is no identifier"),
-        (
-            "18446744073709551616,1,2,3,4",
-            "line 2, column id: \"18446744073709551616\" is no identifier",
-        ),
-        ("+1,1,2,3,4", "line 2, column id: \"+1\" is no identifier"),
-        ("1,5,2,3,4", "line 2, column minx: \"5\" is above its high"),
-        (
-            "1,1,4.3,3,4.2",
-            "line 2, column miny: \"4.3\" is above its high",
-        ),
-        ("1,1,2,3", "line 2, column maxy: is missing"),
-        ("1,1,2,3,4,5", "line 2, column 6: \"5\" is a field too many"),
-        (
-            "1,1,2,\x1b[31m,4",
-            "line 2, column MaxX: \"\\u{1b}[31m\" is no number",
-        ),
-    ];
-    for (row, wanted) in rows {
+    for (row, wanted) in BAD_ROWS {
         let text = format!(in rt.alloc(); "id,minx,miny,MaxX,maxy\n{row}\n")?;
         let found = told(rt.alloc(), text.as_bytes(), &Columns::Header, 10)?;
         assert_eq!(rt; found.as_str(), wanted);

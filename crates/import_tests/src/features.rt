@@ -24,41 +24,43 @@ fn told(
     }
 }
 
+// Geometries, and their boxes in tenths.
+const GEOMETRIES: [(&str, &str); 7] = [
+    (
+        r#"{"type":"Point","coordinates":[1.5,-2]}"#,
+        "Two([15, -20], [15, -20])",
+    ),
+    (
+        r#"{"coordinates":[[1,2],[-3,4.01]],"type":"MultiPoint"}"#,
+        "Two([-30, 20], [10, 41])",
+    ),
+    (
+        r#"{"type":"LineString","coordinates":[[1e1,2],[3,4]]}"#,
+        "Two([30, 20], [100, 40])",
+    ),
+    (
+        r#"{"type":"MultiLineString","coordinates":[[[1,2],[3,4]],[[5,-6,7]]]}"#,
+        "Two([10, -60], [50, 40])",
+    ),
+    (
+        r#"{"type":"Polygon","bbox":[0,0,9,9],"coordinates":[[[0,0],[4,0],[4,5.55],[0,0]],[]]}"#,
+        "Two([0, 0], [40, 56])",
+    ),
+    (
+        r#"{"type":"MultiPolygon","coordinates":[[[[0,0],[1,1]]],[[[2,2],[-0.05,3]]]]}"#,
+        "Two([-1, 0], [20, 30])",
+    ),
+    (
+        r#"{"type":"GeometryCollection","geometries":[{"type":"Point","coordinates":[1,2]},
+        {"type":"GeometryCollection","geometries":[]},{"type":"GeometryCollection","geometries":[
+        {"type":"LineString","coordinates":[[7,8],[5,6]]}]},{"type":"Polygon","coordinates":[]}]}"#,
+        "Two([10, 20], [70, 80])",
+    ),
+];
+
 #[test]
 fn each_geometry_has_its_least_box(rt: HostRuntime) -> Result<(), Fail> {
-    let rows = [
-        (
-            r#"{"type":"Point","coordinates":[1.5,-2]}"#,
-            "Two([15, -20], [15, -20])",
-        ),
-        (
-            r#"{"coordinates":[[1,2],[-3,4.01]],"type":"MultiPoint"}"#,
-            "Two([-30, 20], [10, 41])",
-        ),
-        (
-            r#"{"type":"LineString","coordinates":[[1e1,2],[3,4]]}"#,
-            "Two([30, 20], [100, 40])",
-        ),
-        (
-            r#"{"type":"MultiLineString","coordinates":[[[1,2],[3,4]],[[5,-6,7]]]}"#,
-            "Two([10, -60], [50, 40])",
-        ),
-        (
-            r#"{"type":"Polygon","bbox":[0,0,9,9],"coordinates":[[[0,0],[4,0],[4,5.55],[0,0]],[]]}"#,
-            "Two([0, 0], [40, 56])",
-        ),
-        (
-            r#"{"type":"MultiPolygon","coordinates":[[[[0,0],[1,1]]],[[[2,2],[-0.05,3]]]]}"#,
-            "Two([-1, 0], [20, 30])",
-        ),
-        (
-            r#"{"type":"GeometryCollection","geometries":[{"type":"Point","coordinates":[1,2]},
-            {"type":"GeometryCollection","geometries":[]},{"type":"GeometryCollection","geometries":[
-            {"type":"LineString","coordinates":[[7,8],[5,6]]}]},{"type":"Polygon","coordinates":[]}]}"#,
-            "Two([10, 20], [70, 80])",
-        ),
-    ];
-    for (geometry, wanted) in rows {
+    for (geometry, wanted) in GEOMETRIES {
         let geometry = geometry.as_bytes();
         let mut line = Vec::new(rt.alloc());
         line.extend_from_slice(br#"{"type":"Feature","properties":{"a":[{},"}"]},"geometry":"#)?;
@@ -142,72 +144,74 @@ fn lines_are_counted(rt: HostRuntime) -> Result<(), Fail> {
     Ok(())
 }
 
+// Lines, and what is told of them.
+const BAD_FEATURES: [(&str, &str); 18] = [
+    ("[1]", "line 1, member feature: \"[1]\" is no JSON"),
+    ("{", "line 1, member feature: \"\" is no JSON"),
+    ("{}", "line 1, member type: \"{}\" is no feature"),
+    (
+        r#"{"type":"FeatureCollection"}"#,
+        "line 1, member type: \"\\\"FeatureCollection\\\"}\" is no feature",
+    ),
+    (
+        r#"{"type":"Feature"}"#,
+        "line 1, member geometry: \"{\\\"type\\\":\\\"Feature\\\"}\" has no position",
+    ),
+    (
+        r#"{"type":"Feature","geometry":null}x"#,
+        "line 1, member feature: \"x\" is no JSON",
+    ),
+    (r#"{"a":[1,]}"#, "line 1, member a: \"[1,]}\" is no JSON"),
+    (
+        r#"{"a":{"b":tru}}"#,
+        "line 1, member a: \"{\\\"b\\\":tru}}\" is no JSON",
+    ),
+    (r#"{"a":01}"#, "line 1, member a: \"01}\" is no JSON"),
+    (
+        r#"{"a":"\x"}"#,
+        "line 1, member a: \"\\\"\\\\x\\\"}\" is no JSON",
+    ),
+    (
+        r#"{"id":1.0}"#,
+        "line 1, member id: \"1.0\" is no identifier",
+    ),
+    (
+        r#"{"id":"a1"}"#,
+        "line 1, member id: \"\\\"a1\\\"\" is no identifier",
+    ),
+    (
+        r#"{"properties":{"t":4294967296}}"#,
+        "line 1, member t: \"4294967296\" is no tag",
+    ),
+    (
+        r#"{"geometry":{"type":"Circle"}}"#,
+        "line 1, member type: \"\\\"Circle\\\"}}\" is no geometry",
+    ),
+    (
+        r#"{"geometry":{"type":"Point","coordinates":[[1,2]]}}"#,
+        "line 1, member geometry: \"{\\\"type\\\":\\\"Point\\\",\\\"coordinates\\\":[[1,2]]}}\" is no geometry",
+    ),
+    (
+        r#"{"geometry":{"coordinates":[[1,2],[[3,4]]]}}"#,
+        "line 1, member coordinates: \"[3,4]]]}}\" is no position",
+    ),
+    (
+        r#"{"geometry":{"coordinates":[1e10,2]}}"#,
+        "line 1, member coordinates: \"1e10\" is out of range",
+    ),
+    (
+        r#"{"geometry":{"coordinates":["1",2]}}"#,
+        "line 1, member coordinates: \"\\\"1\\\",2]}}\" is no position",
+    ),
+];
+
 #[test]
 fn what_is_no_feature_is_told(rt: HostRuntime) -> Result<(), Fail> {
-    let rows = [
-        ("[1]", "line 1, member feature: \"[1]\" is no JSON"),
-        ("{", "line 1, member feature: \"\" is no JSON"),
-        ("{}", "line 1, member type: \"{}\" is no feature"),
-        (
-            r#"{"type":"FeatureCollection"}"#,
-            "line 1, member type: \"\\\"FeatureCollection\\\"}\" is no feature",
-        ),
-        (
-            r#"{"type":"Feature"}"#,
-            "line 1, member geometry: \"{\\\"type\\\":\\\"Feature\\\"}\" has no position",
-        ),
-        (
-            r#"{"type":"Feature","geometry":null}x"#,
-            "line 1, member feature: \"x\" is no JSON",
-        ),
-        (r#"{"a":[1,]}"#, "line 1, member a: \"[1,]}\" is no JSON"),
-        (
-            r#"{"a":{"b":tru}}"#,
-            "line 1, member a: \"{\\\"b\\\":tru}}\" is no JSON",
-        ),
-        (r#"{"a":01}"#, "line 1, member a: \"01}\" is no JSON"),
-        (
-            r#"{"a":"\x"}"#,
-            "line 1, member a: \"\\\"\\\\x\\\"}\" is no JSON",
-        ),
-        (
-            r#"{"id":1.0}"#,
-            "line 1, member id: \"1.0\" is no identifier",
-        ),
-        (
-            r#"{"id":"a1"}"#,
-            "line 1, member id: \"\\\"a1\\\"\" is no identifier",
-        ),
-        (
-            r#"{"properties":{"t":4294967296}}"#,
-            "line 1, member t: \"4294967296\" is no tag",
-        ),
-        (
-            r#"{"geometry":{"type":"Circle"}}"#,
-            "line 1, member type: \"\\\"Circle\\\"}}\" is no geometry",
-        ),
-        (
-            r#"{"geometry":{"type":"Point","coordinates":[[1,2]]}}"#,
-            "line 1, member geometry: \"{\\\"type\\\":\\\"Point\\\",\\\"coordinates\\\":[[1,2]]}}\" is no geometry",
-        ),
-        (
-            r#"{"geometry":{"coordinates":[[1,2],[[3,4]]]}}"#,
-            "line 1, member coordinates: \"[3,4]]]}}\" is no position",
-        ),
-        (
-            r#"{"geometry":{"coordinates":[1e10,2]}}"#,
-            "line 1, member coordinates: \"1e10\" is out of range",
-        ),
-        (
-            r#"{"geometry":{"coordinates":["1",2]}}"#,
-            "line 1, member coordinates: \"\\\"1\\\",2]}}\" is no position",
-        ),
-    ];
     let properties = Properties {
         id: None,
         tag: Some(b"t"),
     };
-    for (line, wanted) in rows {
+    for (line, wanted) in BAD_FEATURES {
         let found = told(rt.alloc(), line.as_bytes(), properties, Axes::Two, 1)?;
         assert_eq!(rt; found.as_str(), wanted);
     }

@@ -1,5 +1,5 @@
 -- An object of a table of its kind gets another box.
-use Rattle.std.proofs.Common.{◌≡◌, IfErr, OnOk, Some, true}
+use Rattle.std.proofs.Common.{◌≡◌, IfErr, OnOk, Some, true, ℕ, arith}
 use Rattle.std.specs.FinMap as map
 use Rattle.box_math.specs.Objects.{Object}
 use Rattle.page_cache.specs.Cache.{IsPageMap, pages}
@@ -8,6 +8,13 @@ use Rattle.id_words.specs.Objects.{with_box}
 use Rattle.id_table.specs.Changes.{Sets}
 use Rattle.id_table.specs.Table.{objects_of}
 use Rattle.id_table.proofs.StepLemmas.{chains_set, of_chains, of_tree, on_ok, same_pages, tree_set}
+use Rattle.page_file.specs.declared.fault.Fault.TheVariants as fault
+use Rattle.node_page.proofs.NodeLemmas.{at_error, if_error}
+use Rattle.id_table.specs.Checked.{MeetsInTable}
+use Rattle.id_tree.specs.Checked as checked_trees
+use Rattle.id_chains.specs.Walks as walks
+use Rattle.id_chains.specs.Table.{class_of}
+use Rattle.id_table.proofs.StepLemmas.{met_at_once, met_in_chain, met_in_tree, same_given}
 use Rattle.id_table.proofs.changing.update.Goals as goal
 
 pub returns-in-Chains-clause-sound : goal.returns-in-Chains-clause-sound
@@ -63,3 +70,31 @@ returns-in-Tree-clause-faults g c = λ sound t at s has.
     sound.honest t at s c.in_ok-kind_at.field-0 (c.in_ok-kind_at.ensures.kind sound.honest t at s)
     c.in-Tree.is
     (λ ch there stands has. c.update-in-Tree.ensures.faults (c.in_ok-kind_at.ensures.asks.map.sound.0 sound) ch there stands has) has
+
+-- ---- the page that is damaged
+
+pub returns-in_err-kind_at-clause-damage : goal.returns-in_err-kind_at-clause-damage
+returns-in_err-kind_at-clause-damage g c = λ h.
+    at_error c.from_residual.result c.in_err-kind_at.field-0.0
+    (λ f. (n : ℕ) → f ≡ fault.Damaged n → MeetsInTable g.row.D (given c.args.cache.now) c.args.page n)
+    c.from_residual.ensures.1
+    (met_at_once g.row.D c.args.page (given c.args.cache.now) c.in_err-kind_at.field-0.0
+    (c.in_err-kind_at.ensures.damage h))
+
+pub returns-in-Chains-clause-damage : goal.returns-in-Chains-clause-damage
+returns-in-Chains-clause-damage g c = λ h.
+    if_error c.update.result
+    (λ f. (n : ℕ) → f ≡ fault.Damaged n → walks.MeetsInChain g.row.D (given c.kind_at.new.cache) c.args.page (class_of c.args.id) n)
+    (λ f. (n : ℕ) → f ≡ fault.Damaged n → MeetsInTable g.row.D (given c.args.cache.now) c.args.page n)
+    (λ f met n is. met_in_chain g.row.D c.args.page (class_of c.args.id) (given c.kind_at.new.cache)
+    (given c.args.cache.now) n (same_given g.row.D c.args.page c.args.cache.now c.kind_at.new.cache c.in_ok-kind_at.ensures.asks h) (omega arith) (met n is))
+    (c.update.ensures.damage (c.in_ok-kind_at.ensures.asks.gate.honest.0 h))
+
+pub returns-in-Tree-clause-damage : goal.returns-in-Tree-clause-damage
+returns-in-Tree-clause-damage g c = λ h.
+    if_error c.update-in-Tree.result
+    (λ f. (n : ℕ) → f ≡ fault.Damaged n → checked_trees.ComesInTree g.row.D (given c.kind_at.new.cache) c.args.page n)
+    (λ f. (n : ℕ) → f ≡ fault.Damaged n → MeetsInTable g.row.D (given c.args.cache.now) c.args.page n)
+    (λ f met n is. met_in_tree g.row.D c.args.page (given c.kind_at.new.cache) (given c.args.cache.now) n
+    (same_given g.row.D c.args.page c.args.cache.now c.kind_at.new.cache c.in_ok-kind_at.ensures.asks h) (met n is))
+    (c.update-in-Tree.ensures.damage (c.in_ok-kind_at.ensures.asks.gate.honest.0 h))

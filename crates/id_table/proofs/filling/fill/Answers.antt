@@ -1,5 +1,5 @@
 -- Objects are added to a table of its kind, in its order.
-use Rattle.std.proofs.Common.{IfErr, OnOk, ◌+◌, ◌/◌, length, arith}
+use Rattle.std.proofs.Common.{IfErr, OnOk, ◌+◌, ◌/◌, length, arith, ◌≡◌, ℕ, ◌⊎◌, inl, inr}
 use Rattle.std.specs.FinMap as map
 use Rattle.page_cache.specs.Cache.{IsPageMap, pages}
 use Rattle.page_cache.specs.Cache.{Grows}
@@ -9,6 +9,13 @@ use Rattle.id_table.specs.Changes.{Fills, most_filled_pages}
 use Rattle.id_table.specs.Table.{objects_of}
 use Rattle.id_table.specs.Table.IdTable.{treed}
 use Rattle.id_table.proofs.StepLemmas.{chains_filled, of_chains, of_tree, on_ok, same_pages, tree_filled}
+use Rattle.page_file.specs.declared.fault.Fault.TheVariants as fault
+use Rattle.node_page.proofs.NodeLemmas.{at_error, if_error}
+use Rattle.id_table.specs.Checked.{MeetsInTable}
+use Rattle.id_tree.specs.Checked as checked_trees
+use Rattle.id_chains.specs.Walks as walks
+use Rattle.id_words.specs.Damage.{MayBreakAt}
+use Rattle.id_table.proofs.StepLemmas.{begun_or_broken, met_at_once, met_in_tree, met_or_broken, same_given}
 use Rattle.id_table.proofs.filling.fill.Goals as goal
 
 pub returns-in-Chains-clause-sound : goal.returns-in-Chains-clause-sound
@@ -75,3 +82,37 @@ returns-in-Tree-clause-grows_few g c = λ sound t at s new.
     let few : Grows ((map.len (objects_of (treed ch)) + length c.sort_by_identifier.new.objects) / 28 + 14) c.kind_at.new.cache c.fill-in-Tree.new.cache =
     c.fill-in-Tree.ensures.grows_few (c.in_ok-kind_at.ensures.asks.map.sound.0 sound) ch there stands new in
     omega (arith, few, c.in_ok-kind_at.ensures.asks.map.next, c.in_ok-kind_at.ensures.asks.map.free_count)) new
+
+-- ---- the page that is damaged
+
+pub returns-in_err-kind_at-clause-damage : goal.returns-in_err-kind_at-clause-damage
+returns-in_err-kind_at-clause-damage g c = λ h quiet.
+    at_error c.from_residual.result c.in_err-kind_at.field-0.0
+    (λ f. (n : ℕ) → f ≡ fault.Damaged n → MeetsInTable g.row.D (given c.args.cache.now) c.args.page n
+    ⊎ MayBreakAt c.args.cache.now n)
+    c.from_residual.ensures.1
+    (λ n is. inl (met_at_once g.row.D c.args.page (given c.args.cache.now) c.in_err-kind_at.field-0.0
+    (c.in_err-kind_at.ensures.damage h) n is))
+
+pub returns-in-Chains-clause-damage : goal.returns-in-Chains-clause-damage
+returns-in-Chains-clause-damage g c = λ h quiet.
+    if_error c.fill.result
+    (λ f. (n : ℕ) → f ≡ fault.Damaged n → walks.BeginsInTable g.row.D (given c.kind_at.new.cache) c.args.page n
+    ⊎ MayBreakAt c.kind_at.new.cache n)
+    (λ f. (n : ℕ) → f ≡ fault.Damaged n → MeetsInTable g.row.D (given c.args.cache.now) c.args.page n
+    ⊎ MayBreakAt c.args.cache.now n)
+    (λ f met n is. begun_or_broken g.row.D c.args.page c.args.cache.now c.kind_at.new.cache
+    c.in_ok-kind_at.ensures.asks h n (met n is))
+    (c.fill.ensures.damage (c.in_ok-kind_at.ensures.asks.gate.honest.0 h) (inr quiet))
+
+pub returns-in-Tree-clause-damage : goal.returns-in-Tree-clause-damage
+returns-in-Tree-clause-damage g c = λ h quiet.
+    if_error c.fill-in-Tree.result
+    (λ f. (n : ℕ) → f ≡ fault.Damaged n → checked_trees.ComesInTree g.row.D (given c.kind_at.new.cache) c.args.page n
+    ⊎ MayBreakAt c.kind_at.new.cache n)
+    (λ f. (n : ℕ) → f ≡ fault.Damaged n → MeetsInTable g.row.D (given c.args.cache.now) c.args.page n
+    ⊎ MayBreakAt c.args.cache.now n)
+    (λ f met n is. met_or_broken g.row.D c.args.page c.args.cache.now c.kind_at.new.cache c.in_ok-kind_at.ensures.asks h n
+    (met_in_tree g.row.D c.args.page (given c.kind_at.new.cache) (given c.args.cache.now) n
+    (same_given g.row.D c.args.page c.args.cache.now c.kind_at.new.cache c.in_ok-kind_at.ensures.asks h)) (met n is))
+    (c.fill-in-Tree.ensures.damage (c.in_ok-kind_at.ensures.asks.gate.honest.0 h) quiet)
