@@ -4,13 +4,13 @@
 use crate::blocks::{block_of, patch, put};
 use crate::language::may_answer;
 use block_device::{BlockDevice, DeviceError, MemoryDevice};
-use layer_store::{AnyBox, DumpRow, RawBox, RawPoint, Refusal, Store};
+use layer_store::{AnyBox, DumpRow, RawBox, RawPoint, Refusal, Store, Version, create_store};
 use list_table::ListTable;
 use std::alloc::Global;
 use std::process::Abort;
 use std::test::Fail;
 use store_commands::{
-    Answer, Command, Dice, PLANE, SPACE, answer, closed, device_of, listed, new_store, opened,
+    Answer, Command, Dice, PLANE, SPACE, answer, closed, device_of, listed, opened,
 };
 
 // How many files are damaged.
@@ -19,7 +19,8 @@ const FILES: u32 = 1000;
 // More looks than a command makes on so small a file.
 const MOST_LOOKS: u64 = 10_000;
 
-// Layers to be made, with so many objects. One of the last makes a chain of two buckets.
+// Layers to be made, with so many objects. In files of version 2 one of `CHAINED` has a chain of two buckets,
+// and in those of version 3 one of `FORKED` a fork with three leaves.
 type Layer = (&'static [u8], u64, u64, u32);
 
 const FEW: [Layer; 3] = [(b"a", 2, 4, 11), (b"b", 3, 5, 6), (b"c", 2, 4, 0)];
@@ -27,6 +28,8 @@ const FEW: [Layer; 3] = [(b"a", 2, 4, 11), (b"b", 3, 5, 6), (b"c", 2, 4, 0)];
 const DEEP: [Layer; 2] = [(b"a", 2, 4, 17), (b"b", 2, 5, 6)];
 
 const CHAINED: [Layer; 2] = [(b"a", 2, 100, 103), (b"b", 3, 4, 6)];
+
+const FORKED: [Layer; 2] = [(b"a", 2, 100, 330), (b"b", 3, 4, 6)];
 
 // Each question, and each change with a closing, in two ways.
 const QUESTIONS: [[Command<'static>; 10]; 2] = [
@@ -114,13 +117,14 @@ fn add_free_pages(device: &mut MemoryDevice) -> Result<(), DeviceError> {
     patch(device, 1, 20, 4, 3)
 }
 
-// The blocks of a store with these layers, and three free pages.
-fn blocks_with(alloc: Global, layers: &[Layer]) -> Result<Blocks, Fail> {
-    let mut store = new_store(alloc, 64)?;
+// The blocks of a store with these layers, in a file of this version, and three free pages.
+fn blocks_with(alloc: Global, version: Version, layers: &[Layer]) -> Result<Blocks, Fail> {
+    let made = create_store(alloc, MemoryDevice::new(alloc), 64, version);
+    let mut store = made.map_err(|(refusal, _)| refusal)?;
     for &(name, dims, fanout, count) in layers {
         answer(alloc, &mut store, Command::Create(name, dims, fanout))?;
         for i in 0..count {
-            // identifiers of one remainder, or of three
+            // identifiers in one chain, or in three
             let id = if count > 100 {
                 1000 * u64::from(i)
             } else {
@@ -199,6 +203,38 @@ fn damage_bucket(
     }
 }
 
+// A new number for a fork: its count, its level, a key, a child, or its kind or dimension.
+fn damage_fork(dice: &mut Dice, device: &mut MemoryDevice, page: u32) -> Result<(), DeviceError> {
+    let other = u64::from(any_page(dice, device));
+    let at = 16 + 12 * dice.below(4) as usize;
+    let small = u64::from(dice.below(30));
+    match dice.below(9) {
+        0 => patch(device, page, 2, 2, small % 7),
+        1 => patch(device, page, 4, 1, small % 4),
+        2 | 3 => patch(device, page, at, 8, 1000 * small),
+        4..=7 => patch(device, page, at + 8, 4, other),
+        _ => patch(device, page, dice.below(2) as usize, 1, small % 11),
+    }
+}
+
+// A new number for a leaf: its count, an identifier, a bound, a tag, or its kind or dimension.
+fn damage_leaf(
+    dice: &mut Dice,
+    device: &mut MemoryDevice,
+    page: u32,
+    is_space: bool,
+) -> Result<(), DeviceError> {
+    let size = if is_space { 36 } else { 28 };
+    let at = 16 + size * dice.below(6) as usize;
+    let small = u64::from(dice.below(30));
+    match dice.below(8) {
+        0 | 1 => patch(device, page, 2, 2, small % 7),
+        2 | 3 => patch(device, page, at, 8, 1000 * (small % 5) + small % 3),
+        4..=6 => patch(device, page, at + 8 + 4 * dice.below(5) as usize, 4, small),
+        _ => patch(device, page, dice.below(2) as usize, 1, small % 11),
+    }
+}
+
 // A new number for a record of the catalog, which mostly is still one that opening takes.
 fn damage_catalog(dice: &mut Dice, device: &mut MemoryDevice) -> Result<(), DeviceError> {
     let other = u64::from(any_page(dice, device));
@@ -265,6 +301,8 @@ fn damage(dice: &mut Dice, device: &mut MemoryDevice) -> Result<(), DeviceError>
             patch(device, page, at, 4, other)
         }
         4 | 7 => damage_bucket(dice, device, page, is_space),
+        8 => damage_fork(dice, device, page),
+        9 => damage_leaf(dice, device, page, is_space),
         _ => Ok(()),
     }
 }
@@ -413,17 +451,19 @@ fn run(rt: &impl Abort, alloc: Global, device: MemoryDevice, file: u32) -> Resul
 #[test]
 fn files_damaged_by_chance_are_survived(rt: HostRuntime) -> Result<(), Fail> {
     let alloc = rt.alloc();
-    let (few, deep, chained) = (
-        blocks_with(alloc, &FEW)?,
-        blocks_with(alloc, &DEEP)?,
-        blocks_with(alloc, &CHAINED)?,
-    );
+    let few = blocks_with(alloc, Version::Three, &FEW)?;
+    let few_in_chains = blocks_with(alloc, Version::Two, &FEW)?;
+    let deep = blocks_with(alloc, Version::Three, &DEEP)?;
+    let chained = blocks_with(alloc, Version::Two, &CHAINED)?;
+    let forked = blocks_with(alloc, Version::Three, &FORKED)?;
     let mut dice = Dice { state: 13 };
     let (mut is_refused, mut is_sound, mut goes_on, mut fails) = (false, false, false, false);
     for file in 0..FILES {
         let blocks = match file % 40 {
             0 => &chained,
-            1..=16 => &deep,
+            1 | 2 => &forked,
+            3..=16 => &deep,
+            17..=26 => &few_in_chains,
             _ => &few,
         };
         let mut device = device_with(alloc, blocks)?;
