@@ -1,5 +1,5 @@
 -- The kind of a table by byte 0 of its first page.
-use Rattle.std.proofs.Common.{◌≡◌, ◌∙◌, ℕ, List, Option, Some, IsSome, refl, sym, ap, subst, arith}
+use Rattle.std.proofs.Common.{◌≡◌, ◌∙◌, ℕ, List, Some, IsSome, refl, sym, ap, subst, arith}
 use Rattle.block_bytes.specs.Numbers.{number_at}
 use Rattle.node_page.specs.Standing.{PageMap}
 use Rattle.id_page.specs.Layout.{fork_kind}

@@ -20,7 +20,7 @@ use Rattle.id_chains.specs.Walks as walks
 use Rattle.id_tree.specs.Changes as trees
 use Rattle.id_tree.specs.Checked as checked_trees
 use Rattle.id_tree.specs.Tree.{IdTree, TreeStands}
-use Rattle.id_table.specs.Changes.{Fills, Makes, Removes, Sets}
+use Rattle.id_table.specs.Changes.{Fills, KeepsTidy, Makes, Removes, Sets}
 use Rattle.id_table.specs.Checked.{ComesInTable, IsCheckedTable, MeetsInTable}
 use Rattle.id_table.specs.Table.{IdTable, IdsStand, kind_of, page_of}
 use Rattle.id_table.specs.Table.IdTable.{chained, treed}
@@ -158,6 +158,15 @@ module _ (dims : ℕ) (old new : PageMap) (kind : TableKind) (page : ℕ) where
     moves = s.moves;
   }
 
+-- pages keep zeros where they name no bytes
+pub tidy_on : {T E : Type 0} (dims : ℕ) (kind : TableKind) (old mid new : PageMap) (r : Result T E) → mid ≡ old
+    → OnOk r (KeepsTidy dims kind mid new) → OnOk r (KeepsTidy dims kind old new)
+tidy_on dims kind old mid new r same = on_ok r (subst (λ (p : PageMap). KeepsTidy dims kind p new) same)
+
+pub tidy_of : {T E : Type 0} (dims : ℕ) (kind is : TableKind) (old new : PageMap) (r : Result T E) → kind ≡ is
+    → OnOk r (KeepsTidy dims is old new) → OnOk r (KeepsTidy dims kind old new)
+tidy_of dims kind is old new r same = on_ok r (subst (λ (k : TableKind). KeepsTidy dims k old new) (sym same))
+
 -- ---- what a check of each kind finds
 
 pub chains_checked : (dims page : ℕ) (mid old : PageMap) (pairs : List Entry) (list : List ℕ) → mid ≡ old
@@ -208,7 +217,7 @@ if_made (Err e) f p = tt
 pub met_in_chain : (dims page class : ℕ) (mid old : PageMap) (n : ℕ) → mid ≡ old → class < 1000
     → walks.MeetsInChain dims mid page class n → MeetsInTable dims old page n
 met_in_chain dims page class mid old n same small meets =
-    inr (inl (subst (λ (p : PageMap). walks.MeetsInTable dims p page n) same (class, (small, meets))))
+    inr (inl (subst (λ (p : PageMap). walks.MeetsInTable dims p page n) same (class, small, meets)))
 
 pub met_in_chains : (dims page : ℕ) (mid old : PageMap) (n : ℕ) → mid ≡ old
     → walks.MeetsInTable dims mid page n → MeetsInTable dims old page n
@@ -224,11 +233,11 @@ met_in_tree dims page mid old n same comes =
 begun_is_met : (dims page class : ℕ) (m : PageMap) (n : ℕ) → walks.BeginsChain dims m page class n
     → walks.MeetsInChain dims m page class n
 begun_is_met dims page class m n (inl same) = inl same
-begun_is_met dims page class m n (inr begun) = inr (n, (begun.1, (begun.0, ([], refl))))
+begun_is_met dims page class m n (inr begun) = inr (n, begun.1, (begun.0, ([], refl)))
 
 pub in_some_chain : {Q : Type 0} (dims page class : ℕ) (m : PageMap) (n : ℕ) → class < 1000
     → walks.BeginsChain dims m page class n ⊎ Q → walks.BeginsInTable dims m page n ⊎ Q
-in_some_chain dims page class m n small (inl begun) = inl (class, (small, begun))
+in_some_chain dims page class m n small (inl begun) = inl (class, small, begun)
 in_some_chain dims page class m n small (inr other) = inr other
 
 pub met_at_once : (dims page : ℕ) (m : PageMap) (f : Fault) → IsOfDevice f ⊎ (f ≡ fault.Damaged page)
@@ -242,9 +251,11 @@ met_at_once dims page m f (inr damaged) n is =
 module _ {D A : Type 0} {m : _} (dims page : ℕ) (old mid : PageCache D A m) (asks : AsksUntil old mid None)
     (honest : IsHonest old) (n : ℕ) where
   breaks_before : MayBreakAt mid n → MayBreakAt old n
-  breaks_before b = (λ sound. b.0 (asks.map.sound.0 sound)),
-      (subst IsSome (asks.map.given_stay honest n) b.1.0,
-      λ live. b.1.1 (subst IsSome (sym (asks.map.pages_stay honest n)) live))
+  breaks_before b = (
+    (λ sound. b.0 (asks.map.sound.0 sound)),
+    subst IsSome (asks.map.given_stay honest n) b.1,
+    (λ live. b.2 (subst IsSome (sym (asks.map.pages_stay honest n)) live)),
+  )
 
   pub met_or_broken : {P : Type 0} → (P → MeetsInTable dims (given old) page n) → P ⊎ MayBreakAt mid n
       → MeetsInTable dims (given old) page n ⊎ MayBreakAt old n
@@ -255,5 +266,5 @@ module _ {D A : Type 0} {m : _} (dims page : ℕ) (old mid : PageCache D A m) (a
       → MeetsInTable dims (given old) page n ⊎ MayBreakAt old n
   begun_or_broken = met_or_broken
       (λ begun. met_in_chain dims page begun.0 (given mid) (given old) n
-      (same_given dims page old mid asks honest) begun.1.0
-      (begun_is_met dims page begun.0 (given mid) n begun.1.1))
+      (same_given dims page old mid asks honest) begun.1
+      (begun_is_met dims page begun.0 (given mid) n begun.2))

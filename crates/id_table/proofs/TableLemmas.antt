@@ -21,7 +21,6 @@ use Rattle.id_tree.proofs.FewLemmas.{few_pages}
 use Rattle.id_tree.proofs.GivenLemmas.{live_table}
 use Rattle.id_table.specs.Table.{IdTable, IdsStand, entries_of, occurs_in_ids, page_of}
 use Rattle.id_table.specs.Table.IdTable.{chained, treed}
-use Rattle.id_table.specs.Table.{part_of}
 use Rattle.id_table.proofs.ChainLemmas.{IsOther, chains_are_other, chains_stay, once_in_all_chains, one_of_chains}
 use Rattle.id_table.proofs.TreeLemmas.{one_of_trees, tree_is_other, tree_stays}
 

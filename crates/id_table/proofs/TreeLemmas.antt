@@ -1,10 +1,8 @@
 -- What holds of tables that are trees.
-use Rattle.std.proofs.Common.{◌≡◌, ◌∙◌, ℕ, ◌-◌, ◌<◌, Option, Some, None, List, [], ◌∷◌, drop, get_or, refl}
+use Rattle.std.proofs.Common.{◌≡◌, ◌∙◌, ℕ, ◌-◌, ◌<◌, Option, Some, None, List, [], drop, get_or, refl}
 use Rattle.std.proofs.Common.{sym, ap, subst, ⊎_elim, inl, inr, arith}
-use Rattle.std.specs.Prelude.{◌⊎◌}
 use Rattle.std.proofs.lemmas.Bool.{cases_eq}
 use Rattle.bucket_page.specs.Layout.{Entry}
-use Rattle.page_file.specs.Layout.{kind_of}
 use Rattle.node_page.specs.Layout.{IsNodeKind}
 use Rattle.node_page.specs.Standing.{PageMap}
 use Rattle.id_page.specs.Fork.{ForkContent, Link}

@@ -4,11 +4,14 @@ use Rattle.std.specs.Prelude.{◌≡◌, ℕ, ◌+◌, ◌/◌, List}
 use Rattle.std.specs.FinMap as map
 use Rattle.box_math.specs.Objects.{Object}
 use Rattle.bucket_page.specs.Layout.{Entry}
+use Rattle.id_chains.specs.Tidy as chains
+use Rattle.id_tree.specs.Tidy as trees
 use Rattle.id_words.specs.Objects.{with_all}
 use Rattle.node_page.specs.Parts.{Moves, no_page}
 use Rattle.node_page.specs.Standing.{PageMap}
 use Rattle.id_table.specs.Table.{IdTable, IdsStand, kind_of, objects_of, page_of, part_of}
 use Rattle.id_table.specs.declared.kind.TableKind.{TableKind}
+use Rattle.id_table.specs.declared.kind.TableKind.TheVariants.{Chains, Tree}
 
 -- a new table of this kind and of no objects, in pages of its own
 pub record Makes (dims : ℕ) (old new : PageMap) (kind : TableKind) (page : ℕ) : Type 0 where
@@ -46,6 +49,11 @@ pub record Fills (dims : ℕ) (old new : PageMap) (t : IdTable) (added : List En
   pub stands : IdsStand dims new table
   pub objects : objects_of table ≡ with_all (objects_of t) added
   pub moves : Moves old new (part_of t) (part_of table)
+
+-- where the pages of a table of this kind have zeros in all bytes that they do not name, they have so still
+abbrev pub KeepsTidy : ℕ → TableKind → PageMap → PageMap → Type 0
+KeepsTidy dims Chains = chains.KeepsTidy dims
+KeepsTidy dims Tree = trees.KeepsTidy dims
 
 -- ---- by how many pages the live ones grow at most
 

@@ -1,22 +1,22 @@
 //! Tables made, changed by one object, and given up.
 
-ghost use Rattle.std.specs.Prelude.{◌≡◌, ◌⊎◌, ◌≤◌, ◌<◌, ℕ, Some, true, false, IfOk, IfErr, OnOk};
+ghost use Rattle.std.specs.Prelude.{◌≡◌, ◌⊎◌, ◌≤◌, ◌<◌, ℕ, Some, true, false, IfOk, IfErr, OnErr, OnOk};
 ghost use Rattle.std.specs.FinMap as map;
 ghost use Rattle.box_math.specs.Bounds.{IsDims};
 ghost use Rattle.box_math.specs.Objects.{Object};
 ghost use Rattle.page_file.specs.Fault.{IsDamage, IsOfDevice};
 ghost use Rattle.page_file.specs.declared.fault.Fault.TheVariants as fault;
 ghost use Rattle.page_file.specs.declared.gate.Gate.TheVariants.{Open};
-ghost use Rattle.page_cache.specs.Cache.{BreaksAt, Grows, IsHonest, IsPageMap, gate_of, given, next_of};
-ghost use Rattle.page_cache.specs.Cache.{pages, touched_of};
+ghost use Rattle.page_cache.specs.Cache.{BreaksAt, Grows, IsHonest, IsPageMap, KeepsMap, gate_of, given};
+ghost use Rattle.page_cache.specs.Cache.{next_of, pages, touched_of};
 ghost use Rattle.page_cache.specs.Calls.{Changes};
 ghost use Rattle.node_page.specs.Faults.{IsNoDamage};
 ghost use Rattle.node_page.specs.Parts.{Moves, no_page};
 ghost use Rattle.id_words.specs.Damage.{MayBreakAt};
 ghost use Rattle.id_words.specs.Objects.{with_box};
-ghost use Rattle.id_table.specs.Changes.{Makes, Removes, Sets, most_added_pages};
+ghost use Rattle.id_table.specs.Changes.{KeepsTidy, Makes, Removes, Sets, most_added_pages};
 ghost use Rattle.id_table.specs.Checked.{MeetsInTable};
-ghost use Rattle.id_table.specs.Table.{IdTable, IdsStand, objects_of, page_of, part_of};
+ghost use Rattle.id_table.specs.Table.{IdTable, IdsStand, kind_of, objects_of, page_of, part_of};
 
 use crate::kind::{TableKind, kind_at};
 use block_device::BlockDevice;
@@ -26,7 +26,7 @@ use page_file::Fault;
 use std::alloc::Allocator;
 
 /// Makes a table of this kind and of no objects, and answers its first page, which stays its first. The gate
-/// has to be open, and for a tree the file of version 3 (`PageCache::raise_version`).
+/// has to be open. A tree wants a file of version 3: the caller raises it (`PageCache::raise_version`).
 ///
 /// With a sound map a refusal is `Memory` or `Device`, or `NoPages` where each page number is live. On an honest
 /// device it may be `Damaged` too, where the chain of free pages breaks.
@@ -40,6 +40,7 @@ pub fn make<const D: usize, B: BlockDevice, A: Allocator + Copy>(
     ensures sound { IsPageMap cache.old → IsPageMap cache.new }
     ensures made { IsPageMap cache.old
         → IfOk result (λ page. Makes D (pages cache.old) (pages cache.new) kind page) }
+    ensures tidy { IsPageMap cache.old → OnOk result (KeepsTidy D kind (pages cache.old) (pages cache.new)) }
     ensures number { IfOk result (λ page. (3 ≤ page) × (page < next_of cache.new)) }
     ensures grows { Grows 1 cache.old cache.new }
     ensures faults { IsPageMap cache.old → IfErr result (IsNoDamage cache.new) }
@@ -76,6 +77,8 @@ pub fn add<const D: usize, B: BlockDevice, A: Allocator + Copy>(
     ensures added { IsPageMap cache.old → (t : IdTable) → page_of t ≡ page → IdsStand D (pages cache.old) t
         → map.contains_key (objects_of t) id ≡ false
         → OnOk result (Sets D (pages cache.old) (pages cache.new) t id (bounds.now, tag)) }
+    ensures tidy { IsPageMap cache.old → (t : IdTable) → page_of t ≡ page → IdsStand D (pages cache.old) t
+        → OnOk result (KeepsTidy D (kind_of t) (pages cache.old) (pages cache.new)) }
     ensures grows { Grows most_added_pages cache.old cache.new }
     ensures faults { IsPageMap cache.old → (t : IdTable) → page_of t ≡ page → IdsStand D (pages cache.old) t
         → IfErr result (IsNoDamage cache.new) }
@@ -94,7 +97,7 @@ pub fn add<const D: usize, B: BlockDevice, A: Allocator + Copy>(
 /// lies: one page is written. Its tag stays. The gate has to be open.
 ///
 /// With a sound map, where the pages stand for a table there, a refusal is `Memory` or `Device`. On other pages
-/// it may be `Damaged` too, with the number of a page that a walk meets.
+/// it may be `Damaged` too, with the number of a page that a walk meets. Refused, it leaves the map as it was.
 #[tactic(auto, using(page_cache::specs::Calls::changing))]
 pub fn update<const D: usize, B: BlockDevice, A: Allocator + Copy>(
     cache: &mut PageCache<B, A>,
@@ -110,6 +113,9 @@ pub fn update<const D: usize, B: BlockDevice, A: Allocator + Copy>(
     ensures updated { IsPageMap cache.old → (t : IdTable) → page_of t ≡ page → IdsStand D (pages cache.old) t
         → (kept : Object) → map.get (objects_of t) id ≡ Some kept
         → OnOk result (Sets D (pages cache.old) (pages cache.new) t id (with_box kept bounds.now)) }
+    ensures tidy { IsPageMap cache.old → (t : IdTable) → page_of t ≡ page → IdsStand D (pages cache.old) t
+        → OnOk result (KeepsTidy D (kind_of t) (pages cache.old) (pages cache.new)) }
+    ensures refused { OnErr result (KeepsMap cache.old cache.new) }
     ensures grows { Grows 0 cache.old cache.new }
     ensures faults { IsPageMap cache.old → (t : IdTable) → page_of t ≡ page → IdsStand D (pages cache.old) t
         → map.contains_key (objects_of t) id ≡ true → IfErr result IsOfDevice }
@@ -141,6 +147,8 @@ pub fn remove<const D: usize, B: BlockDevice, A: Allocator + Copy>(
     ensures removed { IsPageMap cache.old → (t : IdTable) → page_of t ≡ page → IdsStand D (pages cache.old) t
         → map.contains_key (objects_of t) id ≡ true
         → OnOk result (Removes D (pages cache.old) (pages cache.new) t id) }
+    ensures tidy { IsPageMap cache.old → (t : IdTable) → page_of t ≡ page → IdsStand D (pages cache.old) t
+        → OnOk result (KeepsTidy D (kind_of t) (pages cache.old) (pages cache.new)) }
     ensures grows { Grows 0 cache.old cache.new }
     ensures faults { IsPageMap cache.old → (t : IdTable) → page_of t ≡ page → IdsStand D (pages cache.old) t
         → map.contains_key (objects_of t) id ≡ true → IfErr result IsOfDevice }

@@ -13,9 +13,9 @@ ghost use Rattle.std.specs.List.Sorted.{IsNonDecreasingBy};
 ghost use Rattle.id_chains.specs.Table.{class_of};
 ghost use Rattle.id_words.specs.Damage.{MayBreakAt};
 ghost use Rattle.id_words.specs.Objects.{AreNew};
-ghost use Rattle.id_table.specs.Changes.{Fills, most_filled_pages};
+ghost use Rattle.id_table.specs.Changes.{Fills, KeepsTidy, most_filled_pages};
 ghost use Rattle.id_table.specs.Checked.{MeetsInTable};
-ghost use Rattle.id_table.specs.Table.{IdTable, IdsStand, objects_of, page_of};
+ghost use Rattle.id_table.specs.Table.{IdTable, IdsStand, kind_of, objects_of, page_of};
 
 use crate::kind::{TableKind, kind_at};
 use block_device::BlockDevice;
@@ -25,8 +25,8 @@ use page_file::Fault;
 use std::alloc::Allocator;
 
 /// Adds objects to the table that begins at a page, none of which has an identifier that is there or that
-/// another of them has. They are left in the order in which the table takes them best. The gate has to be
-/// open.
+/// another of them has. They are left in some order, that in which the table takes them best. The gate has to
+/// be open.
 ///
 /// With a sound map, where the pages stand for a table there, a refusal is `Memory` or `Device`, or `NoPages`
 /// where each page number is live; also after a refusal at most `most_filled_pages` of the objects that are
@@ -47,6 +47,9 @@ pub fn fill<const D: usize, B: BlockDevice, A: Allocator + Copy>(
     ensures filled { IsPageMap cache.old → (t : IdTable) → page_of t ≡ page → IdsStand D (pages cache.old) t
         → AreNew (objects_of t) objects.new
         → OnOk result (Fills D (pages cache.old) (pages cache.new) t objects.new) }
+    ensures tidy { IsPageMap cache.old → (t : IdTable) → page_of t ≡ page → IdsStand D (pages cache.old) t
+        → AreNew (objects_of t) objects.new
+        → OnOk result (KeepsTidy D (kind_of t) (pages cache.old) (pages cache.new)) }
     ensures grows_few { IsPageMap cache.old → (t : IdTable) → page_of t ≡ page →
         IdsStand D (pages cache.old) t → AreNew (objects_of t) objects.new
         → Grows (most_filled_pages (map.len (objects_of t) + length objects.new)) cache.old cache.new }

@@ -1,6 +1,7 @@
 -- An identifier is looked for in a table of its kind.
 use Rattle.std.proofs.Common.{◌≡◌, IfErr, IfOk, ℕ, arith}
 use Rattle.std.specs.FinMap as map
+use Rattle.page_cache.specs.Cache.{given}
 use Rattle.page_file.specs.Fault.{IsOfDevice}
 use Rattle.id_table.specs.Table.{objects_of}
 use Rattle.id_table.proofs.StepLemmas.{of_chains, of_tree}

@@ -1,10 +1,11 @@
 -- An object is added to a table of its kind.
 use Rattle.std.proofs.Common.{◌≡◌, IfErr, OnOk, false, ℕ, arith, ◌⊎◌, inl}
 use Rattle.std.specs.FinMap as map
-use Rattle.page_cache.specs.Cache.{IsPageMap, pages}
+use Rattle.page_cache.specs.Cache.{IsPageMap, given, pages}
 use Rattle.node_page.specs.Faults.{IsNoDamage}
-use Rattle.id_table.specs.Changes.{Sets}
-use Rattle.id_table.specs.Table.{objects_of}
+use Rattle.id_table.specs.Changes.{KeepsTidy, Sets}
+use Rattle.id_table.specs.Table.{kind_of, objects_of}
+use Rattle.id_table.specs.declared.kind.TableKind.TheVariants.{Chains, Tree}
 use Rattle.id_table.proofs.StepLemmas.{chains_set, of_chains, of_tree, on_ok, same_pages, tree_set}
 use Rattle.page_file.specs.declared.fault.Fault.TheVariants as fault
 use Rattle.node_page.proofs.NodeLemmas.{at_error, if_error}
@@ -13,6 +14,7 @@ use Rattle.id_tree.specs.Checked as checked_trees
 use Rattle.id_chains.specs.Walks as walks
 use Rattle.id_chains.specs.Table.{class_of}
 use Rattle.id_words.specs.Damage.{MayBreakAt}
+use Rattle.id_table.proofs.StepLemmas.{tidy_on}
 use Rattle.id_table.proofs.StepLemmas.{begun_or_broken, in_some_chain, met_at_once, met_in_tree, met_or_broken, same_given}
 use Rattle.id_table.proofs.changing.add.Goals as goal
 
@@ -69,6 +71,32 @@ returns-in-Tree-clause-faults g c = λ sound t at s.
     sound.honest t at s c.in_ok-kind_at.field-0 (c.in_ok-kind_at.ensures.kind sound.honest t at s)
     c.in-Tree.is
     (λ ch there stands. c.add-in-Tree.ensures.faults (c.in_ok-kind_at.ensures.asks.map.sound.0 sound) ch there stands)
+
+-- ---- what stays zero
+
+pub returns-in-Chains-clause-tidy : goal.returns-in-Chains-clause-tidy
+returns-in-Chains-clause-tidy g c = λ sound t at s.
+    of_chains g.row.D c.args.page c.args.cache.now c.kind_at.new.cache c.in_ok-kind_at.ensures.asks
+    (λ t. OnOk c.add.result (KeepsTidy g.row.D (kind_of t) (pages c.args.cache.now)
+    (pages c.add.new.cache)))
+    sound.honest t at s c.in_ok-kind_at.field-0 (c.in_ok-kind_at.ensures.kind sound.honest t at s)
+    c.in-Chains.is
+    (λ ch there stands. tidy_on g.row.D Chains (pages c.args.cache.now) (pages c.kind_at.new.cache)
+    (pages c.add.new.cache) c.add.result
+    (same_pages g.row.D c.args.page c.args.cache.now c.kind_at.new.cache c.in_ok-kind_at.ensures.asks sound.honest)
+    (c.add.ensures.tidy (c.in_ok-kind_at.ensures.asks.map.sound.0 sound) ch there stands))
+
+pub returns-in-Tree-clause-tidy : goal.returns-in-Tree-clause-tidy
+returns-in-Tree-clause-tidy g c = λ sound t at s.
+    of_tree g.row.D c.args.page c.args.cache.now c.kind_at.new.cache c.in_ok-kind_at.ensures.asks
+    (λ t. OnOk c.add-in-Tree.result (KeepsTidy g.row.D (kind_of t) (pages c.args.cache.now)
+    (pages c.add-in-Tree.new.cache)))
+    sound.honest t at s c.in_ok-kind_at.field-0 (c.in_ok-kind_at.ensures.kind sound.honest t at s)
+    c.in-Tree.is
+    (λ ch there stands. tidy_on g.row.D Tree (pages c.args.cache.now) (pages c.kind_at.new.cache)
+    (pages c.add-in-Tree.new.cache) c.add-in-Tree.result
+    (same_pages g.row.D c.args.page c.args.cache.now c.kind_at.new.cache c.in_ok-kind_at.ensures.asks sound.honest)
+    (c.add-in-Tree.ensures.tidy (c.in_ok-kind_at.ensures.asks.map.sound.0 sound) ch there stands))
 
 -- ---- the page that is damaged
 

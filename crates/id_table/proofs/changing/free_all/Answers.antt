@@ -1,6 +1,6 @@
 -- A table of its kind is freed.
-use Rattle.std.proofs.Common.{IfErr, OnOk, ◌≡◌, ℕ, arith, inr}
-use Rattle.page_cache.specs.Cache.{IsPageMap, pages}
+use Rattle.std.proofs.Common.{IfErr, OnOk, ◌≡◌, ℕ, inr}
+use Rattle.page_cache.specs.Cache.{IsPageMap, given, pages}
 use Rattle.page_file.specs.Fault.{IsOfDevice}
 use Rattle.node_page.specs.Parts.{Moves, no_page}
 use Rattle.id_table.specs.Table.{part_of}

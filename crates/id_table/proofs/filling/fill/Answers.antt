@@ -1,13 +1,14 @@
 -- Objects are added to a table of its kind, in its order.
 use Rattle.std.proofs.Common.{IfErr, OnOk, ◌+◌, ◌/◌, length, arith, ◌≡◌, ℕ, ◌⊎◌, inl, inr}
 use Rattle.std.specs.FinMap as map
-use Rattle.page_cache.specs.Cache.{IsPageMap, pages}
+use Rattle.page_cache.specs.Cache.{IsPageMap, given, pages}
 use Rattle.page_cache.specs.Cache.{Grows}
 use Rattle.node_page.specs.Faults.{IsNoDamage}
 use Rattle.id_words.specs.Objects.{AreNew}
-use Rattle.id_table.specs.Changes.{Fills, most_filled_pages}
-use Rattle.id_table.specs.Table.{objects_of}
+use Rattle.id_table.specs.Changes.{Fills, KeepsTidy, most_filled_pages}
+use Rattle.id_table.specs.Table.{kind_of, objects_of}
 use Rattle.id_table.specs.Table.IdTable.{treed}
+use Rattle.id_table.specs.declared.kind.TableKind.TheVariants.{Chains, Tree}
 use Rattle.id_table.proofs.StepLemmas.{chains_filled, of_chains, of_tree, on_ok, same_pages, tree_filled}
 use Rattle.page_file.specs.declared.fault.Fault.TheVariants as fault
 use Rattle.node_page.proofs.NodeLemmas.{at_error, if_error}
@@ -15,6 +16,7 @@ use Rattle.id_table.specs.Checked.{MeetsInTable}
 use Rattle.id_tree.specs.Checked as checked_trees
 use Rattle.id_chains.specs.Walks as walks
 use Rattle.id_words.specs.Damage.{MayBreakAt}
+use Rattle.id_table.proofs.StepLemmas.{tidy_on}
 use Rattle.id_table.proofs.StepLemmas.{begun_or_broken, met_at_once, met_in_tree, met_or_broken, same_given}
 use Rattle.id_table.proofs.filling.fill.Goals as goal
 
@@ -82,6 +84,32 @@ returns-in-Tree-clause-grows_few g c = λ sound t at s new.
     let few : Grows ((map.len (objects_of (treed ch)) + length c.sort_by_identifier.new.objects) / 28 + 14) c.kind_at.new.cache c.fill-in-Tree.new.cache =
     c.fill-in-Tree.ensures.grows_few (c.in_ok-kind_at.ensures.asks.map.sound.0 sound) ch there stands new in
     omega (arith, few, c.in_ok-kind_at.ensures.asks.map.next, c.in_ok-kind_at.ensures.asks.map.free_count)) new
+
+-- ---- what stays zero
+
+pub returns-in-Chains-clause-tidy : goal.returns-in-Chains-clause-tidy
+returns-in-Chains-clause-tidy g c = λ sound t at s new.
+    of_chains g.row.D c.args.page c.args.cache.now c.kind_at.new.cache c.in_ok-kind_at.ensures.asks
+    (λ t. AreNew (objects_of t) c.sort_by_chain.new.objects → OnOk c.fill.result (KeepsTidy g.row.D (kind_of t)
+    (pages c.args.cache.now) (pages c.fill.new.cache)))
+    sound.honest t at s c.in_ok-kind_at.field-0 (c.in_ok-kind_at.ensures.kind sound.honest t at s)
+    c.in-Chains.is
+    (λ ch there stands new. tidy_on g.row.D Chains (pages c.args.cache.now) (pages c.kind_at.new.cache)
+    (pages c.fill.new.cache) c.fill.result
+    (same_pages g.row.D c.args.page c.args.cache.now c.kind_at.new.cache c.in_ok-kind_at.ensures.asks sound.honest)
+    (c.fill.ensures.tidy (c.in_ok-kind_at.ensures.asks.map.sound.0 sound) ch there stands new)) new
+
+pub returns-in-Tree-clause-tidy : goal.returns-in-Tree-clause-tidy
+returns-in-Tree-clause-tidy g c = λ sound t at s new.
+    of_tree g.row.D c.args.page c.args.cache.now c.kind_at.new.cache c.in_ok-kind_at.ensures.asks
+    (λ t. AreNew (objects_of t) c.sort_by_identifier.new.objects → OnOk c.fill-in-Tree.result (KeepsTidy g.row.D (kind_of t)
+    (pages c.args.cache.now) (pages c.fill-in-Tree.new.cache)))
+    sound.honest t at s c.in_ok-kind_at.field-0 (c.in_ok-kind_at.ensures.kind sound.honest t at s)
+    c.in-Tree.is
+    (λ ch there stands new. tidy_on g.row.D Tree (pages c.args.cache.now) (pages c.kind_at.new.cache)
+    (pages c.fill-in-Tree.new.cache) c.fill-in-Tree.result
+    (same_pages g.row.D c.args.page c.args.cache.now c.kind_at.new.cache c.in_ok-kind_at.ensures.asks sound.honest)
+    (c.fill-in-Tree.ensures.tidy (c.in_ok-kind_at.ensures.asks.map.sound.0 sound) ch there stands new)) new
 
 -- ---- the page that is damaged
 

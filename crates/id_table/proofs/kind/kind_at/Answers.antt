@@ -1,5 +1,5 @@
 -- Byte 0 of its first page tells the kind of a table.
-use Rattle.std.proofs.Common.{rules, ◌≡◌, arith, sym}
+use Rattle.std.proofs.Common.{rules}
 use Rattle.page_cache.specs.Cache.{pages}
 use Rattle.id_table.proofs.KindLemmas.{is_chained, is_tree, page_live}
 use Rattle.id_table.proofs.kind.kind_at.Goals as goal
