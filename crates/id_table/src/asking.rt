@@ -56,9 +56,9 @@ pub fn get<const D: usize, B: BlockDevice, A: Allocator + Copy>(
 /// Checks the table that begins at a page, and answers what it holds.
 ///
 /// On an honest device it answers so only where a table stands there; else it is `Damaged` with the number of
-/// a page that a walk through the table comes to. Where a table stands, a refusal is `Memory` or `Device`. It
-/// makes no more looks than the file's next number and one, whatever the pages are. Map and gate stay, also
-/// after a refusal.
+/// a page that a walk through the table comes to, unless memory or the device refused before. Where a table
+/// stands, a refusal is `Memory` or `Device`. It makes no more looks than the file's next number and one,
+/// whatever the pages are. Map and gate stay, also after a refusal.
 #[tactic(auto, using(page_cache::specs::Calls::turns, page_cache::specs::Calls::asks_and_refuses))]
 pub fn check_table<const D: usize, B: BlockDevice, A: Allocator + Copy, H: Allocator + Copy>(
     alloc: H,

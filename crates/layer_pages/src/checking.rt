@@ -23,14 +23,15 @@ use std::alloc::Allocator;
 // The page that says how many objects each layer has.
 const CATALOG: u32 = 2;
 
-/// Checks the layer of `count` objects with its root and its identifier table at these pages, whose tree has nodes of at most `fanout`
-/// entries, and answers its pages.
+/// Checks the layer of `count` objects with its root and its identifier table at these pages, whose tree has
+/// nodes of at most `fanout` entries, and answers its pages.
 ///
-/// On an honest device it answers so only where such a layer stands there; else it is `Damaged` with the
-/// number of a page that a walk through the layer comes to: that of the catalog where there is another count
-/// of objects, and that of the identifier table where it has others than the tree. Where such a layer stands, a refusal is `Memory` or `Device`. It
-/// makes no more than two looks for each number below the next one, and one more, whatever the pages are. Map and gate
-/// stay, also after a refusal.
+/// On an honest device it answers so only where such a layer stands there; else, unless memory or the device
+/// refused before, it is `Damaged` with the number of a page that a walk through the layer comes to: that of
+/// the catalog where there is another count of objects, and that of the identifier table where it has others
+/// than the tree. Where such a layer stands, a refusal is `Memory` or `Device`. It makes no more than two looks
+/// for each number below the next one, and one more, whatever the pages are. Map and gate stay, also after a
+/// refusal.
 pub fn check<'a, const D: usize, B: BlockDevice, A: Allocator + Copy, H: Allocator>(
     alloc: &'a H,
     cache: &mut PageCache<B, A>,
