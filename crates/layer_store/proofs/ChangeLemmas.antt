@@ -8,7 +8,7 @@ use Rattle.live_layers.specs.Faults.{HasRefusalCause, HasUnmadeCause}
 use Rattle.live_layers.specs.Keeping as keeping
 use Rattle.live_layers.specs.Keeping.{IsSound, IsWritten, Leaves, records_in}
 use Rattle.live_layers.specs.Layers.{catalog_in}
-use Rattle.live_layers.specs.Staying.{KeepsPagesAndRecords}
+use Rattle.live_layers.specs.Staying.{KeepsPagesAndRecords, LeavesVersion}
 use Rattle.live_layers.specs.Unmade.{is_broken, told}
 use Rattle.live_layers.specs.declared.layers.Layers.{Layers}
 use Rattle.live_layers.specs.declared.unmade.Unmade.{Unmade}
@@ -16,6 +16,7 @@ use Rattle.live_layers.specs.declared.unmade.Unmade.TheVariants as unmade
 use Rattle.live_layers.proofs.KeepLemmas.{kept_catalog, nothing_moved}
 use Rattle.page_cache.specs.Cache.{IsHonest, gate_of, pages}
 use Rattle.page_file.specs.declared.gate.Gate.TheVariants.{Open}
+use Rattle.page_file.specs.declared.header.Version.{Version}
 use Rattle.page_file.specs.Fault.{number_of}
 use Rattle.plain_table.specs.Answers.{done_answer}
 use Rattle.plain_table.specs.Commands.{Command, MayGiveUp}
@@ -53,6 +54,7 @@ failed_changes {m = m} {store = store} {c = c} failed = record {
   refused = inr (nothing_moved store.layers);
   ended = dead_tells store 19 failed;
   dead = λ dead. (refl, refl);
+  versions = record { done = λ honest. tt; undone = λ honest. refl; newest = refl };
   cause = blames_none (m.faults (device_in store)) (Err (refusal.StoreFailed 19)) refl;
 }
 
@@ -110,9 +112,9 @@ kept_spelled old new honest keeps stays was = λ unopened.
     (was (λ opened. unopened (stays opened))))
 
 -- and so after a change, but where it broke off half way
-spelled_so : {D A : Type 0} {m : _} (old new : Store D A m) (t : Table) (c : Command)
+spelled_so : {D A : Type 0} {m : _} {by : Version} (old new : Store D A m) (t : Table) (c : Command)
     (made : Result (Unit {0}) Unmade) → new.failed ≡ is_broken made → IsSound old.layers t
-    → KeepsInChange old.layers new.layers made → ChangeLeaves old.layers new.layers t c made
+    → KeepsInChange old.layers new.layers by made → ChangeLeaves old.layers new.layers t c made
     → (changes t c ≡ false → OnOk made (KeepsPagesAndRecords old.layers new.layers))
     → keeping.SpellsUnchanged old.layers → (b : Bool) → changes t c ≡ b
     → IsInState new Dead ⊎ keeping.SpellsUnchanged new.layers
@@ -147,6 +149,19 @@ pub cause_told : {before after : ℕ} {was now : Bool} {made : Result (Unit {0})
 cause_told {before = before} {after = after} {made = made} tells cause =
     subst (λ (r : Result (Unit {0}) Refusal). HasRefusalCause before after r) (sym tells.answer)
     (told_cause before after made cause)
+
+-- and the version is left as is told
+version_so : {D A : Type 0} {m : _} {old new : Layers D A m} {by : Version} (made : Result (Unit {0}) Unmade)
+    → LeavesVersion old new by made → LeavesVersion old new by (told made)
+version_so (Ok u) leaves = record { done = leaves.done; undone = leaves.undone; newest = leaves.newest }
+version_so (Err why) leaves = record { done = leaves.done; undone = leaves.undone; newest = leaves.newest }
+
+version_told : {D A : Type 0} {m : _} {old new : Layers D A m} {by : Version} {was now : Bool}
+    {made : Result (Unit {0}) Unmade} {result : Result (Unit {0}) Refusal} → Tells was now made result
+    → LeavesVersion old new by made → LeavesVersion old new by result
+version_told {old = old} {new = new} {by = by} {made = made} tells leaves =
+    subst (λ (r : Result (Unit {0}) Refusal). LeavesVersion old new by r) (sym tells.answer)
+    (version_so made leaves)
 
 -- what is refused keeps each tree, and what broke off half way ends the store
 refused_so : {D A : Type 0} {m : _} (new : Store D A m) (P : Type 0) (made : Result (Unit {0}) Unmade)
@@ -245,6 +260,7 @@ module _ {D A : Type 0} {m : _} (old new : Store D A m) {made : Result (Unit {0}
         change.keeps.refused);
     ended = told_end change.keeps.goes_on;
     dead = λ dead. absurd (not_both old.failed (is_dead old dead) going);
+    versions = version_told tells change.keeps.versions;
     cause = cause_told tells change.keeps.cause;
   }
 

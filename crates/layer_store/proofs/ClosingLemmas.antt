@@ -9,7 +9,7 @@ use Rattle.live_layers.specs.Faults.{HasRefusalCause, as_refusal, faults_after_r
 use Rattle.live_layers.specs.Image.{IsImage, IsRefusedOrImageOf}
 use Rattle.live_layers.specs.Keeping as keeping
 use Rattle.live_layers.specs.Keeping.{IsSound}
-use Rattle.live_layers.specs.Staying.{KeepsEachTree}
+use Rattle.live_layers.specs.Staying.{KeepsEachTree, KeepsVersions}
 use Rattle.live_layers.specs.Unmade.{is_broken, told}
 use Rattle.live_layers.specs.declared.layers.Layers.{Layers}
 use Rattle.live_layers.specs.declared.unmade.Unmade.{Unmade}
@@ -144,6 +144,7 @@ module _ {D A : Type 0} {m : _} where
     pub rests : (ts : List Table) (t : Table) → IsSound old t → keeping.RestLeavesOneOf old.cache ts
         → keeping.RestLeavesOneOf new.cache (t ∷ ts)
     pub trees : (t : Table) → IsSound old t → KeepsEachTree old new
+    pub versions : KeepsVersions old new
     pub faults : (t : Table) → IsSound old t → IsOfDevice f
     pub counted : m.faults (device_of new.cache) ≡ faults_after f (m.faults (device_of old.cache))
     pub unsettled : keeping.IsSettled old → ⊥
@@ -179,5 +180,6 @@ module _ {D A : Type 0} {m : _} where
             (Err (as_refusal f)) fits cause);
         going = λ dead. not_both store.failed (is_dead after dead) going;
         trees = left.trees t sound;
+        versions = left.versions;
         unshut = left.unshut;
       }

@@ -2,11 +2,12 @@
 -- that ask.
 use Rattle.std.specs.Prelude.{◌≡◌, ◌⊎◌, ◌↔◌, ℕ, Bool, true, false, List, Option, Result, Vec, Err, OnErr, OnOk}
 use Rattle.std.specs.Prelude.{IfErr}
+use Rattle.live_layers.specs.Creating.{version_by}
 use Rattle.live_layers.specs.Faults.{HasRefusalCause}
 use Rattle.live_layers.specs.Image.{IsRefusedOrImageOf, MayRemain}
 use Rattle.live_layers.specs.Keeping.{LooksAtTree}
 use Rattle.live_layers.specs.Questions.{is_admitted}
-use Rattle.live_layers.specs.Staying.{KeepsEachTree, KeepsPagesAndRecords}
+use Rattle.live_layers.specs.Staying.{KeepsEachTree, KeepsPagesAndRecords, KeepsVersions, LeavesVersion}
 use Rattle.live_layers.specs.Unmade.{is_broken, told}
 use Rattle.live_layers.specs.declared.unmade.Unmade.{Unmade}
 use Rattle.page_cache.specs.Cache.{IsHonest, gate_of}
@@ -28,7 +29,7 @@ use Rattle.store_law.specs.States.StoreState.{Alive, Dead}
 use Rattle.store_law.specs.Stops.{is_end, tables_left}
 use Rattle.layer_store.specs.Representation.{IsInState, IsSettled, KeepsStore, Represents, RepresentsTable}
 use Rattle.layer_store.specs.Representation.{SpellsUnchanged, StandsAs, StopsLeave, cache_in, device_in}
-use Rattle.layer_store.specs.Representation.{layers_in}
+use Rattle.layer_store.specs.Representation.{file_version, layers_in, newest_in}
 use Rattle.layer_store.specs.declared.store.Store.{Store}
 use Rattle.tree_node.specs.Searches.{admitted}
 
@@ -86,6 +87,9 @@ pub record Changes {D A : Type 0} {m : _} (old new : Store D A m) (c : Command)
   pub ended : IfErr result (TellsOfEnd new)
   -- a store that had failed stays so
   pub dead : StaysDead old new result
+  -- the version of the file stays, but where a layer was made; and that to which it may be raised
+  pub versions : LeavesVersion (layers_in old) (layers_in new)
+      (version_by c (newest_in old) (file_version old)) result
   -- faults of the device are counted
   pub cause : CountsFaults old new result
 
@@ -96,7 +100,8 @@ pub record Answers {D A : Type 0} {m : _} {T : Type 0} (old new : Store D A m) (
   pub step : TakesStep old new c (answer result)
   -- and lawfully of each store that is alive with a table or dead, whatever stops leave of it
   pub reply : TakesReply old new c (answer result)
-  -- the gate stays with its moment, pages and records, so each tree, and what was settled is so still
+  -- the gate stays with its moment, pages and records, so each tree, and the versions; and what was settled
+  -- is so still
   pub kept : KeepsStore old new
   -- a stop leaves nothing else than before
   pub stops : (s : SessionState) → Represents old s → StopsLeave old new (MayRemain s.stops.now)
@@ -110,7 +115,8 @@ pub record Answers {D A : Type 0} {m : _} {T : Type 0} (old new : Store D A m) (
 -- Pages were asked for by no command, so no step is taken.
 pub record OnlyAsks {D A : Type 0} {m : _} {T : Type 0} (old new : Store D A m)
     (result : Result T Refusal) : Type 0 where
-  -- the gate stays with its moment, pages and records, so each tree, and what was settled is so still
+  -- the gate stays with its moment, pages and records, so each tree, and the versions; and what was settled
+  -- is so still
   pub kept : KeepsStore old new
   -- a session goes on as it was, but for the count of faults
   pub goes_on : (s : SessionState) → Represents old s
@@ -137,13 +143,14 @@ pub record AnswersRange {D A : Type 0} {m : _} (old new : Store D A m) (layer : 
       (admitted (is_admitted (layer_at t layer).dims query)))
 
 -- A closing that was refused, and not finished: the device is that of a store that goes on, as after a
--- reopening that was refused so, with each tree, and its gate is not shut.
+-- reopening that was refused so, with each tree and the versions, and its gate is not shut.
 pub record IsUnfinished {D A : Type 0} {m : _} (old : Store D A m) (r : Refusal) (device : D) : Type 0 where
   pub left : Store D A m
   pub has : device ≡ device_in left
   pub step : TakesStep old left Reopen (Refused r)
   pub going : IsInState left Dead → ⊥
   pub trees : KeepsEachTree (layers_in old) (layers_in left)
+  pub versions : KeepsVersions (layers_in old) (layers_in left)
   pub unshut : ¬ (gate_of (cache_in left) ≡ Shut)
 
 -- What was made of the layers is told, and where it broke off half way a store that was alive has failed.

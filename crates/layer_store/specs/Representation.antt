@@ -135,8 +135,8 @@ HasFailed store = Reaches Represents store (λ s. s.state ≡ Dead)
 abbrev pub StopsLeave : {D A : Type 0} {m : _} → Store D A m → Store D A m → (Blocks → Type 0) → Type 0
 StopsLeave {m = m} old new P = LeavesOnly m.moment m.left_since m.recovery (device_in old) (device_in new) P
 
--- a question keeps the gate with its moment, and pages and records, so each tree; what was settled is so
--- still, and where page 2 spelled the records, it does so still
+-- a question keeps the gate with its moment, pages and records, so each tree, and the versions; what was
+-- settled is so still, and where page 2 spelled the records, it does so still
 pub record KeepsStore {D A : Type 0} {m : _} (old new : Store D A m) : Type 0 where
   pub gate : KeepsGate (cache_in old) (cache_in new)
   pub trees : KeepsPagesAndRecords (layers_in old) (layers_in new)

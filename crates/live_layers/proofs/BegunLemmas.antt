@@ -6,6 +6,7 @@ use Rattle.catalog_page.specs.Layout.{records_of}
 use Rattle.live_layers.specs.Broken.{before, cause_in, told_by}
 use Rattle.live_layers.specs.declared.broken.Broken.{Broken}
 use Rattle.page_cache.specs.Cache.{IsHonest, IsUnchanged, KeepsMap, blocks_of, device_of, gate_of, next_of}
+use Rattle.page_cache.specs.Cache.{version_of}
 use Rattle.page_cache.specs.Calls.{ChangesUntil, faults_behind}
 use Rattle.page_cache.specs.declared.cache.PageCache.{PageCache}
 use Rattle.page_file.specs.Fault.{faults_after}
@@ -13,13 +14,15 @@ use Rattle.page_file.specs.Stops.{SameButGate}
 use Rattle.page_file.specs.declared.fault.Fault.{Fault}
 use Rattle.page_file.specs.declared.fault.Fault.TheVariants as fault
 use Rattle.page_file.specs.declared.gate.Gate.TheVariants.{Open}
+use Rattle.page_file.specs.declared.header.Version.{Version}
 use Rattle.plain_table.specs.Table.{Table}
 use Rattle.live_layers.specs.Begun.{Begins, BeginsChange}
 use Rattle.live_layers.specs.Image.{IsRefusedOrImageOf}
 use Rattle.live_layers.specs.Keeping.{IsSound}
 use Rattle.live_layers.specs.Staying.{KeepsPagesAndRecords}
 use Rattle.live_layers.specs.declared.layers.Layers.{Layers}
-use Rattle.live_layers.proofs.KeepLemmas.{nothing_moved, sound_kept, stays_in_turn}
+use Rattle.live_layers.proofs.KeepLemmas.{leaves_as_was, nothing_moved, sound_kept, stays_in_turn}
+use Rattle.live_layers.proofs.KeepLemmas.{versions_kept}
 use Rattle.live_layers.proofs.QuestionLemmas.{IsSameBut}
 use Rattle.live_layers.proofs.Results.{any_err, if_err, on_any_err, the_err}
 use Rattle.live_layers.proofs.StopLemmas.{gate_opened, none_made, pages_written}
@@ -139,34 +142,37 @@ module _ {D A : Type 0} {m : _} {T : Type 0} where
   -- ---- of layers
 
   -- there was no memory
-  pub no_memory : (kept : Layers D A m) (f : Fault) (result : Result T Broken)
-      → IsErrAnd result (λ e. e ≡ before f) → f ≡ fault.Memory → OnlyNow kept → BeginsChange kept kept result
+  pub no_memory : {made : Version} (kept : Layers D A m) (f : Fault) (result : Result T Broken)
+      → IsErrAnd result (λ e. e ≡ before f) → f ≡ fault.Memory → OnlyNow kept
+      → BeginsChange kept kept made result
   no_memory kept f result is memory now = record {
     begins =
         none_begun kept.cache f result is memory (λ honest c left. now (device_of kept.cache) c honest left);
     untouched = λ t sound. any_err result _ (λ b quiet. sound);
     kept = any_err result _ (λ b quiet. nothing_moved kept);
     written = on_any_err result _ (λ was. was);
+    versions = leaves_as_was kept kept (before f) result is (versions_kept kept kept (nothing_moved kept));
   }
 
   -- the gate was not opened
-  pub not_opened : (old new : Layers D A m) (b : Broken) (result : Result T Broken)
+  pub not_opened : {made : Version} (old new : Layers D A m) (b : Broken) (result : Result T Broken)
       → IsErrAnd result (λ e. e ≡ b) → Begins {T = T} old.cache new.cache (Err b)
       → ((t : Table) → IsSound old t → IsSound new t) → KeepsPagesAndRecords old new
-      → BeginsChange old new result
+      → BeginsChange old new made result
   not_opened old new b result is begins sound keeps = record {
     begins = handed_on old.cache new.cache b result is begins;
     untouched = λ t was. any_err result _ (λ _ quiet. sound t was);
     kept = any_err result _ (λ _ quiet. keeps);
     written = on_any_err result _ keeps.written;
+    versions = leaves_as_was old new b result is (versions_kept old new keeps);
   }
 
   -- it was, and pages were half changed, or changed
-  pub broke_behind : {R : Type 0} (old mid new : Layers D A m) {x : R} (f : Fault)
+  pub broke_behind : {R : Type 0} {made : Version} (old mid new : Layers D A m) {x : R} (f : Fault)
       (result : Result T Broken) → IsErrAnd result (λ e. e ≡ told_by new.cache f) → IsSameBut mid new
       → Begins old.cache mid.cache (Ok x)
       → ((t : Table) → IsSound old t → IsSound mid t) → KeepsPagesAndRecords old mid
-      → ChangesUntil mid.cache new.cache (Some f) → BeginsChange old new result
+      → ChangesUntil mid.cache new.cache (Some f) → BeginsChange old new made result
   broke_behind old mid new {x} f result is same begun sound keeps changes = record {
     begins = begun_and_broke old.cache mid.cache new.cache x f result is begun changes;
     untouched =
@@ -179,31 +185,47 @@ module _ {D A : Type 0} {m : _} {T : Type 0} where
           map = changes.untouched quiet;
           records = ap records_of same.0;
           written = λ was. same.2 ∙ was;
+          newest = same.3;
         }));
     written = on_any_err result _ (λ was. same.2 ∙ keeps.written was);
+    versions = leaves_as_was old new (told_by new.cache f) result is (record {
+      version = λ honest. changes.gate.version (begun.honest.0 honest) ∙ keeps.map.version honest;
+      newest = same.3 ∙ keeps.newest;
+    });
   }
 
-  pub made_and_admitted : {S : Type 0} (old mid new : Layers D A m) (cache : PageCache D A m) {x : S} {y : T}
+  pub made_and_admitted : {S : Type 0} {made : Version} (old mid new : Layers D A m)
+      (cache : PageCache D A m) {x : S} {y : T}
       → device_of new.cache ≡ device_of cache → gate_of new.cache ≡ gate_of cache
       → next_of new.cache ≡ next_of cache → Begins old.cache mid.cache (Ok x)
-      → ChangesUntil mid.cache cache None → BeginsChange old new (Ok y)
-  made_and_admitted old mid new cache {x} {y} device gate next begun changes = record {
+      → ChangesUntil mid.cache cache None
+      → (IsHonest old.cache → version_of new.cache ≡ made) → new.newest ≡ old.newest
+      → BeginsChange old new made (Ok y)
+  made_and_admitted old mid new cache {x} {y} device gate next begun changes version newest = record {
     begins =
         begins_same old.cache cache new.cache y device gate next
         (begun_and_made old.cache mid.cache cache x y begun changes);
     untouched = λ t sound. tt;
     kept = tt;
     written = tt;
+    versions = record { done = version; undone = λ honest. tt; newest = newest };
   }
 
   pub made_behind : {S : Type 0} (old mid new : Layers D A m) (cache : PageCache D A m) {x : S} {y : T}
-      → new.cache ≡ cache → Begins old.cache mid.cache (Ok x) → ChangesUntil mid.cache cache None
-      → BeginsChange old new (Ok y)
-  made_behind old mid new cache {x} {y} same begun changes = record {
+      → new.cache ≡ cache → Begins old.cache mid.cache (Ok x) → KeepsPagesAndRecords old mid
+      → ChangesUntil mid.cache cache None → new.newest ≡ mid.newest
+      → BeginsChange old new (version_of old.cache) (Ok y)
+  made_behind old mid new cache {x} {y} same begun keeps changes newest = record {
     begins =
         subst (λ (c : PageCache D A m). Begins old.cache c (Ok y)) (sym same)
         (begun_and_made old.cache mid.cache cache x y begun changes);
     untouched = λ t sound. tt;
     kept = tt;
     written = tt;
+    versions = record {
+      done = λ honest. ap (λ (c : PageCache D A m). version_of c) same
+          ∙ changes.gate.version (begun.honest.0 honest) ∙ keeps.map.version honest;
+      undone = λ honest. tt;
+      newest = newest ∙ keeps.newest;
+    };
   }

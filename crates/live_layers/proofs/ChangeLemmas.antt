@@ -5,12 +5,13 @@ use Rattle.std.specs.Prelude.{Result, Ok, Err, OnErr, OnOk, IfErr}
 use Rattle.block_device.specs.Moments.{leaves_then}
 use Rattle.live_layers.specs.Broken.{cause_in}
 use Rattle.live_layers.specs.declared.broken.Broken.{Broken}
-use Rattle.page_cache.specs.Cache.{IsHonest, KeepsGate, device_of, gate_of, touched_of}
+use Rattle.page_cache.specs.Cache.{IsHonest, KeepsGate, device_of, gate_of, touched_of, version_of}
 use Rattle.page_cache.specs.Calls.{faults_behind}
 use Rattle.page_file.specs.Fault.{IsOfDevice, faults_after}
 use Rattle.page_file.specs.declared.fault.Fault.{Fault}
 use Rattle.page_file.specs.declared.fault.Fault.TheVariants as fault
 use Rattle.page_file.specs.declared.gate.Gate.TheVariants.{Open}
+use Rattle.page_file.specs.declared.header.Version.{Version}
 use Rattle.plain_table.specs.Commands.{Command}
 use Rattle.plain_table.specs.Step.{after, answer_of, changed, kept_or, refusal_of, refused_or, reply_of}
 use Rattle.plain_table.specs.Step.Answer.{Done, Refused}
@@ -26,7 +27,7 @@ use Rattle.live_layers.specs.Faults.{HasUnmadeCause, as_refusal, change_of, is_p
 use Rattle.live_layers.specs.Image.{IsRefusedOrImageOf}
 use Rattle.live_layers.specs.Inserting.{IsAllowedOr}
 use Rattle.live_layers.specs.Keeping.{ChangesTree, IsSound, IsWritten}
-use Rattle.live_layers.specs.Staying.{KeepsPagesAndRecords}
+use Rattle.live_layers.specs.Staying.{KeepsPagesAndRecords, LeavesVersion}
 use Rattle.live_layers.specs.declared.layers.Layers.{Layers}
 use Rattle.live_layers.specs.declared.unmade.Unmade.{Unmade}
 use Rattle.live_layers.specs.declared.unmade.Unmade.TheVariants as unmade
@@ -61,8 +62,8 @@ gate_kept old new t c result now sound keeps unbegun = record {
 }
 
 module _ {D A : Type 0} {m : _} {T : Type 0} (old new : Layers D A m) where
-  pub refused_keeps : (r : Refusal) → KeepsInQuestion {T = T} old new (Err r)
-      → KeepsInChange old new (Err (unmade.Refused r))
+  pub refused_keeps : {made : Version} (r : Refusal) → KeepsInQuestion {T = T} old new (Err r)
+      → KeepsInChange old new made (Err (unmade.Refused r))
   refused_keeps r keeps = record {
     refused = keeps.trees;
     touched = tt;
@@ -71,6 +72,7 @@ module _ {D A : Type 0} {m : _} {T : Type 0} (old new : Layers D A m) where
     stays_open = λ open'. keeps.gate.gate ∙ open';
     honest = keeps.gate.honest.0;
     cause = record { made = tt; unmade = keeps.cause.refused };
+    versions = record { done = λ honest. tt; undone = keeps.trees.map.version; newest = keeps.trees.newest };
   }
 
   pub refused_change : (t : Table) (c : Command) (r : Refusal) → OnlyNow old
@@ -86,7 +88,8 @@ module _ {D A : Type 0} {m : _} {T : Type 0} (old new : Layers D A m) where
   }
 
   -- one that the table does not refuse and that leaves it as it is
-  pub unbegun_keeps : {x : T} → KeepsInQuestion old new (Ok x) → KeepsInChange old new (Ok tt)
+  pub unbegun_keeps : {x : T} → KeepsInQuestion old new (Ok x)
+      → KeepsInChange old new (version_of old.cache) (Ok tt)
   unbegun_keeps keeps =
       record {
         refused = tt;
@@ -96,6 +99,8 @@ module _ {D A : Type 0} {m : _} {T : Type 0} (old new : Layers D A m) where
         stays_open = λ open'. keeps.gate.gate ∙ open';
         honest = keeps.gate.honest.0;
         cause = record { made = keeps.cause.ok; unmade = tt };
+        versions =
+            record { done = keeps.trees.map.version; undone = λ honest. tt; newest = keeps.trees.newest };
       }
 
   pub unbegun_change : (t : Table) (c : Command) {x : T} → OnlyNow old → KeepsInQuestion old new (Ok x)
@@ -189,14 +194,26 @@ begun_goes_on (Err b) = by_touch b.touched
     by_touch false = fault_goes_on b.cause
 
 module _ {D A : Type 0} {m : _} {T : Type 0} (old mid new : Layers D A m) {x : T}
-    (asked : KeepsInQuestion old mid (Ok x)) (made : Result (Unit {0}) Broken)
-    (begun : BeginsChange mid new made)
+    (asked : KeepsInQuestion old mid (Ok x)) (made : Result (Unit {0}) Broken) {by : Version}
+    (begun : BeginsChange mid new by made)
     (result : Result (Unit {0}) Unmade) (is : result ≡ change_of made) where
   counted : m.faults (device_of new.cache) ≡ faults_behind (cause_in made) (m.faults (device_of old.cache))
   counted = begun.begins.faults ∙ ap (faults_behind (cause_in made)) asked.cause.ok
 
-  pub begun_keeps : KeepsInChange old new result
-  begun_keeps = subst (KeepsInChange old new) (sym is) (record {
+  -- the file was made what it had to be made, which may be said of it as it was before the questions
+  begun_version : {now : Version} → (IsHonest old.cache → by ≡ now)
+      → LeavesVersion old new now (change_of made)
+  begun_version {now} same = record {
+    done = λ honest. made_so (version_of new.cache ≡ now) made (change_of made) refl
+        (on_ok made (λ e. e ∙ same honest) (begun.versions.done (asked.gate.honest.0 honest)));
+    undone = λ honest. unmade_so (version_of new.cache ≡ version_of mid.cache)
+        (version_of new.cache ≡ version_of old.cache) made (λ e. e ∙ asked.trees.map.version honest)
+        (begun.versions.undone (asked.gate.honest.0 honest));
+    newest = begun.versions.newest ∙ asked.trees.newest;
+  }
+
+  pub begun_keeps : {now : Version} → (IsHonest old.cache → by ≡ now) → KeepsInChange old new now result
+  begun_keeps {now} same = subst (KeepsInChange old new now) (sym is) (record {
     refused =
         refused_so (KeepsPagesAndRecords mid new) (KeepsPagesAndRecords old new) made
         (stays_in_turn old mid new asked.gate.honest.0 asked.trees) begun.kept;
@@ -208,7 +225,12 @@ module _ {D A : Type 0} {m : _} {T : Type 0} (old mid new : Layers D A m) {x : T
     stays_open = λ open'. begun.begins.stays_open (asked.gate.gate ∙ open');
     honest = λ honest. begun.begins.honest.0 (asked.gate.honest.0 honest);
     cause = begun_cause _ _ made counted;
+    versions = begun_version same;
   })
+
+  -- where the version that it had to be made is said so already
+  pub begun_keeps_so : KeepsInChange old new by result
+  begun_keeps_so = begun_keeps (λ honest. refl)
 
   -- the tree of a layer is changed behind the questions that found it
   pub begun_tree : (t : Table) (name : List ℕ) (Rule : Tree → Tree → Type 0) → IsSound old t

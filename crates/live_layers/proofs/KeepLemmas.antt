@@ -1,16 +1,17 @@
 -- What a live store keeps, where its pages stay.
 use Rattle.std.proofs.Common.{◌≡◌, ◌∙◌, ℕ, ◌≤◌, List, Some, true, refl, sym, ap, subst}
-use Rattle.std.specs.Prelude.{option_and_then}
+use Rattle.std.specs.Prelude.{Result, Ok, Err, IsErrAnd, option_and_then}
 use Rattle.catalog_page.specs.Layout.{Record, records_at, records_of}
 use Rattle.node_page.specs.Standing.{PageMap}
 use Rattle.page_cache.specs.Cache.{IsHonest, IsLive, IsPageMap, KeepsMap, next_of, pages}
 use Rattle.page_cache.specs.Laws.{no_call_keeps_the_map, the_map_is_kept_in_turn}
 use Rattle.page_cache.specs.declared.cache.PageCache.{PageCache}
 use Rattle.page_file.specs.Pages.{SameBut}
+use Rattle.page_file.specs.declared.header.Version.{Version}
 use Rattle.plain_table.specs.Table.{Table, most_objects}
 use Rattle.live_layers.specs.Layers.{Holds, catalog_in}
 use Rattle.live_layers.specs.Keeping.{IsSound}
-use Rattle.live_layers.specs.Staying.{KeepsPagesAndRecords}
+use Rattle.live_layers.specs.Staying.{KeepsPagesAndRecords, KeepsVersions, LeavesVersion}
 use Rattle.live_layers.specs.declared.layers.Layers.{Layers}
 use Rattle.live_layers.proofs.HoldLemmas.{catalog_changed}
 
@@ -24,7 +25,8 @@ same_pages_hold old new next next' records t same e h =
 module _ {D A : Type 0} {m : _} where
   -- nothing was done, or one thing after the other
   pub nothing_moved : (kept : Layers D A m) → KeepsPagesAndRecords kept kept
-  nothing_moved kept = record { map = no_call_keeps_the_map kept.cache; records = refl; written = λ was. was }
+  nothing_moved kept =
+      record { map = no_call_keeps_the_map kept.cache; records = refl; written = λ was. was; newest = refl }
 
   pub stays_in_turn : (old mid new : Layers D A m) → (IsHonest old.cache → IsHonest mid.cache)
       → KeepsPagesAndRecords old mid → KeepsPagesAndRecords mid new → KeepsPagesAndRecords old new
@@ -32,7 +34,27 @@ module _ {D A : Type 0} {m : _} where
     map = the_map_is_kept_in_turn old.cache mid.cache new.cache honest a.map b.map;
     records = b.records ∙ a.records;
     written = λ was. b.written (a.written was);
+    newest = b.newest ∙ a.newest;
   }
+
+  -- what keeps the pages keeps the versions
+  pub versions_kept : (old new : Layers D A m) → KeepsPagesAndRecords old new → KeepsVersions old new
+  versions_kept old new keeps = record { version = keeps.map.version; newest = keeps.newest }
+
+  pub versions_in_turn : (old mid new : Layers D A m) → (IsHonest old.cache → IsHonest mid.cache)
+      → KeepsVersions old mid → KeepsVersions mid new → KeepsVersions old new
+  versions_in_turn old mid new there a b =
+      record {
+        version = λ honest. b.version (there honest) ∙ a.version honest;
+        newest = b.newest ∙ a.newest;
+      }
+
+  -- and a change that was not made leaves the file at its version
+  pub leaves_as_was : {T E : Type 0} {made : Version} (old new : Layers D A m) (e : E) (result : Result T E)
+      → IsErrAnd result (λ why. why ≡ e) → KeepsVersions old new → LeavesVersion old new made result
+  leaves_as_was old new e (Ok x) is keeps = elim is [ ]
+  leaves_as_was old new e (Err why) is keeps =
+      record { done = λ honest. tt; undone = keeps.version; newest = keeps.newest }
 
   pub kept_table : (old new : PageCache D A m) (records : List Record) (t : Table) → IsHonest old
       → KeepsMap old new → Holds (pages old) (next_of old) records t

@@ -65,7 +65,7 @@ fault_goes_on fault.NoPages = refl
 -- the same layers, but for their cache
 abbrev pub IsSameBut : {D A : Type 0} {m : _} → Layers D A m → Layers D A m → Type 0
 IsSameBut old new = (new.records ≡ old.records) × (new.object_count ≡ old.object_count)
-    × (new.written ≡ old.written)
+    × (new.written ≡ old.written) × (new.newest ≡ old.newest)
 
 module _ {D A : Type 0} {m : _} {T : Type 0} where
   -- a question that ended so, of the cache alone
@@ -75,7 +75,12 @@ module _ {D A : Type 0} {m : _} {T : Type 0} where
       → HasRefusalCause (m.faults (device_of old.cache)) (m.faults (device_of new.cache)) result
       → KeepsInQuestion old new result
   asks_so old new end result same asks goes_on cause = record {
-    trees = record { map = asks.map; records = ap records_of same.0; written = λ was. same.2 ∙ was };
+    trees = record {
+      map = asks.map;
+      records = ap records_of same.0;
+      written = λ was. same.2 ∙ was;
+      newest = same.3;
+    };
     sound = λ t sound. sound_kept old new t asks.map same.0 same.1 (λ is. sym same.2 ∙ is) sound;
     gate = asks.gate;
     goes_on = goes_on;
@@ -103,7 +108,8 @@ module _ {D A : Type 0} {m : _} {T : Type 0} where
 -- nothing was asked
 module _ {D A : Type 0} {m : _} (kept : Layers D A m) where
   pub none_asked : KeepsInQuestion {T = Unit {0}} kept kept (Ok tt)
-  none_asked = asks_and_answers kept kept (refl, refl, refl) (no_call_asks kept.cache)
+  none_asked = asks_and_answers kept kept (refl, refl, refl, refl) (no_call_asks kept.cache)
 
   pub refuses_unasked : (r : Refusal) → is_plain r ≡ true → KeepsInQuestion {T = Unit {0}} kept kept (Err r)
-  refuses_unasked r plain = asks_and_refuses kept kept plain (refl, refl, refl) (no_call_asks kept.cache)
+  refuses_unasked r plain =
+      asks_and_refuses kept kept plain (refl, refl, refl, refl) (no_call_asks kept.cache)

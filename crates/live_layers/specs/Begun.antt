@@ -8,10 +8,11 @@ use Rattle.page_cache.specs.Cache.{IsHonest, device_of, gate_of, next_of, touche
 use Rattle.page_cache.specs.Calls.{faults_behind}
 use Rattle.page_cache.specs.declared.cache.PageCache.{PageCache}
 use Rattle.page_file.specs.declared.gate.Gate.TheVariants.{Open}
+use Rattle.page_file.specs.declared.header.Version.{Version}
 use Rattle.plain_table.specs.Table.{Table}
 use Rattle.live_layers.specs.Image.{IsRefusedOrImageOf}
 use Rattle.live_layers.specs.Keeping.{IsSound, IsWritten, RestLeavesOneOf}
-use Rattle.live_layers.specs.Staying.{KeepsPagesAndRecords}
+use Rattle.live_layers.specs.Staying.{KeepsPagesAndRecords, LeavesVersion}
 use Rattle.live_layers.specs.declared.layers.Layers.{Layers}
 
 -- A change was begun, and then made or broken off. A stop leaves what one at rest leaves. Where a page was
@@ -32,10 +33,11 @@ pub record Begins {D A : Type 0} {m : _} {T : Type 0} (old new : PageCache D A m
   pub faults : m.faults (device_of new) ≡ faults_behind (cause_in result) (m.faults (device_of old))
 
 -- The same of layers, of which it keeps what was written where it broke off; and pages, records and each
--- table where that was before pages were touched.
-pub record BeginsChange {D A : Type 0} {m : _} {T : Type 0} (old new : Layers D A m)
+-- table where that was before pages were touched. It leaves the file at this version where it was made.
+pub record BeginsChange {D A : Type 0} {m : _} {T : Type 0} (old new : Layers D A m) (made : Version)
     (result : Result T Broken) : Type 0 where
   pub begins : Begins old.cache new.cache result
   pub untouched : (t : Table) → IsSound old t → IfErr result (λ b. b.touched ≡ false → IsSound new t)
   pub kept : IfErr result (λ b. b.touched ≡ false → KeepsPagesAndRecords old new)
   pub written : OnErr result (IsWritten old → IsWritten new)
+  pub versions : LeavesVersion old new made result

@@ -2,10 +2,11 @@
 -- question is answered or refused.
 use Rattle.std.specs.Prelude.{◌≡◌, ◌⊎◌, false, true, List, Result, Ok, Err, OnErr, IfErr}
 use Rattle.block_device.specs.Device.{HasRisen, LeavesOnly}
-use Rattle.page_cache.specs.Cache.{IsHonest, KeepsGate, device_of, gate_of, touched_of}
+use Rattle.page_cache.specs.Cache.{IsHonest, KeepsGate, device_of, gate_of, touched_of, version_of}
 use Rattle.page_file.specs.declared.fault.Fault.{Fault}
 use Rattle.page_file.specs.declared.fault.Fault.TheVariants as fault
 use Rattle.page_file.specs.declared.gate.Gate.TheVariants.{Open}
+use Rattle.page_file.specs.declared.header.Version.{Version}
 use Rattle.plain_table.specs.Commands.{Command}
 use Rattle.plain_table.specs.Step.{Answer, after, reply_of}
 use Rattle.plain_table.specs.Step.Answer.{Done, Refused}
@@ -13,10 +14,11 @@ use Rattle.plain_table.specs.Table.{Table}
 use Rattle.plain_table.specs.declared.refusal.Refusal.{Refusal}
 use Rattle.store_law.specs.Lawful.{IsFault, MayWrite, RefusedBy}
 use Rattle.store_law.specs.Stops.{is_end}
+use Rattle.live_layers.specs.Creating.{version_by}
 use Rattle.live_layers.specs.Faults.{HasRefusalCause, HasUnmadeCause}
 use Rattle.live_layers.specs.Image.{IsRefusedOrImageOf}
-use Rattle.live_layers.specs.Keeping.{IsSound, IsWritten, RestLeavesOneOf}
-use Rattle.live_layers.specs.Staying.{KeepsPagesAndRecords}
+use Rattle.live_layers.specs.Keeping.{IsSound, IsWritten, RestLeavesOneOf, newest_of}
+use Rattle.live_layers.specs.Staying.{KeepsPagesAndRecords, LeavesVersion}
 use Rattle.live_layers.specs.declared.layers.Layers.{Layers}
 use Rattle.live_layers.specs.declared.unmade.Unmade.{Unmade}
 use Rattle.live_layers.specs.declared.unmade.Unmade.TheVariants as unmade
@@ -81,9 +83,10 @@ GoesOn (Err (unmade.Refused r)) = is_end r ≡ false
 GoesOn result = Unit {0}
 
 -- What a change keeps of any layers: pages and records, so each tree, where it was refused, which is not as
--- by a store that failed, and it breaks off half way only where a page was touched; what was written, where it was not made; an open gate; honesty; and the count of
--- the device's faults, which rises by one where its failure ended the change.
-pub record KeepsInChange {D A : Type 0} {m : _} (old new : Layers D A m)
+-- by a store that failed, and it breaks off half way only where a page was touched; what was written, where
+-- it was not made; an open gate; honesty; the count of the device's faults, which rises by one where its
+-- failure ended the change; and the version of the file, but that it is this one where the change was made.
+pub record KeepsInChange {D A : Type 0} {m : _} (old new : Layers D A m) (made : Version)
     (result : Result (Unit {0}) Unmade) : Type 0 where
   pub refused : OnRefused result (KeepsPagesAndRecords old new)
   pub touched : OnBroken result (touched_of new.cache ≡ true)
@@ -92,11 +95,13 @@ pub record KeepsInChange {D A : Type 0} {m : _} (old new : Layers D A m)
   pub stays_open : gate_of old.cache ≡ Open → gate_of new.cache ≡ Open
   pub honest : IsHonest old.cache → IsHonest new.cache
   pub cause : HasUnmadeCause (m.faults (device_of old.cache)) (m.faults (device_of new.cache)) result
+  pub versions : LeavesVersion old new made result
 
--- a change by a command, whichever table the layers are sound with
+-- A change by a command, whichever table the layers are sound with. Only one that makes a layer may raise the
+-- version of the file.
 pub record IsChangeBy {D A : Type 0} {m : _} (old new : Layers D A m) (c : Command)
     (result : Result (Unit {0}) Unmade) : Type 0 where
-  pub keeps : KeepsInChange old new result
+  pub keeps : KeepsInChange old new (version_by c (newest_of old) (version_of old.cache)) result
   pub lawful : (t : Table) → IsSound old t → IsChange old new t c result
 
 -- ---- questions
@@ -108,9 +113,9 @@ abbrev pub IsAnswered : {D A : Type 0} {m : _} → Layers D A m → Layers D A m
 IsAnswered old new t c a =
     IsSound new t × ((a ≡ reply_of t c) ⊎ RefusedBy (IsFault (Rose old new)) a)
 
--- What a question keeps of any layers: their trees, each table that they are sound with, and the gate; no
--- refusal is that of a store that failed; and the count of the device's faults rises by one with a refusal
--- that says so, and with nothing else.
+-- What a question keeps of any layers: their trees and versions, each table that they are sound with, and the
+-- gate; no refusal is that of a store that failed; and the count of the device's faults rises by one with a
+-- refusal that says so, and with nothing else.
 pub record KeepsInQuestion {D A : Type 0} {m : _} {T : Type 0} (old new : Layers D A m)
     (result : Result T Refusal) : Type 0 where
   pub trees : KeepsPagesAndRecords old new

@@ -7,6 +7,8 @@ use Rattle.page_cache.specs.Cache.{IsPageMap, device_of, gate_of, next_of, pages
 use Rattle.page_cache.specs.declared.cache.PageCache.{PageCache}
 use Rattle.page_file.specs.declared.header.Version.{Version}
 use Rattle.page_file.specs.declared.header.Version.TheVariants.{Two, Three}
+use Rattle.plain_table.specs.Commands.{Command}
+use Rattle.plain_table.specs.Commands.Command.{Create}
 use Rattle.plain_table.specs.Table.{Layer, is_dims, is_fanout, is_layer_name}
 use Rattle.tree_node.specs.Trees.{Tree}
 use Rattle.live_layers.specs.Keeping.{HasTree}
@@ -32,6 +34,11 @@ kind_in Three = kinds.Tree
 abbrev pub version_after : Version → Version → Version
 version_after Two was = was
 version_after Three was = Three
+
+-- the version after a command that was done, where the file may be raised to the newest: no other raises it
+abbrev pub version_by : Command → Version → Version → Version
+version_by (Create name dims fanout) newest was = version_after newest was
+version_by c newest was = was
 
 -- The version of the file allows tables of this kind: it was raised where that asks for it. All else stays.
 pub record Admits {D A : Type 0} {m : _} (old new : PageCache D A m) (kind : TableKind) : Type 0 where

@@ -4,9 +4,10 @@ ghost use Rattle.std.specs.Prelude.{◌≡◌, ◌⊎◌, ◌∷◌, Ok, Err, Is
 ghost use Rattle.block_device.specs.Device.{LeavesOnly, Only};
 ghost use Rattle.live_layers.specs.Faults.{faults_after_refusal};
 ghost use Rattle.live_layers.specs.Image.{IsImage, IsRefusedOrImageOf};
-ghost use Rattle.live_layers.specs.Staying.{KeepsEachTree, LeavesTreesIn};
+ghost use Rattle.live_layers.specs.Staying.{KeepsEachTree, KeepsVersions, LeavesTreesIn};
 ghost use Rattle.live_layers.specs.Keeping.{records_in};
 ghost use Rattle.page_cache.specs.Cache.{gate_of, pages};
+ghost use Rattle.page_file.specs.Layout.{opened_version};
 ghost use Rattle.page_file.specs.Pages.{SameBut};
 ghost use Rattle.page_file.specs.declared.gate.Gate.TheVariants.{Shut};
 ghost use Rattle.plain_table.specs.Answers.{done_answer};
@@ -21,7 +22,7 @@ ghost use Rattle.layer_store.specs.Commands.{TakesStep, TellsOfEnd};
 ghost use Rattle.layer_store.specs.Faults.{IsMemoryOrDevice};
 ghost use Rattle.layer_store.specs.Representation.{HasFailed, IsInState, IsSettled, Represents};
 ghost use Rattle.layer_store.specs.Representation.{SpellsRecords, SpellsUnchanged, StopsLeave};
-ghost use Rattle.layer_store.specs.Representation.{blocks_in, cache_in, device_in, layers_in};
+ghost use Rattle.layer_store.specs.Representation.{blocks_in, cache_in, device_in, file_version, layers_in};
 
 use crate::store::changes::tell;
 use crate::store::{FAILED, Store};
@@ -72,6 +73,7 @@ impl<D: BlockDevice, A: Allocator + Copy> Store<D, A> {
         ensures read { D.honest (device_in self.old) → OnOk result (SpellsRecords self.new) }
         ensures spelled { (t : Table) → IsInState self.old (Alive t) →
             SpellsUnchanged self.old → SpellsUnchanged self.new }
+        ensures versions { KeepsVersions (layers_in self.old) (layers_in self.new) }
         ensures dead { StaysDead self.old self.new result }
         ensures cause { CountsFaults self.old self.new result }
     {
@@ -84,15 +86,17 @@ impl<D: BlockDevice, A: Allocator + Copy> Store<D, A> {
 
     /// Closes the table into the file, and hands the device back.
     ///
-    /// Closed, its blocks are an image of the table, and have each tree. Refused it answers `Memory` or
-    /// `Device`, and the device comes back: then a stop leaves of it blocks that opening refuses, or an image
-    /// of a table that was closed before, or of this one. A store that failed answers `StoreFailed(19)`, with
-    /// the device as it is.
+    /// Closed, its blocks are an image of the table, and have each tree, and the version of the file.
+    /// Refused it answers `Memory` or `Device`, and the device comes back: then a stop leaves of it blocks
+    /// that opening refuses, or an image of a table that was closed before, or of this one. A store that
+    /// failed answers `StoreFailed(19)`, with the device as it is.
     pub fn close(self) -> Result<D, (Refusal, D)>
         ensures closed { (t : Table) → IsInState self (Alive t) →
             IfOk result (λ device. IsImage (D.shown device) t) }
         ensures trees { (t : Table) → IsInState self (Alive t) →
             IfOk result (λ device. LeavesTreesIn (layers_in self) (D.shown device)) }
+        ensures version { IfOk result (λ device. D.honest (device_in self) →
+            opened_version (D.shown device) ≡ file_version self) }
 
         // A stop leaves what one before the call leaves, or an image of the table; and after a closing that
         // is finished nothing but what is read.

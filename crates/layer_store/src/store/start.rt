@@ -7,16 +7,19 @@ ghost use Rattle.live_layers.specs.Faults.{faults_after_refusal};
 ghost use Rattle.live_layers.specs.Image.{HasNoCatalog, IsImage, OpeningRefuses};
 ghost use Rattle.live_layers.specs.Staying.{FindsTreesIn};
 ghost use Rattle.page_file.specs.File.{IsHonest, LiesIn, blocks_of, device_of, gate_of, next_of, pages};
+ghost use Rattle.page_file.specs.File.{version_of};
+ghost use Rattle.page_file.specs.Layout.{opened_version};
 ghost use Rattle.page_file.specs.Opening.{IsRefused};
 ghost use Rattle.page_file.specs.Stops.{AddsOnly, StopSince};
 ghost use Rattle.page_file.specs.declared.fault.Fault.{Fault};
 ghost use Rattle.page_file.specs.declared.gate.Gate.TheVariants.{Shut};
+ghost use Rattle.page_file.specs.declared.header.Version.TheVariants.{Two};
 ghost use Rattle.plain_table.specs.Table.{Table};
 ghost use Rattle.plain_table.specs.declared.refusal.Refusal.TheVariants as refusal;
 ghost use Rattle.store_law.specs.States.StoreState.{Alive};
 ghost use Rattle.layer_store.specs.Faults.{IsMemoryOrDevice};
 ghost use Rattle.layer_store.specs.Representation.{BeginsWith, IsInState, IsSettled, SpellsRecords};
-ghost use Rattle.layer_store.specs.Representation.{blocks_in, device_in, layers_in, newest_in};
+ghost use Rattle.layer_store.specs.Representation.{blocks_in, device_in, file_version, layers_in, newest_in};
 ghost use Rattle.layer_store.specs.Starting.{OpeningRefusesAs, is_cache};
 
 use crate::store::Store;
@@ -35,9 +38,9 @@ fn is_cache(pages: u32) -> bool
 }
 
 /// Makes a store without layers on a device without blocks, which takes its memory from this allocator and
-/// holds at most so many pages in memory (8 to 4096). Its blocks are an image of the empty table. Layers that
-/// are made are such as files of the newest version may have: with `Version::Two` programs that do not know
-/// version 3 read the file.
+/// holds at most so many pages in memory (8 to 4096). Its blocks are an image of the empty table, and the
+/// file has version 2. Layers that are made are such as files of the newest version may have: with
+/// `Version::Two` programs that do not know version 3 read the file.
 ///
 /// Refused by `BadCache`, before any call of the device. On an honest device any other refusal is `Memory` or
 /// `Device`. The device comes back.
@@ -71,6 +74,7 @@ pub fn create_store<D: BlockDevice, A: Allocator + Copy>(
         Only (blocks_in store) (D.may_leave (device_in store))) }
 
     ensures refused { is_cache cache ≡ true → IfErr result (λ e. D.honest device → IsMemoryOrDevice e.0) }
+    ensures version { IfOk result (λ store. D.honest device → file_version store ≡ Two) }
     ensures newest { IfOk result (λ store. newest_in store ≡ newest) }
     ensures no_fault { IfOk result (λ store. D.faults (device_in store) ≡ D.faults device) }
     ensures cause { IfErr result (λ e. D.faults e.1 ≡ faults_after_refusal e.0 (D.faults device)) }
@@ -92,7 +96,8 @@ pub fn create_store<D: BlockDevice, A: Allocator + Copy>(
 /// version may have; those that are there stay as they are.
 ///
 /// On an honest device an image of a table is opened as a store of that table and of its trees, but for
-/// `Memory` and `Device`; and blocks are opened only where no check refuses them.
+/// `Memory` and `Device`; and blocks are opened only where no check refuses them. The file is of the version
+/// that they have.
 ///
 /// Refused by `BadCache`, before any call of the device. On an honest device any other refusal is `Memory`,
 /// `Device`, or that of the first check that fails. The device comes back, with its blocks as they were.
@@ -132,6 +137,8 @@ pub fn open_store<D: BlockDevice, A: Allocator + Copy>(
     ensures spelled { IfOk result (λ store. D.honest device → SpellsRecords store) }
     ensures blocks { IfOk result (λ store. D.honest device → blocks_in store ≡ D.shown device) }
     ensures refused_blocks { IfErr result (λ e. D.honest device → D.shown e.1 ≡ D.shown device) }
+    ensures version { IfOk result (λ store. D.honest device →
+        file_version store ≡ opened_version (D.shown device)) }
     ensures newest { IfOk result (λ store. newest_in store ≡ newest) }
     ensures no_fault { IfOk result (λ store. D.faults (device_in store) ≡ D.faults device) }
     ensures cause { IfErr result (λ e. D.faults e.1 ≡ faults_after_refusal e.0 (D.faults device)) }
@@ -176,6 +183,7 @@ fn begin<D: BlockDevice, A: Allocator + Copy>(
         AddsOnly D.moment D.left_since D.recovery (device_of file) e.1 (StopSince Shut (blocks_of file))) }
     ensures blocks { IfOk result (λ store. IsHonest file → blocks_in store ≡ blocks_of file) }
     ensures refused_blocks { IfErr result (λ e. IsHonest file → D.shown e.1 ≡ blocks_of file) }
+    ensures version { IfOk result (λ store. IsHonest file → file_version store ≡ version_of file) }
     ensures newest { IfOk result (λ store. newest_in store ≡ newest) }
     ensures no_fault { IfOk result (λ store. D.faults (device_in store) ≡ D.faults (device_of file)) }
     ensures cause { IfErr result (λ e. D.faults e.1 ≡ faults_after_refusal e.0 (D.faults (device_of file))) }

@@ -3,16 +3,16 @@
 ghost use Rattle.std.specs.Prelude.{◌≡◌, ◌⊎◌, ◌↔◌, List, ◌∷◌, IsOk, IfErr, OnErr, OnOk};
 ghost use Rattle.block_device.specs.Device.{LeavesOnly};
 ghost use Rattle.page_file.specs.Fault.{HasCause, IsDamage, IsOfDevice};
+ghost use Rattle.page_file.specs.Layout.{opened_version};
 ghost use Rattle.page_file.specs.declared.gate.Gate.TheVariants.{Shut};
 ghost use Rattle.page_file.specs.Pages.{SameBut};
 ghost use Rattle.page_cache.specs.Cache.{IsHonest, IsPageMap, IsUnchanged, blocks_of, device_of, gate_of};
-ghost use Rattle.page_cache.specs.Cache.{next_of};
-ghost use Rattle.page_cache.specs.Cache.{pages};
+ghost use Rattle.page_cache.specs.Cache.{next_of, pages, version_of};
 ghost use Rattle.plain_table.specs.Table.{Table};
 ghost use Rattle.live_layers.specs.Image.{IsImage, IsRefusedOrImageOf};
 ghost use Rattle.live_layers.specs.Keeping.{IsSettled, IsSound, IsWritten, RestLeavesOneOf, SpellsUnchanged};
 ghost use Rattle.live_layers.specs.Keeping.{cache_of, records_in};
-ghost use Rattle.live_layers.specs.Staying.{KeepsEachTree, LeavesTreesIn};
+ghost use Rattle.live_layers.specs.Staying.{KeepsEachTree, KeepsVersions, LeavesTreesIn};
 
 use crate::layers::{CATALOG, Layers};
 use block_bytes::zero_block;
@@ -44,6 +44,7 @@ impl<B: BlockDevice, A: Allocator + Copy> Layers<B, A> {
         ensures records { records_in self.new ≡ records_in self.old }
         ensures spelled { IsHonest (cache_of self.old) → SpellsUnchanged self.old → SpellsUnchanged self.new }
         ensures next { next_of (cache_of self.new) ≡ next_of (cache_of self.old) }
+        ensures versions { KeepsVersions self.old self.new }
         ensures honest { IsHonest (cache_of self.old) ↔ IsHonest (cache_of self.new) }
         ensures faults { IsPageMap (cache_of self.old) → IfErr result IsOfDevice }
         ensures other_faults { IfErr result (λ f. IsOfDevice f ⊎ IsDamage f) }
@@ -98,6 +99,11 @@ impl<B: BlockDevice, A: Allocator + Copy> Layers<B, A> {
         ensures records { records_in self.new ≡ records_in self.old }
         ensures spelled { (t : Table) → IsSound self.old t → SpellsUnchanged self.old →
             SpellsUnchanged self.new }
+
+        // The versions stay, and the blocks have that of the file.
+        ensures versions { KeepsVersions self.old self.new }
+        ensures has_version { IsHonest (cache_of self.old) → OnOk result
+            (opened_version (blocks_of (cache_of self.new)) ≡ version_of (cache_of self.old)) }
 
         ensures next { next_of (cache_of self.new) ≡ next_of (cache_of self.old) }
         ensures honest { IsHonest (cache_of self.old) ↔ IsHonest (cache_of self.new) }

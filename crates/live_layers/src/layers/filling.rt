@@ -4,6 +4,7 @@ ghost use Rattle.std.specs.Prelude.{◌≡◌, ◌+◌, ◌<◌, ◌≤◌, ℕ,
 ghost use Rattle.std.specs.FinMap as map;
 ghost use Rattle.box_math.specs.Bounds.{IsDims};
 ghost use Rattle.layer_pages.specs.Layers.{Objects};
+ghost use Rattle.page_cache.specs.Cache.{version_of};
 ghost use Rattle.page_file.specs.Fault.{IsOfDevice};
 ghost use Rattle.plain_table.specs.Table.{Table, layer_at, most_objects};
 ghost use Rattle.live_layers.specs.Begun.{BeginsChange};
@@ -42,7 +43,7 @@ impl<B: BlockDevice, A: Allocator + Copy> Layers<B, A> {
             (layer_at t name).dims ≡ D → map.len (layer_at t name).objects ≡ 0 →
             IsPermutation objects.old (map.entries all) →
             IfErr result (λ b. IsOfDevice b.cause) }
-        ensures begins { BeginsChange self.old self.new result }
+        ensures begins { BeginsChange self.old self.new (version_of (cache_of self.old)) result }
     {
         self.begin()?;
         let located = self.locate(place);

@@ -1,12 +1,13 @@
 //! All objects of a layer at once.
 
 ghost use Rattle.std.specs.Prelude.{◌≡◌, ◌<◌, ℕ, List, true, false, length, map, OnOk};
+ghost use Rattle.page_cache.specs.Cache.{version_of};
 ghost use Rattle.plain_table.specs.Commands.Command.{Load};
 ghost use Rattle.plain_table.specs.Loads.{given_object};
 ghost use Rattle.plain_table.specs.Step.{changes};
 ghost use Rattle.plain_table.specs.Table.{Table, layer_at};
 ghost use Rattle.live_layers.specs.Changes.{IsChange, IsChangeBy, KeepsInChange};
-ghost use Rattle.live_layers.specs.Keeping.{ChangesTree, IsSound, records_in};
+ghost use Rattle.live_layers.specs.Keeping.{ChangesTree, IsSound, cache_of, records_in};
 ghost use Rattle.live_layers.specs.Loading.{NamesLayer};
 ghost use Rattle.live_layers.specs.Rules.{HasFilled};
 ghost use Rattle.live_layers.specs.Staying.{KeepsPagesAndRecords};
@@ -63,7 +64,7 @@ impl<B: BlockDevice, A: Allocator + Copy> Layers<B, A> {
             (HasFilled (layer_at t name) (map given_object objects.now))) }
         ensures same { (t : Table) (name : List ℕ) → IsSound self.old t → NamesLayer t name place D →
             changes t (Load name objects.now) ≡ false → KeepsPagesAndRecords self.old self.new }
-        ensures keeps { KeepsInChange self.old self.new result }
+        ensures keeps { KeepsInChange self.old self.new (version_of (cache_of self.old)) result }
     {
         match objects_in::<D, A>(self.alloc, objects) {
             Ok(mut boxed) => self.load_boxes::<D>(place, boxed.as_mut_slice()),

@@ -4,7 +4,7 @@ ghost use Rattle.std.specs.Prelude.{◌≡◌, ◌<◌, ◌≤◌, false, length
 ghost use Rattle.catalog_page.specs.Layout.{records_of};
 ghost use Rattle.layer_pages.specs.Layers.{CanBeRoot};
 ghost use Rattle.live_layers.specs.Catalog.{with_tree};
-ghost use Rattle.live_layers.specs.Keeping.{cache_of, records_in};
+ghost use Rattle.live_layers.specs.Keeping.{cache_of, newest_of, records_in};
 
 use crate::layers::Layers;
 use arrayvec::ArrayVec;
@@ -24,6 +24,7 @@ impl<B: BlockDevice, A: Allocator> Layers<B, A> {
         ensures cache { cache_of self.new ≡ cache_of self.old }
         ensures count { self.new.object_count ≡ self.old.object_count }
         ensures written { self.new.written ≡ false }
+        ensures newest { newest_of self.new ≡ newest_of self.old }
     {
         note_tree(&mut self.records, place, root, count);
         self.written = false;

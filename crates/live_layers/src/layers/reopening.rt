@@ -14,7 +14,7 @@ ghost use Rattle.live_layers.specs.Keeping.{IsSettled, IsSound, IsWritten, Spell
 ghost use Rattle.live_layers.specs.Keeping.{cache_of};
 ghost use Rattle.live_layers.specs.Keeping.{records_in};
 ghost use Rattle.live_layers.specs.Faults.{HasUnmadeCause};
-ghost use Rattle.live_layers.specs.Staying.{KeepsEachTree};
+ghost use Rattle.live_layers.specs.Staying.{KeepsEachTree, KeepsVersions};
 
 use crate::faults::as_refusal;
 use crate::layers::Layers;
@@ -50,6 +50,7 @@ impl<B: BlockDevice, A: Allocator + Copy> Layers<B, A> {
 
         ensures next { IsHonest (cache_of self.old) →
             next_of (cache_of self.new) ≡ next_of (cache_of self.old) }
+        ensures versions { KeepsVersions self.old self.new }
         ensures honest { IsHonest (cache_of self.old) ↔ IsHonest (cache_of self.new) }
         ensures goes_on { GoesOn result }
         ensures cause { HasUnmadeCause (B.faults (device_of (cache_of self.old)))
@@ -77,6 +78,7 @@ impl<B: BlockDevice, A: Allocator + Copy> Layers<B, A> {
         ensures read { IsHonest (cache_of self.old) → OnOk result (SpellsRecords self.new) }
         ensures next { IsHonest (cache_of self.old) →
             next_of (cache_of self.new) ≡ next_of (cache_of self.old) }
+        ensures versions { KeepsVersions self.old self.new }
         ensures faults { (t : Table) → IsSound self.old t → IsWritten self.old → IfErr result IsOfDevice }
         ensures never { IfErr result (λ f. ¬ (f ≡ fault.NoPages)) }
         ensures cause { HasCause (B.faults (device_of (cache_of self.old)))

@@ -8,7 +8,7 @@ ghost use Rattle.page_cache.specs.Calls.{Changes};
 ghost use Rattle.page_file.specs.Fault.{IsOfDevice};
 ghost use Rattle.node_page.specs.Faults.{IsNoDamage};
 ghost use Rattle.node_page.specs.Parts.{no_page};
-ghost use Rattle.page_cache.specs.Cache.{Grows, IsHonest, IsPageMap, gate_of, next_of, pages, version_of};
+ghost use Rattle.page_cache.specs.Cache.{Grows, IsPageMap, gate_of, next_of, pages, version_of};
 ghost use Rattle.page_file.specs.declared.gate.Gate.TheVariants.{Open};
 ghost use Rattle.plain_table.specs.Table.{Table, is_dims};
 ghost use Rattle.live_layers.specs.Begun.{BeginsChange};
@@ -43,11 +43,10 @@ impl<B: BlockDevice, A: Allocator + Copy> Layers<B, A> {
             OnOk result (IsSound self.new (map.insert t name.now (new_layer dims fanout))) }
         ensures tree { (t : Table) → IsSound self.old t → Belongs t name.now place →
             OnOk result (BringsTree self.old self.new name.now IsEmptyLeaf) }
-        ensures version { IsHonest (cache_of self.old) → OnOk result
-            (version_of (cache_of self.new) ≡ version_after (newest_of self.old) (version_of (cache_of self.old))) }
         ensures faults { (t : Table) → IsSound self.old t →
             IfErr result (λ b. IsOfDevice b.cause) }
-        ensures begins { BeginsChange self.old self.new result }
+        ensures begins { BeginsChange self.old self.new
+            (version_after (newest_of self.old) (version_of (cache_of self.old))) result }
     {
         let kind = kind_in(self.newest);
         self.begin()?;

@@ -2,10 +2,11 @@
 
 ghost use Rattle.std.specs.Prelude.{◌≡◌, ◌<◌, ℕ, List, OnOk, length};
 ghost use Rattle.box_math.specs.Bounds.{IsDims};
+ghost use Rattle.page_cache.specs.Cache.{version_of};
 ghost use Rattle.plain_table.specs.Commands.Command.{Delete};
 ghost use Rattle.plain_table.specs.Table.{Table, layer_at};
 ghost use Rattle.live_layers.specs.Changes.{IsChange, KeepsInChange};
-ghost use Rattle.live_layers.specs.Keeping.{ChangesTree, IsSound, records_in};
+ghost use Rattle.live_layers.specs.Keeping.{ChangesTree, IsSound, cache_of, records_in};
 ghost use Rattle.live_layers.specs.Reaching.{Reaches};
 ghost use Rattle.live_layers.specs.Rules.{HasLost};
 
@@ -37,7 +38,7 @@ impl<B: BlockDevice, A: Allocator + Copy> Layers<B, A> {
         ensures tree { (t : Table) (name : List ℕ) → IsSound self.old t →
             Reaches self.old t name place located.now →
             OnOk result (ChangesTree self.old self.new name (HasLost (layer_at t name) id)) }
-        ensures keeps { KeepsInChange self.old self.new result }
+        ensures keeps { KeepsInChange self.old self.new (version_of (cache_of self.old)) result }
     {
         match self.object_of::<D>(located, id) {
             Ok(known) => {

@@ -7,7 +7,7 @@ ghost use Rattle.layer_pages.specs.Layers.{CanBeRoot, IsLayerAt, LayerPages, Obj
 ghost use Rattle.page_cache.specs.Calls.{Changes};
 ghost use Rattle.page_file.specs.Fault.{IsOfDevice};
 ghost use Rattle.node_page.specs.Parts.{Moves, no_page};
-ghost use Rattle.page_cache.specs.Cache.{IsPageMap, gate_of, pages};
+ghost use Rattle.page_cache.specs.Cache.{IsPageMap, gate_of, pages, version_of};
 ghost use Rattle.page_file.specs.Fault.{IsOfDevice};
 ghost use Rattle.page_file.specs.declared.gate.Gate.TheVariants.{Open};
 ghost use Rattle.plain_table.specs.Table.{Table};
@@ -34,7 +34,7 @@ impl<B: BlockDevice, A: Allocator + Copy> Layers<B, A> {
             OnOk result (KeepsOtherTrees self.old self.new name) }
         ensures faults { (t : Table) (name : List ℕ) → IsSound self.old t → Finds t name place →
             IfErr result (λ b. IsOfDevice b.cause) }
-        ensures begins { BeginsChange self.old self.new result }
+        ensures begins { BeginsChange self.old self.new (version_of (cache_of self.old)) result }
     {
         self.begin()?;
         let located = self.locate(place);

@@ -2,13 +2,14 @@
 
 ghost use Rattle.std.specs.Prelude.{◌<◌, ℕ, List, OnOk, length};
 ghost use Rattle.box_math.specs.Bounds.{IsDims};
+ghost use Rattle.page_cache.specs.Cache.{version_of};
 ghost use Rattle.plain_table.specs.Boxes.{given_bounds};
 ghost use Rattle.plain_table.specs.Commands.Command.{Insert};
 ghost use Rattle.plain_table.specs.Table.{Table, layer_at};
 ghost use Rattle.plain_table.specs.declared.boxes.RawBox.{RawBox as GivenBox};
 ghost use Rattle.live_layers.specs.Changes.{IsChange, KeepsInChange};
 ghost use Rattle.live_layers.specs.Inserting.{ReachesBox};
-ghost use Rattle.live_layers.specs.Keeping.{ChangesTree, IsSound, records_in};
+ghost use Rattle.live_layers.specs.Keeping.{ChangesTree, IsSound, cache_of, records_in};
 ghost use Rattle.live_layers.specs.Rules.{HasGained};
 
 use crate::faults::change_of;
@@ -39,7 +40,7 @@ impl<B: BlockDevice, A: Allocator + Copy> Layers<B, A> {
             ReachesBox t name place box D (record { low = low.entry; high = high.entry }) →
             OnOk result (ChangesTree self.old self.new name
             (HasGained (layer_at t name) id (given_bounds box, tag))) }
-        ensures keeps { KeepsInChange self.old self.new result }
+        ensures keeps { KeepsInChange self.old self.new (version_of (cache_of self.old)) result }
     {
         let located = self.locate(place);
         match self.check_object(&located, id, low, high) {

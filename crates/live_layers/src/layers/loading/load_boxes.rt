@@ -2,12 +2,13 @@
 
 ghost use Rattle.std.specs.Prelude.{◌≡◌, ◌<◌, ℕ, List, true, false, OnOk, length};
 ghost use Rattle.box_math.specs.Bounds.{IsDims};
+ghost use Rattle.page_cache.specs.Cache.{version_of};
 ghost use Rattle.plain_table.specs.Commands.Command.{Load};
 ghost use Rattle.plain_table.specs.Loads.{GivenObjects};
 ghost use Rattle.plain_table.specs.Step.{changes};
 ghost use Rattle.plain_table.specs.Table.{Table, layer_at};
 ghost use Rattle.live_layers.specs.Changes.{IsChange, KeepsInChange};
-ghost use Rattle.live_layers.specs.Keeping.{ChangesTree, IsSound, records_in};
+ghost use Rattle.live_layers.specs.Keeping.{ChangesTree, IsSound, cache_of, records_in};
 ghost use Rattle.live_layers.specs.Loading.{ReachesObjects};
 ghost use Rattle.live_layers.specs.Rules.{HasFilled};
 ghost use Rattle.live_layers.specs.Staying.{KeepsPagesAndRecords};
@@ -37,7 +38,7 @@ impl<B: BlockDevice, A: Allocator + Copy> Layers<B, A> {
         ensures same { (t : Table) (name : List ℕ) (given : GivenObjects) → IsSound self.old t →
             ReachesObjects t name place given D objects.old → changes t (Load name given) ≡ false →
             KeepsPagesAndRecords self.old self.new }
-        ensures keeps { KeepsInChange self.old self.new result }
+        ensures keeps { KeepsInChange self.old self.new (version_of (cache_of self.old)) result }
     {
         if let Err(refusal) = self.check_load(place, objects) {
             return Err(Unmade::Refused(refusal));

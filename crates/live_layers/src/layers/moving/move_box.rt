@@ -2,6 +2,7 @@
 
 ghost use Rattle.std.specs.Prelude.{◌≡◌, ◌<◌, ℕ, List, OnOk, false, true, length};
 ghost use Rattle.box_math.specs.Bounds.{IsDims};
+ghost use Rattle.page_cache.specs.Cache.{version_of};
 ghost use Rattle.plain_table.specs.Boxes.{given_bounds};
 ghost use Rattle.plain_table.specs.Commands.Command.{Move};
 ghost use Rattle.plain_table.specs.Step.{changes};
@@ -9,7 +10,7 @@ ghost use Rattle.plain_table.specs.Table.{Table, layer_at};
 ghost use Rattle.plain_table.specs.declared.boxes.RawBox.{RawBox as GivenBox};
 ghost use Rattle.live_layers.specs.Changes.{IsChange, KeepsInChange};
 ghost use Rattle.live_layers.specs.Inserting.{ReachesBox};
-ghost use Rattle.live_layers.specs.Keeping.{ChangesTree, IsSound, records_in};
+ghost use Rattle.live_layers.specs.Keeping.{ChangesTree, IsSound, cache_of, records_in};
 ghost use Rattle.live_layers.specs.Rules.{HasMoved};
 ghost use Rattle.live_layers.specs.Staying.{KeepsPagesAndRecords};
 
@@ -46,7 +47,7 @@ impl<B: BlockDevice, A: Allocator + Copy> Layers<B, A> {
         ensures same { (t : Table) (name : List ℕ) (box : GivenBox) → IsSound self.old t →
             ReachesBox t name place box D (record { low = low.entry; high = high.entry }) →
             changes t (Move name id box) ≡ false → KeepsPagesAndRecords self.old self.new }
-        ensures keeps { KeepsInChange self.old self.new result }
+        ensures keeps { KeepsInChange self.old self.new (version_of (cache_of self.old)) result }
     {
         let located = self.locate(place);
         let (known, bounds) = match self.check_move(&located, id, low, high) {

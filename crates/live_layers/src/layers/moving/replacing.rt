@@ -3,6 +3,7 @@
 ghost use Rattle.std.specs.Prelude.{◌≡◌, ◌<◌, ℕ, List, Some, IfErr, OnOk, length};
 ghost use Rattle.std.specs.FinMap as map;
 ghost use Rattle.box_math.specs.Bounds.{IsDims};
+ghost use Rattle.page_cache.specs.Cache.{version_of};
 ghost use Rattle.page_file.specs.Fault.{IsOfDevice};
 ghost use Rattle.plain_table.specs.Table.{Table, layer_at, with_object};
 ghost use Rattle.live_layers.specs.Begun.{BeginsChange};
@@ -45,7 +46,7 @@ impl<B: BlockDevice, A: Allocator + Copy> Layers<B, A> {
         ensures faults { (t : Table) (name : List ℕ) → IsSound self.old t → Finds t name place →
             (layer_at t name).dims ≡ D → map.get (layer_at t name).objects id ≡ Some (known.now, tag) →
             IfErr result (λ b. IsOfDevice b.cause) }
-        ensures begins { BeginsChange self.old self.new result }
+        ensures begins { BeginsChange self.old self.new (version_of (cache_of self.old)) result }
     {
         let mut waiting = take_waiting(waiting_room, self.alloc)?;
         let mut kept = take_kept(kept_room, self.alloc)?;

@@ -1,12 +1,13 @@
 -- A live store closes its layers, and one that failed hands the device back.
-use Rattle.std.proofs.Common.{◌∙◌, ◌∷◌, Ok, ap, inl, inr, sym, subst}
+use Rattle.std.proofs.Common.{◌≡◌, ◌∙◌, ◌∷◌, Ok, ap, inl, inr, sym, subst}
 use Rattle.block_device.specs.Device.{LeavesOnly, Only}
 use Rattle.live_layers.specs.Image.{IsImage, IsRefusedOrImageOf}
 use Rattle.live_layers.specs.Staying.{LeavesTreesIn}
 use Rattle.live_layers.proofs.StopLemmas.{shut_is_durable}
+use Rattle.page_file.specs.Layout.{opened_version}
 use Rattle.store_law.specs.Stops.{tables_left}
 use Rattle.layer_store.specs.Faults.{IsMemoryOrDevice}
-use Rattle.layer_store.specs.Representation.{device_in}
+use Rattle.layer_store.specs.Representation.{device_in, file_version}
 use Rattle.layer_store.specs.Commands.{IsUnfinished}
 use Rattle.layer_store.proofs.ClosingLemmas.{memory_or_device, not_finished, rests_of_store}
 use Rattle.layer_store.proofs.StoreLemmas.{alive_in, dead_so, failed_so, is_alive, is_dead, is_settled}
@@ -39,6 +40,12 @@ returns-in-Ok-clause-trees g c = λ t alive.
     let d = g.D.BlockDevice in
     subst (λ (device : g.row.D.Denot). LeavesTreesIn c.args.self.layers (d.shown device))
     (sym c.abandon-device.ensures) (c.in-Ok.ensures.left t (is_alive c.args.self t alive).1)
+
+pub returns-in-Ok-clause-version : goal.returns-in-Ok-clause-version
+returns-in-Ok-clause-version g c = λ honest.
+    let d = g.D.BlockDevice in
+    subst (λ (device : g.row.D.Denot). opened_version (d.shown device) ≡ file_version c.args.self)
+    (sym c.abandon-device.ensures) (c.in-Ok.ensures.has_version honest)
 
 pub returns-in-Ok-clause-stops : goal.returns-in-Ok-clause-stops
 returns-in-Ok-clause-stops g c = λ s t represents alive.
@@ -93,6 +100,7 @@ returns-in-Err-clause-unfinished g c = λ t alive.
       stops = settled.stops;
       rests = settled.rests;
       trees = settled.trees;
+      versions = settled.versions;
       faults = settled.faults;
       counted = settled.cause.refused;
       unsettled = λ was. let no = (settled.was_settled was).1 in cc;

@@ -127,3 +127,9 @@ returns-then-self-clause-spelled g c = λ t alive was. was
 pub returns-clause-spelled : goal.returns-clause-spelled
 returns-clause-spelled g c =
     λ t alive was. c.reopen-closed.ensures.spelled t (is_alive c.args.self.now t alive).1 was
+
+pub returns-then-self-clause-versions : goal.returns-then-self-clause-versions
+returns-then-self-clause-versions g c = record { version = λ honest. refl; newest = refl }
+
+pub returns-clause-versions : goal.returns-clause-versions
+returns-clause-versions g c = c.reopen-closed.ensures.versions

@@ -54,3 +54,9 @@ returns-in-Err-open-clause-not_refused g c = λ t blocks honest lies image.
     (memory_or_device _
     (c.in-Err-open.ensures.not_refused t blocks (subst g.D.BlockDevice.honest (sym over.device) honest)
     ((over.lies blocks).1 lies) image))
+
+pub returns-in-Ok-open-clause-version : goal.returns-in-Ok-open-clause-version
+returns-in-Ok-open-clause-version g c = λ honest.
+    let over = c.in-Ok.ensures in
+    c.in-Ok-open.ensures.asks.map.version (subst g.D.BlockDevice.honest (sym over.device) honest)
+    ∙ over.version

@@ -1,5 +1,5 @@
 -- A new file holds the empty table, and its store is read from it.
-use Rattle.std.proofs.Common.{◌⊎◌, arith, inr, sym, subst}
+use Rattle.std.proofs.Common.{◌∙◌, ◌⊎◌, arith, inr, sym, subst}
 use Rattle.std.specs.FinMap.{empty}
 use Rattle.block_device.specs.Device.{Blocks}
 use Rattle.live_layers.specs.Image.{IsImage}
@@ -127,3 +127,8 @@ returns-in-Ok-clause-spelled g c =
     ok_case c.begin.result
     (λ store is honest. at_ok _ c.begin.result store is c.begin.ensures.spelled
     (c.in-Ok.ensures.honest.0 honest))
+
+pub returns-in-Ok-clause-version : goal.returns-in-Ok-clause-version
+returns-in-Ok-clause-version g c = ok_case c.begin.result (λ store is honest.
+    let made = c.in-Ok.ensures in
+    at_ok _ c.begin.result store is c.begin.ensures.version (made.honest.0 honest) ∙ made.version)

@@ -127,3 +127,8 @@ returns-in-Ok-clause-spelled g c =
     ok_case c.begin.result
     (λ store is honest. at_ok _ c.begin.result store is c.begin.ensures.spelled
     (c.in-Ok.ensures.honest.0 honest))
+
+pub returns-in-Ok-clause-version : goal.returns-in-Ok-clause-version
+returns-in-Ok-clause-version g c = ok_case c.begin.result (λ store is honest.
+    let opened = c.in-Ok.ensures in
+    at_ok _ c.begin.result store is c.begin.ensures.version (opened.honest.0 honest) ∙ opened.version honest)

@@ -22,7 +22,7 @@ returns-in_err-begin-clause-begins g c =
 pub returns-in-Err-clause-begins : goal.returns-in-Err-clause-begins
 returns-in-Err-clause-begins g c =
     broke_behind c.args.self.now c.begin.new.self _ c.in-Err.fault
-    (Err c.broken_by.result) c.broken_by.ensures (refl, refl, refl)
+    (Err c.broken_by.result) c.broken_by.ensures (refl, refl, refl, refl)
     c.in_ok-begin.ensures.begins c.begin.ensures.sound c.begin.ensures.keeps
     c.in-Err.ensures.changes
 
@@ -131,11 +131,8 @@ pub returns-clause-begins : goal.returns-clause-begins
 returns-clause-begins g c =
     made_and_admitted c.args.self.now c.begin.new.self _ c.make_pages.new.cache c.admit.ensures.device
     c.admit.ensures.gate c.admit.ensures.next c.in_ok-begin.ensures.begins c.in-Ok.ensures.changes
-
-pub returns-clause-version : goal.returns-clause-version
-returns-clause-version g c = λ honest.
-    version_made c.args.self.now.newest (version_of c.args.self.now.cache)
-    (version_of c.make_pages.new.cache) (version_of c.admit.new.cache) c.kind_in-kind.result c.kind_in-kind.ensures
-    c.admit.ensures.chains c.admit.ensures.tree
+    (λ honest. version_made c.args.self.now.newest (version_of c.args.self.now.cache)
+    (version_of c.make_pages.new.cache) (version_of c.admit.new.cache) c.kind_in-kind.result
+    c.kind_in-kind.ensures c.admit.ensures.chains c.admit.ensures.tree
     (c.in-Ok.ensures.changes.gate.version (c.begin.ensures.begins.honest.0 honest)
-    ∙ c.begin.ensures.keeps.map.version honest)
+    ∙ c.begin.ensures.keeps.map.version honest)) c.begin.ensures.keeps.newest

@@ -28,7 +28,7 @@ returns-in_err-begin-clause-begins g c =
 pub returns-in-Err-clause-begins : goal.returns-in-Err-clause-begins
 returns-in-Err-clause-begins g c =
     broke_behind c.args.self.now c.begin.new.self _ c.in-Err.fault
-    (Err c.broken_by.result) c.broken_by.ensures (refl, refl, refl)
+    (Err c.broken_by.result) c.broken_by.ensures (refl, refl, refl, refl)
     c.in_ok-begin.ensures.begins c.begin.ensures.sound c.begin.ensures.keeps
     c.in-Err.ensures.changes
 
@@ -99,4 +99,4 @@ returns-clause-tree g c = λ t name sound finds dims absent.
 pub returns-clause-begins : goal.returns-clause-begins
 returns-clause-begins g c =
     made_behind c.args.self.now c.begin.new.self _ c.insert.new.cache c.note.ensures.cache
-    c.in_ok-begin.ensures.begins c.in-Ok.ensures.changes
+    c.in_ok-begin.ensures.begins c.begin.ensures.keeps c.in-Ok.ensures.changes c.note.ensures.newest

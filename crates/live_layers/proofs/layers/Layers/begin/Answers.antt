@@ -37,7 +37,8 @@ returns-clause-sound g c =
 
 pub returns-in_err-begin_change-clause-keeps : goal.returns-in_err-begin_change-clause-keeps
 returns-in_err-begin_change-clause-keeps g c =
-    record { map = c.begin_change.ensures.map; records = refl; written = λ was. was }
+    record { map = c.begin_change.ensures.map; records = refl; written = λ was. was; newest = refl }
 
 pub returns-clause-keeps : goal.returns-clause-keeps
-returns-clause-keeps g c = record { map = c.begin_change.ensures.map; records = refl; written = λ was. was }
+returns-clause-keeps g c =
+    record { map = c.begin_change.ensures.map; records = refl; written = λ was. was; newest = refl }

@@ -134,4 +134,5 @@ returns-clause-trees g c =
           asked.gate.honest.0 asked.map c.check_pages.ensures.asks.map;
       records = refl;
       written = λ was. was;
+      newest = refl;
     }

@@ -114,16 +114,16 @@ returns-clause-allowed g c = λ t name box sound located axes given.
 
 pub returns-in-Err-clause-keeps : goal.returns-in-Err-clause-keeps
 returns-in-Err-clause-keeps g c =
-    asks_and_fails c.args.self.now _ c.in-Err.fault c.as_refusal.ensures (refl, refl, refl)
+    asks_and_fails c.args.self.now _ c.in-Err.fault c.as_refusal.ensures (refl, refl, refl, refl)
     c.in-Err.ensures.asks
 
 pub returns-then-is_some-clause-keeps : goal.returns-then-is_some-clause-keeps
 returns-then-is_some-clause-keeps g c =
-    asks_and_refuses c.args.self.now _ refl (refl, refl, refl) c.in-Ok.ensures.asks
+    asks_and_refuses c.args.self.now _ refl (refl, refl, refl, refl) c.in-Ok.ensures.asks
 
 pub returns-then-self-ge-MOST_OBJECTS-clause-keeps : goal.returns-then-self-ge-MOST_OBJECTS-clause-keeps
 returns-then-self-ge-MOST_OBJECTS-clause-keeps g c =
-    asks_and_refuses c.args.self.now _ refl (refl, refl, refl) c.in-Ok.ensures.asks
+    asks_and_refuses c.args.self.now _ refl (refl, refl, refl, refl) c.in-Ok.ensures.asks
 
 pub returns-clause-keeps : goal.returns-clause-keeps
-returns-clause-keeps g c = asks_and_answers c.args.self.now _ (refl, refl, refl) c.in-Ok.ensures.asks
+returns-clause-keeps g c = asks_and_answers c.args.self.now _ (refl, refl, refl, refl) c.in-Ok.ensures.asks

@@ -2,7 +2,7 @@
 use Rattle.std.proofs.Common.{inl, refl}
 use Rattle.plain_table.specs.Commands.Command.{Create}
 use Rattle.live_layers.proofs.AskLemmas.{not_there}
-use Rattle.live_layers.proofs.ChangeLemmas.{begun_change, begun_keeps, made_so, refused_by}
+use Rattle.live_layers.proofs.ChangeLemmas.{begun_change, begun_keeps_so, made_so, refused_by}
 use Rattle.live_layers.proofs.CreateLemmas.{it_grows}
 use Rattle.live_layers.proofs.QuestionLemmas.{none_asked}
 use Rattle.live_layers.proofs.layers.Layers.create.Goals as goal
@@ -16,7 +16,7 @@ returns-in-Ok-clause-change g c =
     let made = c.add_layer.result in
     let result = c.change_of.result in
     let unasked = none_asked old in record {
-      keeps = begun_keeps old old new unasked made added.begins result c.change_of.ensures;
+      keeps = begun_keeps_so old old new unasked made added.begins result c.change_of.ensures;
       lawful = λ t sound.
           let none = c.in-Ok.ensures.allowed t sound in
           let belongs = c.in-Ok.ensures.belongs t sound in
@@ -35,7 +35,7 @@ returns-in-Ok-clause-tree g c =
 pub returns-in-Ok-clause-version : goal.returns-in-Ok-clause-version
 returns-in-Ok-clause-version g c =
     λ t sound. made_so _ c.add_layer.result c.change_of.result c.change_of.ensures
-    (c.add_layer.ensures.version sound.map.honest)
+    (c.add_layer.ensures.begins.versions.done sound.map.honest)
 
 pub returns-in-Err-clause-change : goal.returns-in-Err-clause-change
 returns-in-Err-clause-change g c =

@@ -17,6 +17,7 @@ pub returns-in-Ok-clause-keeps : goal.returns-in-Ok-clause-keeps
 returns-in-Ok-clause-keeps g c =
     begun_keeps c.args.self.now c.object_of.new.self c.take_object.new.self c.in-Ok.ensures.keeps
     c.take_object.result c.take_object.ensures.begins c.change_of.result c.change_of.ensures
+    c.in-Ok.ensures.keeps.trees.map.version
 
 pub returns-in-Ok-clause-change : goal.returns-in-Ok-clause-change
 returns-in-Ok-clause-change g c = λ t name sound reaches.

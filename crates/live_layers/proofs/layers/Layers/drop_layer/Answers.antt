@@ -1,7 +1,7 @@
 -- A layer that is there goes, and what is refused changes nothing.
 use Rattle.std.proofs.Common.{[], inl, refl}
 use Rattle.plain_table.specs.Commands.Command.{Drop}
-use Rattle.live_layers.proofs.ChangeLemmas.{begun_change, begun_keeps, made_so, refused_by}
+use Rattle.live_layers.proofs.ChangeLemmas.{begun_change, begun_keeps_so, made_so, refused_by}
 use Rattle.live_layers.proofs.DropLemmas.{it_shrinks}
 use Rattle.live_layers.proofs.QuestionLemmas.{none_asked}
 use Rattle.live_layers.proofs.layers.Layers.drop_layer.Goals as goal
@@ -15,7 +15,7 @@ returns-in-Ok-clause-change g c =
     let made = c.take_layer.result in
     let result = c.change_of.result in
     let unasked = none_asked old in record {
-      keeps = begun_keeps old old new unasked made taken.begins result c.change_of.ensures;
+      keeps = begun_keeps_so old old new unasked made taken.begins result c.change_of.ensures;
       lawful = λ t sound.
           let none = c.in-Ok.ensures.named t sound [] in
           let finds = c.in-Ok.ensures.found t sound in

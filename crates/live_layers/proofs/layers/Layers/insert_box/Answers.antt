@@ -22,6 +22,7 @@ pub returns-in-Ok-clause-keeps : goal.returns-in-Ok-clause-keeps
 returns-in-Ok-clause-keeps g c =
     begun_keeps c.args.self.now c.check_object.new.self c.add_object.new.self c.in-Ok.ensures.keeps
     c.add_object.result c.add_object.ensures.begins c.change_of.result c.change_of.ensures
+    c.in-Ok.ensures.keeps.trees.map.version
 
 pub returns-in-Ok-clause-change : goal.returns-in-Ok-clause-change
 returns-in-Ok-clause-change g c = λ t name box sound reaches.

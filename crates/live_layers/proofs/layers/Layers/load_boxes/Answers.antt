@@ -9,8 +9,8 @@ use Rattle.plain_table.specs.Table.{layer_at}
 use Rattle.plain_table.specs.declared.refusal.Refusal.{Refusal}
 use Rattle.live_layers.specs.Changes.{Rose}
 use Rattle.live_layers.specs.Inserting.{IsAllowedOr}
-use Rattle.live_layers.proofs.ChangeLemmas.{begun_change, begun_keeps, made_so, refused_change, refused_keeps}
-use Rattle.live_layers.proofs.ChangeLemmas.{unbegun_change, unbegun_keeps}
+use Rattle.live_layers.proofs.ChangeLemmas.{begun_change, begun_keeps_so, made_so, refused_change}
+use Rattle.live_layers.proofs.ChangeLemmas.{refused_keeps, unbegun_change, unbegun_keeps}
 use Rattle.live_layers.proofs.LoadLemmas.{allowed_anyhow, as_load, had_none, made_of, none_change}
 use Rattle.live_layers.proofs.LoadLemmas.{some_change}
 use Rattle.live_layers.proofs.QuestionLemmas.{none_asked, refuses_unasked}
@@ -50,7 +50,7 @@ returns-then-is_empty-clause-change g c = λ t name given sound reaches.
 pub returns-clause-keeps : goal.returns-clause-keeps
 returns-clause-keeps g c =
     let old = c.args.self.now in
-    begun_keeps old old c.fill.new.self (none_asked old) c.fill.result c.fill.ensures.begins
+    begun_keeps_so old old c.fill.new.self (none_asked old) c.fill.result c.fill.ensures.begins
     c.change_of.result c.change_of.ensures
 
 pub returns-clause-change : goal.returns-clause-change

@@ -73,6 +73,7 @@ pub returns-clause-keeps : goal.returns-clause-keeps
 returns-clause-keeps g c =
     begun_keeps c.args.self.now c.check_move.new.self c.replace_box.new.self c.in-Ok.ensures.keeps
     c.replace_box.result c.replace_box.ensures.begins c.change_of.result c.change_of.ensures
+    c.in-Ok.ensures.keeps.trees.map.version
 
 pub returns-clause-change : goal.returns-clause-change
 returns-clause-change g c = λ t name box sound reaches.

@@ -40,13 +40,13 @@ returns-in-Err-clause-replied g c = λ t name sound located.
 
 pub returns-in-Ok-Some-clause-keeps : goal.returns-in-Ok-Some-clause-keeps
 returns-in-Ok-Some-clause-keeps g c =
-    asks_and_answers c.args.self.now _ (refl, refl, refl) c.in-Ok-Some.ensures.asks
+    asks_and_answers c.args.self.now _ (refl, refl, refl, refl) c.in-Ok-Some.ensures.asks
 
 pub returns-in-Ok-None-clause-keeps : goal.returns-in-Ok-None-clause-keeps
 returns-in-Ok-None-clause-keeps g c =
-    asks_and_refuses c.args.self.now _ refl (refl, refl, refl) c.in-Ok-None.ensures.asks
+    asks_and_refuses c.args.self.now _ refl (refl, refl, refl, refl) c.in-Ok-None.ensures.asks
 
 pub returns-in-Err-clause-keeps : goal.returns-in-Err-clause-keeps
 returns-in-Err-clause-keeps g c =
-    asks_and_fails c.args.self.now _ c.in-Err.fault c.as_refusal.ensures (refl, refl, refl)
+    asks_and_fails c.args.self.now _ c.in-Err.fault c.as_refusal.ensures (refl, refl, refl, refl)
     c.in-Err.ensures.asks

@@ -90,3 +90,25 @@ returns-clause-read g c = λ honest.
     let there = c.check_again.ensures.gate.honest.0 honest in
     kept_catalog c.check_again.new.self c.read_catalog.new.cache (records_of c.in_ok-records.records) there
     c.read_catalog.ensures.asks.map (c.in_ok-records.ensures.catalog there)
+
+pub returns-in_err-check_again-clause-versions : goal.returns-in_err-check_again-clause-versions
+returns-in_err-check_again-clause-versions g c =
+    record { version = c.check_again.ensures.gate.version; newest = refl }
+
+pub returns-in_err-records-clause-versions : goal.returns-in_err-records-clause-versions
+returns-in_err-records-clause-versions g c =
+    let checked = c.check_again.ensures.gate in
+    record {
+      version = λ honest. c.read_catalog.ensures.asks.gate.version (checked.honest.0 honest)
+          ∙ checked.version honest;
+      newest = refl;
+    }
+
+pub returns-clause-versions : goal.returns-clause-versions
+returns-clause-versions g c =
+    let checked = c.check_again.ensures.gate in
+    record {
+      version = λ honest. c.read_catalog.ensures.asks.gate.version (checked.honest.0 honest)
+          ∙ checked.version honest;
+      newest = refl;
+    }

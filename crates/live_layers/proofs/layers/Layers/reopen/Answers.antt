@@ -6,7 +6,7 @@ use Rattle.page_cache.specs.Laws.{the_gate_is_kept_in_turn}
 use Rattle.live_layers.proofs.ClosingLemmas.{catalog_beside, read_image, rests_on_closed, then_read}
 use Rattle.live_layers.proofs.ClosingLemmas.{unchanged_keeps_gate}
 use Rattle.live_layers.specs.Layers.{catalog_in}
-use Rattle.live_layers.proofs.KeepLemmas.{kept_catalog}
+use Rattle.live_layers.proofs.KeepLemmas.{kept_catalog, versions_in_turn}
 use Rattle.live_layers.proofs.QuestionLemmas.{fault_goes_on}
 use Rattle.store_law.specs.Stops.{is_end}
 use Rattle.live_layers.proofs.layers.Layers.reopen.Goals as goal
@@ -107,3 +107,18 @@ returns-in-Err-read_again-clause-spelled g c = λ t sound was unopened.
     (sym c.in-Err-read_again.ensures.records)
     (kept_catalog mid.cache new.cache (records_of mid.records) there.map.honest
     (c.read_again.ensures.map there.map.honest) (there.catalog settled.written))
+
+pub returns-in-Err-clause-versions : goal.returns-in-Err-clause-versions
+returns-in-Err-clause-versions g c = c.in-Err.ensures.versions
+
+pub returns-in-Ok-clause-versions : goal.returns-in-Ok-clause-versions
+returns-in-Ok-clause-versions g c =
+    let settled = c.in_default.ensures in
+    versions_in_turn c.args.self.now c.settle.new.self c.read_again.new.self settled.honest.0
+    settled.versions c.in-Ok.ensures.versions
+
+pub returns-in-Err-read_again-clause-versions : goal.returns-in-Err-read_again-clause-versions
+returns-in-Err-read_again-clause-versions g c =
+    let settled = c.in_default.ensures in
+    versions_in_turn c.args.self.now c.settle.new.self c.read_again.new.self settled.honest.0
+    settled.versions c.in-Err-read_again.ensures.versions

@@ -44,9 +44,10 @@ returns-in-Err-clause-fault g c = λ t name sound located.
     (risen_of _ _ c.in-Err.fault c.in-Err.ensures.asks.faults))
 
 pub returns-in-Ok-clause-keeps : goal.returns-in-Ok-clause-keeps
-returns-in-Ok-clause-keeps g c = asks_and_answers c.args.self.now _ (refl, refl, refl) c.in-Ok.ensures.asks
+returns-in-Ok-clause-keeps g c =
+    asks_and_answers c.args.self.now _ (refl, refl, refl, refl) c.in-Ok.ensures.asks
 
 pub returns-in-Err-clause-keeps : goal.returns-in-Err-clause-keeps
 returns-in-Err-clause-keeps g c =
-    asks_and_fails c.args.self.now _ c.in-Err.fault c.as_refusal.ensures (refl, refl, refl)
+    asks_and_fails c.args.self.now _ c.in-Err.fault c.as_refusal.ensures (refl, refl, refl, refl)
     c.in-Err.ensures.asks

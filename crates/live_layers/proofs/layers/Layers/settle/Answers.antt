@@ -1,5 +1,5 @@
 -- The pages hold the table, the catalog names its layers, and the blocks are those pages.
-use Rattle.std.proofs.Common.{◌∷◌, refl}
+use Rattle.std.proofs.Common.{◌∷◌, ◌∙◌, refl}
 use Rattle.block_device.specs.Moments.{leaves_weaker}
 use Rattle.catalog_page.specs.Layout.{records_of}
 use Rattle.page_cache.specs.Cache.{blocks_of, device_of}
@@ -111,3 +111,22 @@ returns-clause-spelled g c = λ t sound was unopened.
     let before = c.write.ensures.sound t sound in
     kept_catalog mid.cache c.settle.new.self (records_of mid.records) before.map.honest c.settle.ensures.map
     (before.catalog c.in_ok-write.ensures.written)
+
+pub returns-in_err-write-clause-versions : goal.returns-in_err-write-clause-versions
+returns-in_err-write-clause-versions g c = c.write.ensures.versions
+
+pub returns-clause-versions : goal.returns-clause-versions
+returns-clause-versions g c =
+    let written = c.write.ensures in
+    record {
+      version = λ honest. c.settle.ensures.map.version (written.honest.0 honest)
+          ∙ written.versions.version honest;
+      newest = written.versions.newest;
+    }
+
+pub returns-clause-has_version : goal.returns-clause-has_version
+returns-clause-has_version g c = λ honest.
+    let there = c.write.ensures.honest.0 honest in
+    on_ok c.settle.result
+    (λ lies. lies.version ∙ c.settle.ensures.map.version there ∙ c.write.ensures.versions.version honest)
+    (c.settle.ensures.lies there)

@@ -19,7 +19,7 @@ pub returns-in-Err-clause-begins : goal.returns-in-Err-clause-begins
 returns-in-Err-clause-begins g c =
     broke_behind c.args.self.now c.begin.new.self _ c.in-Err.fault
     (Err c.broken_by.result) c.broken_by.ensures
-    (refl, refl, refl) c.in_ok-begin.ensures.begins c.begin.ensures.sound c.begin.ensures.keeps
+    (refl, refl, refl, refl) c.in_ok-begin.ensures.begins c.begin.ensures.sound c.begin.ensures.keeps
     c.in-Err.ensures.changes
 
 pub returns-in-Err-clause-faults : goal.returns-in-Err-clause-faults
@@ -84,4 +84,4 @@ returns-clause-others g c = λ t name sound finds.
 pub returns-clause-begins : goal.returns-clause-begins
 returns-clause-begins g c =
     made_behind c.args.self.now c.begin.new.self _ c.free_pages.new.cache refl c.in_ok-begin.ensures.begins
-    c.in-Ok.ensures.changes
+    c.begin.ensures.keeps c.in-Ok.ensures.changes refl

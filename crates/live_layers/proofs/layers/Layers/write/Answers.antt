@@ -165,3 +165,28 @@ pub returns-clause-spelled : goal.returns-clause-spelled
 returns-clause-spelled g c =
     λ honest was unopened. absurd
     (unopened (c.put.ensures.changes.gate.gate ∙ c.in_ok-begin_change.ensures.open))
+
+pub returns-then-self-clause-versions : goal.returns-then-self-clause-versions
+returns-then-self-clause-versions g c = record { version = λ honest. refl; newest = refl }
+
+pub returns-in_err-begin_change-clause-versions : goal.returns-in_err-begin_change-clause-versions
+returns-in_err-begin_change-clause-versions g c =
+    record { version = c.begin_change.ensures.map.version; newest = refl }
+
+pub returns-in_err-put-clause-versions : goal.returns-in_err-put-clause-versions
+returns-in_err-put-clause-versions g c =
+    let begun = c.begin_change.ensures in
+    record {
+      version = λ honest. c.put.ensures.changes.gate.version (begun.honest.0 honest)
+          ∙ begun.map.version honest;
+      newest = refl;
+    }
+
+pub returns-clause-versions : goal.returns-clause-versions
+returns-clause-versions g c =
+    let begun = c.begin_change.ensures in
+    record {
+      version = λ honest. c.put.ensures.changes.gate.version (begun.honest.0 honest)
+          ∙ begun.map.version honest;
+      newest = refl;
+    }
