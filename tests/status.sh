@@ -125,7 +125,8 @@ for made in "$program" "$program.by-rattle"; do
 
     # the words
     line='*' status=2
-    for words in 'x y' '--cache 7' '--cache 4097' '--cache x' '--cache' '--other' '--create --create' '--read-only' \
+    for words in 'x y' '--cache 7' '--cache 4097' '--cache x' '--cache' '--format 1' '--format 4' \
+        '--format x' '--format' '--other' '--create --create' '--read-only' \
         '--read-only --create store' '--read-only --read-only store'; do
         # shellcheck disable=SC2086
         refused _ _ store "$made" $words
@@ -282,6 +283,12 @@ for made in "$program" "$program.by-rattle"; do
     for words in '--strict --stats script' '--strict --draw a script' '--strict --import a script' '--strict --strict'; do
         # shellcheck disable=SC2086
         ends 2 '*' "$made" $words </dev/null >replies
+    done
+    # the newest version that a file may be raised to: each has a layer
+    for words in '2 --format 2 two' '3 three' '3 --format 3 newest'; do
+        # shellcheck disable=SC2086
+        ends 0 '' "$made" --create ${words#* } <<<$'create a 2 4\ninsert a 1 0 0 1 1' >replies
+        [ "$(od -An -tu1 -j4104 -N2 "${words##* }" | xargs)" = "0 ${words%% *}" ] || wrong "another version: $words"
     done
     # objects are imported, all of them or none: a bad row opens no file, and one that is there undoes those before it
     printf '%s\n' 'id,minx,miny,maxx,maxy,tag' '7,-1.26,2,3.01,4,5' '8,0,0,1,1,' >rows

@@ -9,15 +9,17 @@ use Rattle.command_line.specs.Importing.{ImportsInto, IsUnopened, PutsInto}
 use Rattle.command_line.specs.declared.program.Served.{Served}
 
 -- what was put into a store that was made or opened
-pub imports_into : {D : Type 0} (m : device.Ghosts D) (P : Blocks → Type 0) (t : Table) (layer : List ℕ)
-    (fanout : ℕ) (device opened : D) (left : Served D)
+pub imports_into : {D : Type 0} (m : device.Ghosts D) (S : D → Table → Type 0) (P : Blocks → Type 0)
+    (t : Table) (layer : List ℕ) (fanout : ℕ) (device opened : D) (left : Served D)
+    → S opened t
     → LeavesOnly m.moment m.left_since m.recovery device opened P
-    → PutsInto m (m.moment opened) t layer fanout opened left → ImportsInto m P t layer fanout device left
-imports_into m P t layer fanout device opened left opening puts =
+    → PutsInto m (m.moment opened) t layer fanout opened left → ImportsInto m S P t layer fanout device left
+imports_into m S P t layer fanout device opened left store opening puts =
     let Tables : Blocks → Type 0 = IsRefusedOrImageOf puts.imported.tables in
     let Either : Blocks → Type 0 = λ c. P c ⊎ Tables c in
     record {
       opened = opened;
+      store = store;
       opening = opening;
       puts = puts;
       whole =

@@ -5,7 +5,10 @@ use Rattle.std.specs.Io.KnownBytes.{Keeps}
 use Rattle.block_device.specs.Device.{Blocks, LeavesOnly, Recovery}
 use Rattle.block_device.specs.Moments.{leaves_then, leaves_weaker}
 use Rattle.block_device.specs.declared.device.BlockDevice as device
+use Rattle.layer_store.specs.Representation.{BeginsWith, device_in, newest_in}
+use Rattle.layer_store.specs.declared.store.Store.{Store}
 use Rattle.live_layers.specs.Image.{IsRefusedOrImageOf}
+use Rattle.page_file.specs.declared.header.Version.{Version}
 use Rattle.plain_table.specs.Table.{Table}
 use Rattle.store_law.specs.Sessions.{SessionState}
 use Rattle.command_shell.specs.Runs.{LeavesTablesOf, with_last}
@@ -13,7 +16,7 @@ use Rattle.command_shell.specs.Strict.{TellsOutcome}
 use Rattle.command_shell.specs.declared.session.LinesEnd.{LinesEnd}
 use Rattle.command_shell.specs.declared.strict.Outcome.{Outcome}
 use Rattle.command_shell.specs.declared.strict.Outcome.TheVariants.{WentWell, StoppedAtLine, Failed, Unclosed}
-use Rattle.command_line.specs.Serving.{HasAnswered, HasNotBegun, HasServed, IsRefusedStart}
+use Rattle.command_line.specs.Serving.{HasAnswered, HasNotBegun, HasServed, HasStarted, IsRefusedStart}
 use Rattle.command_line.specs.Strict.{HasAnsweredStrictly, HasServedStrictly, status_of_outcome}
 use Rattle.command_line.specs.declared.program.Served.{Served}
 
@@ -52,22 +55,23 @@ whole_run moment left_since recovery device opened left s P opening since =
     (leaves_weaker moment left_since recovery opened left Tables Either (λ c q. inr q) since)
 
 -- a store that was served since it was made was served since its making began
-pub served_since_making : {D : Type 0} (shown : D → Blocks) (moment : D → ℕ)
+pub served_since_making : {D : Type 0} (S : D → Table → Type 0) (shown : D → Blocks) (moment : D → ℕ)
     (left_since : D → ℕ → Blocks → Type 0) (recovery : Recovery D) (may_leave : D → Blocks → Type 0)
     (faults : D → ℕ) (P Q : Blocks → Type 0) (t : Table) (device made : D)
     (unread unread' written written' : Option (List ℕ)) (left : Served D)
     → LeavesOnly moment left_since recovery device made P → ((c : Blocks) → Q c → P c)
     → faults made ≡ faults device
-    → HasServed shown moment left_since recovery may_leave faults Q t made unread unread' written written'
+    → HasServed S shown moment left_since recovery may_leave faults Q t made unread unread' written written'
     left
-    → HasServed shown moment left_since recovery may_leave faults P t device unread unread' written written'
-    left
-served_since_making shown moment left_since recovery may_leave faults P Q t device made unread unread'
+    → HasServed S shown moment left_since recovery may_leave faults P t device unread unread' written
+    written' left
+served_since_making S shown moment left_since recovery may_leave faults P Q t device made unread unread'
     written written' left making weaker same h =
     let opening =
     leaves_then moment left_since recovery device made h.opened P making
     (leaves_weaker moment left_since recovery made h.opened Q P weaker h.opening) in record {
       opened = h.opened;
+      store = h.store;
       opening = opening;
       old = h.old;
       new = h.new;
@@ -81,14 +85,14 @@ served_since_making shown moment left_since recovery may_leave faults P Q t devi
     }
 
 -- a run to the closing answers what it read, and blames no device where it had no fault
-has_answered : {D : Type 0} (shown : D → Blocks) (moment : D → ℕ) (left_since : D → ℕ → Blocks → Type 0)
-    (recovery : Recovery D) (may_leave : D → Blocks → Type 0) (faults : D → ℕ) (P : Blocks → Type 0)
+has_answered : {D : Type 0} (S : D → Table → Type 0) (shown : D → Blocks) (moment : D → ℕ)
+    (left_since : D → ℕ → Blocks → Type 0) (recovery : Recovery D) (may_leave : D → Blocks → Type 0) (faults : D → ℕ) (P : Blocks → Type 0)
     (t : Table) (device : D)
     (unread unread' written written' : Option (List ℕ)) (left : Served D)
-    → HasServed shown moment left_since recovery may_leave faults P t device unread unread' written
+    → HasServed S shown moment left_since recovery may_leave faults P t device unread unread' written
     written' left
     → faults left.device ≡ 0 → HasAnswered t unread unread' written written' left.status
-has_answered shown moment left_since recovery may_leave faults P t device unread unread' written written'
+has_answered S shown moment left_since recovery may_leave faults P t device unread unread' written written'
     left h none = record {
       old = h.old;
       new = h.new;
@@ -99,37 +103,50 @@ has_answered shown moment left_since recovery may_leave faults P t device unread
       faultless = let counted = h.runs.counted in omega (arith, counted, none);
     }
 
+-- a store that begins with a table, and may raise its file to this version
+pub has_started : {D A : Type 0} {m : device.Ghosts D} (newest : Version) (store : Store D A m) (t : Table)
+    → newest_in store ≡ newest → BeginsWith store (m.moment (device_in store)) t
+    → HasStarted A m newest (device_in store) t
+has_started newest store t is begins =
+    record { store = store; lies = refl; begins = begins; newest_is = is }
+
 -- a start that was refused has not begun, and a run to the closing answers
-pub begun_or_answered : {D R W : Type 0} (shown : D → Blocks) (moment : D → ℕ)
+pub begun_or_answered : {D R W : Type 0} (S : D → Table → Type 0) (shown : D → Blocks) (moment : D → ℕ)
     (left_since : D → ℕ → Blocks → Type 0) (recovery : Recovery D) (may_leave : D → Blocks → Type 0)
     (faults : D → ℕ) (P Q : Blocks → Type 0) (t : Table) (device : D) (r r' : R) (w w' : W)
     (unread unread' written written' : Option (List ℕ)) (left : Served D)
     → IsRefusedStart moment left_since recovery P device r r' w w' left
-    ⊎ HasServed shown moment left_since recovery may_leave faults Q t device unread unread' written
+    ⊎ HasServed S shown moment left_since recovery may_leave faults Q t device unread unread' written
     written' left
     → faults left.device ≡ 0
-    → HasNotBegun r r' w w' left.status ⊎ HasAnswered t unread unread' written written' left.status
-begun_or_answered shown moment left_since recovery may_leave faults P Q t device r r' w w' unread unread'
+    → HasNotBegun r r' w w' left.status
+    ⊎ ((d : D) × S d t × HasAnswered t unread unread' written written' left.status)
+begun_or_answered S shown moment left_since recovery may_leave faults P Q t device r r' w w' unread unread'
     written written' left (inl refused) none =
     inl (record { failed = refused.failed; unread = refused.unread; unwritten = refused.unwritten })
-begun_or_answered shown moment left_since recovery may_leave faults P Q t device r r' w w' unread unread'
+begun_or_answered S shown moment left_since recovery may_leave faults P Q t device r r' w w' unread unread'
     written written' left (inr served) none =
-    inr (has_answered shown moment left_since recovery may_leave faults Q t device unread unread' written
-    written' left served none)
+    inr (
+      served.opened,
+      served.store,
+      has_answered S shown moment left_since recovery may_leave faults Q t device unread unread' written
+          written' left served none,
+    )
 
 -- the same of a strict run
-pub served_strictly_since_making : {D : Type 0} (m : device.Ghosts D) (P Q : Blocks → Type 0) (t : Table)
-    (device made : D) (unread unread' written written' said said' : Option (List ℕ)) (left : Served D)
+pub served_strictly_since_making : {D : Type 0} (m : device.Ghosts D) (S : D → Table → Type 0)
+    (P Q : Blocks → Type 0) (t : Table) (device made : D) (unread unread' written written' said said' : Option (List ℕ)) (left : Served D)
     → LeavesOnly m.moment m.left_since m.recovery device made P → ((c : Blocks) → Q c → P c)
     → m.faults made ≡ m.faults device
-    → HasServedStrictly m Q t made unread unread' written written' said said' left
-    → HasServedStrictly m P t device unread unread' written written' said said' left
-served_strictly_since_making m P Q t device made unread unread' written written' said said' left making weaker
-    same h =
+    → HasServedStrictly m S Q t made unread unread' written written' said said' left
+    → HasServedStrictly m S P t device unread unread' written written' said said' left
+served_strictly_since_making m S P Q t device made unread unread' written written' said said' left making
+    weaker same h =
     let opening =
     leaves_then m.moment m.left_since m.recovery device made h.opened P making
     (leaves_weaker m.moment m.left_since m.recovery made h.opened Q P weaker h.opening) in record {
       opened = h.opened;
+      store = h.store;
       opening = opening;
       old = h.old;
       new = h.new;
@@ -143,19 +160,23 @@ served_strictly_since_making m P Q t device made unread unread' written written'
       whole = whole_run m.moment m.left_since m.recovery device h.opened left.device h.new P opening h.since;
     }
 
-pub begun_or_answered_strictly : {D R W : Type 0} (m : device.Ghosts D) (P Q : Blocks → Type 0) (t : Table)
-    (device : D) (r r' : R) (w w' : W) (unread unread' written written' said said' : Option (List ℕ))
+pub begun_or_answered_strictly : {D R W : Type 0} (m : device.Ghosts D) (S : D → Table → Type 0)
+    (P Q : Blocks → Type 0) (t : Table) (device : D) (r r' : R) (w w' : W) (unread unread' written written' said said' : Option (List ℕ))
     (left : Served D)
     → IsRefusedStart m.moment m.left_since m.recovery P device r r' w w' left
-    ⊎ HasServedStrictly m Q t device unread unread' written written' said said' left
+    ⊎ HasServedStrictly m S Q t device unread unread' written written' said said' left
     → HasNotBegun r r' w w' left.status
-    ⊎ HasAnsweredStrictly t unread unread' written written' said said' left.status
-begun_or_answered_strictly m P Q t device r r' w w' unread unread' written written' said said' left
+    ⊎ ((d : D) × S d t × HasAnsweredStrictly t unread unread' written written' said said' left.status)
+begun_or_answered_strictly m S P Q t device r r' w w' unread unread' written written' said said' left
     (inl refused) =
     inl (record { failed = refused.failed; unread = refused.unread; unwritten = refused.unwritten })
-begun_or_answered_strictly m P Q t device r r' w w' unread unread' written written' said said' left
+begun_or_answered_strictly m S P Q t device r r' w w' unread unread' written written' said said' left
     (inr h) =
-    inr (record { old = h.old; new = h.new; begins = h.begins; ends = h.ends; runs = h.runs })
+    inr (
+      h.opened,
+      h.store,
+      record { old = h.old; new = h.new; begins = h.begins; ends = h.ends; runs = h.runs },
+    )
 
 -- where the last flush is known but with status 1, it is with status 0
 pub flushed_so : (status : ℕ) (F : Type 0) → (status ≡ 1) ⊎ F → status ≡ 0 → F

@@ -5,9 +5,12 @@ use Rattle.clap.specs.declared.error.kind.ErrorKind.TheVariants as kind
 use Rattle.clap.proofs.OnLiterals.{clap_on_literals}
 use Rattle.command_line.specs.Words.{file_in, program, target_in}
 
--- the texts that stand for the cached pages, and for whether a file is to be made
+-- the texts that stand for the cached pages, for the newest version, and for whether a file is to be made
 abbrev pages_in : List Text → Option Text
 pages_in words = one_of (codes "cache") (matches_of program words)
+
+abbrev newest_in : List Text → Option Text
+newest_in words = one_of (codes "format") (matches_of program words)
 
 abbrev made_in : List Text → Option Text
 made_in words = one_of (codes "create") (matches_of program words)
@@ -38,6 +41,16 @@ order_is_free : (fault_of program in_another_order ≡ []) × (file_in in_anothe
 unfolding clap_on_literals
 order_is_free = (refl, refl, refl, refl)
 
+-- the newest version that the file may be raised to, and 3 where none is said
+abbrev held_to_two : List Text
+held_to_two = said (codes "--format" ∷ codes "2" ∷ codes "--create" ∷ codes "map.rst" ∷ [])
+
+newest_is_read : (fault_of program held_to_two ≡ []) × (newest_in held_to_two ≡ Some (codes "2"))
+    × (file_in held_to_two ≡ Some (codes "map.rst")) × (made_in held_to_two ≡ Some (codes "true"))
+    × (newest_in all_said ≡ Some (codes "3"))
+unfolding clap_on_literals
+newest_is_read = (refl, refl, refl, refl, refl)
+
 -- a file that is only read
 only_read : (fault_of program (said (codes "--read-only" ∷ codes "map.rst" ∷ [])) ≡ []) × (file_in (said (codes "--read-only" ∷ codes "map.rst" ∷ [])) ≡ Some (codes "map.rst")) × (read_in (said (codes "--read-only" ∷ codes "map.rst" ∷ [])) ≡ Some (codes "true")) × (made_in (said (codes "--read-only" ∷ codes "map.rst" ∷ [])) ≡ Some (codes "false")) × (read_in (said []) ≡ Some (codes "false"))
 unfolding clap_on_literals
@@ -51,12 +64,14 @@ file_after_dashes = refl
 -- what is refused, and what is told
 refusals : (fault_of program (said (codes "--cache" ∷ codes "7" ∷ [])) ≡ kind.ValueValidation ∷ [])
     × (fault_of program (said (codes "--cache" ∷ codes "4097" ∷ [])) ≡ kind.ValueValidation ∷ [])
+    × (fault_of program (said (codes "--format" ∷ codes "1" ∷ [])) ≡ kind.ValueValidation ∷ [])
+    × (fault_of program (said (codes "--format" ∷ codes "4" ∷ [])) ≡ kind.ValueValidation ∷ [])
     × (fault_of program (said (codes "a" ∷ codes "b" ∷ [])) ≡ kind.UnknownArgument ∷ [])
     × (fault_of program (said (codes "--create" ∷ codes "--create" ∷ [])) ≡ kind.ArgumentConflict ∷ [])
     × (fault_of program (said (codes "--help" ∷ [])) ≡ kind.DisplayHelp ∷ [])
     × (fault_of program (said (codes "--version" ∷ [])) ≡ kind.DisplayVersion ∷ [])
 unfolding clap_on_literals
-refusals = (refl, refl, refl, refl, refl, refl)
+refusals = (refl, refl, refl, refl, refl, refl, refl, refl)
 
 -- an import, with a fanout and a scale
 abbrev imported : List Text

@@ -31,12 +31,13 @@ pub record IsUnopened {D : Type 0} (m : device.Ghosts D) (P : Blocks → Type 0)
   pub failed : left.status ≡ 1
   pub stops : LeavesOnly m.moment m.left_since m.recovery device left.device P
 
--- A store was made or opened, which held this table, and objects were put into this layer. A stop within its
--- opening left blocks that have P, and one since then what an import leaves; and one before the run what it
--- might have left then.
-pub record ImportsInto {D : Type 0} (m : device.Ghosts D) (P : Blocks → Type 0) (t : Table)
-    (layer : List ℕ) (fanout : ℕ) (device : D) (left : Served D) : Type 0 where
+-- A store was made or opened, of which S is said and which held this table, and objects were put into this
+-- layer. A stop within its opening left blocks that have P, and one since then what an import leaves; and one
+-- before the run what it might have left then.
+pub record ImportsInto {D : Type 0} (m : device.Ghosts D) (S : D → Table → Type 0) (P : Blocks → Type 0)
+    (t : Table) (layer : List ℕ) (fanout : ℕ) (device : D) (left : Served D) : Type 0 where
   pub opened : D
+  pub store : S opened t
   pub opening : LeavesOnly m.moment m.left_since m.recovery device opened P
   pub puts : PutsInto m (m.moment opened) t layer fanout opened left
   pub whole : LeavesOnly m.moment m.left_since m.recovery device left.device
@@ -45,35 +46,35 @@ pub record ImportsInto {D : Type 0} (m : device.Ghosts D) (P : Blocks → Type 0
 -- What an import did on a device that was opened. Where a store was to be made and there are blocks, nothing
 -- has begun, and the device is left as it was opened. Where it is honest, a store was made on it, or opened,
 -- and objects were put into this layer; or its making or its opening was refused.
-pub record HasImportedOn {D : Type 0} (m : device.Ghosts D) (create : Bool) (layer : List ℕ) (fanout : ℕ)
-    (device : D) (left : Served D) : Type 0 where
+pub record HasImportedOn {D : Type 0} (m : device.Ghosts D) (S : D → Table → Type 0) (create : Bool)
+    (layer : List ℕ) (fanout : ℕ) (device : D) (left : Served D) : Type 0 where
   pub kept : create ≡ true → 0 < length (m.shown device) → (left.status ≡ 1) × (left.device ≡ device)
   pub made : create ≡ true → m.honest device → length (m.shown device) ≡ 0 →
       IsUnopened m (λ c. IsRefused c ⊎ IsImage c empty) device left
-      ⊎ ImportsInto m (λ c. IsRefused c ⊎ IsImage c empty) empty layer fanout device left
+      ⊎ ImportsInto m S (λ c. IsRefused c ⊎ IsImage c empty) empty layer fanout device left
   pub opened : create ≡ false → m.honest device → (t : Table) → IsImage (m.shown device) t →
       (IsUnopened m (m.may_leave device) device left × (m.shown left.device ≡ m.shown device))
-      ⊎ ImportsInto m (m.may_leave device) t layer fanout device left
+      ⊎ ImportsInto m S (m.may_leave device) t layer fanout device left
   pub refused : create ≡ false → m.honest device → (f : Fault) → OpeningRefuses (m.shown device) f →
       IsUnopened m (m.may_leave device) device left × (m.shown left.device ≡ m.shown device)
 
 -- so it is of the layer that this word names, if one is said
-pub record IntoLayerOf {D : Type 0} (m : device.Ghosts D) (create : Bool) (said : Option (List ℕ))
-    (device : D) (left : Served D) : Type 0 where
+pub record IntoLayerOf {D : Type 0} (m : device.Ghosts D) (S : D → Table → Type 0) (create : Bool)
+    (said : Option (List ℕ)) (device : D) (left : Served D) : Type 0 where
   pub layer : List ℕ
   pub fanout : ℕ
   pub target : IsTargetOf said layer fanout
-  pub imported : HasImportedOn m create layer fanout device left
+  pub imported : HasImportedOn m S create layer fanout device left
 
 -- Objects were to be imported into a file. The words do not go together; or a row was refused, and no file
 -- was
 -- opened; or the file's opening was refused; or it was opened, of which `opens` tells, and with this status
 -- there is left what was done on it: objects were put into the layer that this word names.
-abbrev pub OpensAndImports : {D R W : Type 0} → device.Ghosts D → (Result D OpenError → Type 0) → Bool
-    → Option (List ℕ) → R → R → W → W → ℕ → Type 0
-OpensAndImports {D} m opens create said r r' w w' status =
+abbrev pub OpensAndImports : {D R W : Type 0} → device.Ghosts D → (D → Table → Type 0)
+    → (Result D OpenError → Type 0) → Bool → Option (List ℕ) → R → R → W → W → ℕ → Type 0
+OpensAndImports {D} m S opens create said r r' w w' status =
     IsMisused r r' w w' status
     ⊎ ((status ≡ 1)
     ⊎ (((e : OpenError) × opens (Err e) × (status ≡ 1))
     ⊎ ((device : D) × (left : Served D) × opens (Ok device) × (left.status ≡ status)
-    × IntoLayerOf m create said device left)))
+    × IntoLayerOf m S create said device left)))

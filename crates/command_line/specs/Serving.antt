@@ -8,8 +8,10 @@ use Rattle.file_device.specs.declared.open.OpenError.{OpenError}
 use Rattle.read_only_device.specs.declared.reader.BlockReader as reader
 use Rattle.page_file.specs.Opening.{IsRefused}
 use Rattle.page_file.specs.declared.fault.Fault.{Fault}
+use Rattle.page_file.specs.declared.header.Version.{Version}
 use Rattle.live_layers.specs.Image.{IsImage, IsRefusedOrImageOf, OpeningRefuses}
-use Rattle.layer_store.specs.Representation.{closed_since}
+use Rattle.layer_store.specs.Representation.{BeginsWith, closed_since, device_in, newest_in}
+use Rattle.layer_store.specs.declared.store.Store.{Store}
 use Rattle.store_law.specs.Sessions.{SessionState}
 use Rattle.store_law.specs.States.StoreState.{Alive}
 use Rattle.plain_table.specs.Table.{Table}
@@ -22,6 +24,15 @@ use Rattle.command_shell.specs.Writing.{AppendsSome}
 use Rattle.command_shell.specs.declared.session.RunEnd.{RunEnd}
 use Rattle.command_shell.specs.declared.session.RunEnd.TheVariants.{Finished}
 use Rattle.command_line.specs.declared.program.Served.{Served}
+
+-- A store was made or opened: it lies on this device, begins with this table, and may raise its file to this
+-- version and to no newer one.
+pub record HasStarted {D : Type 0} (A : Type 0) (m : device.Ghosts D) (newest : Version) (opened : D)
+    (t : Table) : Type 0 where
+  pub store : Store D A m
+  pub lies : device_in store ≡ opened
+  pub begins : BeginsWith store (m.moment opened) t
+  pub newest_is : newest_in store ≡ newest
 
 -- The store could not be made or opened: nothing was read and no reply written, and a stop left blocks that
 -- have P.
@@ -40,19 +51,20 @@ IsRefusedOpening shown moment left_since recovery may_leave device r r' w w' lef
     IsRefusedStart moment left_since recovery (may_leave device) device r r' w w' left
     × (shown left.device ≡ shown device)
 
--- Commands were answered by a lawful session that begins with this table. With status 0 all that the reader
--- had was read, each reply was written, and the blocks are an image of the table at the session's end, also
--- after a stop. With any status a stop until the store stood left blocks that have P, and one since then
--- blocks that opening refuses, or an image of this table or of one that was closed, or was to be closed,
--- since; over a device that commits what opening takes it is found to have left such an image, and is never
--- refused. So one at any moment of the whole run left the one or the other, and one before the run what it
--- might have left then. The faults that the session counts are those of the device, from those that it had to
--- those that it has.
-pub record HasServed {D : Type 0} (shown : D → Blocks) (moment : D → ℕ)
+-- Commands were answered by a lawful session that begins with this table, in a store of which S is said. With
+-- status 0 all that the reader had was read, each reply was written, and the blocks are an image of the table
+-- at the session's end, also after a stop. With any status a stop until the store stood left blocks that have
+-- P, and one since then blocks that opening refuses, or an image of this table or of one that was closed, or
+-- was to be closed, since; over a device that commits what opening takes it is found to have left such an
+-- image, and is never refused. So one at any moment of the whole run left the one or the other, and one before
+-- the run what it might have left then. The faults that the session counts are those of the device, from those
+-- that it had to those that it has.
+pub record HasServed {D : Type 0} (S : D → Table → Type 0) (shown : D → Blocks) (moment : D → ℕ)
     (left_since : D → ℕ → Blocks → Type 0) (recovery : Recovery D) (may_leave : D → Blocks → Type 0)
     (faults : D → ℕ) (P : Blocks → Type 0) (t : Table) (device : D)
     (unread unread' written written' : Option (List ℕ)) (left : Served D) : Type 0 where
   pub opened : D
+  pub store : S opened t
   pub opening : LeavesOnly moment left_since recovery device opened P
   pub old : SessionState
   pub new : SessionState
@@ -141,22 +153,22 @@ OpensAndShows {B} opens w w' status =
 
 -- What was done on a device that was opened, and what is left of it. Where a store was to be made and there
 -- are blocks, nothing has begun, and the device is left as it was opened. Where it is honest, a store was
--- made on it, or opened, its commands were answered and it was closed; or its making or its opening was
--- refused. So it is of any blocks that opening takes, once a check was answered ok.
-pub record HasServedOn {D R W : Type 0} (m : device.Ghosts D) (create : Bool) (device : D) (r r' : R)
-    (w w' : W)
+-- made on it, or opened, of which S is said, its commands were answered and it was closed; or its making or
+-- its opening was refused. So it is of any blocks that opening takes, once a check was answered ok.
+pub record HasServedOn {D R W : Type 0} (m : device.Ghosts D) (S : D → Table → Type 0) (create : Bool)
+    (device : D) (r r' : R) (w w' : W)
     (unread unread' written written' : Option (List ℕ)) (left : Served D) : Type 0 where
   pub kept : create ≡ true → 0 < length (m.shown device)
       → HasNotBegun r r' w w' left.status × (left.device ≡ device)
   pub made : create ≡ true → m.honest device → length (m.shown device) ≡ 0 →
       IsRefusedStart m.moment m.left_since m.recovery (λ c. IsRefused c ⊎ IsImage c empty) device r r' w w'
       left
-      ⊎ HasServed m.shown m.moment m.left_since m.recovery m.may_leave m.faults
+      ⊎ HasServed S m.shown m.moment m.left_since m.recovery m.may_leave m.faults
       (λ c. IsRefused c ⊎ IsImage c empty) empty device unread unread' written written' left
   pub opened : create ≡ false → m.honest device → (t : Table) → IsImage (m.shown device) t →
       IsRefusedOpening m.shown m.moment m.left_since m.recovery m.may_leave device r r' w w' left
-      ⊎ HasServed m.shown m.moment m.left_since m.recovery m.may_leave m.faults (m.may_leave device) t device
-      unread unread' written written' left
+      ⊎ HasServed S m.shown m.moment m.left_since m.recovery m.may_leave m.faults (m.may_leave device) t
+      device unread unread' written written' left
   pub checked : create ≡ false → m.honest device →
       IsRefusedOpening m.shown m.moment m.left_since m.recovery m.may_leave device r r' w w' left
       ⊎ ChecksToClose (left.status == 0) (m.shown left.device) unread unread' written written'

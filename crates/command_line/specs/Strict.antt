@@ -39,14 +39,16 @@ pub record EndsSo (said said' : Option (List ℕ)) (status : ℕ) : Type 0 where
   pub end : LinesEnd
   pub told : TellsOutcome end outcome said said'
 
--- Commands were answered by a lawful session that begins with this table, up to the first that was refused.
--- With status 0 all that the reader had was read, none was refused, each reply was written, and the blocks
--- are an image of the table at the session's end, also after a stop. With any other nothing was closed but
--- what a command closed; unless only the closing was refused. Stops leave what they leave of another run.
-pub record HasServedStrictly {D : Type 0} (m : device.Ghosts D) (P : Blocks → Type 0) (t : Table)
-    (device : D) (unread unread' written written' said said' : Option (List ℕ)) (left : Served D) : Type
-    0 where
+-- Commands were answered by a lawful session that begins with this table, in a store of which S is said, up
+-- to the first that was refused. With status 0 all that the reader had was read, none was refused, each reply
+-- was written, and the blocks are an image of the table at the session's end, also after a stop. With any other
+-- nothing was closed but what a command closed; unless only the closing was refused. Stops leave what they
+-- leave of another run.
+pub record HasServedStrictly {D : Type 0} (m : device.Ghosts D) (S : D → Table → Type 0)
+    (P : Blocks → Type 0) (t : Table) (device : D)
+    (unread unread' written written' said said' : Option (List ℕ)) (left : Served D) : Type 0 where
   pub opened : D
+  pub store : S opened t
   pub opening : LeavesOnly m.moment m.left_since m.recovery device opened P
   pub old : SessionState
   pub new : SessionState
@@ -68,19 +70,19 @@ pub record HasServedStrictlyOnceChecked (unread unread' written written' said sa
   pub runs : RunsStrictly (LawfulOnceChecked (λ s. ⊤)) ends.end unread unread' written written'
 
 -- What a strict run did on a device that was opened, as `HasServedOn` says it of another.
-pub record HasServedStrictlyOn {D R W : Type 0} (m : device.Ghosts D) (create : Bool) (device : D)
-    (r r' : R) (w w' : W) (unread unread' written written' said said' : Option (List ℕ))
-    (left : Served D) : Type 0 where
+pub record HasServedStrictlyOn {D R W : Type 0} (m : device.Ghosts D) (S : D → Table → Type 0)
+    (create : Bool) (device : D) (r r' : R) (w w' : W)
+    (unread unread' written written' said said' : Option (List ℕ)) (left : Served D) : Type 0 where
   pub kept : create ≡ true → 0 < length (m.shown device)
       → HasNotBegun r r' w w' left.status × (left.device ≡ device)
   pub made : create ≡ true → m.honest device → length (m.shown device) ≡ 0 →
       IsRefusedStart m.moment m.left_since m.recovery (λ c. IsRefused c ⊎ IsImage c empty) device r r' w w'
       left
-      ⊎ HasServedStrictly m (λ c. IsRefused c ⊎ IsImage c empty) empty device unread unread' written written'
-      said said' left
+      ⊎ HasServedStrictly m S (λ c. IsRefused c ⊎ IsImage c empty) empty device unread unread' written
+      written' said said' left
   pub opened : create ≡ false → m.honest device → (t : Table) → IsImage (m.shown device) t →
       IsRefusedOpening m.shown m.moment m.left_since m.recovery m.may_leave device r r' w w' left
-      ⊎ HasServedStrictly m (m.may_leave device) t device unread unread' written written' said said' left
+      ⊎ HasServedStrictly m S (m.may_leave device) t device unread unread' written written' said said' left
   pub checked : create ≡ false → m.honest device →
       IsRefusedOpening m.shown m.moment m.left_since m.recovery m.may_leave device r r' w w' left
       ⊎ HasServedStrictlyOnceChecked unread unread' written written' said said' left.status
@@ -127,13 +129,13 @@ ReadsAs true m blocks r r' w w' unread unread' written written' said said' statu
     HasReadStrictly m blocks r r' w w' unread unread' written written' said said' status
 
 -- what was done on a device
-abbrev pub ServesAs : {D R W : Type 0} → Bool → device.Ghosts D → Bool → D → R → R → W → W
-    → Option (List ℕ) → Option (List ℕ) → Option (List ℕ) → Option (List ℕ) → Option (List ℕ)
+abbrev pub ServesAs : {D R W : Type 0} → Bool → device.Ghosts D → (D → Table → Type 0) → Bool → D → R → R
+    → W → W → Option (List ℕ) → Option (List ℕ) → Option (List ℕ) → Option (List ℕ) → Option (List ℕ)
     → Option (List ℕ) → Served D → Type 0
-ServesAs false m create device r r' w w' unread unread' written written' said said' left =
-    HasServedOn m create device r r' w w' unread unread' written written' left
-ServesAs true m create device r r' w w' unread unread' written written' said said' left =
-    HasServedStrictlyOn m create device r r' w w' unread unread' written written' said said' left
+ServesAs false m S create device r r' w w' unread unread' written written' said said' left =
+    HasServedOn m S create device r r' w w' unread unread' written written' left
+ServesAs true m S create device r r' w w' unread unread' written written' said said' left =
+    HasServedStrictlyOn m S create device r r' w w' unread unread' written written' said said' left
 
 -- A reader was opened, of which `opens` tells, and with this status it was done what is done over it; or its
 -- opening was refused, and nothing has begun.
@@ -147,10 +149,10 @@ OpensAndReads {B} strict m opens r r' w w' unread unread' written written' said 
 
 -- A file was opened, of which `opens` tells, and with this status there is left what was done on it; or its
 -- opening was refused, and nothing has begun.
-abbrev pub OpensAndServes : {D R W : Type 0} → Bool → device.Ghosts D → (Result D OpenError → Type 0) → Bool
-    → R → R → W → W → Option (List ℕ) → Option (List ℕ) → Option (List ℕ) → Option (List ℕ)
-    → Option (List ℕ) → Option (List ℕ) → ℕ → Type 0
-OpensAndServes {D} strict m opens create r r' w w' unread unread' written written' said said' status =
+abbrev pub OpensAndServes : {D R W : Type 0} → Bool → device.Ghosts D → (D → Table → Type 0)
+    → (Result D OpenError → Type 0) → Bool → R → R → W → W → Option (List ℕ) → Option (List ℕ)
+    → Option (List ℕ) → Option (List ℕ) → Option (List ℕ) → Option (List ℕ) → ℕ → Type 0
+OpensAndServes {D} strict m S opens create r r' w w' unread unread' written written' said said' status =
     ((e : OpenError) × opens (Err e) × HasNotBegun r r' w w' status)
     ⊎ ((device : D) × (left : Served D) × opens (Ok device) × (left.status ≡ status)
-    × ServesAs strict m create device r r' w w' unread unread' written written' said said' left)
+    × ServesAs strict m S create device r r' w w' unread unread' written written' said said' left)

@@ -10,18 +10,29 @@ use Rattle.clap.specs.Words.{App, IsAmong, Rule, Text, fault_of, first_of, match
 use Rattle.clap.specs.Words.{one_of}
 use Rattle.clap.specs.Words.{with_rule}
 use Rattle.clap.specs.declared.builder.action.ArgAction.TheVariants.{SetTrue}
+use Rattle.clap.specs.declared.builder.value_parser.ValueParser.{ValueParser}
 use Rattle.clap.specs.declared.builder.value_parser.ValueParser.TheVariants.{Signed}
 use Rattle.clap.specs.declared.error.kind.ErrorKind.{ErrorKind}
 use Rattle.clap.specs.declared.error.kind.ErrorKind.TheVariants.{DisplayHelp, DisplayVersion}
+use Rattle.page_file.specs.Layout.{version_number}
+use Rattle.page_file.specs.declared.header.Version.{Version}
+
+-- a word of this name with a number that the parser reads, and this one where it is not said
+abbrev pub number_rule : Text → ValueParser → Text → Rule
+number_rule name parser default = record (new_rule name) {
+  long = Some name;
+  value_names = 1;
+  parser = Some parser;
+  defaults = default ∷ [];
+}
 
 -- `--cache N`, a number from 8 to 4096, and 64 where it is not said
 abbrev pub cache_rule : Rule
-cache_rule = record (new_rule (codes "cache")) {
-  long = Some (codes "cache");
-  value_names = 1;
-  parser = Some (Signed (pos 8) (pos 4096));
-  defaults = codes "64" ∷ [];
-}
+cache_rule = number_rule (codes "cache") (Signed (pos 8) (pos 4096)) (codes "64")
+
+-- `--format N`, 2 or 3, and 3 where it is not said
+abbrev pub format_rule : Rule
+format_rule = number_rule (codes "format") (Signed (pos 2) (pos 3)) (codes "3")
 
 -- a flag of this name
 abbrev pub flag_rule : Text → Rule
@@ -72,9 +83,9 @@ file_rule = record (new_rule (codes "file")) { value_names = 1 }
 -- the program, which tells its version too
 abbrev pub program : App
 program =
-    with_rule (import_rules (show_rules (with_rule (with_rule (with_rule (with_rule
+    with_rule (import_rules (show_rules (with_rule (with_rule (with_rule (with_rule (with_rule
     (on_top (λ s. record s { has_version = true }) (new_app (codes "rstore")))
-    cache_rule) create_rule) read_only_rule) strict_rule))) file_rule
+    cache_rule) format_rule) create_rule) read_only_rule) strict_rule))) file_rule
 
 -- the file that words name, if they name one
 abbrev pub file_in : List Text → Option Text
@@ -132,12 +143,21 @@ pub record IsNumber (text : Text) (n : ℕ) : Type 0 where
   pub numeral : IsNumeral 10 (without_leading_plus text)
   pub value : digits_value 10 (without_leading_plus text) ≡ n
 
--- The words, the first of which is the program's name, are taken, and ask for so many cached pages, for a
--- file to be made or not, for it to be only read or not, and for this file, or for none.
-pub record AskFor (words : List Text) (cache : ℕ) (create read : Bool) (file : Option Text) : Type 0 where
+-- the newest version that the file may be raised to: 2 or 3, as its header says it
+abbrev pub AsksForNewest : List Text → Version → Type 0
+AsksForNewest words newest =
+    (text : Text) (n : ℕ) → one_of (codes "format") (matches_of program words) ≡ Some text → IsNumber text n
+    → 2 ≤ n → n ≤ 3 → version_number newest ≡ n
+
+-- The words, the first of which is the program's name, are taken, and ask for so many cached pages, for a file
+-- to be raised to no newer version than this, to be made or not, to be only read or not, and for this file, or
+-- for none.
+pub record AskFor (words : List Text) (cache : ℕ) (newest : Version) (create read : Bool)
+    (file : Option Text) : Type 0 where
   pub taken : fault_of program words ≡ []
   pub cache_is : (text : Text) (n : ℕ) → one_of (codes "cache") (matches_of program words) ≡ Some text → IsNumber text n
       → 8 ≤ n → n ≤ 4096 → cache ≡ n
+  pub newest_is : AsksForNewest words newest
   pub create_is : AsksToMake words create
   pub read_is : AsksToRead words read
   pub file_is : file ≡ file_in words

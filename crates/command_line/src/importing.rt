@@ -3,9 +3,11 @@
 ghost use Rattle.std.specs.Io.KnownBytes.{Keeps};
 ghost use Rattle.std.specs.Prelude.{◌≡◌, ◌≤◌, ◌⊎◌, ◌==◌, Ok, Err, IfErr, IfNone, IfOk, IfSome, is_ok};
 ghost use Rattle.std.specs.Prelude.{option_map};
+ghost use Rattle.std.specs.declared.alloc.Global.{Global};
 ghost use Rattle.plain_table.specs.Table.{Table};
 ghost use Rattle.layer_store.specs.Representation.{BeginsWith, device_in};
 ghost use Rattle.command_line.specs.Importing.{HasImportedOn, IntoLayerOf, OpensAndImports, PutsInto};
+ghost use Rattle.command_line.specs.Serving.{HasStarted};
 ghost use Rattle.command_line.specs.Targets.{IsTarget, IsTargetOf, colon_in};
 ghost use Rattle.command_line.specs.declared.program.Served.{Served};
 ghost use Rattle.file_device.specs.declared.open.OpenError.{OpenError};
@@ -22,7 +24,7 @@ use box_import::{
 use command_shell::{FlushedWrite, Reply, tell_refusal, write_reply};
 use file_device::OpenError;
 use layer_import::{Import, PutProgress, Unimported, import_and_close};
-use layer_store::{Refusal, Store, Version, create_store, open_store};
+use layer_store::{Refusal, Store, create_store, open_store};
 use std::alloc::Global;
 use std::io::{BufRead, BufReader, Read, Write};
 
@@ -86,7 +88,8 @@ pub(crate) fn import_asked<
     ensures misused { result ≡ 2 → (input.new ≡ input.old) × (output.new ≡ output.old) }
     ensures nameless { IfNone options.now.file (result ≡ 2) }
     ensures imported { IfSome options.now.file (λ path.
-        OpensAndImports D.BlockDevice (O.post open_at path options.now.create) options.now.create
+        OpensAndImports D.BlockDevice (HasStarted Global D.BlockDevice options.now.limits.newest)
+        (O.post open_at path options.now.create) options.now.create
         (option_map (λ w. w.now) options.now.import.layer)
         input.old input.new output.old output.new result) }
 {
@@ -302,7 +305,8 @@ fn import_path<
     ensures imported { (said : _) → IsTargetOf said import.now.layer.now import.now.fanout →
         ((e : OpenError) × O.post open_at path.entry options.now.create (Err e) × (result ≡ 1))
         ⊎ ((device : D) × (left : Served D) × O.post open_at path.entry options.now.create (Ok device)
-        × (left.status ≡ result) × IntoLayerOf D.BlockDevice options.now.create said device left) }
+        × (left.status ≡ result) × IntoLayerOf D.BlockDevice
+        (HasStarted Global D.BlockDevice options.now.limits.newest) options.now.create said device left) }
 {
     match open_at(path, options.create) {
         Ok(device) => {
@@ -329,17 +333,19 @@ fn import_device<D: BlockDevice, E: Write, P: PutProgress>(
 ) -> Served<D>
     ensures status { result.status ≤ 1 }
     ensures quiet { result.status ≡ 0 → Keeps (E.contents errors.old) (E.contents errors.new) }
-    ensures imported { HasImportedOn D.BlockDevice options.now.create import.now.layer.now import.now.fanout
-        device result }
+    ensures imported { HasImportedOn D.BlockDevice
+        (HasStarted Global D.BlockDevice options.now.limits.newest) options.now.create
+        import.now.layer.now import.now.fanout device result }
 {
+    let limits = options.limits;
     if !options.create {
-        let opened = open_store(alloc, device, options.cache, Version::Three);
+        let opened = open_store(alloc, device, limits.cache, limits.newest);
         return import_store(opened, import, errors, progress);
     }
     if device.blocks() != 0 {
         return tell_not_empty(device, errors);
     }
-    let made = create_store(alloc, device, options.cache, Version::Three);
+    let made = create_store(alloc, device, limits.cache, limits.newest);
     import_store(made, import, errors, progress)
 }
 

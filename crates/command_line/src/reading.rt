@@ -7,10 +7,10 @@ ghost use Rattle.command_line.specs.Strict.{OpensAndReads, ReadsAs};
 
 use crate::program::{FAILED, status_of, tell_unopened};
 use crate::strict::settle_reader;
-use crate::words::Options;
+use crate::words::{Limits, Options};
 use command_shell::{CountedRead, FlushedWrite, run_and_close, tell_refusal};
 use file_device::OpenError;
-use layer_store::{Refusal, Version, open_store};
+use layer_store::{Refusal, open_store};
 use read_only_device::{BlockReader, ReadOnlyDevice};
 use std::alloc::{Allocator, Global};
 use std::io::Write;
@@ -67,9 +67,9 @@ fn serve_blocks<B: BlockReader, I: CountedRead, W: FlushedWrite, E: Write>(
         result }
 {
     if options.strict {
-        return settle_reader(alloc, blocks, options.cache, input, output, errors);
+        return settle_reader(alloc, blocks, options.limits, input, output, errors);
     }
-    serve_reader(alloc, blocks, options.cache, input, output, errors)
+    serve_reader(alloc, blocks, options.limits, input, output, errors)
 }
 
 /// Opens the store that a reader has, and answers the commands of the input over it. **No block is written:
@@ -81,12 +81,12 @@ fn serve_blocks<B: BlockReader, I: CountedRead, W: FlushedWrite, E: Write>(
 pub fn serve_reader<B: BlockReader, A: Allocator + Copy, I: CountedRead, W: FlushedWrite, E: Write>(
     alloc: A,
     blocks: &B,
-    cache: u32,
+    limits: Limits,
     input: &mut I,
     output: &mut W,
     errors: &mut E,
 ) -> u8
-    requires { is_cache cache ≡ true }
+    requires { is_cache limits.cache ≡ true }
     ensures status { result ≤ 1 }
     ensures quiet { result ≡ 0 → Keeps (E.contents errors.old) (E.contents errors.new) }
     ensures flushed { result ≡ 0 → W.is_flushed output.new }
@@ -94,7 +94,12 @@ pub fn serve_reader<B: BlockReader, A: Allocator + Copy, I: CountedRead, W: Flus
         input.old input.new output.old output.new (I.remaining input.old) (I.remaining input.new)
         (W.contents output.old) (W.contents output.new) result }
 {
-    match open_store(alloc, ReadOnlyDevice::over(blocks), cache, Version::Three) {
+    match open_store(
+        alloc,
+        ReadOnlyDevice::over(blocks),
+        limits.cache,
+        limits.newest,
+    ) {
         Ok(store) => status_of(run_and_close(store, input, output, errors).went_well),
         Err((refusal, _)) => {
             tell_unread(refusal, errors);

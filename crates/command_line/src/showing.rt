@@ -10,9 +10,7 @@ use crate::words::Options;
 use block_device::BlockDevice;
 use command_shell::{FlushedWrite, tell_refusal};
 use file_device::OpenError;
-use layer_store::{
-    AnyBox, LayerInfo, LayerOutline, RawBox, RawQuery, Refusal, Store, Version, open_store,
-};
+use layer_store::{AnyBox, LayerInfo, LayerOutline, RawBox, RawQuery, Refusal, Store, open_store};
 use read_only_device::{BlockReader, ReadOnlyDevice};
 use std::alloc::{AllocError, Global};
 use std::io::{Read, Write};
@@ -113,8 +111,8 @@ fn show_reader<B: BlockReader, W: FlushedWrite, E: Write>(
     match open_store(
         alloc,
         ReadOnlyDevice::over(blocks),
-        options.cache,
-        Version::Three,
+        options.limits.cache,
+        options.limits.newest,
     ) {
         Ok(store) => {
             let mut store = store;

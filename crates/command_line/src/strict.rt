@@ -2,8 +2,9 @@
 ghost use Rattle.std.specs.FinMap.{empty};
 ghost use Rattle.std.specs.Io.KnownBytes.{Keeps};
 ghost use Rattle.std.specs.Prelude.{◌≡◌, ◌≤◌, ◌⊎◌, IfErr, IfOk, length, true};
+ghost use Rattle.std.specs.declared.alloc.Global.{Global};
 ghost use Rattle.block_device.specs.Device.{LeavesOnly};
-ghost use Rattle.layer_store.specs.Representation.{Represents, closed_since, device_in};
+ghost use Rattle.layer_store.specs.Representation.{Represents, closed_since, device_in, newest_in};
 ghost use Rattle.layer_store.specs.Starting.{is_cache};
 ghost use Rattle.live_layers.specs.Image.{IsImage, OpeningRefuses};
 ghost use Rattle.page_file.specs.Opening.{IsRefused};
@@ -11,15 +12,16 @@ ghost use Rattle.page_file.specs.declared.fault.Fault.{Fault};
 ghost use Rattle.plain_table.specs.Table.{Table};
 ghost use Rattle.store_law.specs.Sessions.{SessionState};
 ghost use Rattle.store_law.specs.States.StoreState.{Alive};
-ghost use Rattle.command_line.specs.Serving.{IsRefusedOpening, IsRefusedStart};
+ghost use Rattle.command_line.specs.Serving.{HasStarted, IsRefusedOpening, IsRefusedStart};
 ghost use Rattle.command_line.specs.Strict.{HasReadStrictly, HasServedStrictly, HasServedStrictlyOn};
 ghost use Rattle.command_line.specs.Strict.{HasServedStrictlyOnceChecked, status_of_outcome};
 
 use crate::program::{FAILED, Served, WENT_WELL, tell_no_store, tell_not_empty};
 use crate::reading::tell_unread;
+use crate::words::Limits;
 use block_device::BlockDevice;
 use command_shell::{CountedRead, FlushedWrite, Outcome, run_strictly_and_close};
-use layer_store::{Refusal, Store, Version, create_store, open_store};
+use layer_store::{Refusal, Store, create_store, open_store};
 use read_only_device::{BlockReader, ReadOnlyDevice};
 use std::alloc::Global;
 use std::io::Write;
@@ -36,46 +38,48 @@ pub(crate) fn settle_device<D: BlockDevice, I: CountedRead, W: FlushedWrite, E: 
     alloc: Global,
     device: D,
     create: bool,
-    cache: u32,
+    limits: Limits,
     input: &mut I,
     output: &mut W,
     errors: &mut E,
 ) -> Served<D>
-    requires { is_cache cache ≡ true }
+    requires { is_cache limits.cache ≡ true }
     ensures status { result.status ≤ 3 }
     ensures flushed { (result.status ≡ 1) ⊎ W.is_flushed output.new }
     ensures quiet { result.status ≡ 0 → Keeps (E.contents errors.old) (E.contents errors.new) }
-    ensures served { HasServedStrictlyOn D.BlockDevice create device
+    ensures served { HasServedStrictlyOn D.BlockDevice (HasStarted Global D.BlockDevice limits.newest)
+        create device
         input.old input.new output.old output.new (I.remaining input.old) (I.remaining input.new)
         (W.contents output.old) (W.contents output.new) (E.contents errors.old) (E.contents errors.new)
         result }
 {
     if !create {
-        return settle_opened(alloc, device, cache, input, output, errors);
+        return settle_opened(alloc, device, limits, input, output, errors);
     }
     if device.blocks() != 0 {
         return tell_not_empty(device, errors);
     }
-    settle_new(alloc, device, cache, input, output, errors)
+    settle_new(alloc, device, limits, input, output, errors)
 }
 
 // The same over the store that is there.
 fn settle_opened<D: BlockDevice, I: CountedRead, W: FlushedWrite, E: Write>(
     alloc: Global,
     device: D,
-    cache: u32,
+    limits: Limits,
     input: &mut I,
     output: &mut W,
     errors: &mut E,
 ) -> Served<D>
-    requires { is_cache cache ≡ true }
+    requires { is_cache limits.cache ≡ true }
     ensures status { result.status ≤ 3 }
     ensures flushed { (result.status ≡ 1) ⊎ W.is_flushed output.new }
     ensures quiet { result.status ≡ 0 → Keeps (E.contents errors.old) (E.contents errors.new) }
     ensures serves { (t : Table) → D.honest device → IsImage (D.shown device) t →
         IsRefusedOpening D.shown D.moment D.left_since D.recovery D.may_leave
         device input.old input.new output.old output.new result
-        ⊎ HasServedStrictly D.BlockDevice (D.may_leave device) t device
+        ⊎ HasServedStrictly D.BlockDevice (HasStarted Global D.BlockDevice limits.newest)
+        (D.may_leave device) t device
         (I.remaining input.old) (I.remaining input.new) (W.contents output.old) (W.contents output.new)
         (E.contents errors.old) (E.contents errors.new) result }
     ensures checked { D.honest device →
@@ -89,7 +93,7 @@ fn settle_opened<D: BlockDevice, I: CountedRead, W: FlushedWrite, E: Write>(
         device input.old input.new output.old output.new result }
 {
     settle_store(
-        open_store(alloc, device, cache, Version::Three),
+        open_store(alloc, device, limits.cache, limits.newest),
         input,
         output,
         errors,
@@ -100,12 +104,12 @@ fn settle_opened<D: BlockDevice, I: CountedRead, W: FlushedWrite, E: Write>(
 pub(crate) fn settle_new<D: BlockDevice, I: CountedRead, W: FlushedWrite, E: Write>(
     alloc: Global,
     device: D,
-    cache: u32,
+    limits: Limits,
     input: &mut I,
     output: &mut W,
     errors: &mut E,
 ) -> Served<D>
-    requires cache { is_cache cache ≡ true }
+    requires cache { is_cache limits.cache ≡ true }
     requires none { length (D.shown device) ≡ 0 }
     ensures status { result.status ≤ 3 }
     ensures flushed { (result.status ≡ 1) ⊎ W.is_flushed output.new }
@@ -113,12 +117,13 @@ pub(crate) fn settle_new<D: BlockDevice, I: CountedRead, W: FlushedWrite, E: Wri
     ensures serves { D.honest device →
         IsRefusedStart D.moment D.left_since D.recovery (λ c. IsRefused c ⊎ IsImage c empty)
         device input.old input.new output.old output.new result
-        ⊎ HasServedStrictly D.BlockDevice (λ c. IsRefused c ⊎ IsImage c empty) empty device
+        ⊎ HasServedStrictly D.BlockDevice (HasStarted Global D.BlockDevice limits.newest)
+        (λ c. IsRefused c ⊎ IsImage c empty) empty device
         (I.remaining input.old) (I.remaining input.new) (W.contents output.old) (W.contents output.new)
         (E.contents errors.old) (E.contents errors.new) result }
 {
     settle_store(
-        create_store(alloc, device, cache, Version::Three),
+        create_store(alloc, device, limits.cache, limits.newest),
         input,
         output,
         errors,
@@ -139,7 +144,8 @@ fn settle_store<D: BlockDevice, I: CountedRead, W: FlushedWrite, E: Write>(
         s.state ≡ Alive t → s.stops ≡ closed_since (D.moment (device_in it)) t →
         LeavesOnly D.moment D.left_since D.recovery device (device_in it) (D.may_leave device) →
         D.faults (device_in it) ≡ D.faults device →
-        HasServedStrictly D.BlockDevice (D.may_leave device) t device
+        HasServedStrictly D.BlockDevice (HasStarted Global D.BlockDevice (newest_in it))
+        (D.may_leave device) t device
         (I.remaining input.old) (I.remaining input.new) (W.contents output.old) (W.contents output.new)
         (E.contents errors.old) (E.contents errors.new) result) }
     ensures checked { IfOk store (λ it. D.honest (device_in it) →
@@ -177,12 +183,12 @@ fn status_of_outcome(outcome: Outcome) -> u8
 pub(crate) fn settle_reader<B: BlockReader, I: CountedRead, W: FlushedWrite, E: Write>(
     alloc: Global,
     blocks: &B,
-    cache: u32,
+    limits: Limits,
     input: &mut I,
     output: &mut W,
     errors: &mut E,
 ) -> u8
-    requires { is_cache cache ≡ true }
+    requires { is_cache limits.cache ≡ true }
     ensures status { result ≤ 3 }
     ensures flushed { (result ≡ 1) ⊎ W.is_flushed output.new }
     ensures quiet { result ≡ 0 → Keeps (E.contents errors.old) (E.contents errors.new) }
@@ -191,7 +197,12 @@ pub(crate) fn settle_reader<B: BlockReader, I: CountedRead, W: FlushedWrite, E: 
         (W.contents output.old) (W.contents output.new) (E.contents errors.old) (E.contents errors.new)
         result }
 {
-    match open_store(alloc, ReadOnlyDevice::over(blocks), cache, Version::Three) {
+    match open_store(
+        alloc,
+        ReadOnlyDevice::over(blocks),
+        limits.cache,
+        limits.newest,
+    ) {
         Ok(store) => {
             status_of_outcome(run_strictly_and_close(store, input, output, errors).outcome)
         }

@@ -12,3 +12,5 @@ mod runs;
 mod shows;
 #[cfg(test)]
 mod strict;
+#[cfg(test)]
+mod versions;

@@ -6,7 +6,7 @@ use Rattle.page_file.specs.Opening.{IsRefused}
 use Rattle.live_layers.specs.Image.{IsImage}
 use Rattle.layer_store.specs.Representation.{device_in}
 use Rattle.command_line.proofs.ImportLemmas.{imports_into, unopened}
-use Rattle.command_line.proofs.Starts.{start}
+use Rattle.command_line.proofs.Starts.{has_started, start}
 use Rattle.command_line.proofs.importing.import_device.Goals as goal
 
 pub returns-then-not-options-clause-imported : goal.returns-then-not-options-clause-imported
@@ -21,7 +21,10 @@ returns-then-not-options-clause-imported g c =
           (λ v is.
           let begins = rw is at (c.open_store-opened.ensures.image t honest image) in
           let opening = (rw is at c.open_store-opened.ensures.stops) honest in
-          inr (imports_into m (m.may_leave device) t _ _ device (device_in v) _ opening
+          let store =
+          has_started c.args.options.now.limits.newest v t (rw is at c.open_store-opened.ensures.newest)
+          begins in
+          inr (imports_into m _ (m.may_leave device) t _ _ device (device_in v) _ store opening
           ((rw is at (c.import_store.ensures.imported t (m.moment (device_in v)))) begins)))
           (λ e is.
           let so = rw is at c.import_store.ensures.refused in
@@ -59,8 +62,11 @@ returns-clause-imported g c =
           (λ v is.
           let begins = (rw is at c.create_store-made.ensures.made) honest in
           let making = (rw is at c.create_store-made.ensures.stops) honest in
-          inr (imports_into m (λ b. IsRefused b ⊎ IsImage b empty) empty _ _ device (device_in v) _ making
-          ((rw is at (c.import_store-2.ensures.imported empty (m.moment (device_in v)))) begins)))
+          let store =
+          has_started c.args.options.now.limits.newest v empty (rw is at c.create_store-made.ensures.newest)
+          begins in
+          inr (imports_into m _ (λ b. IsRefused b ⊎ IsImage b empty) empty _ _ device (device_in v) _ store
+          making ((rw is at (c.import_store-2.ensures.imported empty (m.moment (device_in v)))) begins)))
           (λ e is.
           let so = rw is at c.import_store-2.ensures.refused in
           let stops = (rw is at (c.create_store-made.ensures.refused_stops fits)) honest in

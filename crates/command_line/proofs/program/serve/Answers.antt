@@ -3,15 +3,17 @@ use Rattle.std.proofs.Common.{◌≡◌, ◌∙◌, ◌⊎◌, ◌≤◌, Bool, 
 use Rattle.std.proofs.Common.{sym, arith}
 use Rattle.std.specs.Prelude.{IfNone, IfSome, false, option_map, true}
 use Rattle.clap.specs.Walk.{texts}
+use Rattle.page_file.specs.declared.header.Version.{Version}
 use Rattle.command_line.specs.Serving.{IsMisused}
 use Rattle.command_line.specs.Words.{AsksForLines, AsksToBeStrict, AsksToImport, AsksToMake, AsksToRead}
 use Rattle.command_line.specs.Words.{AsksToShow}
 use Rattle.command_line.proofs.program.serve.Goals as goal
 
-or_answered : {A C L : Type 0} (S B : Bool → Type 0) (strict : Bool) → L → S strict → A ⊎ B strict
-    → A ⊎ (((b : Bool) × L × S b × B b) ⊎ C)
-or_answered S B strict lines asks (inl a) = inl a
-or_answered S B strict lines asks (inr b) = inr (inl (strict, lines, asks, b))
+or_answered : {A C L : Type 0} (S : Bool → Type 0) (N : Version → Type 0) (B : Bool → Version → Type 0)
+    (strict : Bool) (newest : Version) → L → S strict → N newest → A ⊎ B strict newest
+    → A ⊎ (((b : Bool) × (n : Version) × L × S b × N n × B b n) ⊎ C)
+or_answered S N B strict newest lines asks up_to (inl a) = inl a
+or_answered S N B strict newest lines asks up_to (inr b) = inr (inl (strict, newest, lines, asks, up_to, b))
 
 -- with status 3 the words ask for a strict run
 status_so : (words : List (List ℕ)) (strict : Bool) (status : ℕ) → AsksToBeStrict words strict
@@ -38,7 +40,8 @@ returns-in_default-clause-in_memory g c = λ taken none.
     let lines =
     lines_so (texts c.args.words.now) _ c.show.result _ c.any.result c.in-Ok.ensures.shown c.show.ensures
     c.if-show.false c.in-Ok.ensures.imports c.any.ensures c.if-any.false in
-    or_answered _ _ c.in-Ok.options.strict lines c.in-Ok.ensures.strict c.serve_memory.ensures.answered
+    or_answered _ _ _ c.in-Ok.options.strict c.in-Ok.options.limits.newest lines c.in-Ok.ensures.strict
+    c.in-Ok.ensures.asked.newest_is c.serve_memory.ensures.answered
 
 pub returns-in_default-clause-status : goal.returns-in_default-clause-status
 returns-in_default-clause-status g c =
@@ -67,10 +70,12 @@ returns-in-Ok-serve_path-clause-in_file g c = λ path taken named.
     inr (inr
     (inl (
       c.in-Some.path,
+      c.in-Ok.options.limits.newest,
       c.in-Ok.options.create,
       c.in-Ok.options.strict,
       same_path _ _ is,
       lines,
+      asked.newest_is,
       asked.create_is,
       read,
       c.in-Ok.ensures.strict,
@@ -152,10 +157,12 @@ returns-clause-in_file g c = λ path taken named.
     inr (inr
     (inl (
       c.in-Some.path,
+      c.in-Ok.options.limits.newest,
       c.in-Ok.options.create,
       c.in-Ok.options.strict,
       same_path _ _ is,
       lines,
+      asked.newest_is,
       asked.create_is,
       read,
       c.in-Ok.ensures.strict,
@@ -190,11 +197,13 @@ returns-then-any-clause-in_file g c = λ path taken named.
     (inr (inr
     (inr (
       it.0,
+      c.in-Ok.options.limits.newest,
       c.in-Ok.options.create,
       option_map (λ w. w.now) c.in-Ok.options.import.layer,
       it.1,
       c.in-Ok.ensures.target,
       imports,
+      asked.newest_is,
       asked.create_is,
       c.import_asked.ensures.unwritten,
       it.2,

@@ -6,7 +6,7 @@ use Rattle.command_line.proofs.program.serve_memory.Goals as goal
 pub returns-then-options-clause-answered : goal.returns-then-options-clause-answered
 returns-then-options-clause-answered g c =
     rw c.if-options.true
-    (begun_or_answered_strictly _ _ _ _ _ _ _ _ _ _ _ _ _ _ _ c.settle_new.result
+    (begun_or_answered_strictly _ _ _ _ _ _ _ _ _ _ _ _ _ _ _ _ c.settle_new.result
     (c.settle_new.ensures.serves c.new-device.ensures.honest))
 
 pub returns-then-options-clause-flushed : goal.returns-then-options-clause-flushed
@@ -15,5 +15,5 @@ returns-then-options-clause-flushed g c = flushed_so _ _ c.settle_new.ensures.fl
 pub returns-clause-answered : goal.returns-clause-answered
 returns-clause-answered g c =
     rw c.if-options.false
-    (begun_or_answered _ _ _ _ _ _ _ _ _ _ _ _ _ _ _ _ _ _ c.serve_new.result
+    (begun_or_answered _ _ _ _ _ _ _ _ _ _ _ _ _ _ _ _ _ _ _ c.serve_new.result
     (c.serve_new.ensures.serves c.new-device.ensures.honest) refl)

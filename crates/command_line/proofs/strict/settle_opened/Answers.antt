@@ -1,5 +1,6 @@
 -- A store that is opened begins with the table of the image, and one that is not leaves the device as it was.
-use Rattle.std.proofs.Common.{◌∙◌, ap, inl, inr}
+use Rattle.std.proofs.Common.{◌≡◌, ◌∙◌, ap, inl, inr}
+use Rattle.layer_store.specs.Representation.{newest_in}
 use Rattle.command_line.proofs.Starts.{refused_start, start}
 use Rattle.command_line.proofs.strict.settle_opened.Goals as goal
 
@@ -8,8 +9,10 @@ returns-clause-serves g c = λ t honest image. start c.open_store.result _
     (λ v is.
     let begun = rw is at (c.open_store.ensures.image t honest image) in
     let opening = (rw is at c.open_store.ensures.stops) honest in
-    inr ((rw is at (c.settle_store.ensures.serves t begun.next c.args.device)) begun.represents begun.so.0
-    begun.so.1 opening (rw is at c.open_store.ensures.no_fault)))
+    let newest : newest_in v ≡ c.args.limits.newest = rw is at c.open_store.ensures.newest in
+    inr (rw newest at
+    ((rw is at (c.settle_store.ensures.serves t begun.next c.args.device)) begun.represents begun.so.0
+    begun.so.1 opening (rw is at c.open_store.ensures.no_fault))))
     (λ e is.
     let so = rw is at c.settle_store.ensures.refused in
     let stops = (rw is at (c.open_store.ensures.refused_stops c.requires)) honest in

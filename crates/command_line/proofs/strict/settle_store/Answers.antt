@@ -1,10 +1,10 @@
 -- A strict run over a store, or the line that says why there is none.
-use Rattle.std.proofs.Common.{◌∙◌, ap, subst, ℕ}
+use Rattle.std.proofs.Common.{◌∙◌, ap, refl, subst, ℕ}
 use Rattle.store_law.specs.Stops.{Stops}
 use Rattle.command_shell.specs.Strict.{IsLeft}
-use Rattle.layer_store.specs.Representation.{device_in}
+use Rattle.layer_store.specs.Representation.{device_in, newest_in}
 use Rattle.layer_store.proofs.StopLemmas.{session_state_is}
-use Rattle.command_line.proofs.Starts.{flushed_by, quiet_so, status_is_small, whole_run}
+use Rattle.command_line.proofs.Starts.{flushed_by, has_started, quiet_so, status_is_small, whole_run}
 use Rattle.command_line.proofs.strict.settle_store.Goals as goal
 
 pub returns-in-Ok-clause-serves : goal.returns-in-Ok-clause-serves
@@ -15,6 +15,8 @@ returns-in-Ok-clause-serves g c = λ t s device.
     let settles = settled.ensures.settles in
     rw c.in-Ok.is (λ stands alive stops opening faults. let run = settles.run s stands in record {
       opened = opened;
+      store = has_started (newest_in c.in-Ok.store) c.in-Ok.store t refl
+          (record { next = s; represents = stands; so = (alive, stops) });
       opening = opening;
       old = s;
       new = run.0;

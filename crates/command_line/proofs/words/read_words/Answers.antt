@@ -33,6 +33,7 @@ returns-clause-asked c =
     (c.in_ok-matches.ensures.matches (ap is_simple is)).0
     ∙ ap (λ (a : App). matches_of a (texts c.args.words.now)) is in
     let cached : one_text found (codes "cache") ≡ one_of (codes "cache") (matches_of program (texts c.args.words.now)) = one_text-rows found (codes "cache") ∙ ap (one_of (codes "cache")) rows in
+    let format : one_text found (codes "format") ≡ one_of (codes "format") (matches_of program (texts c.args.words.now)) = one_text-rows found (codes "format") ∙ ap (one_of (codes "format")) rows in
     let created : one_text found (codes "create") ≡ one_of (codes "create") (matches_of program (texts c.args.words.now)) = one_text-rows found (codes "create") ∙ ap (one_of (codes "create")) rows in
     let reading : one_text found (codes "read-only") ≡ one_of (codes "read-only") (matches_of program (texts c.args.words.now)) = one_text-rows found (codes "read-only") ∙ ap (one_of (codes "read-only")) rows in
     record {
@@ -45,6 +46,13 @@ returns-clause-asked c =
           × HasUnsignedDigitsIfOk bs r) text n c.get_one.result
           (c.get_one.ensures.value text (cached ∙ one)) (λ bs x g. g.0) number (omega (arith, high)) in
           (rw got at c.cached_pages.ensures.as_asked) (in_range n low high);
+      newest_is = λ text n one number low high.
+          let got : c.get_one-2.result ≡ Some n =
+          number_read _
+          (λ bs r. ParsesUnsigned 32 10 bs r × ExplainsUnsignedError 10 bs r
+          × HasUnsignedDigitsIfOk bs r) text n c.get_one-2.result
+          (c.get_one-2.ensures.value text (format ∙ one)) (λ bs x g. g.0) number (omega (arith, high)) in
+          (rw got at c.newest_version.ensures) low high;
       create_is = λ flag one. flag_read c.get_flag.result (one_text found (codes "create")) c.get_flag.ensures.value c.get_flag.ensures.other flag (created ∙ one);
       read_is = λ flag one. flag_read c.get_flag-2.result (one_text found (codes "read-only")) c.get_flag-2.ensures.value c.get_flag-2.ensures.other flag (reading ∙ one);
       file_is = c.get_str-2.ensures ∙ first_value-rows found (codes "file") ∙ ap (first_of (codes "file")) rows;
