@@ -67,8 +67,8 @@ pub struct Imported<D: BlockDevice> {
 /// one without objects is loaded, and into another the objects are inserted in turn.
 ///
 /// **Where the store holds a table that was closed last, then either each of these commands was done, and the
-/// blocks are an image of the table after them; or one was refused, the store was given up, and nothing was
-/// closed: over a device that commits the table is found as it was.** Where the closing is refused, by
+/// blocks are an image of the table after them; or the store was given up, as where one is refused, and nothing
+/// was closed: over a device that commits the table is found as it was.** Where the closing is refused, by
 /// `Memory` or `Device`, the table is found as it was, or as it was to be.
 ///
 /// `progress` is told how many objects were put in.

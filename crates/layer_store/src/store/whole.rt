@@ -46,9 +46,8 @@ impl<D: BlockDevice, A: Allocator + Copy> Store<D, A> {
     }
 
     /// Checks all pages. On an honest device it is done only where they hold a table, whatever file was
-    /// opened; so a store that was opened and checked begins as one of an image does. It looks at each page
-    /// given out at most twice for each layer, once more at the first page of its identifier table, and once at
-    /// the catalog.
+    /// opened; so a store that was opened and checked begins as one of an image does. It makes at most two
+    /// looks for each layer and number below the next one, one more for each layer, and one at the catalog.
     ///
     /// Refused by `Memory`, `Device` or `Damaged`, and on an honest device with a sound store not by
     /// `Damaged`.

@@ -42,9 +42,10 @@ use std::alloc::Allocator;
 
 impl<B: BlockDevice, A: Allocator + Copy> Layers<B, A> {
     /// Checks all pages: on an honest device it answers so only where the layers are sound with some table,
-    /// and else `Damaged` with the number of a page: that of the catalog, one at which the chain of free pages
-    /// breaks, one that a walk through a layer comes to, or one that does not stand in just one of these. Layers that are sound are refused by `Memory` or
-    /// `Device` alone.
+    /// and else, unless memory or the device refused before, `Damaged` with the number of a page: that of the
+    /// catalog, one at which the chain of free pages breaks, one that a walk through a layer comes to, or one
+    /// that does not stand in just one of these. Layers that are sound are refused by `Memory` or `Device`
+    /// alone.
     ///
     /// It makes at most two looks for each layer and number below the next one, one more for each layer, and one
     /// at the catalog.

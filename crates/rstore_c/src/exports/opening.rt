@@ -118,7 +118,8 @@ pub extern "C" fn rstore_c_close(
     number
 }
 
-/// The number that came with the last refusal; after the opening 1 where the last run had not ended.
+/// The number that came with the last refusal; after the opening 1 where the last run had committed and not
+/// ended.
 #[unsafe(no_mangle)]
 pub extern "C" fn rstore_c_detail(handle: &mut Handle) -> u64
     ensures detail { result ≡ handle.old.value.session.detail }
