@@ -43,7 +43,9 @@ returns-in_default-clause-in_memory g c = λ taken none.
       lines,
       c.in-Ok.ensures.strict,
       c.in-Ok.ensures.asked.newest_is,
-      it,
+      it.0,
+      it.1,
+      it.2,
     )) c.serve_memory.ensures.answered
 
 pub returns-in_default-clause-status : goal.returns-in_default-clause-status
