@@ -1,6 +1,6 @@
 -- An import begins with the empty table where a store is made as asked, and else with the table of the image.
 use Rattle.std.specs.FinMap.{empty}
-use Rattle.std.proofs.Common.{◌≡◌, ◌∙◌, ◌⊎◌, ap, inl, inr, refl, sym, arith}
+use Rattle.std.proofs.Common.{◌∙◌, ◌⊎◌, ap, inl, inr, sym, arith}
 use Rattle.std.proofs.lemmas.Bool.{true≢false}
 use Rattle.page_file.specs.Opening.{IsRefused}
 use Rattle.live_layers.specs.Image.{IsImage}

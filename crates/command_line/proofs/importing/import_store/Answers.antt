@@ -1,5 +1,5 @@
 -- Objects that were put into a store, or the line that says why there is none.
-use Rattle.std.proofs.Common.{◌==◌, Bool, subst, sym}
+use Rattle.std.proofs.Common.{Bool, subst, sym}
 use Rattle.layer_store.specs.Representation.{device_in}
 use Rattle.layer_import.specs.Imports.{HasImported, import_commands}
 use Rattle.command_line.proofs.importing.import_store.Goals as goal

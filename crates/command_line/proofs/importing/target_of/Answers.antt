@@ -1,5 +1,5 @@
 -- A word that names a layer, with a fanout or without one.
-use Rattle.std.proofs.Common.{◌≡◌, ◌∙◌, ◌+◌, ℕ, List, Option, None, Some, ap, drop, inl, inr, refl, subst}
+use Rattle.std.proofs.Common.{◌≡◌, ◌∙◌, ◌+◌, ℕ, List, None, Some, ap, drop, inl, inr, refl, subst}
 use Rattle.std.proofs.Common.{sym}
 use Rattle.std.proofs.Common.{◌-◌, arith, length, length-drop, take}
 use Rattle.std.proofs.lemmas.List.{take_all}

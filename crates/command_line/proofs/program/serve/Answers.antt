@@ -3,17 +3,14 @@ use Rattle.std.proofs.Common.{◌≡◌, ◌∙◌, ◌⊎◌, ◌≤◌, Bool, 
 use Rattle.std.proofs.Common.{sym, arith}
 use Rattle.std.specs.Prelude.{IfNone, IfSome, false, option_map, true}
 use Rattle.clap.specs.Walk.{texts}
-use Rattle.page_file.specs.declared.header.Version.{Version}
 use Rattle.command_line.specs.Serving.{IsMisused}
 use Rattle.command_line.specs.Words.{AsksForLines, AsksToBeStrict, AsksToImport, AsksToMake, AsksToRead}
 use Rattle.command_line.specs.Words.{AsksToShow}
 use Rattle.command_line.proofs.program.serve.Goals as goal
 
-or_answered : {A C L : Type 0} (S : Bool → Type 0) (N : Version → Type 0) (B : Bool → Version → Type 0)
-    (strict : Bool) (newest : Version) → L → S strict → N newest → A ⊎ B strict newest
-    → A ⊎ (((b : Bool) × (n : Version) × L × S b × N n × B b n) ⊎ C)
-or_answered S N B strict newest lines asks up_to (inl a) = inl a
-or_answered S N B strict newest lines asks up_to (inr b) = inr (inl (strict, newest, lines, asks, up_to, b))
+or_answered : {A B X C : Type 0} → (B → X) → A ⊎ B → A ⊎ (X ⊎ C)
+or_answered so (inl a) = inl a
+or_answered so (inr b) = inr (inl (so b))
 
 -- with status 3 the words ask for a strict run
 status_so : (words : List (List ℕ)) (strict : Bool) (status : ℕ) → AsksToBeStrict words strict
@@ -40,8 +37,16 @@ returns-in_default-clause-in_memory g c = λ taken none.
     let lines =
     lines_so (texts c.args.words.now) _ c.show.result _ c.any.result c.in-Ok.ensures.shown c.show.ensures
     c.if-show.false c.in-Ok.ensures.imports c.any.ensures c.if-any.false in
-    or_answered _ _ _ c.in-Ok.options.strict c.in-Ok.options.limits.newest lines c.in-Ok.ensures.strict
-    c.in-Ok.ensures.asked.newest_is c.serve_memory.ensures.answered
+    or_answered (λ it. (
+      c.in-Ok.options.strict,
+      c.in-Ok.options.limits.newest,
+      lines,
+      c.in-Ok.ensures.strict,
+      c.in-Ok.ensures.asked.newest_is,
+      it.0,
+      it.1,
+      it.2,
+    )) c.serve_memory.ensures.answered
 
 pub returns-in_default-clause-status : goal.returns-in_default-clause-status
 returns-in_default-clause-status g c =

@@ -1,5 +1,5 @@
 -- The strict session over the store that a reader has.
-use Rattle.std.proofs.Common.{◌∙◌, ap, inl, inr, refl, subst, sym}
+use Rattle.std.proofs.Common.{inl, inr, refl, subst, sym}
 use Rattle.live_layers.specs.Image.{IsImage, OpeningRefuses}
 use Rattle.command_line.specs.Strict.{EndsSo}
 use Rattle.command_line.proofs.Starts.{flushed_by, quiet_so, status_is_small}

@@ -8,7 +8,7 @@ use Rattle.command_line.proofs.words.number.Goals as goal
 pub returns-clause-rule : goal.returns-clause-rule
 returns-clause-rule c =
     let name = c.args.name.now in
-    let reads = c.args.parser.entry in
+    let reads = c.args.parser in
     let given = c.value_parser.ensures.given in
     let parser : c.value_parser.result.value_parser ≡ Some reads = given.1
     ∙ ap (λ (q : ValueParser). Some q) given.2 in

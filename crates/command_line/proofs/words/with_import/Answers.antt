@@ -1,7 +1,6 @@
 -- The words of an import are those that `import_rules` says.
 use Rattle.std.proofs.Common.{◌∙◌, ap, ap₂}
 use Rattle.std.proofs.lemmas.Result.{IfOk-weaker}
-use Rattle.clap.specs.Walk.{Rule}
 use Rattle.clap.specs.Words.{with_rule}
 use Rattle.command_line.proofs.words.with_import.Goals as goal
 
