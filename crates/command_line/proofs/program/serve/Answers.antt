@@ -37,10 +37,12 @@ returns-in_default-clause-in_memory g c = λ taken none.
     let lines =
     lines_so (texts c.args.words.now) _ c.show.result _ c.any.result c.in-Ok.ensures.shown c.show.ensures
     c.if-show.false c.in-Ok.ensures.imports c.any.ensures c.if-any.false in
+    let read = subst (AsksToRead (texts c.args.words.now)) c.if-options.false c.in-Ok.ensures.asked.read_is in
     or_answered (λ it. (
       c.in-Ok.options.strict,
       c.in-Ok.options.limits.newest,
       lines,
+      read,
       c.in-Ok.ensures.strict,
       c.in-Ok.ensures.asked.newest_is,
       it.0,
