@@ -41,10 +41,10 @@ pub struct TableFacts<const D: usize, H: Allocator> {
 
 /// Checks the table with its directory at a page, and answers what it holds.
 ///
-/// On an honest device it answers so only where a table stands there; else it is `Damaged` with the number of
-/// a page: that of the directory, or one that a walk along a chain comes to. Where a table stands, a refusal
-/// is `Memory` or `Device`. It makes no more looks than the file's next number, whatever the pages are. Map
-/// and gate stay, also after a refusal.
+/// On an honest device it answers so only where a table stands there, and a refusal is then `Memory` or
+/// `Device`. Elsewhere it may be `Damaged` too, with the number of a page: that of the directory, or one that
+/// a walk along a chain comes to. It makes no more looks than the file's next number, whatever the pages are.
+/// Map and gate stay, also after a refusal.
 pub fn check_table<const D: usize, B: BlockDevice, A: Allocator + Copy, H: Allocator + Copy>(
     alloc: H,
     cache: &mut PageCache<B, A>,

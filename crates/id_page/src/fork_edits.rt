@@ -23,7 +23,6 @@ pub fn start_fork<const D: usize>(page: &mut [u8; 4096], level: u8)
 }
 
 /// Adds a child to a fork page that has room: it is written in the place after the last one, and counted.
-/// Other bytes stay.
 pub fn push_link(page: &mut [u8; 4096], key: u64, child: u32)
     requires room { number_at 2 2 page.old < 340 }
     ensures count { number_at 2 2 page.new ≡ number_at 2 2 page.old + 1 }
@@ -36,7 +35,7 @@ pub fn push_link(page: &mut [u8; 4096], key: u64, child: u32)
     write_u16(page, 2, count as u16 + 1);
 }
 
-/// Writes another child into the place of one of a fork page. Other bytes stay.
+/// Writes another child into the place of one of a fork page.
 pub fn set_link(page: &mut [u8; 4096], place: usize, key: u64, child: u32)
     requires within { place < 340 }
     ensures count { number_at 2 2 page.new ≡ number_at 2 2 page.old }
@@ -74,7 +73,6 @@ pub fn set_page(page: &mut [u8; 4096], place: usize, child: u32)
 }
 
 /// Takes the last child from a fork page that has one: it is no longer counted, and its bytes are zeros.
-/// Other bytes stay.
 pub fn pop_link(page: &mut [u8; 4096])
     requires some { 0 < number_at 2 2 page.old }
     requires few { number_at 2 2 page.old ≤ 340 }

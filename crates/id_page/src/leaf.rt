@@ -31,7 +31,7 @@ pub fn is_leaf<const D: usize>(page: &[u8; 4096]) -> bool
     true
 }
 
-/// The place of the first object with an identifier, if there is one.
+/// The place of an object with an identifier, if there is one.
 pub fn place_of_id<const D: usize>(page: &[u8; 4096], id: u64) -> Option<usize>
     requires dims { IsDims D }
     requires few { number_at 2 2 page.now ≤ most_objects D }
@@ -60,7 +60,6 @@ pub fn start_leaf<const D: usize>(page: &mut [u8; 4096])
 }
 
 /// Adds an object to a leaf page that has room: it is written in the place after the last one, and counted.
-/// Other bytes stay.
 pub fn push_object<const D: usize>(page: &mut [u8; 4096], object: &(u64, (BBox<D>, u32)))
     requires dims { IsDims D }
     requires room { number_at 2 2 page.old < most_objects D }
@@ -92,7 +91,6 @@ pub fn set_object<const D: usize>(
 }
 
 /// Takes the last object from a leaf page that has one: it is no longer counted, and its bytes are zeros.
-/// Other bytes stay.
 pub fn pop_object<const D: usize>(page: &mut [u8; 4096])
     requires dims { IsDims D }
     requires some { 0 < number_at 2 2 page.old }

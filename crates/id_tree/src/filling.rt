@@ -23,21 +23,18 @@ use page_cache::PageCache;
 use page_file::Fault;
 use std::alloc::Allocator;
 
-/// Adds objects to the table, none of which has an identifier that is there or that one before it has. In the
-/// order of their identifiers they leave full leaves. The gate has to be open.
+/// Adds objects to the table, none of which has an identifier that is there or that one before it has. The
+/// gate has to be open. In the order of their identifiers they leave full leaves, which no clause says.
 ///
 /// Where the pages stand for a table, it makes at most one page more live for each 28 objects that the table
-/// has
-/// then, and 14 more.
+/// has then, and 14 more.
 ///
 /// Pages with zeros in all bytes that they do not name stay so, and so are new ones.
 ///
 /// With a sound map, where the pages stand for a table at that root, a refusal is `Memory` or `Device`, or
 /// `NoPages` where each page number is live. On other pages it may be `Damaged` too. On an honest device,
-/// where
-/// no page is touched, that comes with the number of a page that a walk down the forks comes to, or, where
-/// the
-/// map is not sound, of a page given out that is not live.
+/// where no page is touched, that comes with the number of a page that a walk down the forks comes to, or,
+/// where the map is not sound, of a page given out that is not live.
 pub fn fill<const D: usize, B: BlockDevice, A: Allocator + Copy>(
     cache: &mut PageCache<B, A>,
     root: u32,

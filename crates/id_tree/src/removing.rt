@@ -30,7 +30,7 @@ use std::alloc::Allocator;
 
 /// Removes an object from the table, which has its identifier. The gate has to be open.
 ///
-/// It is one walk: on the way down each child with less than two fifths of what fits is joined with the one
+/// It is one walk, which no clause says: on the way down each child with less than two fifths of what fits is joined with the one
 /// next to it, and what does not fit into one page then is cut in two in the middle. A root that keeps one
 /// child above others takes its place.
 ///

@@ -18,7 +18,8 @@ use page_cache::PageCache;
 use page_file::Fault;
 use std::alloc::Allocator;
 
-/// The box and the tag of an object, if the table has its identifier. It looks at one page of each level.
+/// The box and the tag of an object, if the table has its identifier. It looks at one page of
+/// each level, which no clause says.
 ///
 /// On an honest device, where the pages stand for a table at that root, a refusal is `Memory` or `Device`. On
 /// other pages it may be `Damaged` too, with the number of a page that a walk down the forks comes to. Map

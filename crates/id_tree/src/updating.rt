@@ -23,8 +23,8 @@ use page_cache::PageCache;
 use page_file::Fault;
 use std::alloc::Allocator;
 
-/// Gives the object with that identifier, which the table has, another box, where it lies: one page is
-/// written, and one of each level is looked at. Its tag stays. The gate has to be open.
+/// Gives the object with that identifier, which the table has, another box, where it lies. Its tag
+/// stays. The gate has to be open. It looks at one page of each level and writes one, which no clause says.
 ///
 /// Pages with zeros in all bytes that they do not name stay so.
 ///
