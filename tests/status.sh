@@ -77,8 +77,8 @@ kills() {
     exec {end}>&-
 }
 
-# journal FILE WHAT: writes a journal beside FILE (docs/FORMAT.md, "The journal"): a complete one of another file, or one
-# that says that the session of this one has ended, whose gate was torn.
+# journal FILE WHAT: writes a journal beside FILE (docs/FORMAT.md, "The journal"): one of another file, complete (foreign)
+# or empty again (idle), or one that says that the session of this one has ended, whose gate was torn.
 journal() {
     python3 - "$1" "$2" <<'END'
 import sys
@@ -87,9 +87,9 @@ path, what = sys.argv[1:]
 file = bytearray(open(path, "rb").read())
 header = bytearray(file[4096:8192])
 blocks = [bytes(4096)] * 7
-if what == "foreign":
+if what in ("foreign", "idle"):
     header[100] ^= 1
-    blocks[2] = b"RSTARJNL" + bytes([1]) + bytes(4087)  # complete
+    blocks[2] = b"RSTARJNL" + bytes([what == "foreign"]) + bytes(4087)
     blocks[3] = bytes(11) + bytes([2]) + bytes(4084)  # of two entries: blocks 0 and 2
     blocks[4] = bytes(file[:4096])
     blocks[5] = bytes([7]) * 4096
@@ -99,7 +99,7 @@ if what == "ended":
     file[3] ^= 255
     open(path, "wb").write(file)
 blocks[0] = b"RSTARTTL" + bytes(header[8:])
-open(path + "-journal", "wb").write(b"".join(blocks if what == "foreign" else blocks[:2]))
+open(path + "-journal", "wb").write(b"".join(blocks[:2] if what == "ended" else blocks))
 END
 }
 
@@ -205,12 +205,14 @@ for made in "$program" "$program.by-rattle"; do
     ends 0 "$unended" "$made" newlink <<<'layers' >/dev/null
     ends 0 '' "$made" new <<<'layers' >/dev/null
     [ ! -e new-journal ] || wrong "a run that ended left its journal"
-    # a journal of another file is not replayed, and an end that was cut short is finished
+    # a journal of another file is not taken, and an end that was cut short is finished
     before=$(cksum new)
-    journal new foreign
     line='rstore: FILE-journal is the journal of another file'
-    refused _ _ new "$made" new
-    rm new-journal
+    for kind in foreign idle; do
+        journal new $kind
+        refused _ _ new "$made" new
+        rm new-journal
+    done
     journal new ended
     ends 0 '' "$made" new <<<'layers' >replies
     grep -q '^ok 0$' replies && [ ! -e new-journal ] || wrong "an end that was cut short: $(cat replies)"

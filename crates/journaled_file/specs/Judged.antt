@@ -22,18 +22,23 @@ IsOf a e = block_at 0 e ≡ title_of a
 abbrev pub HasEnded : Blocks → Blocks → Type 0
 HasEnded a e = block_at 1 e ≡ end_of a
 
--- behind both it is complete, and has room for entries
+-- behind both it has had entries
+abbrev pub HadEntries : Blocks → Type 0
+HadEntries e = 4 < length e
+
+-- and is complete
 pub record HasEntries (e : Blocks) : Type 0 where
-  pub room : 4 < length e
+  pub room : HadEntries e
   pub complete : gate_says (block_at 2 e) ≡ true
 
 -- what is so of a base and such a file
 abbrev pub IsJudged : Found → Blocks → Blocks → Type 0
-IsJudged Fresh a e = (¬ IsMarked a) × ((length e ≤ 2) ⊎ (IsJournal e × ¬ HasEntries e))
+IsJudged Fresh a e = (¬ IsMarked a) × ((length e ≤ 4) ⊎ (IsOf a e × ¬ HasEntries e))
+    × ((length e ≤ 2) ⊎ IsJournal e)
 IsJudged Own a e = IsJournal e × (¬ HasEnded a e) × (IsMarked a ⊎ (HasEntries e × IsOf a e))
 IsJudged Ended a e = IsJournal e × HasEnded a e
 IsJudged Missing a e = (¬ IsJournal e) × (IsMarked a ⊎ (2 < length e))
-IsJudged Foreign a e = (¬ IsMarked a) × HasEntries e × ¬ IsOf a e
+IsJudged Foreign a e = IsJournal e × (¬ HasEnded a e) × (¬ IsMarked a) × HadEntries e × ¬ IsOf a e
 
 -- it has no title, or has entries beside a base without a header, or what stands behind its title is no
 -- journal

@@ -34,13 +34,13 @@ pub none_foreign : (n : ℕ) (base journal a e : Blocks) → n ≡ length base
     → (¬ IsMarked base → IsOf base journal) → HasTitle journal e → IsLeft n base a (untitled e)
     → ¬ IsJudged Foreign a e
 none_foreign n base journal a e size of has left judged =
-    let plain = left.plain judged.0 in
+    let plain = left.plain judged.2 in
     let two : 2 ≤ n = many n plain.few in
-    judged.2
-    (has.title ∙ of (λ m. judged.0 (left.found m))
+    judged.4
+    (has.title ∙ of (λ m. judged.2 (left.found m))
     ∙ sym (same_title n base a (untitled e) size two plain))
   where
     many : (k : ℕ) → (k < 2 → length (untitled e) ≤ 2) → 2 ≤ k
-    many zero few = absurd (omega (arith, few (omega arith), length-untitled e, judged.1.room))
-    many (suc zero) few = absurd (omega (arith, few (omega arith), length-untitled e, judged.1.room))
+    many zero few = absurd (omega (arith, few (omega arith), length-untitled e, judged.3))
+    many (suc zero) few = absurd (omega (arith, few (omega arith), length-untitled e, judged.3))
     many (suc (suc k)) few = omega arith

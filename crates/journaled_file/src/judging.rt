@@ -13,10 +13,13 @@ use journaled_device::says_complete;
 use marked_pair::{MARKED, reads_as};
 use titled_pair::{TITLE_BLOCKS, end_of_base, is_title, title_of_base};
 
+// How many blocks a journal has at most that never had an entry: its title, its end, a gate and a count.
+const EMPTY_BLOCKS: u32 = TITLE_BLOCKS + 2;
+
 /// What the file that has the name of a base's journal is to the base.
 #[derive(Clone, Copy, Debug, PartialEq, Eq, Drop)]
 pub enum Found {
-    /// The base is read without it: it has no entries, or its making was cut short.
+    /// The base is read without it: it never had an entry or is empty again, or its making was cut short.
     Fresh,
     /// The base's journal.
     Own,
@@ -76,14 +79,17 @@ fn judge_titled<P: DevicePair>(
     if marked {
         return Ok(Found::Own);
     }
-    if !has_entries(pair)? {
+    if pair.journal_blocks() <= EMPTY_BLOCKS {
         return Ok(Found::Fresh);
     }
-    let own = title_of_base(pair)?;
-    Ok(if *title == own {
+    // Also one that is empty again: the file that it is of has the mark, and is not read without it.
+    if *title != title_of_base(pair)? {
+        return Ok(Found::Foreign);
+    }
+    Ok(if has_entries(pair)? {
         Found::Own
     } else {
-        Found::Foreign
+        Found::Fresh
     })
 }
 
@@ -127,7 +133,7 @@ pub(crate) fn has_entries<P: DevicePair>(pair: &mut P) -> Result<bool, DeviceErr
     ensures quiet { P.honest pair.old → IsQuiet P.DevicePair pair.old pair.new }
     ensures honest { P.honest pair.old ↔ P.honest pair.new }
 {
-    if pair.journal_blocks() <= TITLE_BLOCKS + 2 {
+    if pair.journal_blocks() <= EMPTY_BLOCKS {
         return Ok(false);
     }
     let mut gate = zero_block();

@@ -108,3 +108,22 @@ fn what_is_no_journal_is_not_written(rt: HostRuntime) -> Result<(), Fail> {
     fs::remove_file(&rt, path)?;
     Ok(())
 }
+
+// A file that was moved away behind a kill keeps its journal, also where another one is made in its place.
+#[test]
+fn a_moved_file_keeps_its_journal(rt: HostRuntime) -> Result<(), Fail> {
+    let path = "program_tests_moved";
+    let _ = fs::remove_file(&rt, path);
+    cut_short(&rt, path)?;
+    fs::rename(&rt, path, "program_tests_away")?;
+    assert!(rt;
+        matches!(
+            open_journaled(&rt, rt.alloc(), path, true),
+            Err(OpenError::OtherJournal)
+        )
+    );
+    fs::rename(&rt, "program_tests_away", path)?;
+    assert_eq!(rt; objects(&rt, path)?, (1, true));
+    fs::remove_file(&rt, path)?;
+    Ok(())
+}
