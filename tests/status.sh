@@ -201,6 +201,10 @@ for made in "$program" "$program.by-rattle"; do
     mv new-journal aside
     refused _ _ new "$made" new
     mv aside new-journal
+    # a copy of it with an empty journal is opened, as docs/COMMANDS.md says of a journal that is lost
+    cp new found && { printf RSTARTTL; head -c 8184 /dev/zero; } >found-journal
+    ends 0 "$unended" "$made" found <<<'check' >replies
+    grep -q '^ok$' replies || wrong "a file whose journal was lost: $(cat replies)"
     ln -s new newlink # a link leads to the same journal
     ends 0 "$unended" "$made" newlink <<<'layers' >/dev/null
     ends 0 '' "$made" new <<<'layers' >/dev/null
