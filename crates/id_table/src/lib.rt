@@ -11,4 +11,4 @@ mod kind;
 pub use asking::{TableFacts, check_table, get};
 pub use changing::{add, free_all, make, remove, update};
 pub use filling::fill;
-pub use kind::TableKind;
+pub use kind::{TableKind, kind_at};

@@ -22,6 +22,9 @@ const OLD_BUCKET: u64 = 4;
 
 const NEW_BUCKET: u8 = 7;
 
+// The kind of the first page of a tree of identifiers.
+const FORK: u8 = 8;
+
 // The first six blocks of the file written by hand, of which the catalog has the layer `a` alone. The bytes
 // where format 2 has the tags of the leaf are no tags.
 fn small_file(alloc: Global) -> Result<MemoryDevice, Fail> {
@@ -258,5 +261,29 @@ fn a_page_of_another_kind_is_damaged(rt: HostRuntime) -> Result<(), Fail> {
     let mut store = opened(rt.alloc(), device, 8)?;
     let given = answer(rt.alloc(), &mut store, window);
     assert_eq!(rt; given, Err(Refusal::Damaged(3)));
+    Ok(())
+}
+
+// A file below version 3 has no tree of identifiers: a check finds one, by its first page.
+#[test]
+fn a_tree_in_a_file_of_version_2_is_damaged(rt: HostRuntime) -> Result<(), Fail> {
+    let alloc = rt.alloc();
+    let mut store = new_store(alloc, 8)?;
+    answer(alloc, &mut store, Command::Create(b"a", 2, 4))?;
+    let insert = Command::Insert(b"a", 1, RawBox::Two([0, 0], [9, 9]));
+    answer(alloc, &mut store, insert)?;
+    let mut device = device_of(store)?;
+    let mut fork = 0;
+    for block in 3..device.blocks() {
+        if block_of(&mut device, block)?[0] == FORK {
+            fork = block;
+        }
+    }
+    for (version, found) in [(2, Err(Refusal::Damaged(fork))), (3, Ok(()))] {
+        patch(&mut device, 1, 8, 2, version)?;
+        let mut store = opened(alloc, device, 8)?;
+        assert_eq!(rt; store.check(), found, "version {version}");
+        device = store.abandon();
+    }
     Ok(())
 }

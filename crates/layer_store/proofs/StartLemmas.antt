@@ -7,6 +7,7 @@ use Rattle.std.specs.Cmp.Lexicographic.{slice_cmp}
 use Rattle.std.specs.Ordering.{nat_cmp}
 use Rattle.std.proofs.lemmas.Bool.{cases_eq}
 use Rattle.std.proofs.lemmas.Bool.Decides.{nat_tests}
+use Rattle.std.proofs.lemmas.List.Elements.{All-nil}
 use Rattle.block_device.specs.Device.{Blocks, LeavesOnly, Recovery, BeginsOne}
 use Rattle.block_device.specs.Moments.{leaves_weaker, brings_weaker}
 use Rattle.catalog_page.specs.Layout.{records_at}
@@ -20,6 +21,7 @@ use Rattle.node_page.specs.Standing.{PageMap}
 use Rattle.page_cache.specs.Cache.{IsHonest}
 use Rattle.page_cache.proofs.Behind.{shut_lies}
 use Rattle.page_file.specs.File.{IsNewFile, IsPageMap, LiesIn, blocks_of, next_of, pages, version_of}
+use Rattle.page_file.specs.declared.header.Version.{Version}
 use Rattle.page_file.specs.declared.header.Version.TheVariants.{Two}
 use Rattle.page_file.specs.Laws.{a_run_goes_on}
 use Rattle.page_file.specs.Layout.{catalog_block}
@@ -67,13 +69,14 @@ none_is_some None e some = cc
 none_is_some (Some b) e some = cc
 
 -- a new file holds it
-nothing_held : (pages : PageMap) (next : ℕ) → pages 2 ≡ Some catalog_block
-    → ((k : ℕ) → ¬ (k ≡ 2) → pages k ≡ None) → Holds pages next [] empty
+nothing_held : {version : Version} (pages : PageMap) (next : ℕ) → pages 2 ≡ Some catalog_block
+    → ((k : ℕ) → ¬ (k ≡ 2) → pages k ≡ None) → Holds pages next version [] empty
 nothing_held pages next there others = record {
   layers = [];
   rows = refl;
   table = sym no_entries;
   stand = tt;
+  allowed = All-nil;
   used = record {
     once = the_catalog_alone;
     live = λ n some. subst (λ (k : ℕ). IsSome (pages k)) (its_page n some)

@@ -9,7 +9,7 @@ use Rattle.catalog_page.specs.Layout.{Record, records_of}
 use Rattle.id_table.specs.Table.{kind_of, part_of}
 use Rattle.layer_pages.specs.Changes.{BecomesLayer, HasInserted}
 use Rattle.layer_pages.specs.Layers.{CanBeRoot, IsLayerAt, part_of_layer}
-use Rattle.page_cache.specs.Cache.{IsPageMap, next_of, pages}
+use Rattle.page_cache.specs.Cache.{IsPageMap, next_of, pages, version_of}
 use Rattle.page_cache.specs.declared.cache.PageCache.{PageCache}
 use Rattle.plain_table.specs.Table.{Layer, Table, layer_at, most_objects, object_count, with_object}
 use Rattle.plain_table.proofs.StepLemmas.{len-with_object}
@@ -68,6 +68,7 @@ module _ {D A : Type 0} {m : _} (kept : Layers D A m) (t : Table) (name : List �
       (was_is : (d : Record) → was ≡ (get_or (records_of kept.records) place d).count)
       (count_is : count ≡ min (was + 1) (2 ^ 64 - 1))
       (can : CanBeRoot root) (le : next_of kept.cache ≤ next_of cache)
+      (version : version_of cache ≡ version_of kept.cache)
       (room : kept.object_count < most_objects)
       (records : (d : Record)
       → records_of new.records ≡ slice_set (records_of kept.records) place
@@ -105,6 +106,9 @@ module _ {D A : Type 0} {m : _} (kept : Layers D A m) (t : Table) (name : List �
     later : next_of kept.cache ≤ next_of new.cache
     later = subst (λ (x : PageCache D A m). next_of kept.cache ≤ next_of x) (sym same) le
 
+    same_version : version_of new.cache ≡ version_of kept.cache
+    same_version = subst (λ (x : PageCache D A m). version_of x ≡ version_of kept.cache) (sym same) version
+
     -- the layers are sound with the object
     pub sound_added : IsPageMap cache → new.object_count ≡ kept.object_count + 1 → new.written ≡ false
         → IsSound new (map_insert t name (with_object (layer_at t name) id o))
@@ -113,7 +117,7 @@ module _ {D A : Type 0} {m : _} (kept : Layers D A m) (t : Table) (name : List �
         (map_insert (layer_at t name).objects id o)
         (HasInserted dims located.fanout (reading kept t name place sound finds).pages id o) became_new
         count counts
-        can.level later few records (subst (λ (x : PageCache D A m). IsPageMap x) (sym same) is_map)
+        can.level later same_version few records (subst (λ (x : PageCache D A m). IsPageMap x) (sym same) is_map)
         (omega (arith, total, more, sound.counted)) unwritten
 
     -- and the tree of the layer became one by a lawful insertion
@@ -123,7 +127,7 @@ module _ {D A : Type 0} {m : _} (kept : Layers D A m) (t : Table) (name : List �
         (map_insert (layer_at t name).objects id o)
         (HasInserted dims located.fanout (reading kept t name place sound finds).pages id o) became_new
         count counts
-        can.level later few records (HasGained (layer_at t name) id o)
+        can.level later same_version few records (HasGained (layer_at t name) id o)
         (λ inserted. (
           part_of (reading kept t name place sound finds).pages.ids,
           subst (λ (k : ℕ). IsInsertion k (layer_at t name).fanout

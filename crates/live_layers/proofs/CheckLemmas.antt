@@ -3,8 +3,11 @@ use Rattle.std.proofs.Common.{◌≡◌, ◌∙◌, ℕ, ◌+◌, ◌<◌, cond,
 use Rattle.std.proofs.Common.{◌⊎◌, zero, suc, Contains, inl, inr, take, refl, sym, ap, subst, arith}
 use Rattle.std.specs.FinMap.{len, len-entries}
 use Rattle.std.proofs.lemmas.List.{get_or-map, length-map, map-append, take_more}
+use Rattle.std.proofs.lemmas.List.Elements.{All-nil, All-push}
 use Rattle.catalog_page.specs.Layout.{Record, record_of}
 use Rattle.catalog_page.specs.declared.layer_record.LayerRecord.{LayerRecord}
+use Rattle.id_table.specs.Table.{kind_of}
+use Rattle.id_table.specs.declared.kind.TableKind.TheVariants.{Chains}
 use Rattle.layer_pages.specs.Checked.{ComesInLayer, IsCheckedLayer}
 use Rattle.layer_pages.specs.Layers.{IsLayerAt}
 use Rattle.node_page.specs.Checked.{named_pages}
@@ -14,22 +17,27 @@ use Rattle.page_cache.specs.declared.cache.PageCache.{PageCache}
 use Rattle.page_file.specs.Fault.{IsOfDevice}
 use Rattle.page_file.specs.declared.fault.Fault.{Fault}
 use Rattle.page_file.specs.declared.fault.Fault.TheVariants as fault
+use Rattle.page_file.specs.declared.header.Version.{Version}
+use Rattle.page_file.specs.declared.header.Version.TheVariants.{Two}
 use Rattle.tree_node.specs.declared.node.Root.{Root}
 use Rattle.tree_node.proofs.PositionLemmas.{total-append}
 use Rattle.plain_table.specs.declared.refusal.Refusal.TheVariants as refusal
 use Rattle.live_layers.specs.Faults.{as_refusal}
 use Rattle.live_layers.specs.Checked.{AddsLayer, AddsLayers, ComesInLayers, IsFoundDamaged}
-use Rattle.live_layers.specs.Layers.{LayerStands, LayersStand, Reading, of_layer, of_layers, root_of, row_of}
+use Rattle.live_layers.specs.Layers.{AllowsTable, AllowsTables, LayerStands, LayersStand, Reading, of_layer}
+use Rattle.live_layers.specs.Layers.{of_layers, root_of, row_of}
 use Rattle.live_layers.proofs.FindLemmas.{no_reading}
 use Rattle.live_layers.proofs.LayerLemmas.{layer_at_stands, layer_stays, layers_stay}
 
 -- ---- one layer
 
 -- a layer that was checked, its pages appended
-pub adds_layer : (dims : ℕ) (pages : PageMap) (r : Record) (list before now : List ℕ) → r.dims ≡ dims
-    → IsCheckedLayer dims r.fanout pages (root_of r) r.ids_root r.count list → now ≡ before ++ list
-    → AddsLayer pages r before now
-adds_layer dims pages r list before now axes checked is = record {
+pub adds_layer : (dims : ℕ) (pages : PageMap) (version : Version) (r : Record) (list before now : List ℕ)
+    → r.dims ≡ dims
+    → (checked : IsCheckedLayer dims r.fanout pages (root_of r) r.ids_root r.count list)
+    → (version ≡ Two → kind_of checked.layer.ids ≡ Chains) → now ≡ before ++ list
+    → AddsLayer pages version r before now
+adds_layer dims pages version r list before now axes checked allowed is = record {
   layer = record {
     row = r;
     pages = checked.layer;
@@ -43,6 +51,7 @@ adds_layer dims pages r list before now axes checked is = record {
     fanout = refl;
     count = sym (len-entries checked.objects) ∙ checked.count_is;
   };
+  allowed = allowed;
   listed =
       λ n. omega (
         arith,
@@ -63,6 +72,10 @@ module _ (dims : ℕ) (pages : PageMap) (r : Record) (h : Reading) (row : h.row 
 
   pub count_of_row : len h.layer.objects ≡ r.count
   count_of_row = len-entries h.layer.objects ∙ stands.count ∙ ap (λ (x : Record). x.count) row
+
+-- tables that one version allows the same version does
+pub allowed_in : (was is : Version) (hs : List Reading) → is ≡ was → AllowsTables was hs → AllowsTables is hs
+allowed_in was is hs version = subst (λ (v : Version). AllowsTables v hs) (sym version)
 
 -- ---- the layer of the record at a place
 
@@ -85,6 +98,11 @@ module _ (items : List LayerRecord) (hs : List Reading) (rows : map row_of hs �
       ∙ ap (λ (rs : List Record). get_or rs i (record_of r)) rows
       ∙ get_or-map record_of items i r (record_of r) lt ∙ ap record_of (sym is)
 
+  -- the version allows its table
+  pub allowed_here : (was is : Version) → is ≡ was → AllowsTables was hs
+      → AllowsTable is (get_or hs i no_reading)
+  allowed_here was is version all = allowed_in was is hs version all i no_reading in_readings
+
   -- it stands, also in equal pages
   pub stands_here : (old new : PageMap) → ((n : ℕ) → new n ≡ old n) → LayersStand old hs
       → LayerStands new (get_or hs i no_reading)
@@ -104,27 +122,35 @@ parts_more : (hs : List Reading) (h : Reading) (n : ℕ)
 parts_more [] h n = omega arith
 parts_more (k ∷ ks) h n = omega (arith, parts_more ks h n)
 
-pub adds_none : (pages : PageMap) (list : List ℕ) → AddsLayers pages [] list list
-adds_none pages list = record { layers = []; rows = refl; stand = tt; listed = λ n. omega arith }
+pub adds_none : (pages : PageMap) (version : Version) (list : List ℕ) → AddsLayers pages version [] list list
+adds_none pages version list =
+    record { layers = []; rows = refl; stand = tt; allowed = All-nil; listed = λ n. omega arith }
 
-pub adds_more : (pages : PageMap) (rs : List Record) (r : Record) (before mid now : List ℕ)
-    → AddsLayers pages rs before mid → AddsLayer pages r mid now → AddsLayers pages (rs ++ r ∷ []) before now
-adds_more pages rs r before mid now a b = record {
+pub adds_more : (pages : PageMap) (version : Version) (rs : List Record) (r : Record)
+    (before mid now : List ℕ) → AddsLayers pages version rs before mid → AddsLayer pages version r mid now
+    → AddsLayers pages version (rs ++ r ∷ []) before now
+adds_more pages version rs r before mid now a b = record {
   layers = a.layers ++ b.layer ∷ [];
   rows = map-append row_of a.layers (b.layer ∷ []) ∙ ap (λ (xs : List Record). xs ++ b.layer.row ∷ []) a.rows
       ∙ ap (λ (x : Record). rs ++ x ∷ []) b.row;
   stand = stand_more pages a.layers b.layer a.stand b.stands;
+  allowed = All-push (AllowsTable version) a.layers b.layer a.allowed b.allowed;
   listed = λ n. omega (arith, a.listed n, b.listed n, parts_more a.layers b.layer n);
 }
 
--- in equal pages
-pub adds_in : (old new : PageMap) (r : Record) (before now : List ℕ) → ((n : ℕ) → new n ≡ old n)
-    → AddsLayer new r before now → AddsLayer old r before now
-adds_in old new r before now same a = subst (λ (p : PageMap). AddsLayer p r before now) (λ i n. same n i) a
+-- in equal pages of a file of the same version
+pub adds_in : (old new : PageMap) (was is : Version) (r : Record) (before now : List ℕ)
+    → ((n : ℕ) → new n ≡ old n) → is ≡ was → AddsLayer new is r before now → AddsLayer old was r before now
+adds_in old new was is r before now same version a =
+    subst (λ (v : Version). AddsLayer old v r before now) version
+    (subst (λ (p : PageMap). AddsLayer p is r before now) (λ i n. same n i) a)
 
-pub all_in : (old new : PageMap) (rs : List Record) (before now : List ℕ) → ((n : ℕ) → new n ≡ old n)
-    → AddsLayers new rs before now → AddsLayers old rs before now
-all_in old new rs before now same a = subst (λ (p : PageMap). AddsLayers p rs before now) (λ i n. same n i) a
+pub all_in : (old new : PageMap) (was is : Version) (rs : List Record) (before now : List ℕ)
+    → ((n : ℕ) → new n ≡ old n) → is ≡ was → AddsLayers new is rs before now
+    → AddsLayers old was rs before now
+all_in old new was is rs before now same version a =
+    subst (λ (v : Version). AddsLayers old v rs before now) version
+    (subst (λ (p : PageMap). AddsLayers p is rs before now) (λ i n. same n i) a)
 
 pub stand_in : (old new : PageMap) (hs : List Reading) → ((n : ℕ) → new n ≡ old n) → LayersStand old hs
     → LayersStand new hs

@@ -6,7 +6,7 @@ use Rattle.block_device.specs.Device.{Blocks, LeavesOnly, Brings}
 use Rattle.block_device.specs.Moments.{leaves_weaker, brings_started}
 use Rattle.catalog_page.specs.Layout.{Record, records_at, records_of}
 use Rattle.page_cache.specs.Cache.{IsHonest, IsUnchanged, KeepsGate, KeepsMap, LiesIn, blocks_of, device_of}
-use Rattle.page_cache.specs.Cache.{gate_of, next_of, pages}
+use Rattle.page_cache.specs.Cache.{gate_of, next_of, pages, version_of}
 use Rattle.page_cache.specs.declared.cache.PageCache.{PageCache}
 use Rattle.page_file.specs.Fault.{IsOfDevice}
 use Rattle.page_file.specs.Laws.{stops_of_a_run_go_on}
@@ -132,8 +132,9 @@ module _ {D A : Type 0} {m : _} where
       let honest = sound.map.honest in
       let rs = records_of new.records in
       let same : records_of old.records ≡ rs = same_records old rs t sound written spelled in
-      let held : Holds (pages old.cache) (next_of old.cache) rs t =
-      subst (λ (rs : List Record). Holds (pages old.cache) (next_of old.cache) rs t) same sound.holds in
+      let held : Holds (pages old.cache) (next_of old.cache) (version_of old.cache) rs t =
+      subst (λ (rs : List Record). Holds (pages old.cache) (next_of old.cache) (version_of old.cache) rs t) same
+      sound.holds in
       let number = count ∙ counted (pages old.cache) (next_of old.cache) rs t held in
       record {
         map = keeps.sound.0 sound.map;

@@ -21,7 +21,7 @@ use Rattle.id_table.specs.declared.kind.TableKind.TheVariants as kinds
 use Rattle.layer_pages.specs.Changes.{BecomesLayer, IsEmptyLeaf}
 use Rattle.layer_pages.specs.Layers.{CanBeRoot}
 use Rattle.node_page.specs.Parts.{no_page}
-use Rattle.page_cache.specs.Cache.{IsPageMap, next_of, pages}
+use Rattle.page_cache.specs.Cache.{IsPageMap, next_of, pages, version_of}
 use Rattle.page_cache.specs.Laws.{a_live_page_was_given_out}
 use Rattle.node_page.specs.Standing.{PageMap}
 use Rattle.page_file.specs.declared.header.Version.{Version}
@@ -151,6 +151,12 @@ pub version_made : (newest was mid now : Version) (kind : TableKind) → kind �
 version_made Two was mid now kind is chains tree same = chains is ∙ same
 version_made Three was mid now kind is chains tree same = tree is
 
+-- below version 3 a layer was made with chains, and no version was raised
+by_kind : (was now : Version) (kind : TableKind) → (kind ≡ kinds.Chains → now ≡ was)
+    → (kind ≡ kinds.Tree → now ≡ Three) → now ≡ Two → (was ≡ Two) × (kind ≡ kinds.Chains)
+by_kind was now kinds.Chains chains tree two = (sym (chains refl) ∙ two, refl)
+by_kind was now kinds.Tree chains tree two = let no : Three ≡ Two = sym (tree refl) ∙ two in absurd (cc)
+
 -- a layer that was made stands where the pages stayed
 pub made_still : (old mid new : PageMap) (dims fanout : ℕ) (kind : TableKind) (root : Root) (ids_root : ℕ)
     → ((n : ℕ) → new n ≡ mid n)
@@ -168,6 +174,8 @@ module _ {D A : Type 0} {m : _} (kept new : Layers D A m) (t : Table) (name : Li
     (root : Root) (ids_root : ℕ) (kind : TableKind)
     (became : BecomesLayer dims fanout (pages kept.cache) (pages new.cache) no_page kind root ids_root empty
     IsEmptyLeaf) (can : CanBeRoot root) (le : next_of kept.cache ≤ next_of new.cache)
+    (chains : kind ≡ kinds.Chains → version_of new.cache ≡ version_of kept.cache)
+    (tree : kind ≡ kinds.Tree → version_of new.cache ≡ Three)
     (records : records_of new.records ≡ insert (records_of kept.records) place
     (made_record name dims fanout root ids_root)) where
   abbrev made : Reading
@@ -186,17 +194,22 @@ module _ {D A : Type 0} {m : _} (kept new : Layers D A m) (t : Table) (name : Li
         count = sym (len-entries empty) ∙ len-empty nat_cmp Object;
       }
 
+  -- the version was raised, or the new layer's table is of chains
+  raised : version_of new.cache ≡ Two → (version_of kept.cache ≡ Two) × (kind ≡ kinds.Chains)
+  raised two = by_kind (version_of kept.cache) (version_of new.cache) kind chains tree two
+
   given : (n : ℕ) → IsSome (pages new.cache n) → (2 ≤ n) × (n < next_of new.cache)
   given n live = let l = a_live_page_was_given_out new.cache n live in (l.0, l.1)
 
   few : object_count (map_insert t name (new_layer dims fanout)) ≤ most_objects
   few = omega (arith, no_more_objects t name place dims fanout belongs, sound.within, sound.counted)
 
-  held : Holds (pages new.cache) (next_of new.cache)
+  held : Holds (pages new.cache) (next_of new.cache) (version_of new.cache)
       (insert (records_of kept.records) place (made_record name dims fanout root ids_root))
       (map_insert t name (new_layer dims fanout))
   held = holds_more (pages kept.cache) (pages new.cache) (next_of kept.cache) (next_of new.cache)
-      (records_of kept.records) t sound.holds name place belongs made stands refl became.moves le given
+      (records_of kept.records) t sound.holds name place belongs made stands (λ two. (raised two).0)
+      (λ two. became.kind_is ∙ (raised two).1) refl became.moves le given
       (is_layer_made name dims fanout root ids_root may) can.level few
 
   -- the layers are sound with the table that has one more
@@ -205,7 +218,7 @@ module _ {D A : Type 0} {m : _} (kept new : Layers D A m) (t : Table) (name : Li
   sound_made is_map total unwritten = record {
     map = is_map;
     holds = subst
-        (λ (rs : List Record). Holds (pages new.cache) (next_of new.cache) rs
+        (λ (rs : List Record). Holds (pages new.cache) (next_of new.cache) (version_of new.cache) rs
         (map_insert t name (new_layer dims fanout))) (sym records) held;
     counted = total ∙ sound.counted ∙ sym (no_more_objects t name place dims fanout belongs);
     within = omega (arith, total, sound.within);
@@ -216,7 +229,8 @@ module _ {D A : Type 0} {m : _} (kept new : Layers D A m) (t : Table) (name : Li
   theirs_stay : (n : ℕ) → 0 < of_layers sound.holds.layers n → pages new.cache n ≡ pages kept.cache n
   theirs_stay =
       all_stay (pages kept.cache) (pages new.cache) (next_of kept.cache) (next_of new.cache)
-      (records_of kept.records) t sound.holds name place belongs made stands refl became.moves le given
+      (records_of kept.records) t sound.holds name place belongs made stands (λ two. (raised two).0)
+      (λ two. became.kind_is ∙ (raised two).1) refl became.moves le given
       (is_layer_made name dims fanout root ids_root may) can.level few
 
   -- and so do their trees

@@ -25,18 +25,19 @@ use Rattle.layer_pages.specs.Layers.{part_of_layer}
 use Rattle.node_page.specs.Parts.{IsAllOf, Moves, both, no_page}
 use Rattle.node_page.specs.Standing.{PageMap}
 use Rattle.node_page.proofs.PartLemmas.{all_of_same, all_pages_move, the_rest_stays}
-use Rattle.page_cache.specs.Cache.{IsPageMap, next_of, pages}
+use Rattle.page_cache.specs.Cache.{IsPageMap, next_of, pages, version_of}
 use Rattle.plain_table.specs.Commands.Command.{Drop}
 use Rattle.plain_table.specs.Laws.{a_change_makes_another_table}
 use Rattle.plain_table.specs.Step.{after, refusal_of}
+use Rattle.page_file.specs.declared.header.Version.{Version}
 use Rattle.plain_table.specs.Table.{Layer, Table, layer_at, most_objects, object_count}
 use Rattle.plain_table.specs.declared.refusal.Refusal.{Refusal}
 use Rattle.tree_node.specs.Trees.{Tree}
 use Rattle.live_layers.specs.Catalog.{AreLayers, is_good_catalog, is_layer_record}
 use Rattle.live_layers.specs.Dropping.{KeepsOtherTrees}
 use Rattle.live_layers.specs.Keeping.{Finds, IsSound}
-use Rattle.live_layers.specs.Layers.{Holds, IsTreeOf, LayersStand, Reading, entry_of, in_use, of_layer}
-use Rattle.live_layers.specs.Layers.{of_layers, row_of}
+use Rattle.live_layers.specs.Layers.{AllowsTable, Holds, IsTreeOf, LayersStand, Reading, entry_of, in_use}
+use Rattle.live_layers.specs.Layers.{of_layer, of_layers, row_of}
 use Rattle.live_layers.specs.declared.layers.Layers.{Layers}
 use Rattle.live_layers.proofs.AskLemmas.{named_there}
 use Rattle.live_layers.proofs.CatalogGood.{more_record}
@@ -245,8 +246,8 @@ others_stand old new (h ∷ hs) (suc i) same all = (
 )
 
 -- the layer of a record is in the table
-pub has_layer : (pages : PageMap) (next : ℕ) (records : List Record) (t : Table)
-    (h : Holds pages next records t) (r : Record) → Contains records r → contains_key t r.name ≡ true
+pub has_layer : {version : Version} (pages : PageMap) (next : ℕ) (records : List Record) (t : Table)
+    (h : Holds pages next version records t) (r : Record) → Contains records r → contains_key t r.name ≡ true
 has_layer pages next records t h r (k, lt, is) =
     let within : k < length h.layers = omega (arith, lt, ap length h.rows, length-map h.layers row_of) in
     let row : r ≡ (get_or h.layers k no_reading).row = sym is
@@ -258,8 +259,8 @@ has_layer pages next records t h r (k, lt, is) =
     ∙ ap (λ (e : List ℕ × Layer). e.0) (get_or-map entry_of h.layers k no_reading d within)
     ∙ sym (ap (λ (x : Record). x.name) row)))
 
-module _ (old new : PageMap) (next next' : ℕ) (records : List Record) (t : Table)
-    (h : Holds old next records t) (name : List ℕ) (place : ℕ) (finds : Finds t name place)
+module _ {version : Version} (old new : PageMap) (next next' : ℕ) (records : List Record) (t : Table)
+    (h : Holds old next version records t) (name : List ℕ) (place : ℕ) (finds : Finds t name place)
     (moves : Moves old new (of_layer (here old next records t h name place finds)) no_page)
     (le : next ≤ next') where
   abbrev was : Reading
@@ -303,12 +304,14 @@ module _ (old new : PageMap) (next next' : ℕ) (records : List Record) (t : Tab
   few = omega (arith, fewer_objects t name place finds, few_objects old next records t h)
 
   -- so the new pages hold the table without it
-  pub holds_less : Holds new next' (remove records place) (map_remove t name)
+  pub holds_less : Holds new next' version (remove records place) (map_remove t name)
   holds_less = record {
     layers = remove h.layers place;
     rows = rows_less;
     table = table_less;
     stand = stand_less;
+    allowed = All-remove (AllowsTable version) h.layers place
+        (in_layers old next records t h name place finds) h.allowed;
     used = all_of_same new (both no_page (the_rest old next records t h name place finds))
         (in_use (remove h.layers place)) (λ n. omega (arith, others_left h.layers place n)) used_less;
     good = subst (λ (rs : List Record). is_good_catalog next' rs ≡ true) rows_less
@@ -346,7 +349,7 @@ module _ {D A : Type 0} {m : _} (kept new : Layers D A m) (t : Table) (name : Li
     (sound : IsSound kept t) (finds : Finds t name place)
     (moves : Moves (pages kept.cache) (pages new.cache)
     (part_of_layer (reading kept t name place sound finds).pages) no_page)
-    (le : next_of kept.cache ≤ next_of new.cache)
+    (le : next_of kept.cache ≤ next_of new.cache) (version : version_of new.cache ≡ version_of kept.cache)
     (records : records_of new.records ≡ remove (records_of kept.records) place) where
   -- they are sound without it
   pub sound_less : (count : ℕ) → ((d : Record) → count ≡ (get_or (records_of kept.records) place d).count)
@@ -360,10 +363,13 @@ module _ {D A : Type 0} {m : _} (kept new : Layers D A m) (t : Table) (name : Li
       record {
         map = is_map;
         holds = subst
-            (λ (rs : List Record). Holds (pages new.cache) (next_of new.cache) rs (map_remove t name))
+            (λ (rs : List Record). Holds (pages new.cache) (next_of new.cache) (version_of new.cache) rs
+            (map_remove t name))
             (sym records)
+            (subst (λ (v : Version). Holds (pages new.cache) (next_of new.cache) v
+            (remove (records_of kept.records) place) (map_remove t name)) (sym version)
             (holds_less (pages kept.cache) (pages new.cache) (next_of kept.cache) (next_of new.cache)
-            (records_of kept.records) t sound.holds name place finds moves le);
+            (records_of kept.records) t sound.holds name place finds moves le));
         counted = left;
         within = omega (arith, total, sound.within);
         catalog = λ w. let no : true ≡ false = sym w ∙ unwritten in absurd (cc);

@@ -14,7 +14,7 @@ use Rattle.id_table.specs.Table.{kind_of}
 use Rattle.layer_pages.specs.Changes.{BecomesLayer, HasPacked}
 use Rattle.layer_pages.specs.Layers.{CanBeRoot, IsLayerAt, Objects, part_of_layer}
 use Rattle.layer_pages.proofs.ObjectLemmas.{one_entry_more}
-use Rattle.page_cache.specs.Cache.{IsPageMap, next_of, pages}
+use Rattle.page_cache.specs.Cache.{IsPageMap, next_of, pages, version_of}
 use Rattle.page_cache.specs.declared.cache.PageCache.{PageCache}
 use Rattle.plain_table.specs.Table.{Table, layer_at, most_objects, object_count}
 use Rattle.tree_node.specs.declared.node.Root.{Root}
@@ -47,7 +47,8 @@ module _ {D A : Type 0} {m : _} (kept : Layers D A m) (t : Table) (name : List �
       (kind_of (reading kept t name place sound finds).pages.ids) root located.ids_root all
       (HasPacked dims located.fanout objects))
       (new : Layers D A m) (same : new.cache ≡ cache) (can : CanBeRoot root)
-      (le : next_of kept.cache ≤ next_of cache) (room : kept.object_count + length objects ≤ most_objects)
+      (le : next_of kept.cache ≤ next_of cache) (version : version_of cache ≡ version_of kept.cache)
+      (room : kept.object_count + length objects ≤ most_objects)
       (records : (d : Record)
       → records_of new.records ≡ slice_set (records_of kept.records) place
       (with_tree (get_or (records_of kept.records) place d) root (length objects))) where
@@ -80,6 +81,9 @@ module _ {D A : Type 0} {m : _} (kept : Layers D A m) (t : Table) (name : List �
     later : next_of kept.cache ≤ next_of new.cache
     later = subst (λ (x : PageCache D A m). next_of kept.cache ≤ next_of x) (sym same) le
 
+    same_version : version_of new.cache ≡ version_of kept.cache
+    same_version = subst (λ (x : PageCache D A m). version_of x ≡ version_of kept.cache) (sym same) version
+
     -- the layers are sound with them
     pub sound_filled : IsPageMap cache → new.object_count ≡ kept.object_count + length objects
         → new.written ≡ false → IsSound new (map_insert t name (record (layer_at t name) { objects = all }))
@@ -87,7 +91,7 @@ module _ {D A : Type 0} {m : _} (kept : Layers D A m) (t : Table) (name : List �
         sound_replaced kept t name place sound finds located
         (by_row kept t name place sound finds located by_record dims is_dims) dims is_dims new root all
         (HasPacked dims located.fanout objects) became_new (length objects) counts
-        can.level later few records (subst (λ (x : PageCache D A m). IsPageMap x) (sym same) is_map)
+        can.level later same_version few records (subst (λ (x : PageCache D A m). IsPageMap x) (sym same) is_map)
         (omega (arith, total, more, sound.counted)) unwritten
 
     -- and the tree of the layer is packed
@@ -95,8 +99,8 @@ module _ {D A : Type 0} {m : _} (kept : Layers D A m) (t : Table) (name : List �
     tree_filled =
         let by = by_row kept t name place sound finds located by_record dims is_dims in
         tree_replaced kept t name place sound finds located by dims is_dims new root all
-        (HasPacked dims located.fanout objects) became_new (length objects) counts can.level later few
-        records (HasFilled (layer_at t name) objects)
+        (HasPacked dims located.fanout objects) became_new (length objects) counts can.level later
+        same_version few records (HasFilled (layer_at t name) objects)
         (λ packed. subst (λ (k : ℕ). HasPacked k (layer_at t name).fanout objects became_new.layer.tree)
         (sym is_dims)
         (subst (λ (k : ℕ). HasPacked dims k objects became_new.layer.tree)

@@ -10,6 +10,7 @@ use Rattle.std.specs.Ordering.{nat_cmp, ordering_reverse}
 use Rattle.std.specs.declared.cmp.Ordering.{Ordering}
 use Rattle.std.specs.declared.cmp.Ordering.TheVariants.{Less, Equal, Greater}
 use Rattle.std.proofs.lemmas.List.{get_or-map, length-map}
+use Rattle.page_file.specs.declared.header.Version.{Version}
 use Rattle.plain_table.specs.Table.{Table, Layer, no_layer}
 use Rattle.catalog_page.specs.Layout.{Record, record_of}
 use Rattle.catalog_page.specs.declared.layer_record.LayerRecord.{LayerRecord}
@@ -94,8 +95,8 @@ no_reading = record {
   layer = no_layer;
 }
 
-module _ (pages : PageMap) (next : ℕ) (items : List LayerRecord) (t : Table)
-    (h : Holds pages next (map record_of items) t) where
+module _ {version : Version} (pages : PageMap) (next : ℕ) (items : List LayerRecord) (t : Table)
+    (h : Holds pages next version (map record_of items) t) where
   -- there are as many layers as records
   pub as_many : length (entries t) ≡ length items
   as_many = sym (ap length h.table) ∙ length-map h.layers entry_of ∙ sym (length-map h.layers row_of)

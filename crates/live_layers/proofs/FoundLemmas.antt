@@ -6,8 +6,9 @@ use Rattle.std.specs.Ordering.{nat_cmp}
 use Rattle.catalog_page.specs.Layout.{Record, record_of, records_of}
 use Rattle.catalog_page.specs.declared.layer_record.LayerRecord.{LayerRecord}
 use Rattle.node_page.specs.Standing.{PageMap}
-use Rattle.page_cache.specs.Cache.{IsHonest, IsPageMap, KeepsMap, next_of, pages}
+use Rattle.page_cache.specs.Cache.{IsHonest, IsPageMap, KeepsMap, next_of, pages, version_of}
 use Rattle.page_cache.specs.declared.cache.PageCache.{PageCache}
+use Rattle.page_file.specs.declared.header.Version.{Version}
 use Rattle.plain_table.specs.Table.{Layer, Table}
 use Rattle.live_layers.specs.Catalog.{by_name, is_good_catalog, names_ascend, objects_named}
 use Rattle.live_layers.specs.Checked.{FindsLayers, IsFoundSound}
@@ -24,7 +25,8 @@ names_of_layers : (hs : List Reading)
 names_of_layers [] = refl
 names_of_layers (h ∷ hs) = ap (λ (ns : List (List ℕ)). h.row.name ∷ ns) (names_of_layers hs)
 
-module _ (pages : PageMap) (next : ℕ) (records : List Record) (found : FindsLayers pages records)
+module _ {version : Version} (pages : PageMap) (next : ℕ) (records : List Record)
+    (found : FindsLayers pages version records)
     (good : is_good_catalog next records ≡ true) where
   in_order : T (is_sorted (slice_cmp nat_cmp) (map entry_of found.layers))
   in_order =
@@ -39,13 +41,14 @@ module _ (pages : PageMap) (next : ℕ) (records : List Record) (found : FindsLa
   pub table_found : Table
   table_found = from_sorted {R = slice_cmp nat_cmp} (map entry_of found.layers)
 
-  pub holds_found : Holds pages next records table_found
+  pub holds_found : Holds pages next version records table_found
   unfolding table_found
   holds_found = record {
     layers = found.layers;
     rows = found.rows;
     table = sym (entries-from_sorted (slice_cmp nat_cmp) (map entry_of found.layers) in_order);
     stand = found.stand;
+    allowed = found.allowed;
     used = found.used;
     good = good;
   }
@@ -56,7 +59,7 @@ module _ {D A : Type 0} {m : _} where
       → is_good_catalog (next_of kept.cache) (records_of kept.records) ≡ true
       → kept.object_count ≡ objects_named (records_of kept.records)
       → (IsWritten kept → catalog_in (pages kept.cache) ≡ Some (records_of kept.records))
-      → FindsLayers (pages kept.cache) (records_of kept.records) → IsFoundSound kept
+      → FindsLayers (pages kept.cache) (version_of kept.cache) (records_of kept.records) → IsFoundSound kept
   sound_found kept sound good count spelled found =
       let records = records_of kept.records in
       let t = table_found (pages kept.cache) (next_of kept.cache) records found good in
@@ -73,9 +76,11 @@ module _ {D A : Type 0} {m : _} where
 
   -- what was found in equal pages
   pub found_in : (old new : PageCache D A m) (records : List Record) → IsHonest old → KeepsMap old new
-      → FindsLayers (pages new) records → FindsLayers (pages old) records
+      → FindsLayers (pages new) (version_of new) records → FindsLayers (pages old) (version_of old) records
   found_in old new records honest keeps found =
-      subst (λ (p : PageMap). FindsLayers p records) (λ i n. keeps.pages_stay honest n i) found
+      subst (λ (v : Version). FindsLayers (pages old) v records) (keeps.version honest)
+      (subst (λ (p : PageMap). FindsLayers p (version_of new) records) (λ i n. keeps.pages_stay honest n i)
+      found)
 
   -- what sound layers pass, with their records as a slice
   pub records_pass : (kept : Layers D A m) (t : Table) (next : ℕ) (items : List LayerRecord) → IsSound kept t

@@ -18,12 +18,14 @@ use Rattle.node_page.specs.Rooted.{IsTreeAt}
 use Rattle.node_page.specs.Standing.{PageMap}
 use Rattle.node_page.proofs.PartLemmas.{all_of_same, all_pages_move, the_rest_stays}
 use Rattle.node_page.proofs.StandingLemmas.{equal_pages_stand, one_tree_stands}
+use Rattle.page_file.specs.declared.header.Version.{Version}
+use Rattle.page_file.specs.declared.header.Version.TheVariants.{Two}
 use Rattle.plain_table.specs.Table.{Table, Layer, layer_at, most_objects, object_count}
 use Rattle.tree_node.specs.Trees.{Tree, occurs_in}
 use Rattle.live_layers.specs.Catalog.{is_good_catalog, is_layer, is_layer_record, is_page, objects_named}
 use Rattle.live_layers.specs.Keeping.{Belongs, Finds}
-use Rattle.live_layers.specs.Layers.{Holds, IsTreeOf, LayerStands, LayersStand, Reading, entry_of, in_use}
-use Rattle.live_layers.specs.Layers.{of_catalog, of_layer, of_layers, root_of, row_of}
+use Rattle.live_layers.specs.Layers.{AllowsTable, Holds, IsTreeOf, LayerStands, LayersStand, Reading}
+use Rattle.live_layers.specs.Layers.{entry_of, in_use, of_catalog, of_layer, of_layers, root_of, row_of}
 use Rattle.live_layers.proofs.CatalogGood.{All-insert, a_page, each_good, few_good, from_parts, makes_good}
 use Rattle.live_layers.proofs.CatalogGood.{more_record}
 use Rattle.live_layers.proofs.FindLemmas.{no_reading}
@@ -100,8 +102,8 @@ record_good pages next h others stands all given layer low =
 
 -- ---- the layer at a place
 
-module _ (pages : PageMap) (next : ℕ) (records : List Record) (t : Table)
-    (h : Holds pages next records t) where
+module _ {version : Version} (pages : PageMap) (next : ℕ) (records : List Record) (t : Table)
+    (h : Holds pages next version records t) where
   pub counted : objects_named records ≡ object_count t
   counted = ap objects_named (sym h.rows) ∙ table_counts pages h.layers t h.stand h.table
 
@@ -174,6 +176,9 @@ module _ (pages : PageMap) (next : ℕ) (records : List Record) (t : Table)
     pub here_stands : LayerStands pages here
     here_stands = layer_at_stands pages h.layers place no_reading in_layers h.stand
 
+    pub here_allowed : AllowsTable version here
+    here_allowed = h.allowed place no_reading in_layers
+
     here_entry : get_or (entries t) place (entry_of no_reading) ≡ entry_of here
     here_entry = ap (λ (es : List (List ℕ × Layer)). get_or es place (entry_of no_reading)) (sym h.table)
         ∙ get_or-map entry_of h.layers place no_reading (entry_of no_reading) in_layers
@@ -221,9 +226,9 @@ module _ (pages : PageMap) (next : ℕ) (records : List Record) (t : Table)
 
 -- ---- a layer replaced
 
-module _ (old new : PageMap) (next next' : ℕ) (records : List Record) (t : Table)
-    (h : Holds old next records t) (name : List ℕ) (place : ℕ) (finds : Finds t name place)
-    (h' : Reading) (stands : LayerStands new h') (named : h'.row.name ≡ name)
+module _ {version : Version} (old new : PageMap) (next next' : ℕ) (records : List Record) (t : Table)
+    (h : Holds old next version records t) (name : List ℕ) (place : ℕ) (finds : Finds t name place)
+    (h' : Reading) (stands : LayerStands new h') (allowed : AllowsTable version h') (named : h'.row.name ≡ name)
     (moves : Moves old new (of_layer (here old next records t h name place finds)) (of_layer h'))
     (le : next ≤ next') (given : (n : ℕ) → IsSome (new n) → (2 ≤ n) × (n < next'))
     (layer : is_layer h'.row ≡ true) (low : h'.row.level ≤ 40)
@@ -269,12 +274,13 @@ module _ (old new : PageMap) (next next' : ℕ) (records : List Record) (t : Tab
       (map row_of h.layers) (rows_good old next records t h)))
 
   -- so the new pages hold the table with it
-  pub holds_replaced : Holds new next' (slice_set records place h'.row) (map_insert t name h'.layer)
+  pub holds_replaced : Holds new next' version (slice_set records place h'.row) (map_insert t name h'.layer)
   holds_replaced = record {
     layers = slice_set h.layers place h';
     rows = rows';
     table = table';
     stand = stand';
+    allowed = All-set (AllowsTable version) h.layers place h' allowed h.allowed;
     used = all_of_same new (both (of_layer h') rest) (in_use (slice_set h.layers place h'))
         (λ n. omega (arith, replaced_and_others h.layers place n h' lt)) used_new;
     good = subst (λ (rs : List Record). is_good_catalog next' rs ≡ true) rows'
@@ -327,9 +333,10 @@ map-insert f [] (suc i) x = refl
 map-insert f (y ∷ ys) zero x = refl
 map-insert f (y ∷ ys) (suc i) x = ap (λ t. f y ∷ t) (map-insert f ys i x)
 
-module _ (old new : PageMap) (next next' : ℕ) (records : List Record) (t : Table)
-    (h : Holds old next records t) (name : List ℕ) (place : ℕ) (belongs : Belongs t name place)
-    (h' : Reading) (stands : LayerStands new h') (named : h'.row.name ≡ name)
+module _ {version version' : Version} (old new : PageMap) (next next' : ℕ) (records : List Record) (t : Table)
+    (h : Holds old next version records t) (name : List ℕ) (place : ℕ) (belongs : Belongs t name place)
+    (h' : Reading) (stands : LayerStands new h') (raised : version' ≡ Two → version ≡ Two)
+    (allowed : AllowsTable version' h') (named : h'.row.name ≡ name)
     (moves : Moves old new no_page (of_layer h'))
     (le : next ≤ next') (given : (n : ℕ) → IsSome (new n) → (2 ≤ n) × (n < next'))
     (layer : is_layer h'.row ≡ true) (low : h'.row.level ≤ 40)
@@ -366,12 +373,15 @@ module _ (old new : PageMap) (next next' : ℕ) (records : List Record) (t : Tab
       (map row_of h.layers) (rows_good old next records t h)))
 
   -- so the new pages hold the table with it
-  pub holds_more : Holds new next' (insert records place h'.row) (map_insert t name h'.layer)
+  pub holds_more : Holds new next' version' (insert records place h'.row) (map_insert t name h'.layer)
   holds_more = record {
     layers = insert h.layers place h';
     rows = rows_more;
     table = table_more;
     stand = stand_more;
+    allowed = All-insert (AllowsTable version') h.layers place h' allowed
+        (All-weaker (AllowsTable version) (AllowsTable version') (λ one has two. has (raised two)) h.layers
+        h.allowed);
     used = all_of_same new (both (of_layer h') (in_use h.layers)) (in_use (insert h.layers place h'))
         (λ n. omega (arith, more_parts h.layers place n h')) used_more;
     good = subst (λ (rs : List Record). is_good_catalog next' rs ≡ true) rows_more
@@ -391,9 +401,9 @@ catalog_once : (n : ℕ) → of_catalog n ≤ 1
 catalog_once n = grind (arith, nat_tests)
 
 -- the page of the catalog holds other bytes, and the pages the same table
-pub catalog_changed : (old new : PageMap) (next : ℕ) (records : List Record) (t : Table)
-    → ((n : ℕ) → ¬ (n ≡ 2) → new n ≡ old n) → IsSome (new 2) → Holds old next records t
-    → Holds new next records t
+pub catalog_changed : {version : Version} (old new : PageMap) (next : ℕ) (records : List Record) (t : Table)
+    → ((n : ℕ) → ¬ (n ≡ 2) → new n ≡ old n) → IsSome (new 2) → Holds old next version records t
+    → Holds new next version records t
 catalog_changed old new next records t same live h =
     let moves : Moves old new of_catalog of_catalog = record {
       outside = λ n p q. same n (catalog_none n p);
@@ -409,6 +419,7 @@ catalog_changed old new next records t same live h =
       stand = layers_stay old new h.layers
           (λ n p. (the_rest_stays old new of_catalog of_catalog (of_layers h.layers) moves
           (λ m q. h.used.live m (omega (arith, q))) h.used.once n p).0) h.stand;
+      allowed = h.allowed;
       used = all_pages_move old new of_catalog of_catalog (of_layers h.layers) h.used moves;
       good = h.good;
     }

@@ -3,7 +3,7 @@ use Rattle.std.proofs.Common.{◌≡◌, ◌∙◌, ℕ, ◌≤◌, List, Some, 
 use Rattle.std.specs.Prelude.{Result, Ok, Err, IsErrAnd, option_and_then}
 use Rattle.catalog_page.specs.Layout.{Record, records_at, records_of}
 use Rattle.node_page.specs.Standing.{PageMap}
-use Rattle.page_cache.specs.Cache.{IsHonest, IsLive, IsPageMap, KeepsMap, next_of, pages}
+use Rattle.page_cache.specs.Cache.{IsHonest, IsLive, IsPageMap, KeepsMap, next_of, pages, version_of}
 use Rattle.page_cache.specs.Laws.{no_call_keeps_the_map, the_map_is_kept_in_turn}
 use Rattle.page_cache.specs.declared.cache.PageCache.{PageCache}
 use Rattle.page_file.specs.Pages.{SameBut}
@@ -15,12 +15,14 @@ use Rattle.live_layers.specs.Staying.{KeepsPagesAndRecords, KeepsVersions, Leave
 use Rattle.live_layers.specs.declared.layers.Layers.{Layers}
 use Rattle.live_layers.proofs.HoldLemmas.{catalog_changed}
 
--- a table stays where the pages do
-pub same_pages_hold : (old new : PageMap) (next next' : ℕ) (records : List Record) (t : Table)
-    → ((n : ℕ) → new n ≡ old n) → next' ≡ next → Holds old next records t → Holds new next' records t
-same_pages_hold old new next next' records t same e h =
-    subst (λ (k : ℕ). Holds new k records t) (sym e)
-    (subst (λ (p : PageMap). Holds p next records t) (λ i n. sym (same n) i) h)
+-- a table stays where the pages and the version do
+pub same_pages_hold : (old new : PageMap) (next next' : ℕ) {version version' : Version} (records : List Record)
+    (t : Table) → ((n : ℕ) → new n ≡ old n) → next' ≡ next → version' ≡ version
+    → Holds old next version records t → Holds new next' version' records t
+same_pages_hold old new next next' {version = version} {version' = version'} records t same e is h =
+    subst (λ (k : ℕ). Holds new k version' records t) (sym e)
+    (subst (λ (v : Version). Holds new next v records t) (sym is)
+    (subst (λ (p : PageMap). Holds p next version records t) (λ i n. sym (same n) i) h))
 
 module _ {D A : Type 0} {m : _} where
   -- nothing was done, or one thing after the other
@@ -57,11 +59,11 @@ module _ {D A : Type 0} {m : _} where
       record { done = λ honest. tt; undone = keeps.version; newest = keeps.newest }
 
   pub kept_table : (old new : PageCache D A m) (records : List Record) (t : Table) → IsHonest old
-      → KeepsMap old new → Holds (pages old) (next_of old) records t
-      → Holds (pages new) (next_of new) records t
+      → KeepsMap old new → Holds (pages old) (next_of old) (version_of old) records t
+      → Holds (pages new) (next_of new) (version_of new) records t
   kept_table old new records t honest keeps h =
       same_pages_hold (pages old) (pages new) (next_of old) (next_of new) records t (keeps.pages_stay honest)
-      keeps.next h
+      keeps.next (keeps.version honest) h
 
   pub kept_catalog : (old new : PageCache D A m) (records : List Record) → IsHonest old → KeepsMap old new
       → catalog_in (pages old) ≡ Some records → catalog_in (pages new) ≡ Some records
@@ -74,7 +76,9 @@ module _ {D A : Type 0} {m : _} where
       → (new.written ≡ true → old.written ≡ true) → IsSound old t → IsSound new t
   sound_kept old new t keeps records count written sound = record {
     map = keeps.sound.0 sound.map;
-    holds = subst (λ (rs : _). Holds (pages new.cache) (next_of new.cache) (records_of rs) t) (sym records)
+    holds = subst
+        (λ (rs : _). Holds (pages new.cache) (next_of new.cache) (version_of new.cache) (records_of rs) t)
+        (sym records)
         (kept_table old.cache new.cache (records_of old.records) t sound.map.honest keeps sound.holds);
     counted = count ∙ sound.counted;
     within = subst (λ (n : ℕ). n ≤ most_objects) (sym count) sound.within;
@@ -88,18 +92,20 @@ module _ {D A : Type 0} {m : _} where
   pub sound_written : (old : Layers D A m) (begun : PageCache D A m) (new : Layers D A m) (t : Table)
       → IsSound old t → KeepsMap old.cache begun → SameBut 2 (pages begun) (pages new.cache)
       → IsLive new.cache 2 → IsPageMap new.cache
-      → next_of new.cache ≡ next_of begun → new.records ≡ old.records → new.object_count ≡ old.object_count
+      → next_of new.cache ≡ next_of begun → version_of new.cache ≡ version_of begun → new.records ≡ old.records → new.object_count ≡ old.object_count
       → (new.written ≡ true → catalog_in (pages new.cache) ≡ Some (records_of old.records)) → IsSound new t
-  sound_written old begun new t sound keeps same live map next records count spelled =
+  sound_written old begun new t sound keeps same live map next version records count spelled =
       let held = kept_table old.cache begun (records_of old.records) t sound.map.honest keeps sound.holds in
       let written =
       catalog_changed (pages begun) (pages new.cache) (next_of begun) (records_of old.records) t same
       live held in
       record {
         map = map;
-        holds = subst (λ (rs : _). Holds (pages new.cache) (next_of new.cache) (records_of rs) t)
+        holds = subst
+            (λ (rs : _). Holds (pages new.cache) (next_of new.cache) (version_of new.cache) (records_of rs) t)
             (sym records)
-            (subst (λ (n : ℕ). Holds (pages new.cache) n (records_of old.records) t) (sym next) written);
+            (same_pages_hold (pages new.cache) (pages new.cache) (next_of begun) (next_of new.cache)
+            (records_of old.records) t (λ n. refl) next version written);
         counted = count ∙ sound.counted;
         within = subst (λ (n : ℕ). n ≤ most_objects) (sym count) sound.within;
         catalog =

@@ -3,6 +3,7 @@ use Rattle.std.proofs.Common.{◌≡◌, ◌∙◌, ℕ, List, [], ◌∷◌, ma
 use Rattle.std.specs.FinMap.{len, len-entries}
 use Rattle.catalog_page.specs.Layout.{Record}
 use Rattle.node_page.specs.Standing.{PageMap}
+use Rattle.page_file.specs.declared.header.Version.{Version}
 use Rattle.plain_table.specs.Listings.{all_layers, layer_line}
 use Rattle.plain_table.specs.Table.{Table}
 use Rattle.live_layers.specs.Layers.{Holds, LayerStands, LayersStand, Reading, entry_of, row_of}
@@ -22,7 +23,7 @@ lines_of_readings pages (h ∷ hs) stand =
     λ i. line_of_reading pages h stand.0 i ∷ lines_of_readings pages hs stand.1 i
 
 -- the records of a table show all of its layers
-pub all_listed : (pages : PageMap) (next : ℕ) (records : List Record) (t : Table)
-    → Holds pages next records t → map record_line records ≡ all_layers t
+pub all_listed : {version : Version} (pages : PageMap) (next : ℕ) (records : List Record) (t : Table)
+    → Holds pages next version records t → map record_line records ≡ all_layers t
 all_listed pages next records t h = ap (map record_line) (sym h.rows)
     ∙ lines_of_readings pages h.layers h.stand ∙ ap (map layer_line) h.table

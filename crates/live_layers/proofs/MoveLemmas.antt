@@ -10,7 +10,7 @@ use Rattle.catalog_page.specs.Layout.{Record, records_of}
 use Rattle.id_table.specs.Table.{kind_of}
 use Rattle.layer_pages.specs.Changes.{BecomesLayer, HasReplaced}
 use Rattle.layer_pages.specs.Layers.{CanBeRoot, part_of_layer}
-use Rattle.page_cache.specs.Cache.{IsPageMap, next_of, pages}
+use Rattle.page_cache.specs.Cache.{IsPageMap, next_of, pages, version_of}
 use Rattle.page_cache.specs.declared.cache.PageCache.{PageCache}
 use Rattle.plain_table.specs.Boxes.{dims_of, given_bounds, is_ordered, same_bounds}
 use Rattle.plain_table.specs.Commands.Command.{Move}
@@ -89,6 +89,7 @@ module _ {D A : Type 0} {m : _} (kept : Layers D A m) (t : Table) (name : List �
     (new : Layers D A m) (same : new.cache ≡ cache) (count : ℕ)
     (count_is : (d : Record) → count ≡ (get_or (records_of kept.records) place d).count)
     (can : CanBeRoot root) (le : next_of kept.cache ≤ next_of cache)
+    (version : version_of cache ≡ version_of kept.cache)
     (records : (d : Record)
     → records_of new.records ≡ slice_set (records_of kept.records) place
     (with_tree (get_or (records_of kept.records) place d) root count)) where
@@ -116,7 +117,8 @@ module _ {D A : Type 0} {m : _} (kept : Layers D A m) (t : Table) (name : List �
       sound_with kept t name place sound finds located by_record dims is_dims cache root
       (map_insert (layer_at t name).objects id (bounds, tag_of known))
       (HasReplaced dims located.fanout (read kept t name place sound finds located by_record dims is_dims) id
-      known (bounds, tag_of known)) became new same count counts can le few records is_map
+      known (bounds, tag_of known)) became new same count counts can le version few records
+      is_map
       (total ∙ sound.counted ∙ sym as_many) unwritten
 
   -- and the tree of the layer became one by a lawful removal and a lawful insertion
@@ -128,7 +130,7 @@ module _ {D A : Type 0} {m : _} (kept : Layers D A m) (t : Table) (name : List �
       tree_with kept t name place sound finds located by_record dims is_dims cache root
       (map_insert layer.objects id (bounds, tag_of known))
       (HasReplaced dims located.fanout l id known (bounds, tag_of known)) became new same count counts
-      can le few records
+      can le version few records
       (HasMoved layer id bounds)
       (λ s replaced. record {
         between = replaced.between;

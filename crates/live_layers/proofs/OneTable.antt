@@ -10,8 +10,10 @@ use Rattle.layer_pages.specs.Layers.{IsLayerAt, LayerPages, Objects}
 use Rattle.layer_pages.proofs.ObjectLemmas.{one_order, sorted_rises}
 use Rattle.node_page.specs.Standing.{PageMap}
 use Rattle.node_page.proofs.StandingLemmas.{one_tree_stands}
+use Rattle.page_file.specs.Layout.{opened_version}
 use Rattle.page_file.specs.Pages.{next_in, pages_in}
 use Rattle.page_file.specs.declared.fault.Fault.{Fault}
+use Rattle.page_file.specs.declared.header.Version.{Version}
 use Rattle.plain_table.specs.Table.{Table}
 use Rattle.tree_node.specs.Trees.{Tree, objects_in}
 use Rattle.tree_node.specs.declared.node.Root.{Root}
@@ -64,8 +66,8 @@ same_layers pages (h ∷ hs) (k ∷ ks) e a b =
     λ i. same_layer pages h k first a.0 b.0 i ∷ same_layers pages hs ks rest a.1 b.1 i
 
 -- with the same records pages hold one table
-pub pages_hold_one_table : (pages : PageMap) (next : ℕ) (records : List Record) (t u : Table)
-    → Holds pages next records t → Holds pages next records u → t ≡ u
+pub pages_hold_one_table : {version : Version} (pages : PageMap) (next : ℕ) (records : List Record)
+    (t u : Table) → Holds pages next version records t → Holds pages next version records u → t ≡ u
 pages_hold_one_table pages next records t u h k =
     same_entries_map t u
     (sym h.table ∙ same_layers pages h.layers k.layers (h.rows ∙ sym k.rows) h.stand k.stand ∙ k.table)
@@ -76,7 +78,8 @@ an_image_is_of_one_table blocks t u h k =
     let both : Some h.records ≡ Some k.records = sym h.spelled ∙ k.spelled in
     let same : h.records ≡ k.records = cc in
     pages_hold_one_table (pages_in blocks) (next_in blocks) k.records t u
-    (subst (λ (rs : List Record). Holds (pages_in blocks) (next_in blocks) rs t) same h.holds) k.holds
+    (subst (λ (rs : List Record). Holds (pages_in blocks) (next_in blocks) (opened_version blocks) rs t) same
+    h.holds) k.holds
 
 -- ---- refusals
 

@@ -3,7 +3,7 @@ use Rattle.std.proofs.Common.{◌≡◌, ◌∙◌, true, false, List, Some, sym
 use Rattle.std.specs.Prelude.{◌⊎◌, option_and_then}
 use Rattle.block_device.specs.Device.{Blocks}
 use Rattle.catalog_page.specs.Layout.{Record, records_at, records_of}
-use Rattle.page_cache.specs.Cache.{IsHonest, KeepsMap, LiesIn, next_of, pages}
+use Rattle.page_cache.specs.Cache.{IsHonest, KeepsMap, LiesIn, next_of, pages, version_of}
 use Rattle.page_cache.specs.declared.cache.PageCache.{PageCache}
 use Rattle.page_file.specs.Fault.{IsOfDevice}
 use Rattle.page_file.specs.Pages.{next_in, pages_in}
@@ -23,10 +23,10 @@ module _ {D A : Type 0} {m : _} (cache : PageCache D A m) (blocks : Blocks) (t :
   image_records : catalog_in (pages cache) ≡ Some image.records
   image_records = ap (option_and_then records_at) (sym (lies.pages_there 2)) ∙ image.spelled
 
-  image_holds : Holds (pages cache) (next_of cache) image.records t
+  image_holds : Holds (pages cache) (next_of cache) (version_of cache) image.records t
   image_holds =
       same_pages_hold (pages_in blocks) (pages cache) (next_in blocks) (next_of cache) image.records t
-      (λ n. sym (lies.pages_there n)) (sym lies.next) image.holds
+      (λ n. sym (lies.pages_there n)) (sym lies.next) (sym lies.version) image.holds
 
   -- the catalog of an image is good
   not_damaged : HasNoCatalog (pages cache) (next_of cache) → ⊥
@@ -49,7 +49,9 @@ module _ {D A : Type 0} {m : _} (cache : PageCache D A m) (blocks : Blocks) (t :
   opened_sound kept honest keeps spelled count =
       let both : Some image.records ≡ Some (records_of kept.records) = sym image_records ∙ spelled in
       let same : image.records ≡ records_of kept.records = cc in
-      let held = subst (λ (rs : List Record). Holds (pages cache) (next_of cache) rs t) same image_holds in
+      let held =
+      subst (λ (rs : List Record). Holds (pages cache) (next_of cache) (version_of cache) rs t) same
+      image_holds in
       let number = count ∙ counted (pages cache) (next_of cache) (records_of kept.records) t held in
       record {
         map = keeps.sound.0 (lies.sound.1 image.free);

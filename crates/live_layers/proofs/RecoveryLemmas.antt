@@ -7,7 +7,7 @@ use Rattle.block_device.specs.Device.{Begins, BeginsOne, Blocks, Brings, OrTaken
 use Rattle.catalog_page.specs.Layout.{records_at}
 use Rattle.page_file.specs.Opening.{failed_check}
 use Rattle.page_file.specs.Pages.{next_in, pages_in}
-use Rattle.page_file.specs.Prefix.{next_more, pages_more, passes_more, sound_more}
+use Rattle.page_file.specs.Prefix.{next_more, pages_more, passes_more, sound_more, version_more}
 use Rattle.plain_table.specs.Table.{Table}
 use Rattle.live_layers.specs.Image.{CommitsWhatOpens, IsImage, IsImageOfOne, IsRefusedOrImageOf}
 use Rattle.live_layers.proofs.KeepLemmas.{same_pages_hold}
@@ -22,7 +22,7 @@ image_longer kept c t image begins = record {
       ∙ image.spelled;
   holds = same_pages_hold (pages_in kept) (pages_in c) (next_in kept) (next_in c) image.records t
       (pages_more kept c begins image.passes image.free) (next_more kept c begins image.passes image.free)
-      image.holds;
+      (version_more kept c begins image.passes image.free) image.holds;
 }
 
 -- blocks that pass the checks are not refused

@@ -9,20 +9,21 @@ use Rattle.catalog_page.specs.Layout.{Record, records_of}
 use Rattle.id_table.specs.Table.{kind_of}
 use Rattle.layer_pages.specs.Changes.{BecomesLayer}
 use Rattle.layer_pages.specs.Layers.{IsLayerAt, Objects, part_of_layer}
-use Rattle.page_cache.specs.Cache.{IsPageMap, next_of, pages}
+use Rattle.page_cache.specs.Cache.{IsPageMap, next_of, pages, version_of}
 use Rattle.page_cache.specs.Laws.{a_live_page_was_given_out}
+use Rattle.page_file.specs.declared.header.Version.{Version}
 use Rattle.plain_table.specs.Table.{Layer, Table, layer_at, most_objects, object_count}
 use Rattle.tree_node.specs.Trees.{Tree}
 use Rattle.tree_node.specs.declared.node.Root.{Root}
 use Rattle.node_page.specs.Standing.{PageMap}
 use Rattle.live_layers.specs.Catalog.{is_layer, with_tree}
 use Rattle.live_layers.specs.Keeping.{ChangesTree, Finds, IsSound}
-use Rattle.live_layers.specs.Layers.{Holds, IsTreeOf, LayerStands, Reading, root_of}
+use Rattle.live_layers.specs.Layers.{AllowsTable, Holds, IsTreeOf, LayerStands, Reading, root_of}
 use Rattle.live_layers.specs.Located.{located_by}
 use Rattle.live_layers.specs.declared.layers.Layers.{Layers}
 use Rattle.live_layers.specs.declared.located.Located.{Located}
 use Rattle.live_layers.proofs.CatalogGood.{few_good, good_parts}
-use Rattle.live_layers.proofs.HoldLemmas.{here, here_good, here_layer, here_named, here_row, here_stands}
+use Rattle.live_layers.proofs.HoldLemmas.{here, here_allowed, here_good, here_layer, here_named, here_row, here_stands}
 use Rattle.live_layers.proofs.HoldLemmas.{holds_replaced, in_records, its_tree_after, other_trees_stay}
 use Rattle.live_layers.proofs.TableLemmas.{entries_after, layer_found}
 
@@ -57,6 +58,11 @@ module _ {D A : Type 0} {m : _} (kept : Layers D A m) (t : Table) (name : List �
   stands_there : LayerStands (pages kept.cache) reading
   stands_there =
       here_stands (pages kept.cache) (next_of kept.cache) (records_of kept.records) t sound.holds name place
+      finds
+
+  allowed_there : AllowsTable (version_of kept.cache) reading
+  allowed_there =
+      here_allowed (pages kept.cache) (next_of kept.cache) (records_of kept.records) t sound.holds name place
       finds
 
   pub row_there : (d : Record) → get_or (records_of kept.records) place d ≡ reading.row
@@ -133,7 +139,7 @@ module _ {D A : Type 0} {m : _} (kept : Layers D A m) (t : Table) (name : List �
         (became : BecomesLayer dims located.fanout (pages kept.cache) (pages new.cache)
         (part_of_layer reading.pages) (kind_of reading.pages.ids) root located.ids_root objects IsSo)
         (count : ℕ) (counts : length (entries objects) ≡ count) (low : root.level ≤ 40)
-        (le : next_of kept.cache ≤ next_of new.cache)
+        (le : next_of kept.cache ≤ next_of new.cache) (version : version_of new.cache ≡ version_of kept.cache)
         (few : object_count
         (map_insert t name (record (layer_at t name) { objects = objects })) ≤ most_objects)
         (records : (d : Record)
@@ -156,6 +162,9 @@ module _ {D A : Type 0} {m : _} (kept : Layers D A m) (t : Table) (name : List �
       stands' : LayerStands (pages new.cache) reading'
       stands' = record { at = at'; dims = dims_there; fanout = fanout_there; count = counts }
 
+      allowed' : AllowsTable (version_of kept.cache) reading'
+      allowed' = λ two. became.kind_is ∙ allowed_there two
+
       given : (n : ℕ) → IsSome (pages new.cache n) → (2 ≤ n) × (n < next_of new.cache)
       given n live = let l = a_live_page_was_given_out new.cache n live in (l.0, l.1)
 
@@ -170,11 +179,11 @@ module _ {D A : Type 0} {m : _} (kept : Layers D A m) (t : Table) (name : List �
           ∙ ap (λ (r : Record). slice_set (records_of kept.records) place (with_tree r root count))
           (row_there reading.row)
 
-      held' : Holds (pages new.cache) (next_of new.cache)
+      held' : Holds (pages new.cache) (next_of new.cache) (version_of kept.cache)
           (slice_set (records_of kept.records) place reading'.row) (map_insert t name layer')
       held' = holds_replaced (pages kept.cache) (pages new.cache) (next_of kept.cache) (next_of new.cache)
-          (records_of kept.records) t sound.holds name place finds reading' stands' named_there became.moves
-          le given is_layer' low few
+          (records_of kept.records) t sound.holds name place finds reading' stands' allowed' named_there
+          became.moves le given is_layer' low few
 
       -- so the layers are sound with the table that has them
       pub sound_replaced : IsPageMap new.cache → new.object_count ≡ object_count (map_insert t name layer')
@@ -182,8 +191,11 @@ module _ {D A : Type 0} {m : _} (kept : Layers D A m) (t : Table) (name : List �
       sound_replaced is_map total unwritten = record {
         map = is_map;
         holds = subst
-            (λ (rs : List Record). Holds (pages new.cache) (next_of new.cache) rs (map_insert t name layer'))
-            (sym records') held';
+            (λ (rs : List Record). Holds (pages new.cache) (next_of new.cache) (version_of new.cache) rs
+            (map_insert t name layer')) (sym records')
+            (subst (λ (v : Version). Holds (pages new.cache) (next_of new.cache) v
+            (slice_set (records_of kept.records) place reading'.row) (map_insert t name layer'))
+            (sym version) held');
         counted = total;
         within = omega (arith, total, few);
         catalog = λ w. let no : true ≡ false = sym w ∙ unwritten in absurd (cc);
@@ -201,14 +213,14 @@ module _ {D A : Type 0} {m : _} (kept : Layers D A m) (t : Table) (name : List �
         after = subst (λ (rs : List Record). IsTreeOf (pages new.cache) rs name became.layer.tree)
             (sym records')
             (its_tree_after (pages kept.cache) (pages new.cache) (next_of kept.cache) (next_of new.cache)
-            (records_of kept.records) t sound.holds name place finds reading' stands' named_there
+            (records_of kept.records) t sound.holds name place finds reading' stands' allowed' named_there
             became.moves le given is_layer' low few);
         rule = so became.tree_is;
         others =
             λ other s apart there. subst (λ (rs : List Record). IsTreeOf (pages new.cache) rs other s)
             (sym records')
             (other_trees_stay (pages kept.cache) (pages new.cache) (next_of kept.cache) (next_of new.cache)
-            (records_of kept.records) t sound.holds name place finds reading' stands' named_there
+            (records_of kept.records) t sound.holds name place finds reading' stands' allowed' named_there
             became.moves le given is_layer' low few other s apart there);
       }
 

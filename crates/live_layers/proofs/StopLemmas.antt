@@ -8,7 +8,7 @@ use Rattle.block_device.specs.Device.{Blocks, LeavesOnly, Only}
 use Rattle.block_device.specs.Moments.{leaves_then, leaves_weaker, started, brings_weaker}
 use Rattle.catalog_page.specs.Layout.{Record, records_at}
 use Rattle.page_cache.specs.Cache.{IsHonest, IsPageMap, KeepsGate, LiesIn, blocks_of, device_of, gate_of}
-use Rattle.page_cache.specs.Cache.{next_of, pages}
+use Rattle.page_cache.specs.Cache.{next_of, pages, version_of}
 use Rattle.page_cache.specs.declared.cache.PageCache.{PageCache}
 use Rattle.page_cache.proofs.Behind.{aside_lies}
 use Rattle.page_file.specs.Aside.{FindsSame, aside_passes}
@@ -50,7 +50,7 @@ image_aside blocks c t image same =
       records = image.records;
       spelled = ap (option_and_then records_at) (found.pages_there 2) ∙ image.spelled;
       holds = same_pages_hold (pages_in blocks) (pages_in c) (next_in blocks) (next_in c) image.records t
-          found.pages_there found.next image.holds;
+          found.pages_there found.next found.version image.holds;
     })) (aside_passes c blocks same)
 
 -- what a stop leaves by such a gate
@@ -67,7 +67,7 @@ module _ {D A : Type 0} {m : _} where
   -- it
   pub image_of : (cache : PageCache D A m) (blocks : Blocks) (records : List Record) (t : Table)
       → IsPageMap cache → LiesIn cache blocks → catalog_in (pages cache) ≡ Some records
-      → Holds (pages cache) (next_of cache) records t
+      → Holds (pages cache) (next_of cache) (version_of cache) records t
       → IsImage blocks t
   image_of cache blocks records t map lies spelled h = record {
     passes = lies.passes;
@@ -75,7 +75,7 @@ module _ {D A : Type 0} {m : _} where
     records = records;
     spelled = ap (option_and_then records_at) (lies.pages_there 2) ∙ spelled;
     holds = same_pages_hold (pages cache) (pages_in blocks) (next_of cache) (next_in blocks) records t
-        lies.pages_there lies.next h;
+        lies.pages_there lies.next lies.version h;
   }
 
   -- ---- at rest
@@ -105,7 +105,7 @@ module _ {D A : Type 0} {m : _} where
   -- a cache that holds the table and its catalog rests on it
   pub rests_on_table : (cache : PageCache D A m) (ts : List Table) (records : List Record) (t : Table)
       → IsPageMap cache → catalog_in (pages cache) ≡ Some records
-      → Holds (pages cache) (next_of cache) records t → RestLeavesOneOf cache (t ∷ ts)
+      → Holds (pages cache) (next_of cache) (version_of cache) records t → RestLeavesOneOf cache (t ∷ ts)
   rests_on_table cache ts records t map spelled held = λ closed c same.
       ⊎_elim (λ refused. inl refused)
       (λ lies. this_one ts t c (image_of cache c records t map lies spelled held))
@@ -159,7 +159,7 @@ module _ {D A : Type 0} {m : _} where
       → LeavesOnly m.moment m.left_since m.recovery old mid (IsRefusedOrImageOf ts)
       → LeavesOnly m.moment m.left_since m.recovery mid new (λ c. IsRefused c ⊎ (Q c × LiesIn cache c))
       → IsPageMap cache → catalog_in (pages cache) ≡ Some records
-      → Holds (pages cache) (next_of cache) records t
+      → Holds (pages cache) (next_of cache) (version_of cache) records t
       → LeavesOnly m.moment m.left_since m.recovery old new (IsRefusedOrImageOf (t ∷ ts))
   table_closed old mid new cache Q ts records t written settled map spelled held =
       leaves_then m.moment m.left_since m.recovery old mid new (IsRefusedOrImageOf (t ∷ ts))

@@ -12,7 +12,7 @@ use Rattle.condense.specs.Removal.{IsRemoval}
 use Rattle.id_table.specs.Table.{kind_of, part_of}
 use Rattle.layer_pages.specs.Changes.{BecomesLayer, HasInserted, HasRemoved}
 use Rattle.layer_pages.specs.Layers.{CanBeRoot, LayerPages, Objects, part_of_layer}
-use Rattle.page_cache.specs.Cache.{IsPageMap, next_of, pages}
+use Rattle.page_cache.specs.Cache.{IsPageMap, next_of, pages, version_of}
 use Rattle.page_cache.specs.declared.cache.PageCache.{PageCache}
 use Rattle.plain_table.specs.Table.{Layer, Table, layer_at, most_objects, no_object, object_at, object_count}
 use Rattle.plain_table.specs.Table.{without_object}
@@ -88,6 +88,7 @@ module _ {D A : Type 0} {m : _} (kept : Layers D A m) (t : Table) (name : List �
       (kind_of read.ids) root located.ids_root objects IsSo)
       (new : Layers D A m) (same : new.cache ≡ cache) (count : ℕ) (counts : len objects ≡ count)
       (can : CanBeRoot root) (le : next_of kept.cache ≤ next_of cache)
+      (version : version_of cache ≡ version_of kept.cache)
       (few : object_count (map_insert t name (record (layer_at t name) { objects = objects })) ≤ most_objects)
       (records : (d : Record)
       → records_of new.records ≡ slice_set (records_of kept.records) place
@@ -101,6 +102,9 @@ module _ {D A : Type 0} {m : _} (kept : Layers D A m) (t : Table) (name : List �
     later : next_of kept.cache ≤ next_of new.cache
     later = subst (λ (x : PageCache D A m). next_of kept.cache ≤ next_of x) (sym same) le
 
+    same_version : version_of new.cache ≡ version_of kept.cache
+    same_version = subst (λ (x : PageCache D A m). version_of x ≡ version_of kept.cache) (sym same) version
+
     -- the layers are sound with them
     pub sound_with : IsPageMap cache
         → new.object_count ≡ object_count
@@ -110,7 +114,7 @@ module _ {D A : Type 0} {m : _} (kept : Layers D A m) (t : Table) (name : List �
         sound_replaced kept t name place sound finds located
         (by_row kept t name place sound finds located by_record dims is_dims) dims is_dims new root
         objects IsSo became_new count (sym (len-entries objects) ∙ counts)
-        can.level later few records (subst (λ (x : PageCache D A m). IsPageMap x) (sym same) is_map) total
+        can.level later same_version few records (subst (λ (x : PageCache D A m). IsPageMap x) (sym same) is_map) total
         unwritten
 
     -- and its tree is so
@@ -120,7 +124,7 @@ module _ {D A : Type 0} {m : _} (kept : Layers D A m) (t : Table) (name : List �
         tree_replaced kept t name place sound finds located
         (by_row kept t name place sound finds located by_record dims is_dims) dims is_dims new root
         objects IsSo became_new count (sym (len-entries objects) ∙ counts)
-        can.level later few records Rule (so became_new.layer.tree)
+        can.level later same_version few records Rule (so became_new.layer.tree)
 
   -- ---- an object was taken out
 
@@ -132,6 +136,7 @@ module _ {D A : Type 0} {m : _} (kept : Layers D A m) (t : Table) (name : List �
       (was_is : (d : Record) → was ≡ (get_or (records_of kept.records) place d).count)
       (count_is : count ≡ was - 1)
       (can : CanBeRoot root) (le : next_of kept.cache ≤ next_of cache)
+      (version : version_of cache ≡ version_of kept.cache)
       (records : (d : Record)
       → records_of new.records ≡ slice_set (records_of kept.records) place
       (with_tree (get_or (records_of kept.records) place d) root count)) where
@@ -152,13 +157,14 @@ module _ {D A : Type 0} {m : _} (kept : Layers D A m) (t : Table) (name : List �
         → IsSound new (map_insert t name (without_object (layer_at t name) id))
     sound_taken is_map total unwritten =
         sound_with cache root (remove (layer_at t name).objects id)
-        (HasRemoved dims located.fanout read id o) became new same count counts can le few records is_map
+        (HasRemoved dims located.fanout read id o) became new same count counts can le version few records
+        is_map
         (omega (arith, total, fewer, sound.counted)) unwritten
 
     -- and the tree of the layer became one by a lawful removal
     pub tree_taken : ChangesTree kept new name (HasLost (layer_at t name) id)
     tree_taken =
         tree_with cache root (remove (layer_at t name).objects id) (HasRemoved dims located.fanout read id o)
-        became new same count counts can le few records (HasLost (layer_at t name) id)
+        became new same count counts can le version few records (HasLost (layer_at t name) id)
         (λ s removed. lost (layer_at t name) dims located.fanout is_dims fanout_there read id o s
         (its_object (layer_at t name) id o there) removed)

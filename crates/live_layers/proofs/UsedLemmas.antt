@@ -17,7 +17,7 @@ use Rattle.node_page.specs.Standing.{PageMap}
 use Rattle.node_page.proofs.PartLemmas.{all_of_same, none_or_some}
 use Rattle.node_page.proofs.StandingLemmas.{one_tree_stands}
 use Rattle.node_page.proofs.VisitLemmas.{times_more}
-use Rattle.page_cache.specs.Cache.{IsLive, IsPageMap, blocks_behind, free_of, next_of, pages}
+use Rattle.page_cache.specs.Cache.{IsLive, IsPageMap, blocks_behind, free_of, next_of, pages, version_of}
 use Rattle.page_cache.specs.Laws.{a_live_page_was_given_out, a_page_is_live_or_free, free_pages_are_distinct}
 use Rattle.page_cache.specs.Laws.{the_catalog_is_live}
 use Rattle.page_cache.specs.declared.cache.PageCache.{PageCache}
@@ -183,7 +183,7 @@ module _ {D A : Type 0} {m : _} (cache : PageCache D A m) (sound : IsPageMap cac
 
 module _ {D A : Type 0} {m : _} (cache : PageCache D A m) (sound : IsPageMap cache) (records : List Record)
     (before list found : List ℕ) (next : ℕ)
-    (begun : before ≡ free_of cache ++ 2 ∷ []) (adds : AddsLayers (pages cache) records before list)
+    (begun : before ≡ free_of cache ++ 2 ∷ []) (adds : AddsLayers (pages cache) (version_of cache) records before list)
     (same : found ≡ list) (number : next ≡ next_of cache) where
   all_listed : (n : ℕ) → named_pages found n ≡ named_pages (free_of cache) n + in_use adds.layers n
   all_listed n =
@@ -192,11 +192,12 @@ module _ {D A : Type 0} {m : _} (cache : PageCache D A m) (sound : IsPageMap cac
       omega (arith, ap (λ (xs : List ℕ). named_pages xs n) same, adds.listed n, first)
 
   -- what was listed are the layers of the records
-  pub layers_found : NamesEach next found → FindsLayers (pages cache) records
+  pub layers_found : NamesEach next found → FindsLayers (pages cache) (version_of cache) records
   layers_found each = record {
     layers = adds.layers;
     rows = adds.rows;
     stand = adds.stand;
+    allowed = adds.allowed;
     used = each_is_used cache sound adds.layers adds.stand found all_listed
         (subst (λ (k : ℕ). NamesEach k found) number each);
   }

@@ -4,6 +4,7 @@ use Rattle.std.specs.List.{Contains}
 use Rattle.block_device.specs.Device.{Blocks, Recovery}
 use Rattle.catalog_page.specs.Layout.{Record}
 use Rattle.node_page.specs.Standing.{PageMap}
+use Rattle.page_file.specs.Layout.{opened_version}
 use Rattle.page_file.specs.Opening.{IsRefused, failed_check}
 use Rattle.page_file.specs.Pages.{IsSoundMap, next_in, pages_in}
 use Rattle.page_file.specs.declared.fault.Fault.{Fault}
@@ -17,13 +18,13 @@ use Rattle.live_layers.specs.Layers.{Holds, IsTreeOf, catalog_in}
 
 -- Blocks are an image of the table: their gate is shut, gate and header pass the checks of opening, the free
 -- pages are a chain, and the live ones are the catalog and the pages of the layers that it names, which hold
--- the table.
+-- the table, with identifier tables that the header's version allows.
 pub record IsImage (blocks : Blocks) (t : Table) : Type 0 where
   pub passes : failed_check blocks ≡ None
   pub free : IsSoundMap blocks
   pub records : List Record
   pub spelled : catalog_in (pages_in blocks) ≡ Some records
-  pub holds : Holds (pages_in blocks) (next_in blocks) records t
+  pub holds : Holds (pages_in blocks) (next_in blocks) (opened_version blocks) records t
 
 -- the layer of this name that the catalog names has this tree
 pub record IsTreeIn (blocks : Blocks) (name : List ℕ) (t : Tree) : Type 0 where

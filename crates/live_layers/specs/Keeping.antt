@@ -7,6 +7,7 @@ use Rattle.std.specs.List.{Contains, HoldsAt}
 use Rattle.block_device.specs.Device.{Blocks}
 use Rattle.catalog_page.specs.Layout.{Record, records_of}
 use Rattle.page_cache.specs.Cache.{IsPageMap, blocks_of, device_of, gate_of, looks_of, next_of, pages}
+use Rattle.page_cache.specs.Cache.{version_of}
 use Rattle.page_cache.specs.declared.cache.PageCache.{PageCache}
 use Rattle.page_file.specs.Stops.{SameButGate}
 use Rattle.page_file.specs.declared.gate.Gate.TheVariants.{Shut, Open}
@@ -57,7 +58,8 @@ IsSettled kept = (gate_of kept.cache ≡ Shut) × IsWritten kept
 -- spells them where they were written.
 pub record IsSound {D A : Type 0} {m : _} (kept : Layers D A m) (t : Table) : Type 0 where
   pub map : IsPageMap kept.cache
-  pub holds : Holds (pages (cache_of kept)) (next_of (cache_of kept)) (records_in kept) t
+  pub holds : Holds (pages (cache_of kept)) (next_of (cache_of kept)) (version_of (cache_of kept))
+      (records_in kept) t
   pub counted : kept.object_count ≡ object_count t
   pub within : kept.object_count ≤ most_objects
   pub catalog : IsWritten kept → catalog_in (pages (cache_of kept)) ≡ Some (records_in kept)

@@ -2,12 +2,16 @@
 -- rule, docs/FORMAT.md, "Trees of pages" and "Identifier tables").
 use Rattle.std.specs.Prelude.{◌≡◌, ℕ, ◌+◌, IsTrue, List, [], ◌∷◌, length, map, Option, option_and_then, ⊤}
 use Rattle.std.specs.FinMap.{entries}
-use Rattle.std.specs.List.{Contains}
+use Rattle.std.specs.List.{All, Contains}
 use Rattle.catalog_page.specs.Layout.{Record, records_at}
+use Rattle.id_table.specs.Table.{kind_of}
+use Rattle.id_table.specs.declared.kind.TableKind.TheVariants.{Chains}
 use Rattle.layer_pages.specs.Layers.{IsLayerAt, LayerPages, part_of_layer}
 use Rattle.node_page.specs.Parts.{IsAllOf, Part, both, one_page}
 use Rattle.node_page.specs.Rooted.{IsTreeAt}
 use Rattle.node_page.specs.Standing.{PageMap}
+use Rattle.page_file.specs.declared.header.Version.{Version}
+use Rattle.page_file.specs.declared.header.Version.TheVariants.{Two}
 use Rattle.plain_table.specs.Table.{Table, Layer}
 use Rattle.tree_node.specs.Trees.{Tree}
 use Rattle.tree_node.specs.declared.node.Root.{Root}
@@ -43,6 +47,14 @@ abbrev pub LayersStand : PageMap → List Reading → Type 0
 LayersStand pages [] = ⊤
 LayersStand pages (h ∷ hs) = LayerStands pages h × LayersStand pages hs
 
+-- a file of this version may have the identifier table of a layer: below version 3 it is of chains
+abbrev pub AllowsTable : Version → Reading → Type 0
+AllowsTable version h = version ≡ Two → kind_of h.pages.ids ≡ Chains
+
+-- and those of all of these
+abbrev pub AllowsTables : Version → List Reading → Type 0
+AllowsTables version hs = All (AllowsTable version) hs
+
 -- ---- the pages in use
 
 -- the page of the catalog
@@ -64,13 +76,16 @@ in_use hs n = both of_catalog (of_layers hs) n
 
 -- ---- the table
 
--- With these records the pages hold the table: each layer is read from its record, the live pages are those
--- in use and no others, each in one place, and the records may stand in a catalog.
-pub record Holds (pages : PageMap) (next : ℕ) (records : List Record) (t : Table) : Type 0 where
+-- With these records the pages of a file of this version hold the table: each layer is read from its record,
+-- and has an identifier table that the version allows, the live pages are those in use and no others, each in
+-- one place, and the records may stand in a catalog.
+pub record Holds (pages : PageMap) (next : ℕ) (version : Version) (records : List Record) (t : Table)
+    : Type 0 where
   pub layers : List Reading
   pub rows : map row_of layers ≡ records
   pub table : map entry_of layers ≡ entries t
   pub stand : LayersStand pages layers
+  pub allowed : AllowsTables version layers
   pub used : IsAllOf pages (in_use layers)
   pub good : IsTrue (is_good_catalog next records)
 

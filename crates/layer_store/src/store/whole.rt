@@ -47,7 +47,7 @@ impl<D: BlockDevice, A: Allocator + Copy> Store<D, A> {
 
     /// Checks all pages. On an honest device it is done only where they hold a table, whatever file was
     /// opened; so a store that was opened and checked begins as one of an image does. It makes at most two
-    /// looks for each layer and number below the next one, one more for each layer, and one at the catalog.
+    /// looks for each layer and number below the next one, two more for each layer, and one at the catalog.
     ///
     /// Refused by `Memory`, `Device` or `Damaged`, and on an honest device with a sound store not by
     /// `Damaged`.
@@ -59,7 +59,7 @@ impl<D: BlockDevice, A: Allocator + Copy> Store<D, A> {
         ensures spelled { D.honest (device_in self.old) → IsSettled self.old →
             OnOk result (SpellsRecords self.new) }
         ensures looks { looks_in self.new ≤ looks_in self.old +
-            (1 + length (records_in (layers_in self.old))
+            (1 + 2 * length (records_in (layers_in self.old))
             + 2 * (length (records_in (layers_in self.old)) * next_of (cache_in self.old))) }
         ensures refused { IsInState self.old Dead ⊎ IfErr result IsCheckRefusal }
     {

@@ -4,7 +4,7 @@ ghost use Rattle.std.specs.Prelude.{◌≡◌, ◌+◌, ◌*◌, ◌≤◌, ◌�
 ghost use Rattle.std.specs.Prelude.{map as each};
 ghost use Rattle.catalog_page.specs.Layout.{record_of};
 ghost use Rattle.page_cache.specs.Cache.{IsHonest, IsPageMap, looks_of};
-ghost use Rattle.page_cache.specs.Cache.{next_of, pages};
+ghost use Rattle.page_cache.specs.Cache.{next_of, pages, version_of};
 ghost use Rattle.page_cache.specs.Calls.{Asks};
 ghost use Rattle.page_file.specs.Fault.{IsDamage, IsOfDevice};
 ghost use Rattle.page_file.specs.declared.fault.Fault.TheVariants.{Damaged};
@@ -19,7 +19,7 @@ ghost use Rattle.live_layers.specs.Changes.{IsAnswered, KeepsInQuestion};
 ghost use Rattle.live_layers.specs.Checked.{FindsLayers, IsCheckRefusal, IsFoundDamaged, IsFoundSound};
 ghost use Rattle.live_layers.specs.Checked.{IsNamedDamaged};
 ghost use Rattle.live_layers.specs.Keeping.{IsSound, cache_of, records_in};
-ghost use Rattle.live_layers.specs.Layers.{LayersStand, Reading, in_use, row_of};
+ghost use Rattle.live_layers.specs.Layers.{AllowsTables, LayersStand, Reading, in_use, row_of};
 ghost use Rattle.live_layers.specs.Staying.{KeepsPagesAndRecords};
 
 mod lists;
@@ -47,14 +47,14 @@ impl<B: BlockDevice, A: Allocator + Copy> Layers<B, A> {
     /// that does not stand in just one of these. Layers that are sound are refused by `Memory` or `Device`
     /// alone.
     ///
-    /// It makes at most two looks for each layer and number below the next one, one more for each layer, and one
+    /// It makes at most two looks for each layer and number below the next one, two more for each layer, and one
     /// at the catalog.
     pub fn check(&mut self) -> Result<(), Refusal>
         ensures answered { (t : Table) → IsSound self.old t →
             IsAnswered self.old self.new t Check (done_answer result) }
         ensures sound { IsHonest (cache_of self.old) → OnOk result (IsFoundSound self.new) }
         ensures looks { looks_of (cache_of self.new) ≤ looks_of (cache_of self.old) +
-            (1 + length (records_in self.old)
+            (1 + 2 * length (records_in self.old)
             + 2 * (length (records_in self.old) * next_of (cache_of self.old))) }
         ensures refused { IfErr result IsCheckRefusal }
         ensures damage { IsHonest (cache_of self.old) →
@@ -74,7 +74,7 @@ impl<B: BlockDevice, A: Allocator + Copy> Layers<B, A> {
         ensures stands { (t : Table) → IsSound self.old t → IfErr result IsOfDevice }
         ensures sound { (t : Table) → IsSound self.old t → IsSound self.new t }
         ensures looks { looks_of (cache_of self.new) ≤ looks_of (cache_of self.old) +
-            (1 + length (records_in self.old)
+            (1 + 2 * length (records_in self.old)
             + 2 * (length (records_in self.old) * next_of (cache_of self.old))) }
         ensures trees { KeepsPagesAndRecords self.old self.new }
         ensures damage { IsHonest (cache_of self.old) →
@@ -102,7 +102,7 @@ fn are_good(records: &[LayerRecord], next: u32, object_count: u64) -> bool
     count_of(records) == object_count
 }
 
-// Sees that the layers of the records stand in the pages, and that each page given out stands in one place:
+// Sees that the layers of the records stand in the pages, with tables that the file may have, and that each page given out stands in one place:
 // in the catalog, in a layer, or among the free pages.
 fn check_pages<B: BlockDevice, A: Allocator + Copy>(
     alloc: A,
@@ -112,11 +112,11 @@ fn check_pages<B: BlockDevice, A: Allocator + Copy>(
     requires { AreLayers (each record_of records.now) }
     ensures asks { Asks cache.old cache.new result }
     ensures found { IsHonest cache.old → OnOk result (IsPageMap cache.old ×
-        FindsLayers (pages cache.old) (each record_of records.now)) }
+        FindsLayers (pages cache.old) (version_of cache.old) (each record_of records.now)) }
     ensures stands { IsPageMap cache.old → (hs : List Reading) → each row_of hs ≡ each record_of records.now →
-        LayersStand (pages cache.old) hs → IsAllOf (pages cache.old) (in_use hs) → IfErr result IsOfDevice }
+        LayersStand (pages cache.old) hs → AllowsTables (version_of cache.old) hs → IsAllOf (pages cache.old) (in_use hs) → IfErr result IsOfDevice }
     ensures looks { looks_of cache.new ≤ looks_of cache.old + 2 * (length records.now * next_of cache.old)
-        + length records.now }
+        + 2 * length records.now }
     ensures damage { IsHonest cache.old → IfErr result (λ f. (n : ℕ) → f ≡ Damaged n →
         IsFoundDamaged cache.old (each record_of records.now) n) }
     ensures faults { IfErr result (λ f. IsOfDevice f ⊎ IsDamage f) }

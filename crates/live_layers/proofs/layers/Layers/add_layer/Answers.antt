@@ -94,7 +94,9 @@ returns-clause-added g c = λ t sound belongs.
     (made_still (pages kept.cache) (pages c.make_pages.new.cache) (pages c.admit.new.cache) c.args.dims
     c.args.fanout c.kind_in-kind.result root ids_root c.admit.ensures.pages_stay
     (c.in-Ok.ensures.made before.map c.args.fanout))
-    c.in-Ok.ensures.places.0 (omega (arith, c.in-Ok.ensures.changes.next, c.admit.ensures.next)) records
+    c.in-Ok.ensures.places.0 (omega (arith, c.in-Ok.ensures.changes.next, c.admit.ensures.next))
+    (λ chains. c.admit.ensures.chains chains ∙ c.in-Ok.ensures.changes.gate.version before.map.honest)
+    c.admit.ensures.tree records
     (c.admit.ensures.sound (c.in-Ok.ensures.sound before.map)) refl refl
 
 pub returns-clause-tree : goal.returns-clause-tree
@@ -125,7 +127,9 @@ returns-clause-tree g c = λ t sound belongs.
     (made_still (pages kept.cache) (pages c.make_pages.new.cache) (pages c.admit.new.cache) c.args.dims
     c.args.fanout c.kind_in-kind.result root ids_root c.admit.ensures.pages_stay
     (c.in-Ok.ensures.made before.map c.args.fanout))
-    c.in-Ok.ensures.places.0 (omega (arith, c.in-Ok.ensures.changes.next, c.admit.ensures.next)) records)
+    c.in-Ok.ensures.places.0 (omega (arith, c.in-Ok.ensures.changes.next, c.admit.ensures.next))
+    (λ chains. c.admit.ensures.chains chains ∙ c.in-Ok.ensures.changes.gate.version before.map.honest)
+    c.admit.ensures.tree records)
 
 pub returns-clause-begins : goal.returns-clause-begins
 returns-clause-begins g c =

@@ -6,7 +6,7 @@ use Rattle.catalog_page.specs.Layout.{record_of, records_of}
 use Rattle.catalog_page.specs.declared.layer_record.LayerRecord.{LayerRecord}
 use Rattle.node_page.specs.Parts.{IsAllOf}
 use Rattle.node_page.specs.Standing.{PageMap}
-use Rattle.page_cache.specs.Cache.{looks_of, next_of, pages}
+use Rattle.page_cache.specs.Cache.{looks_of, next_of, pages, version_of}
 use Rattle.page_cache.specs.Calls.{asks_in_turn, fault_in}
 use Rattle.page_cache.specs.Laws.{the_map_is_kept_in_turn}
 use Rattle.live_layers.specs.Catalog.{is_good_catalog, objects_named}
@@ -14,7 +14,7 @@ use Rattle.page_file.specs.Fault.{IsOfDevice}
 use Rattle.page_file.specs.declared.fault.Fault.TheVariants.{Damaged}
 use Rattle.live_layers.specs.Checked.{FindsLayers, IsFoundDamaged, IsNamedDamaged}
 use Rattle.live_layers.specs.Layers.{in_use}
-use Rattle.live_layers.proofs.CheckLemmas.{names_no_page, one_number, stand_in}
+use Rattle.live_layers.proofs.CheckLemmas.{allowed_in, names_no_page, one_number, stand_in}
 use Rattle.live_layers.proofs.FoundLemmas.{found_in, records_pass, sound_found}
 use Rattle.live_layers.proofs.KeepLemmas.{sound_kept}
 use Rattle.live_layers.proofs.Results.{if_err, on_ok, the_err}
@@ -59,8 +59,8 @@ returns-clause-found g c = λ honest.
     on_ok c.check_pages.result
     (λ found.
     let there =
-    subst (λ (xs : List LayerRecord). FindsLayers (pages mid) (map record_of xs)) c.deref-3.ensures.0
-    found.1 in
+    subst (λ (xs : List LayerRecord). FindsLayers (pages mid) (version_of mid) (map record_of xs))
+    c.deref-3.ensures.0 found.1 in
     let sound =
     sound_found kept (asked.map.sound.1 found.0) good count spelled
     (found_in old mid records honest asked.map there) in
@@ -76,6 +76,7 @@ returns-clause-stands g c = λ t sound.
     c.check_pages.ensures.stands (asked.map.sound.0 sound.map) hs
     (sound.holds.rows ∙ sym (λ i. map record_of (c.deref-3.ensures.0 i)))
     (stand_in (pages old) (pages mid) hs (asked.map.pages_stay sound.map.honest) sound.holds.stand)
+    (allowed_in (version_of old) (version_of mid) hs (asked.map.version sound.map.honest) sound.holds.allowed)
     (subst (λ (p : PageMap). IsAllOf p (in_use hs)) (λ i n. sym (asked.map.pages_stay sound.map.honest n) i)
     sound.holds.used)
 
@@ -119,11 +120,11 @@ returns-clause-looks g c =
     let many : length c.deref-3.result.now ≡ length (map record_of items) =
     ap length c.deref-3.ensures.0 ∙ sym (length-map items record_of) in
     let bound =
-    subst (λ (n : ℕ). looks_of new ≤ looks_of mid + 2 * (n * next_of mid) + n) many
+    subst (λ (n : ℕ). looks_of new ≤ looks_of mid + 2 * (n * next_of mid) + 2 * n) many
     c.check_pages.ensures.looks in
     let bounded =
     subst (λ (k : ℕ). looks_of new ≤ looks_of mid + 2 * (length (map record_of items) * k)
-    + length (map record_of items)) c.in_ok-check_catalog.ensures.asks.map.next bound in
+    + 2 * length (map record_of items)) c.in_ok-check_catalog.ensures.asks.map.next bound in
     omega (arith, bounded, c.check_catalog.ensures.looks)
 
 pub returns-clause-trees : goal.returns-clause-trees

@@ -62,7 +62,8 @@ returns-clause-replaced g c = λ t name sound finds dims there.
     (c.args.known.now, c.args.tag) c.args.bounds.now there c.replace.new.cache c.in-Ok.root
     (c.in-Ok.ensures.replaced before.map l objects at there) _ c.note.ensures.cache
     c.count_at-count.result c.count_at-count.ensures c.in-Ok.ensures.root
-    c.in-Ok.ensures.changes.next c.note.ensures.records
+    c.in-Ok.ensures.changes.next
+    (c.in-Ok.ensures.changes.gate.version before.map.honest) c.note.ensures.records
     (c.in-Ok.ensures.sound before.map l objects at there) c.note.ensures.count c.note.ensures.written
 
 pub returns-clause-tree : goal.returns-clause-tree
@@ -79,7 +80,8 @@ returns-clause-tree g c = λ t name sound finds dims there.
     (c.args.known.now, c.args.tag) c.args.bounds.now there c.replace.new.cache c.in-Ok.root
     (c.in-Ok.ensures.replaced before.map l (layer_at t name).objects at there) _ c.note.ensures.cache
     c.count_at-count.result c.count_at-count.ensures c.in-Ok.ensures.root
-    c.in-Ok.ensures.changes.next c.note.ensures.records)
+    c.in-Ok.ensures.changes.next
+    (c.in-Ok.ensures.changes.gate.version before.map.honest) c.note.ensures.records)
 
 pub returns-clause-begins : goal.returns-clause-begins
 returns-clause-begins g c =

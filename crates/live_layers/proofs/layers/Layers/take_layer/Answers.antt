@@ -59,7 +59,8 @@ returns-clause-taken g c = λ t name sound finds.
     let records = taken_out kept.records.items c.remove.new.self.items c.args.place c.remove.ensures.items in
     sound_less kept _ t name c.args.place before finds
     (c.in-Ok.ensures.freed before.map l located.fanout objects at)
-    c.in-Ok.ensures.changes.next records c.count_at-count.result
+    c.in-Ok.ensures.changes.next
+    (c.in-Ok.ensures.changes.gate.version before.map.honest) records c.count_at-count.result
     c.count_at-count.ensures
     (c.in-Ok.ensures.sound before.map l located.fanout objects at) c.saturating_sub-self.ensures
     refl
@@ -79,7 +80,8 @@ returns-clause-others g c = λ t name sound finds.
     c.begin.ensures.keeps.records
     (trees_left kept _ t name c.args.place before finds
     (c.in-Ok.ensures.freed before.map l located.fanout (layer_at t name).objects at)
-    c.in-Ok.ensures.changes.next records)
+    c.in-Ok.ensures.changes.next
+    (c.in-Ok.ensures.changes.gate.version before.map.honest) records)
 
 pub returns-clause-begins : goal.returns-clause-begins
 returns-clause-begins g c =

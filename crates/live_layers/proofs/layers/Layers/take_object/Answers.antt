@@ -62,7 +62,8 @@ returns-clause-taken g c = λ t name sound finds dims there.
     (c.args.bounds.now, c.args.tag) there c.remove.new.cache c.in-Ok.root
     (c.in-Ok.ensures.removed before.map l objects at there) _ c.note.ensures.cache
     c.count_at.result c.saturating_sub-count.result c.count_at.ensures c.saturating_sub-count.ensures
-    c.in-Ok.ensures.root c.in-Ok.ensures.changes.next c.note.ensures.records
+    c.in-Ok.ensures.root c.in-Ok.ensures.changes.next
+    (c.in-Ok.ensures.changes.gate.version before.map.honest) c.note.ensures.records
     (c.in-Ok.ensures.sound before.map l objects at)
     (omega (arith, c.note.ensures.count, c.saturating_sub-self.ensures)) c.note.ensures.written
 
@@ -80,7 +81,8 @@ returns-clause-tree g c = λ t name sound finds dims there.
     (c.args.bounds.now, c.args.tag) there c.remove.new.cache c.in-Ok.root
     (c.in-Ok.ensures.removed before.map l (layer_at t name).objects at there) _ c.note.ensures.cache
     c.count_at.result c.saturating_sub-count.result c.count_at.ensures c.saturating_sub-count.ensures
-    c.in-Ok.ensures.root c.in-Ok.ensures.changes.next c.note.ensures.records)
+    c.in-Ok.ensures.root c.in-Ok.ensures.changes.next
+    (c.in-Ok.ensures.changes.gate.version before.map.honest) c.note.ensures.records)
 
 pub returns-clause-begins : goal.returns-clause-begins
 returns-clause-begins g c =

@@ -58,7 +58,8 @@ returns-in_err-put-clause-sound g c = λ t sound.
     let live = the_catalog_is_live c.begin_change.new.self in
     sound_written c.args.self.now c.begin_change.new.self _ t sound keeps
     (c.put.ensures.others map.honest live) (c.put.ensures.live map.honest live)
-    (c.put.ensures.sound map live) c.put.ensures.next refl refl
+    (c.put.ensures.sound map live) c.put.ensures.next (c.put.ensures.changes.gate.version map.honest)
+    refl refl
     (λ w. let e : c.args.self.now.written ≡ true = w in let f = c.if-self.false in absurd (cc))
 
 pub returns-in_err-put-clause-faults : goal.returns-in_err-put-clause-faults
@@ -93,7 +94,8 @@ returns-clause-sound g c = λ t sound.
     let live = the_catalog_is_live c.begin_change.new.self in
     sound_written c.args.self.now c.begin_change.new.self _ t sound keeps
     (c.put.ensures.others map.honest live) (c.put.ensures.live map.honest live)
-    (c.put.ensures.sound map live) c.put.ensures.next refl refl
+    (c.put.ensures.sound map live) c.put.ensures.next (c.put.ensures.changes.gate.version map.honest)
+    refl refl
     (λ w. ap (option_and_then records_at) (c.in_ok-put.ensures.written map.honest live)
     ∙ c.encode.ensures.read_back)
 

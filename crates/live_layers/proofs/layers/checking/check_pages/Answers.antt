@@ -2,24 +2,26 @@
 use Rattle.std.proofs.Common.{◌≡◌, ◌∙◌, ℕ, List, [], ◌∷◌, ◌++◌, None, map, ap, inl, inr, subst, sym}
 use Rattle.catalog_page.specs.Layout.{record_of}
 use Rattle.layer_pages.proofs.CheckLemmas.{quiet_asks}
-use Rattle.page_cache.specs.Cache.{free_of, given, next_of, pages}
+use Rattle.page_cache.specs.Cache.{free_of, given, next_of, pages, version_of}
 use Rattle.page_cache.specs.Calls.{asks_and_refuses, asks_in_turn}
 use Rattle.page_file.specs.Fault.{IsOfDevice}
 use Rattle.page_file.specs.declared.fault.Fault.TheVariants.{Damaged}
 use Rattle.live_layers.specs.Checked.{AddsLayers, IsFoundDamaged, IsOdd}
-use Rattle.live_layers.proofs.CheckLemmas.{all_in, chain_breaks, comes_in_all, one_number, stand_in}
+use Rattle.live_layers.proofs.CheckLemmas.{all_in, allowed_in, chain_breaks, comes_in_all, one_number, stand_in}
 use Rattle.live_layers.proofs.Results.{if_err, no_err, on_ok, the_err}
 use Rattle.live_layers.proofs.UsedLemmas.{layers_found, pages_listed}
 use Rattle.live_layers.proofs.layers.checking.check_pages.Goals as goal
 
 pub returns-in_err-list_layers-clause-stands : goal.returns-in_err-list_layers-clause-stands
-returns-in_err-list_layers-clause-stands g c = λ sound hs rows stand used.
+returns-in_err-list_layers-clause-stands g c = λ sound hs rows stand allowed used.
     let asked = c.in_ok-found.ensures.asks in
     the_err c.from_residual-in_err-list_layers.result c.in_err-list_layers.field-0.0 IsOfDevice
     c.from_residual-in_err-list_layers.ensures.1
     (c.in_err-list_layers.ensures.stands (asked.gate.honest.0 sound.honest) hs rows
     (stand_in (pages c.args.cache.now) (pages c.free_pages.new.self) hs
-    (asked.map.pages_stay sound.honest) stand))
+    (asked.map.pages_stay sound.honest) stand)
+    (allowed_in (version_of c.args.cache.now) (version_of c.free_pages.new.self) hs
+    (asked.map.version sound.honest) allowed))
 
 pub returns-clause-asks : goal.returns-clause-asks
 returns-clause-asks g c =
@@ -39,8 +41,8 @@ returns-clause-found g c = λ honest.
     let begun : before ≡ free_of old ++ 2 ∷ [] = pushed
     ∙ ap (λ (xs : List ℕ). xs ++ 2 ∷ []) (c.in_ok-found.ensures.pages honest) in
     let adds =
-    all_in (pages old) (pages c.free_pages.new.self) records before c.list_layers.new.found.items
-    (asked.map.pages_stay honest) (c.in_ok-list_layers.ensures.layers (asked.map.sound.0 sound)) in
+    all_in (pages old) (pages c.free_pages.new.self) (version_of old) (version_of c.free_pages.new.self) records
+    before c.list_layers.new.found.items (asked.map.pages_stay honest) (asked.map.version honest) (c.in_ok-list_layers.ensures.layers (asked.map.sound.0 sound)) in
     let number = c.next_number.ensures ∙ c.in_ok-list_layers.ensures.asks.map.next ∙ asked.map.next in
     on_ok c.each_once.result
     (λ each. (
@@ -50,7 +52,7 @@ returns-clause-found g c = λ honest.
     )) c.each_once.ensures.once
 
 pub returns-clause-stands : goal.returns-clause-stands
-returns-clause-stands g c = λ sound hs rows stand used.
+returns-clause-stands g c = λ sound hs rows stand allowed used.
     let old = c.args.cache.now in
     let asked = c.in_ok-found.ensures.asks in
     let records = map record_of c.args.records.now in
@@ -59,8 +61,9 @@ returns-clause-stands g c = λ sound hs rows stand used.
     let begun : before ≡ free_of old ++ 2 ∷ [] = pushed
     ∙ ap (λ (xs : List ℕ). xs ++ 2 ∷ []) (c.in_ok-found.ensures.pages sound.honest) in
     let adds =
-    all_in (pages old) (pages c.free_pages.new.self) records before c.list_layers.new.found.items
-    (asked.map.pages_stay sound.honest) (c.in_ok-list_layers.ensures.layers (asked.map.sound.0 sound)) in
+    all_in (pages old) (pages c.free_pages.new.self) (version_of old) (version_of c.free_pages.new.self) records
+    before c.list_layers.new.found.items (asked.map.pages_stay sound.honest)
+    (asked.map.version sound.honest) (c.in_ok-list_layers.ensures.layers (asked.map.sound.0 sound)) in
     let number = c.next_number.ensures ∙ c.in_ok-list_layers.ensures.asks.map.next ∙ asked.map.next in
     no_err c.each_once.result IsOfDevice
     (c.each_once.ensures.passes
@@ -104,10 +107,10 @@ returns-clause-damage g c = λ honest.
     let begun : before ≡ free_of old ++ 2 ∷ [] = pushed
     ∙ ap (λ (xs : List ℕ). xs ++ 2 ∷ []) (c.in_ok-found.ensures.pages honest) in
     let found = c.list_layers.new.found.items in
-    let adds : AddsLayers (pages old) records (free_of old ++ 2 ∷ []) found =
-    subst (λ (b : List ℕ). AddsLayers (pages old) records b found) begun
-    (all_in (pages old) (pages c.free_pages.new.self) records before found
-    (asked.map.pages_stay honest) (c.in_ok-list_layers.ensures.layers (asked.map.sound.0 sound))) in
+    let adds : AddsLayers (pages old) (version_of old) records (free_of old ++ 2 ∷ []) found =
+    subst (λ (b : List ℕ). AddsLayers (pages old) (version_of old) records b found) begun
+    (all_in (pages old) (pages c.free_pages.new.self) (version_of old) (version_of c.free_pages.new.self)
+    records before found (asked.map.pages_stay honest) (asked.map.version honest) (c.in_ok-list_layers.ensures.layers (asked.map.sound.0 sound))) in
     let number = c.next_number.ensures ∙ c.in_ok-list_layers.ensures.asks.map.next ∙ asked.map.next in
     if_err c.each_once.result
     (λ f odd. λ n is. inr (inr (

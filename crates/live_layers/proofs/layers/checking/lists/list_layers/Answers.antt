@@ -3,13 +3,14 @@ use Rattle.std.proofs.Common.{◌≡◌, ◌<◌, ℕ, List, None, get_or, lengt
 use Rattle.std.proofs.lemmas.List.{take_all}
 use Rattle.catalog_page.specs.Layout.{Record, record_of}
 use Rattle.catalog_page.specs.declared.layer_record.LayerRecord.{LayerRecord}
-use Rattle.page_cache.specs.Cache.{given, pages}
+use Rattle.page_cache.specs.Cache.{given, pages, version_of}
 use Rattle.page_cache.specs.Calls.{asks_and_refuses, asks_in_turn}
 use Rattle.page_file.specs.Fault.{IsOfDevice}
 use Rattle.page_file.specs.declared.fault.Fault.TheVariants.{Damaged}
 use Rattle.live_layers.specs.Checked.{AddsLayers, ComesInLayers}
 use Rattle.live_layers.specs.Layers.{root_of}
-use Rattle.live_layers.proofs.CheckLemmas.{adds_in, adds_more, among_records, comes_in_same, records_more, row_here, stands_here}
+use Rattle.live_layers.proofs.CheckLemmas.{adds_in, adds_more, allowed_here, among_records, comes_in_same}
+use Rattle.live_layers.proofs.CheckLemmas.{records_more, row_here, stands_here}
 use Rattle.live_layers.proofs.FindLemmas.{no_reading}
 use Rattle.live_layers.proofs.LocateLemmas.{dims_fit}
 use Rattle.live_layers.proofs.Results.{the_err}
@@ -27,7 +28,7 @@ returns-in_err-list_layer-clause-asks g c =
     c.loop-record.invariant.asks c.in_err-list_layer.ensures.asks
 
 pub returns-in_err-list_layer-clause-stands : goal.returns-in_err-list_layer-clause-stands
-returns-in_err-list_layer-clause-stands g c = λ honest hs rows stand.
+returns-in_err-list_layer-clause-stands g c = λ honest hs rows stand allowed.
     let asks = c.loop-record.invariant.asks in
     let items = c.args.records.now in
     let i = c.loop-record.record-index in
@@ -37,7 +38,9 @@ returns-in_err-list_layer-clause-stands g c = λ honest hs rows stand.
     (c.in_err-list_layer.ensures.stands (asks.gate.honest.0 honest) (get_or hs i no_reading)
     (row_here items hs rows i r lt c.record-item.is)
     (stands_here items hs rows i r lt c.record-item.is (pages c.args.cache.now) (pages c.loop-record.cache)
-    (asks.map.pages_stay honest) stand))
+    (asks.map.pages_stay honest) stand)
+    (allowed_here items hs rows i r lt c.record-item.is (version_of c.args.cache.now)
+    (version_of c.loop-record.cache) (asks.map.version honest) allowed))
 
 pub loop-record-preserved : goal.loop-record-preserved
 loop-record-preserved g c =
@@ -51,12 +54,13 @@ loop-record-preserved g c =
     record {
       asks = asks_in_turn old mid c.list_layer.new.cache None inv.asks c.in_ok-list_layer.ensures.asks;
       layers = λ sound.
-          subst (λ (rs : List Record). AddsLayers (pages old) rs c.args.found.now.items
+          subst (λ (rs : List Record). AddsLayers (pages old) (version_of old) rs c.args.found.now.items
           c.list_layer.new.found.items) (sym more)
-          (adds_more (pages old) (map record_of (take i items)) (record_of r) c.args.found.now.items
+          (adds_more (pages old) (version_of old) (map record_of (take i items)) (record_of r) c.args.found.now.items
           c.loop-record.found.items c.list_layer.new.found.items (inv.layers sound)
-          (adds_in (pages old) (pages mid) (record_of r) c.loop-record.found.items
-          c.list_layer.new.found.items (inv.asks.map.pages_stay sound.honest)
+          (adds_in (pages old) (pages mid) (version_of old) (version_of mid) (record_of r)
+          c.loop-record.found.items c.list_layer.new.found.items (inv.asks.map.pages_stay sound.honest)
+          (inv.asks.map.version sound.honest)
           (c.in_ok-list_layer.ensures.layer (inv.asks.map.sound.0 sound))));
       looks = omega (arith, inv.looks, inv.asks.map.next, c.in_ok-list_layer.ensures.looks);
     }
@@ -64,7 +68,7 @@ loop-record-preserved g c =
 pub returns-clause-layers : goal.returns-clause-layers
 returns-clause-layers g c = λ sound.
     let items = c.args.records.now in
-    subst (λ (rs : List LayerRecord). AddsLayers (pages c.args.cache.now) (map record_of rs)
+    subst (λ (rs : List LayerRecord). AddsLayers (pages c.args.cache.now) (version_of c.args.cache.now) (map record_of rs)
     c.args.found.now.items c.loop-record.found.items)
     (take_all c.loop-record.record-index items c.loop-record-test.false)
     (c.loop-record.invariant.layers sound)
