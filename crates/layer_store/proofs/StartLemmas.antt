@@ -13,7 +13,7 @@ use Rattle.block_device.specs.Moments.{leaves_weaker, brings_weaker}
 use Rattle.catalog_page.specs.Layout.{records_at}
 use Rattle.catalog_page.proofs.Named.{begins_empty}
 use Rattle.live_layers.specs.Image.{HasNoCatalog, IsImage, CommitsWhatOpens, IsImageOfOne, IsRefusedOrImageOf}
-use Rattle.live_layers.specs.Layers.{Holds, in_use}
+use Rattle.live_layers.specs.Layers.{AllowsTable, Holds, in_use}
 use Rattle.live_layers.specs.Keeping.{IsSound, records_in, IsFound}
 use Rattle.live_layers.proofs.RecoveryLemmas.{found_after, image_kept, one_longer}
 use Rattle.live_layers.proofs.StopLemmas.{image_of, shut_is_durable, this_one}
@@ -71,12 +71,12 @@ none_is_some (Some b) e some = cc
 -- a new file holds it
 nothing_held : {version : Version} (pages : PageMap) (next : ℕ) → pages 2 ≡ Some catalog_block
     → ((k : ℕ) → ¬ (k ≡ 2) → pages k ≡ None) → Holds pages next version [] empty
-nothing_held pages next there others = record {
+nothing_held {version = version} pages next there others = record {
   layers = [];
   rows = refl;
   table = sym no_entries;
   stand = tt;
-  allowed = All-nil;
+  allowed = All-nil (AllowsTable version);
   used = record {
     once = the_catalog_alone;
     live = λ n some. subst (λ (k : ℕ). IsSome (pages k)) (its_page n some)

@@ -124,7 +124,7 @@ parts_more (k ∷ ks) h n = omega (arith, parts_more ks h n)
 
 pub adds_none : (pages : PageMap) (version : Version) (list : List ℕ) → AddsLayers pages version [] list list
 adds_none pages version list =
-    record { layers = []; rows = refl; stand = tt; allowed = All-nil; listed = λ n. omega arith }
+    record { layers = []; rows = refl; stand = tt; allowed = All-nil (AllowsTable version); listed = λ n. omega arith }
 
 pub adds_more : (pages : PageMap) (version : Version) (rs : List Record) (r : Record)
     (before mid now : List ℕ) → AddsLayers pages version rs before mid → AddsLayer pages version r mid now

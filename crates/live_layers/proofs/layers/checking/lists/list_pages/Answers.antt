@@ -1,13 +1,14 @@
 -- A layer that stands is not refused, and one that was checked stands, with a table that the file may have.
-use Rattle.std.proofs.Common.{◌≡◌, ◌∙◌, ℕ, List, ◌++◌, ap, arith, inl, inr, subst, sym, ⊎_elim}
+use Rattle.std.proofs.Common.{◌≡◌, ◌∙◌, ◌⊎◌, ℕ, List, ◌++◌, None, ap, inl, inr, refl, subst, sym, ⊎_elim}
 use Rattle.catalog_page.specs.Layout.{record_of}
 use Rattle.id_table.specs.Table.{IdsStand}
 use Rattle.layer_pages.specs.Checked.{ComesInLayer}
 use Rattle.node_page.specs.Standing.{PageMap}
 use Rattle.page_cache.specs.Cache.{given, pages, version_of}
-use Rattle.page_cache.specs.Calls.{asks_and_refuses, asks_in_turn, fault_in}
-use Rattle.page_file.specs.Fault.{IsOfDevice}
-use Rattle.page_file.specs.declared.fault.Fault.TheVariants.{Damaged}
+use Rattle.layer_pages.proofs.CheckLemmas.{quiet_asks}
+use Rattle.page_cache.specs.Calls.{asks_and_refuses, asks_in_turn}
+use Rattle.page_file.specs.Fault.{IsDamage, IsOfDevice}
+use Rattle.page_file.specs.declared.fault.Fault.TheVariants.{Damaged, Memory}
 use Rattle.live_layers.specs.Layers.{root_of}
 use Rattle.live_layers.proofs.CheckLemmas.{adds_layer, count_of_row, layer_of_row, names_no_page, one_number}
 use Rattle.live_layers.proofs.Results.{the_err}
@@ -39,6 +40,20 @@ returns-in_err-allow_table-clause-asks g c =
     asks_and_refuses c.args.cache.now c.check.new.cache c.allow_table.new.cache
     c.in_err-allow_table.field-0.0 c.from_residual-in_err-allow_table.result
     c.from_residual-in_err-allow_table.ensures.1 c.in_ok-list.ensures.asks c.in_err-allow_table.ensures.asks
+
+-- want of memory for the list is no refusal of a page
+pub returns-in_err-extend_from_slice-clause-asks : goal.returns-in_err-extend_from_slice-clause-asks
+returns-in_err-extend_from_slice-clause-asks g c =
+    quiet_asks c.args.cache.now c.allow_table.new.cache c.from_residual-in_err-extend_from_slice.result
+    (the_err c.from_residual-in_err-extend_from_slice.result Memory (λ f. (f ≡ Memory) ⊎ IsDamage f)
+    c.from_residual-in_err-extend_from_slice.ensures.1 (inl refl))
+    (asks_in_turn c.args.cache.now c.check.new.cache c.allow_table.new.cache None c.in_ok-list.ensures.asks
+    c.in_ok-allow_table.ensures.asks)
+
+pub returns-clause-asks : goal.returns-clause-asks
+returns-clause-asks g c =
+    asks_in_turn c.args.cache.now c.check.new.cache c.allow_table.new.cache None c.in_ok-list.ensures.asks
+    c.in_ok-allow_table.ensures.asks
 
 pub returns-clause-layer : goal.returns-clause-layer
 returns-clause-layer g c = λ map.
