@@ -3,9 +3,9 @@ use Rattle.std.specs.Prelude.{◌≡◌, ◌⊎◌, ℕ}
 use Rattle.block_device.specs.Device.{Blocks, Torn}
 use Rattle.journaled_file.specs.Judged.{HasEnded}
 
--- what a stop left before, with the end of the journal torn
-abbrev pub EndTorn : (Blocks → Blocks → Type 0) → Blocks → Blocks → Type 0
-EndTorn outcomes a e = (d : Blocks) × outcomes a d × Torn 1 d e
+-- what a stop left before, or the base as it is read, beside such a journal with its end torn
+abbrev pub EndTorn : (Blocks → Blocks → Type 0) → Blocks → Blocks → Blocks → Type 0
+EndTorn outcomes base a e = outcomes a e ⊎ ((a ≡ base) × (d : Blocks) × outcomes a d × Torn 1 d e)
 
 -- what a stop left before, with the gate of the base torn
 abbrev pub GateTorn : (Blocks → Blocks → Type 0) → Blocks → Blocks → Type 0
@@ -18,4 +18,4 @@ pub record IsEnding (base a e : Blocks) : Type 0 where
 
 -- what a stop left before, with the journal's end torn, or what it leaves of a base that is ending
 abbrev pub LeavesEnding : (Blocks → Blocks → Type 0) → Blocks → Blocks → Blocks → Type 0
-LeavesEnding outcomes base a e = EndTorn outcomes a e ⊎ IsEnding base a e
+LeavesEnding outcomes base a e = EndTorn outcomes base a e ⊎ IsEnding base a e

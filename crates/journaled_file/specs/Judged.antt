@@ -31,10 +31,16 @@ pub record HasEntries (e : Blocks) : Type 0 where
   pub room : HadEntries e
   pub complete : gate_says (block_at 2 e) ≡ true
 
--- what is so of a base and such a file
+-- it has not ended, and a base without a mark needs nothing of it: it never had an entry, or is its own and
+-- empty again
+pub record IsNeedless (a e : Blocks) : Type 0 where
+  pub journal : IsJournal e
+  pub not_ended : ¬ HasEnded a e
+  pub empty : (length e ≤ 4) ⊎ (IsOf a e × ¬ HasEntries e)
+
+-- what is so of a base and such a file, of which just one is
 abbrev pub IsJudged : Found → Blocks → Blocks → Type 0
-IsJudged Fresh a e = (¬ IsMarked a) × ((length e ≤ 4) ⊎ (IsOf a e × ¬ HasEntries e))
-    × ((length e ≤ 2) ⊎ IsJournal e)
+IsJudged Fresh a e = (¬ IsMarked a) × (((¬ IsJournal e) × (length e ≤ 2)) ⊎ IsNeedless a e)
 IsJudged Own a e = IsJournal e × (¬ HasEnded a e) × (IsMarked a ⊎ (HasEntries e × IsOf a e))
 IsJudged Ended a e = IsJournal e × HasEnded a e
 IsJudged Missing a e = (¬ IsJournal e) × (IsMarked a ⊎ (2 < length e))

@@ -1,15 +1,16 @@
 -- Laws of what is found beside a base.
 use Rattle.std.proofs.Common.{◌≡◌, ◌∙◌, ◌<◌, ◌≤◌, ℕ, true, List, [], length, zero, suc, refl, sym, ap, subst}
-use Rattle.std.proofs.Common.{arith, ⊎_elim}
+use Rattle.std.proofs.Common.{arith, get_or}
 use Rattle.std.proofs.lemmas.List.{get_or_default}
-use Rattle.block_bytes.specs.Numbers.{zeros}
+use Rattle.block_bytes.specs.Numbers.{put_number, zeros}
 use Rattle.block_device.specs.Device.{Blocks, block_at}
 use Rattle.journaled_file.specs.Judged.{HasEntries, IsJournal, IsJudged, IsOf}
 use Rattle.journaled_file.specs.declared.judging.Found.{Found}
-use Rattle.journaled_file.specs.declared.judging.Found.TheVariants.{Missing, Foreign}
+use Rattle.journaled_file.specs.declared.judging.Found.TheVariants.{Ended, Missing, Foreign}
 use Rattle.marked_pair.specs.Behind.{IsLeft, IsPlain}
 use Rattle.marked_pair.specs.Mark.{IsMarked}
-use Rattle.titled_pair.specs.Title.{header_in, reads_title, title_of, title_text, untitled, with_text}
+use Rattle.titled_pair.specs.Title.{end_text, header_in, reads_title, title_of, title_text, untitled}
+use Rattle.titled_pair.specs.Title.{with_text}
 use Rattle.titled_pair.specs.Title.{HasTitle}
 use Rattle.titled_pair.specs.TitleLaws.{length-untitled}
 
@@ -44,3 +45,17 @@ none_foreign n base journal a e size of has left judged =
     many zero few = absurd (omega (arith, few (omega arith), length-untitled e, judged.3))
     many (suc zero) few = absurd (omega (arith, few (omega arith), length-untitled e, judged.3))
     many (suc (suc k)) few = omega arith
+
+-- a text is not a block of zeros
+text_is_some : (header : List ℕ) → ¬ (put_number 8 0 end_text header ≡ zeros)
+unfolding put_number zeros
+text_is_some header same =
+    let byte : 82 ≡ 0 = ap (λ b. get_or b 0 0) same in
+    absurd (omega (arith, byte))
+
+-- while a journal's end is of zeros, its session is not judged to have ended
+pub none_ended : (journal a e : Blocks) → HasTitle journal e → block_at 1 journal ≡ zeros
+    → ¬ IsJudged Ended a e
+unfolding with_text
+none_ended journal a e has blank judged =
+    text_is_some (header_in a) (sym judged.1 ∙ has.end ∙ blank)

@@ -7,6 +7,7 @@ ghost use Rattle.journaled_file.specs.Judged.{HasEnded, HasEntries};
 ghost use Rattle.marked_pair.specs.Behind.{IsSynced, LeavesBase};
 ghost use Rattle.marked_pair.specs.Mark.{IsMarked};
 ghost use Rattle.page_file.specs.Layout.{gate_block};
+ghost use Rattle.titled_pair.specs.Calls.{IsQuiet};
 
 use crate::JournaledFile;
 use crate::judging::{has_entries, is_marked};
@@ -46,6 +47,8 @@ pub fn end_session<P: DevicePair>(pair: &mut P) -> Result<bool, DeviceError>
     ensures not_ended { P.honest pair.old →
         IfOk result (λ t. t ≡ false → HasEntries (P.journal pair.old) ⊎ (length (P.journal pair.old) < 2)) }
     ensures left { P.honest pair.old → IfOk result (λ t. t ≡ false → P.base pair.new ≡ P.base pair.old) }
+    ensures unfinished { P.honest pair.old → HasEntries (P.journal pair.old) →
+        IsQuiet P.DevicePair pair.old pair.new }
     ensures shut { P.honest pair.old → IsMarked (P.base pair.old) →
         IfOk result (λ t. t ≡ true → P.base pair.new ≡ written 0 (gate_block 1) (P.base pair.old)) }
     ensures plain { P.honest pair.old → ¬ IsMarked (P.base pair.old) → P.base pair.new ≡ P.base pair.old }
@@ -82,7 +85,7 @@ fn put_end<P: DevicePair>(pair: &mut P) -> Result<bool, DeviceError>
         IfOk result (λ t. t ≡ true → IsSynced (P.base pair.new) (P.journal pair.new) (P.may_leave pair.new)) }
     ensures no_room { P.honest pair.old → IfOk result (λ t. t ≡ false → length (P.journal pair.old) < 2) }
     ensures stops { P.honest pair.old →
-        PairLeaves P.moment P.left_since pair.old pair.new (EndTorn (P.may_leave pair.old)) }
+        PairLeaves P.moment P.left_since pair.old pair.new (EndTorn (P.may_leave pair.old) (P.base pair.old)) }
     ensures honest { P.honest pair.old ↔ P.honest pair.new }
 {
     if pair.journal_blocks() < 2 {

@@ -1,5 +1,6 @@
 //! The laws of a file with its journal, each the contract of a function that does nothing.
 ghost use Rattle.std.specs.Prelude.{◌≡◌, ◌≤◌, length};
+ghost use Rattle.block_bytes.specs.Numbers.{zeros};
 ghost use Rattle.block_device.specs.Device.{Blocks, Torn, block_at, written};
 ghost use Rattle.journaled_file.specs.Ending.{IsEnding};
 ghost use Rattle.journaled_file.specs.Judged.{IsJournal, IsJudged, IsOf};
@@ -18,6 +19,8 @@ pub fn what_a_session_leaves_is_its_own()
     ensures there { (journal a e : Blocks) → IsJournal journal → HasTitle journal e → ¬ IsJudged Missing a e }
     ensures own { (base journal a e : Blocks) → (¬ IsMarked base → IsOf base journal) → HasTitle journal e →
         IsLeft (length base) base a (untitled e) → ¬ IsJudged Foreign a e }
+    ensures not_ended { (journal a e : Blocks) → HasTitle journal e → block_at 1 journal ≡ zeros →
+        ¬ IsJudged Ended a e }
 {}
 
 /// A clean end that is cut short is finished by the next opening: what is left once its end is in the journal

@@ -128,6 +128,8 @@ pub fn judge_and_finish<P: DevicePair>(pair: &mut P) -> Result<Found, DeviceErro
         IfOk result (λ found. found ≡ Ended → P.base pair.new ≡ written 0 (gate_block 1) (P.base pair.old)) }
     ensures other { P.honest pair.old →
         IfOk result (λ found. ¬ (found ≡ Ended) → P.base pair.new ≡ P.base pair.old) }
+    ensures durable { P.honest pair.old → 0 < length (P.base pair.old) →
+        IfOk result (λ found. found ≡ Ended → LeavesBase (P.base pair.new) (P.may_leave pair.new)) }
     ensures journal { P.honest pair.old → P.journal pair.new ≡ P.journal pair.old }
     ensures stops { P.honest pair.old →
         PairLeaves P.moment P.left_since pair.old pair.new (GateTorn (P.may_leave pair.old)) }
@@ -205,6 +207,7 @@ pub fn open_over<P: DevicePair + Drop, A: Allocator + Copy>(
 fn told(fault: OpenFault) -> OpenError
     ensures is { (result ≡ error.NoJournal) ⊎ (result ≡ error.Refused) }
     ensures malformed { result ≡ error.NoJournal → fault ≡ Malformed }
+    ensures no_journal { fault ≡ Malformed → result ≡ error.NoJournal }
 {
     match fault {
         OpenFault::Malformed => OpenError::NoJournal,

@@ -83,6 +83,7 @@ pub fn make_title<P: DevicePair>(pair: &mut P) -> Result<(), DeviceError>
     ensures title { P.honest pair.old →
         OnOk result (block_at 0 (P.journal pair.new) ≡ title_of (P.base pair.old)) }
     ensures room { P.honest pair.old → OnOk result (length (P.journal pair.new) ≡ 2) }
+    ensures not_ended { P.honest pair.old → OnOk result (block_at 1 (P.journal pair.new) ≡ zeros) }
     ensures stops { P.honest pair.old →
         PairLeaves P.moment P.left_since pair.old pair.new (LeavesItsBase (P.may_leave pair.old)) }
     ensures honest { P.honest pair.old ↔ P.honest pair.new }
