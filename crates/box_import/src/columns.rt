@@ -85,16 +85,28 @@ fn listed(alloc: Global, list: &[u8], header: &ByteRecord) -> Result<Places, Imp
             return Err(refused(alloc, list, ColumnFault::Count));
         }
     }
-    match Places::in_order(id, others.as_slice()) {
-        None => Err(refused(alloc, list, ColumnFault::Count)),
-        Some(places) => {
-            if places.has_twins() {
-                Err(refused(alloc, list, ColumnFault::Twice))
-            } else {
-                Ok(places)
-            }
+    let Some(places) = Places::in_order(id, others.as_slice()) else {
+        return Err(refused(alloc, list, ColumnFault::Count));
+    };
+    match places.are_apart() {
+        Ok(()) => Ok(places),
+        Err(place) => {
+            let entry = last_to(place, list, others.as_slice());
+            Err(refused(alloc, entry, ColumnFault::Twice))
         }
     }
+}
+
+// The last entry of a list that leads to a place. Behind the first entry they lead to the places `others`.
+fn last_to<'l>(place: usize, list: &'l [u8], others: &[usize]) -> &'l [u8] {
+    let mut last = list;
+    let entries = list.split(|byte| *byte == b',').skip(1);
+    for (entry, leads_to) in entries.zip(others.iter()) {
+        if *leads_to == place {
+            last = entry.trim_ascii();
+        }
+    }
+    last
 }
 
 // The place of a column that a list names.

@@ -83,7 +83,7 @@ pub enum ColumnFault {
 pub enum ImportError {
     /// The columns of a CSV text are not those that are wanted.
     Columns {
-        /// The column's name, or the list of columns.
+        /// The column's name or its number, or the list of columns where its length is wrong.
         column: String,
         /// What is wrong.
         why: ColumnFault,

@@ -112,39 +112,47 @@ impl Places {
         Some(Places { id, bounds, tag })
     }
 
-    /// Whether two parts stand at one place, other than the low and the high of an axis.
-    pub fn has_twins(&self) -> bool {
+    /// Ok where no two parts stand at one place, other than the low and the high of an axis, and else such a
+    /// place.
+    pub fn are_apart(&self) -> Result<(), usize> {
         let mut seen: ArrayVec<usize, MOST_PLACES> = ArrayVec::new();
-        let spans = match self.bounds {
+        match self.bounds {
             BoxPlaces::Two(low, high) => {
-                adds_span(&mut seen, low[0], high[0]) && adds_span(&mut seen, low[1], high[1])
+                add_span(&mut seen, low[0], high[0])?;
+                add_span(&mut seen, low[1], high[1])?;
             }
             BoxPlaces::Three(low, high) => {
-                adds_span(&mut seen, low[0], high[0])
-                    && adds_span(&mut seen, low[1], high[1])
-                    && adds_span(&mut seen, low[2], high[2])
+                add_span(&mut seen, low[0], high[0])?;
+                add_span(&mut seen, low[1], high[1])?;
+                add_span(&mut seen, low[2], high[2])?;
             }
-        };
-        !(spans && adds_some(&mut seen, self.id) && adds_some(&mut seen, self.tag))
+        }
+        add_some(&mut seen, self.id)?;
+        add_some(&mut seen, self.tag)
     }
 }
 
-// Adds a place, if it is new.
-fn adds(seen: &mut ArrayVec<usize, MOST_PLACES>, place: usize) -> bool {
-    !seen.as_slice().contains(&place) && seen.try_push(place).is_ok()
+// Adds a place, which is an error where it is there.
+fn add(seen: &mut ArrayVec<usize, MOST_PLACES>, place: usize) -> Result<(), usize> {
+    if seen.as_slice().contains(&place) || seen.try_push(place).is_err() {
+        Err(place)
+    } else {
+        Ok(())
+    }
 }
 
 // Adds a place, if there is one.
-fn adds_some(seen: &mut ArrayVec<usize, MOST_PLACES>, place: Option<usize>) -> bool {
+fn add_some(seen: &mut ArrayVec<usize, MOST_PLACES>, place: Option<usize>) -> Result<(), usize> {
     match place {
-        Some(place) => adds(seen, place),
-        None => true,
+        Some(place) => add(seen, place),
+        None => Ok(()),
     }
 }
 
 // Adds the places of a low and a high, which may be the same.
-fn adds_span(seen: &mut ArrayVec<usize, MOST_PLACES>, low: usize, high: usize) -> bool {
-    adds(seen, low) && (low == high || adds(seen, high))
+fn add_span(seen: &mut ArrayVec<usize, MOST_PLACES>, low: usize, high: usize) -> Result<(), usize> {
+    add(seen, low)?;
+    if low == high { Ok(()) } else { add(seen, high) }
 }
 
 /// The columns that a header has named so far.
