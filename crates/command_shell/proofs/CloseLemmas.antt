@@ -8,7 +8,7 @@ use Rattle.store_law.specs.States.StoreState.{Alive, Dead}
 use Rattle.plain_table.specs.Table.{Table}
 use Rattle.block_device.specs.Device.{Blocks, LeavesOnly}
 use Rattle.block_device.specs.Moments.{leaves_then, leaves_weaker}
-use Rattle.layer_store.specs.Checked.{LawfulOnceChecked}
+use Rattle.layer_store.specs.Checked.{LawfulOnceChecked, Standing}
 use Rattle.layer_store.specs.Representation.{HasFailed, IsInState, Represents, StandsAs, StopsLeave}
 use Rattle.layer_store.specs.Representation.{device_in}
 use Rattle.layer_store.proofs.SessionLemmas.{once_checked_so}
@@ -17,7 +17,7 @@ use Rattle.layer_store.specs.declared.store.Store.{Store}
 use Rattle.layer_store.proofs.StopLemmas.{found_by_closing, found_of_store, left_by_closing, left_more}
 use Rattle.layer_store.proofs.StopLemmas.{left_so_far, session_state_is}
 use Rattle.live_layers.proofs.StopLemmas.{or_this}
-use Rattle.live_layers.specs.Image.{IsRefusedOrImageOf, IsImageOfOne}
+use Rattle.live_layers.specs.Image.{IsImage, IsRefusedOrImageOf, IsImageOfOne}
 use Rattle.store_law.specs.Laws.{a_session_keeps_its_beginning}
 use Rattle.command_shell.specs.Runs.{FoundSince, LeavesTablesOf, Runs, with_last}
 use Rattle.command_shell.specs.declared.session.LinesEnd.{LinesEnd}
@@ -25,7 +25,8 @@ use Rattle.command_shell.specs.declared.session.RunEnd.{RunEnd}
 use Rattle.command_shell.specs.declared.strict.Outcome.{Outcome}
 use Rattle.command_shell.specs.declared.strict.Outcome.TheVariants.{WentWell}
 use Rattle.command_shell.specs.Serving.{IsSession, RunState, of_any_text}
-use Rattle.command_shell.specs.Strict.{IsLeft, RunsStrictly, RunsToSettle, TellsOutcome, tables_found}
+use Rattle.command_shell.specs.Strict.{IsLeft, RunsStrictly, RunsToSettle, SettlesInImage, TellsOutcome}
+use Rattle.command_shell.specs.Strict.{tables_found}
 use Rattle.command_shell.proofs.RunLemmas.{strict_kept, strict_served, strict_so}
 use Rattle.command_shell.proofs.SessionLemmas.{served_by}
 
@@ -47,6 +48,17 @@ has_table store s represents going = at s.state refl
           state = subst (IsInState store) e (session_state_is store s represents).state;
         }
     at Dead e = absurd (going (record { next = s; represents = represents; so = e }))
+
+-- a store that was closed has the table of which the blocks are an image
+pub closed_in_image : {D A : Type 0} {m : _} (store : Store D A m) (blocks : Blocks)
+    → ((t : Table) → IsInState store (Alive t) → IsImage blocks t) → (IsInState store Dead → ⊥)
+    → (s : Standing) → StandsAs store s → (t : Table) × (s.state ≡ Alive t) × IsImage blocks t
+closed_in_image store blocks closed going s stands = at s.state refl stands.state
+  where
+    at : (state : StoreState) → s.state ≡ state → IsInState store state
+        → (t : Table) × (s.state ≡ Alive t) × IsImage blocks t
+    at (Alive t) e is = (t, e, closed t is)
+    at Dead e is = absurd (going is)
 
 pub false_is_not_true : false ≡ true → ⊥
 false_is_not_true e = absurd (cc)
@@ -188,11 +200,12 @@ pub settles : {D A : Type 0} {m : _} (first mid : Store D A m) (outcome : Outcom
     × StopsLeave first mid (IsRefusedOrImageOf s'.stops.so_far))
     → (m.honest (device_in first) → RunsStrictly (LawfulOnceChecked (StandsAs mid)) end r r' w w')
     → ((s : SessionState) → Represents mid s → IsLeft m outcome s.stops.since left s)
+    → ((s : Standing) → StandsAs mid s → SettlesInImage outcome (m.shown left) s)
     → ((s : SessionState) (from : D) → Represents mid s
     → LeavesOnly m.moment m.left_since m.recovery from (device_in mid) (IsRefusedOrImageOf s.stops.so_far)
     → LeavesTablesOf m.moment m.left_since m.recovery s from left)
     → RunsToSettle m (λ s. Represents first s) outcome (device_in first) left r r' w flushed e e'
-settles {m = m} first mid outcome left end r r' w w' flushed e e' told kept session checked is_left leaves =
+settles {m = m} first mid outcome left end r r' w w' flushed e e' told kept session checked is_left image leaves =
     record {
       end = end;
       told = told;
@@ -208,6 +221,6 @@ settles {m = m} first mid outcome left end r r' w w' flushed e e' told kept sess
             leaves s' (device_in first) went.represents went.so.1,
           );
       checked = λ honest.
-          strict_so _ _ (λ rs xs once. once_checked_so _ _ (λ s stands. tt) rs xs once) end r r' w flushed
+          strict_so _ _ (λ rs xs once. once_checked_so _ _ image rs xs once) end r r' w flushed
           (strict_kept _ end r r' w w' flushed (checked honest) kept);
     }

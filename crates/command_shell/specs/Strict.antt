@@ -1,13 +1,13 @@
 -- Refused lines, and a strict run, which stops at the first of them. Our rule, docs/COMMANDS.md.
 use Rattle.std.specs.Prelude.{ℕ, ◌≡◌, ◌+◌, ◌-◌, ◌^◌, Bool, true, false, List, [], ◌∷◌, ◌++◌, length, take, map}
 use Rattle.std.specs.Prelude.{Option, Some, None, Result, Ok, Err, if◌then◌else◌, ◌||◌, codes, decimal, min}
-use Rattle.std.specs.Prelude.{◌≤◌, nat_lt, option_map, ⊤}
+use Rattle.std.specs.Prelude.{◌≤◌, nat_lt, option_map}
 use Rattle.std.specs.Io.KnownBytes.{Keeps}
 use Rattle.std.specs.List.{AllByRecursion}
 use Rattle.block_device.specs.Device.{Blocks, Only}
 use Rattle.block_device.specs.declared.device.BlockDevice as device
 use Rattle.live_layers.specs.Image.{IsImage, IsImageOfOne, IsRefusedOrImageOf}
-use Rattle.layer_store.specs.Checked.{LawfulOnceChecked}
+use Rattle.layer_store.specs.Checked.{LawfulOnceChecked, Standing}
 use Rattle.plain_table.specs.Table.{Table}
 use Rattle.plain_table.specs.Step.{Answer}
 use Rattle.plain_table.specs.Step.Answer.{Refused}
@@ -241,9 +241,15 @@ TellsOutcome end Failed old new = AppendsSome old new told_fault
 TellsOutcome end Unclosed old new =
     (end ≡ Ran Finished) × (r : Refusal) × AppendsSome old new (told_refusal r)
 
+-- What is known of a store in the end, of which nothing is known of stops: where all went well, the blocks
+-- are an image of its table.
+abbrev pub SettlesInImage : Outcome → Blocks → Standing → Type 0
+SettlesInImage outcome blocks s = outcome ≡ WentWell → (t : Table) × (s.state ≡ Alive t) × IsImage blocks t
+
 -- A strict run of the program over a store: how its lines ended, and that was told; that its commands were
 -- answered by a lawful session, from each state that the store was in, and what is left then; and that over
--- an honest device they were answered lawfully from the first check on that was answered ok.
+-- an honest device they were answered lawfully from the first check on that was answered ok, and where all
+-- went well the blocks are an image of the table in the end.
 pub record RunsToSettle {D : Type 0} (m : device.Ghosts D) (Was : SessionState → Type 0) (outcome : Outcome)
     (opened left : D) (input input' output output' said said' : Option (List ℕ)) : Type 0 where
   pub end : LinesEnd
@@ -253,4 +259,5 @@ pub record RunsToSettle {D : Type 0} (m : device.Ghosts D) (Was : SessionState �
       × IsLeft m outcome s.stops.since left s'
       × LeavesTablesOf m.moment m.left_since m.recovery s' opened left
   pub checked : m.honest opened
-      → RunsStrictly (LawfulOnceChecked (λ s. ⊤)) end input input' output output'
+      → RunsStrictly (LawfulOnceChecked (SettlesInImage outcome (m.shown left))) end input input' output
+      output'

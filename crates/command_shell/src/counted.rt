@@ -22,6 +22,10 @@ pub trait CountedRead: Read {
         ensures bytes { ReadConsumes (Self.remaining self.old) (Self.remaining self.new) result buf.new }
         ensures counted { calls self.new ≡ min (calls self.old + 1) most_calls }
         ensures failing { is_failing self.new ≡ is_err result };
+
+    /// Whether the last call failed.
+    fn has_failed(&self) -> bool
+        ensures { result ≡ is_failing self.now };
 }
 
 /// Any reader, whose calls are counted here.
@@ -69,5 +73,9 @@ impl<R: Read> CountedRead for CountedReader<R> {
         let read = self.reader.read(buf);
         self.is_failing = read.is_err();
         read
+    }
+
+    fn has_failed(&self) -> bool {
+        self.is_failing
     }
 }

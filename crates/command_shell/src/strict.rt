@@ -4,10 +4,11 @@
 ghost use Rattle.std.specs.Prelude.{◌≡◌, ◌⊎◌};
 ghost use Rattle.block_device.specs.Device.{LeavesOnly};
 ghost use Rattle.store_law.specs.Sessions.{SessionState};
-ghost use Rattle.layer_store.specs.Representation.{Represents, device_in};
+ghost use Rattle.layer_store.specs.Checked.{Standing};
+ghost use Rattle.layer_store.specs.Representation.{Represents, StandsAs, device_in};
 ghost use Rattle.live_layers.specs.Image.{IsRefusedOrImageOf};
 ghost use Rattle.command_shell.specs.Runs.{LeavesTablesOf};
-ghost use Rattle.command_shell.specs.Strict.{IsLeft, RunsToSettle, TellsOutcome};
+ghost use Rattle.command_shell.specs.Strict.{IsLeft, RunsToSettle, SettlesInImage, TellsOutcome};
 ghost use Rattle.command_shell.specs.declared.session.LinesEnd.{LinesEnd};
 ghost use Rattle.command_shell.specs.declared.session.LinesEnd.TheVariants.{Ran, Stopped};
 ghost use Rattle.command_shell.specs.declared.session.RunEnd.TheVariants.{Finished};
@@ -49,6 +50,10 @@ pub struct Settled<D: BlockDevice> {
 /// refused, all was read and each reply was written, it closes the store; **and else it gives the store up,
 /// so that nothing is closed but what a `reopen` closed that was answered ok.** Where not all went well, it
 /// says so in a line to `errors`, whose own faults are passed over.
+///
+/// Whatever file was opened, on an honest device: from the first `check` on that was answered ok, the rest of
+/// the commands is answered lawfully, from some table on, and where all went well the blocks are an image of
+/// the table at the end.
 pub fn run_strictly_and_close<
     D: BlockDevice,
     A: Allocator + Copy,
@@ -81,6 +86,8 @@ fn settle<D: BlockDevice, A: Allocator + Copy, E: Write>(
     ensures told { TellsOutcome (Ran end) result.outcome (E.contents errors.old) (E.contents errors.new) }
     ensures left { (s : SessionState) → Represents store s →
         IsLeft D.BlockDevice result.outcome s.stops.since result.device s }
+    ensures image { (s : Standing) → StandsAs store s →
+        SettlesInImage result.outcome (D.shown result.device) s }
     ensures leaves { (s : SessionState) (first : D) → Represents store s →
         LeavesOnly D.moment D.left_since D.recovery first (device_in store)
         (IsRefusedOrImageOf s.stops.so_far) →
@@ -102,6 +109,8 @@ fn give_up<D: BlockDevice, A: Allocator + Copy, E: Write>(
     ensures is { result.outcome ≡ Outcome.Failed }
     ensures left { (s : SessionState) → Represents store s →
         IsLeft D.BlockDevice result.outcome s.stops.since result.device s }
+    ensures image { (s : Standing) → StandsAs store s →
+        SettlesInImage result.outcome (D.shown result.device) s }
     ensures leaves { (s : SessionState) (first : D) → Represents store s →
         LeavesOnly D.moment D.left_since D.recovery first (device_in store)
         (IsRefusedOrImageOf s.stops.so_far) →
@@ -124,6 +133,8 @@ fn stop_there<D: BlockDevice, A: Allocator + Copy, E: Write>(
         (E.contents errors.new) }
     ensures left { (s : SessionState) → Represents store s →
         IsLeft D.BlockDevice result.outcome s.stops.since result.device s }
+    ensures image { (s : Standing) → StandsAs store s →
+        SettlesInImage result.outcome (D.shown result.device) s }
     ensures leaves { (s : SessionState) (first : D) → Represents store s →
         LeavesOnly D.moment D.left_since D.recovery first (device_in store)
         (IsRefusedOrImageOf s.stops.so_far) →
@@ -145,6 +156,8 @@ fn close<D: BlockDevice, A: Allocator + Copy, E: Write>(
         (E.contents errors.new) }
     ensures left { (s : SessionState) → Represents store s →
         IsLeft D.BlockDevice result.outcome s.stops.since result.device s }
+    ensures image { (s : Standing) → StandsAs store s →
+        SettlesInImage result.outcome (D.shown result.device) s }
     ensures leaves { (s : SessionState) (first : D) → Represents store s →
         LeavesOnly D.moment D.left_since D.recovery first (device_in store)
         (IsRefusedOrImageOf s.stops.so_far) →

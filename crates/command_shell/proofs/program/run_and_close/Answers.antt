@@ -1,41 +1,25 @@
 -- A closing that is finished leaves an image of the session's table.
-use Rattle.std.proofs.Common.{◌≡◌, ◌∙◌, ap, ℕ, Bool, true, false, List, ◌∷◌, Option, Result, Ok, Err, inl}
+use Rattle.std.proofs.Common.{◌≡◌, ℕ, Bool, true, false, List, Option, Result, Ok, Err, inl}
 use Rattle.std.proofs.Common.{inr, refl, sym, subst, arith}
 use Rattle.std.proofs.KnownBytes.{Keeps-refl}
-use Rattle.layer_store.specs.Checked.{Standing}
-use Rattle.store_law.specs.Sessions.{SessionState}
 use Rattle.store_law.specs.States.{StoreState}
-use Rattle.store_law.specs.States.StoreState.{Alive, Dead}
-use Rattle.plain_table.specs.Table.{Table}
-use Rattle.block_device.specs.Device.{Blocks}
-use Rattle.layer_store.specs.Representation.{IsInState, StandsAs, device_in}
-use Rattle.layer_store.specs.declared.store.Store.{Store}
+use Rattle.layer_store.specs.Representation.{device_in}
 use Rattle.layer_store.proofs.StopLemmas.{found_by_closing, left_by_closing, session_state_is}
 use Rattle.layer_store.proofs.StoreLemmas.{no_fewer_faults}
-use Rattle.live_layers.specs.Image.{IsImage, IsRefusedOrImageOf, IsImageOfOne}
+use Rattle.live_layers.specs.Image.{IsRefusedOrImageOf, IsImageOfOne}
 use Rattle.layer_store.proofs.SessionLemmas.{once_checked_so}
-use Rattle.command_shell.specs.Runs.{EndsInImage, TellsEnd, with_last}
+use Rattle.command_shell.specs.Runs.{TellsEnd, with_last}
 use Rattle.command_shell.specs.Serving.{run_state}
 use Rattle.command_shell.specs.Texts.{told_fault}
 use Rattle.command_shell.specs.Writing.{Writes}
-use Rattle.command_shell.proofs.CloseLemmas.{false_is_not_true, found_when_refused, has_table}
+use Rattle.command_shell.proofs.CloseLemmas.{closed_in_image, false_is_not_true, found_when_refused}
+use Rattle.command_shell.proofs.CloseLemmas.{has_table}
 use Rattle.command_shell.proofs.CloseLemmas.{left_when_refused, ok_is_no_refusal, refused_device}
 use Rattle.command_shell.proofs.CloseLemmas.{refused_leaves, run_leaves, same_beginning}
 use Rattle.command_shell.proofs.SessionLemmas.{runs_kept, runs_so}
 use Rattle.command_shell.proofs.WriteLemmas.{some_written}
 use Rattle.command_shell.proofs.program.run_and_close.Goals.{then-not-went_well, else-not-went_well}
 use Rattle.command_shell.proofs.program.run_and_close.Goals as goal
-
--- a store that was closed has the table of which the blocks are an image
-closed_in_image : {D A : Type 0} {m : _} (store : Store D A m) (blocks : Blocks) (went_well : Bool)
-    → ((t : Table) → IsInState store (Alive t) → IsImage blocks t) → (IsInState store Dead → ⊥)
-    → (s : Standing) → StandsAs store s → EndsInImage went_well blocks s
-closed_in_image store blocks went_well closed going s stands well = at s.state refl stands.state
-  where
-    at : (state : StoreState) → s.state ≡ state → IsInState store state
-        → (t : Table) × (s.state ≡ Alive t) × IsImage blocks t
-    at (Alive t) e is = (t, e, closed t is)
-    at Dead e is = absurd (going is)
 
 pub returns-after-not-went_well-clause-run : goal.returns-after-not-went_well-clause-run
 returns-after-not-went_well-clause-run g c = λ s represents.
@@ -97,8 +81,8 @@ returns-after-not-went_well-clause-checked g c = λ honest.
           (g.W.Write.contents c.run-end.new.output) (g.W.Write.contents c.flush_out-flushed.new.self)
           (runs_so _ _
           (λ text rs xs once. once_checked_so _ _
-          (closed_in_image store (g.D.BlockDevice.shown c.in-Ok.device) c.is_whole-went_well.result
-          closed.closed (λ dead. ok_is_no_refusal (closed.dead dead))) rs xs once) c.run-end.result
+          (λ s stands well. closed_in_image store (g.D.BlockDevice.shown c.in-Ok.device)
+          closed.closed (λ dead. ok_is_no_refusal (closed.dead dead)) s stands) rs xs once) c.run-end.result
           (g.R.Read.remaining c.args.input.now) (g.R.Read.remaining c.run-end.new.input)
           (g.W.Write.contents c.args.output.now) (g.W.Write.contents c.run-end.new.output)
           (c.run-end.ensures.checked honest)) c.flush_out-flushed.ensures.bytes;

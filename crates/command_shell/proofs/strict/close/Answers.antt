@@ -6,7 +6,8 @@ use Rattle.layer_store.proofs.StopLemmas.{found_by_closing, left_by_closing, ses
 use Rattle.layer_store.proofs.StoreLemmas.{no_fewer_faults}
 use Rattle.live_layers.specs.Image.{IsRefusedOrImageOf, IsImageOfOne}
 use Rattle.command_shell.specs.Runs.{with_last}
-use Rattle.command_shell.proofs.CloseLemmas.{found_when_refused, has_table, left_when_refused}
+use Rattle.command_shell.proofs.CloseLemmas.{closed_in_image, found_when_refused, has_table}
+use Rattle.command_shell.proofs.CloseLemmas.{left_when_refused}
 use Rattle.command_shell.proofs.CloseLemmas.{ok_is_no_refusal, refused_device, refused_leaves, run_leaves}
 use Rattle.command_shell.proofs.WriteLemmas.{some_written}
 use Rattle.command_shell.proofs.strict.close.Goals as goal
@@ -35,6 +36,15 @@ returns-in-Ok-clause-left g c = λ s represents.
       counted = let of_store = (session_state_is c.args.store s represents).faults in
           let kept = closed.no_fault in omega (arith, of_store, kept);
     }
+
+pub returns-in-Ok-clause-image : goal.returns-in-Ok-clause-image
+returns-in-Ok-clause-image g c = λ s stands well.
+    let closed = c.in-Ok.ensures in
+    closed_in_image c.args.store (g.D.BlockDevice.shown c.in-Ok.device) closed.closed
+    (λ dead. ok_is_no_refusal (closed.dead dead)) s stands
+
+pub returns-in-Err-clause-image : goal.returns-in-Err-clause-image
+returns-in-Err-clause-image g c = λ s stands well. absurd (cc)
 
 pub returns-in-Ok-clause-leaves : goal.returns-in-Ok-clause-leaves
 returns-in-Ok-clause-leaves g c = λ s first represents run.

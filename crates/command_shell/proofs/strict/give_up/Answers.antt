@@ -9,6 +9,9 @@ returns-clause-left g c = λ s represents.
     left_when_given_up c.args.store s c.abandon.result _ (λ e. absurd (cc)) refl represents
     c.abandon.ensures
 
+pub returns-clause-image : goal.returns-clause-image
+returns-clause-image g c = λ s stands well. absurd (cc)
+
 pub returns-clause-leaves : goal.returns-clause-leaves
 returns-clause-leaves g c = λ s first represents run.
     leaves_when_given_up first c.args.store s c.abandon.result c.abandon.ensures run

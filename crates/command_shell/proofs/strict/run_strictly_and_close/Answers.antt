@@ -13,7 +13,8 @@ returns-then-is_err-clause-settles g c =
     (g.W.Write.contents c.flush_out.new.self) (g.E.Write.contents c.args.errors.now)
     (g.E.Write.contents c.give_up.new.errors)
     (c.give_up.ensures.told run.result)
-    c.flush_out.ensures.bytes run.ensures.session run.ensures.checked c.give_up.ensures.left c.give_up.ensures.leaves
+    c.flush_out.ensures.bytes run.ensures.session run.ensures.checked c.give_up.ensures.left
+    c.give_up.ensures.image c.give_up.ensures.leaves
 
 pub returns-in-Ran-clause-settles : goal.returns-in-Ran-clause-settles
 returns-in-Ran-clause-settles g c =
@@ -27,7 +28,7 @@ returns-in-Ran-clause-settles g c =
     (λ end. TellsOutcome end c.settle.result.outcome (g.E.Write.contents c.args.errors.now)
     (g.E.Write.contents c.settle.new.errors)) (sym c.in-Ran.is) c.settle.ensures.told)
     c.flush_out.ensures.bytes run.ensures.session run.ensures.checked c.settle.ensures.left
-    c.settle.ensures.leaves
+    c.settle.ensures.image c.settle.ensures.leaves
 
 pub returns-in-Stopped-clause-settles : goal.returns-in-Stopped-clause-settles
 returns-in-Stopped-clause-settles g c =
@@ -40,4 +41,5 @@ returns-in-Stopped-clause-settles g c =
     (subst
     (λ end. TellsOutcome end c.stop_there.result.outcome (g.E.Write.contents c.args.errors.now)
     (g.E.Write.contents c.stop_there.new.errors)) (sym c.in-Stopped.is) c.stop_there.ensures.told)
-    c.flush_out.ensures.bytes run.ensures.session run.ensures.checked c.stop_there.ensures.left c.stop_there.ensures.leaves
+    c.flush_out.ensures.bytes run.ensures.session run.ensures.checked c.stop_there.ensures.left
+    c.stop_there.ensures.image c.stop_there.ensures.leaves
