@@ -40,6 +40,12 @@ refused() {
     [ ! -f "$file" ] || [ "$before" = "$(cksum "$file")" ] || wrong "'$*' changed the file"
 }
 
+# The same of one whose file, the last word, can't be opened.
+unopens() {
+    local line="$line (FILE is ${!#})"
+    refused "$@"
+}
+
 # holds NAME WORD..: runs the program, called by these words, until `lets NAME`. It has answered a line, so it has FILE.
 declare -A holder gate
 holds() {
@@ -138,7 +144,7 @@ for made in "$program" "$program.by-rattle"; do
     mkfifo fifo
     printf 'some bytes' >bytes
     line=$missing status=1
-    refused _ _ store "$made" store
+    unopens _ _ store "$made" store
     [ ! -e store ] || wrong "a file was made without --create"
     for path in folder folder/none/store fifo /dev/null ''; do
         case $path in
@@ -146,12 +152,12 @@ for made in "$program" "$program.by-rattle"; do
         */none/* | '') line=$missing ;;
         *) line=$unopened ;;
         esac
-        refused _ _ "$path" "$made" "$path"
-        refused _ _ "$path" "$made" --create "$path"
-        refused _ _ "$path" "$made" --read-only "$path"
+        unopens _ _ "$path" "$made" "$path"
+        unopens _ _ "$path" "$made" --create "$path"
+        unopens _ _ "$path" "$made" --read-only "$path"
     done
     line=$missing
-    refused _ _ store "$made" --read-only store
+    unopens _ _ store "$made" --read-only store
     line='rstore: the file is not empty'
     refused _ _ bytes "$made" --create bytes
     line='rstore: fail 21 NotAStore'
@@ -168,8 +174,8 @@ for made in "$program" "$program.by-rattle"; do
     for words in store '--create store' '--read-only store' '--create none'; do
         # shellcheck disable=SC2086
         {
-            ends 1 "$closed_stream" "$made" $words <<<'window a 0 0 1 1' >&-
-            ends 1 "$closed_stream" "$made" $words <&- >replies
+            ends 1 "$closed_stream (FILE is ${words##* })" "$made" $words <<<'window a 0 0 1 1' >&-
+            ends 1 "$closed_stream (FILE is ${words##* })" "$made" $words <&- >replies
         }
         [ ! -s replies ] || wrong "'$words' wrote: $(cat replies)"
         # shellcheck disable=SC2086
@@ -185,21 +191,21 @@ for made in "$program" "$program.by-rattle"; do
     line=$in_use status=1
     holds writer "$made" store
     for path in store link symlink ./store; do
-        refused _ _ store "$made" "$path"
-        refused _ _ store "$made" --create "$path"
-        refused _ _ store "$made" --read-only "$path"
+        unopens _ _ store "$made" "$path"
+        unopens _ _ store "$made" --create "$path"
+        unopens _ _ store "$made" --read-only "$path"
     done
     lets writer 0
     ends 0 '' "$made" store <<<'window a 0 0 1 1' >/dev/null
     # also of one that has just made it, and of one that was killed
     holds maker "$made" --create new
-    refused _ _ new "$made" new
-    refused _ _ new "$made" --create new
-    refused _ _ new "$made" --read-only new
+    unopens _ _ new "$made" new
+    unopens _ _ new "$made" --create new
+    unopens _ _ new "$made" --read-only new
     kills maker
     line='rstore: FILE-journal is missing, or is no journal'
     mv new-journal aside
-    refused _ _ new "$made" new
+    unopens _ _ new "$made" new
     mv aside new-journal
     # a copy of it with an empty journal is opened, as docs/COMMANDS.md says of a journal that is lost
     cp new found && { printf RSTARTTL; head -c 8184 /dev/zero; } >found-journal
@@ -214,7 +220,7 @@ for made in "$program" "$program.by-rattle"; do
     line='rstore: FILE-journal is the journal of another file'
     for kind in foreign idle; do
         journal new $kind
-        refused _ _ new "$made" new
+        unopens _ _ new "$made" new
         rm new-journal
     done
     journal new ended
@@ -232,11 +238,11 @@ for made in "$program" "$program.by-rattle"; do
         holds "reader$reader" "$made" --read-only store
     done
     for path in store link symlink; do
-        refused _ _ store "$made" "$path"
-        refused _ _ store "$made" --create "$path"
+        unopens _ _ store "$made" "$path"
+        unopens _ _ store "$made" --create "$path"
     done
     kills reader10
-    refused _ _ store "$made" store
+    unopens _ _ store "$made" store
     ends 0 '' "$made" --read-only symlink <<<'window a 0 0 1 1' >replies
     grep -q '^ok 1$' replies || wrong "a reader beside readers answered: $(cat replies)"
     for reader in 9 8 7 6 5 4 3 2 1; do
@@ -259,10 +265,10 @@ for made in "$program" "$program.by-rattle"; do
     if [ "$(id -u)" -ne 0 ]; then
         chmod 000 store
         line="$unopened: permission denied"
-        refused _ _ none "$made" store
-        refused _ _ none "$made" --read-only store
+        unopens _ _ none "$made" store
+        unopens _ _ none "$made" --read-only store
         chmod 400 store
-        refused _ _ none "$made" store
+        unopens _ _ none "$made" store
         ends 0 '' "$made" --read-only store <<<'layers' >/dev/null
         chmod 600 store
     fi
@@ -301,12 +307,15 @@ for made in "$program" "$program.by-rattle"; do
     printf '%s\n' 'id,x,y' '1,5,5' '2,5,x' >bad
     printf '%s\n' '{"type":"Feature","properties":{"id":9,"kind":3},"geometry":{"type":"Point","coordinates":[7,8]}}' >lines
     printf '%s\n' 'id,x,y' '4,1,1' '8,2,2' >twice
-    ends 1 'rstore: line 3, column y: "x" is no number' "$made" --create --import b:8 boxes <bad >replies
+    ends 3 'rstore: line 3, column y: "x" is no number' "$made" --create --import b:8 boxes <bad >replies
     [ ! -e boxes ] || wrong "a file was made for rows of which one is bad"
     ends 0 '' "$made" --create --import b:8 --scale 10 boxes <rows >replies
     ends 0 '' "$made" --import b --geojson --columns id,kind boxes <lines >>replies
     "$made" boxes <<<'dump' >before
-    ends 1 'rstore: line 3, column y: "x" is no number' "$made" --import b boxes <bad >>replies
+    ends 3 'rstore: line 3, column y: "x" is no number' "$made" --import b boxes <bad >>replies
+    ends 3 'rstore: column x is given twice' "$made" --import b --columns id,x,x boxes <bad >>replies
+    ends 1 '*' "$made" --import b boxes </ >>replies
+    grep -q '^rstore: the input could not be read: ' errors || wrong "an import of a folder said: $(cat errors)"
     ends 1 'rstore: object 8: fail 9 Duplicate' "$made" --import b boxes <twice >>replies
     ends 1 'rstore: object 1: fail 8 WrongDims' "$made" --import b --columns ,1,2,3 boxes <<<'1,2,3' >>replies
     ends 2 '*' "$made" --import b --read-only boxes <rows >>replies

@@ -165,17 +165,25 @@ pub begun_or_answered_strictly : {D R W : Type 0} (m : device.Ghosts D) (S : D �
     (left : Served D)
     → IsRefusedStart m.moment m.left_since m.recovery P device r r' w w' left
     ⊎ HasServedStrictly m S Q t device unread unread' written written' said said' left
+    → m.faults left.device ≡ 0
     → HasNotBegun r r' w w' left.status
     ⊎ ((d : D) × S d t × HasAnsweredStrictly t unread unread' written written' said said' left.status)
 begun_or_answered_strictly m S P Q t device r r' w w' unread unread' written written' said said' left
-    (inl refused) =
+    (inl refused) none =
     inl (record { failed = refused.failed; unread = refused.unread; unwritten = refused.unwritten })
 begun_or_answered_strictly m S P Q t device r r' w w' unread unread' written written' said said' left
-    (inr h) =
+    (inr h) none =
     inr (
       h.opened,
       h.store,
-      record { old = h.old; new = h.new; begins = h.begins; ends = h.ends; runs = h.runs },
+      record {
+        old = h.old;
+        new = h.new;
+        begins = h.begins;
+        ends = h.ends;
+        runs = h.runs;
+        faultless = let counted = h.is_left.counted in omega (arith, counted, none);
+      },
     )
 
 -- where the last flush is known but with status 1, it is with status 0

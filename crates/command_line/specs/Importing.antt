@@ -11,6 +11,9 @@ use Rattle.page_file.specs.declared.fault.Fault.{Fault}
 use Rattle.live_layers.specs.Image.{IsImage, IsRefusedOrImageOf, OpeningRefuses}
 use Rattle.plain_table.specs.Loads.{GivenObjects}
 use Rattle.plain_table.specs.Table.{Table}
+use Rattle.plain_table.specs.declared.refusal.Refusal.TheVariants as refusal
+use Rattle.command_shell.specs.Texts.{told_refusal}
+use Rattle.command_shell.specs.Writing.{AppendsSome}
 use Rattle.layer_import.specs.Imports.{HasImported, import_commands}
 use Rattle.command_line.specs.Serving.{IsMisused}
 use Rattle.command_line.specs.Targets.{IsTargetOf}
@@ -58,23 +61,38 @@ pub record HasImportedOn {D : Type 0} (m : device.Ghosts D) (S : D → Table →
   pub refused : create ≡ false → m.honest device → (f : Fault) → OpeningRefuses (m.shown device) f →
       IsUnopened m (m.may_leave device) device left × (m.shown left.device ≡ m.shown device)
 
--- so it is of the layer that this word names, if one is said
+-- so it is of the layer that this word names, if one is said, and the status is at most 1
 pub record IntoLayerOf {D : Type 0} (m : device.Ghosts D) (S : D → Table → Type 0) (create : Bool)
     (said : Option (List ℕ)) (device : D) (left : Served D) : Type 0 where
   pub layer : List ℕ
   pub fanout : ℕ
   pub target : IsTargetOf said layer fanout
+  pub few : left.status ≤ 1
   pub imported : HasImportedOn m S create layer fanout device left
 
--- Objects were to be imported into a file. The words do not go together; or a row was refused, and no file
--- was
--- opened; or the file's opening was refused; or it was opened, of which `opens` tells, and with this status
--- there is left what was done on it: objects were put into the layer that this word names.
+-- The text of the input was refused, and its last read did not fail.
+pub record IsRefusedText {R : Type 0} (failing : R → Bool) (r' : R) (status : ℕ) : Type 0 where
+  pub stopped : status ≡ 3
+  pub heard : failing r' ≡ false
+
+-- Not all of the input was read: nothing of it, since the output could not be flushed; or its last read failed;
+-- or there was no memory, and it was said so, or a front of the line that says it.
+pub record IsUnread {R : Type 0} (failing : R → Bool) (r r' : R) (said said' : Option (List ℕ))
+    (status : ℕ) : Type 0 where
+  pub failed : status ≡ 1
+  pub why : (r' ≡ r) ⊎ (failing r' ≡ true) ⊎ AppendsSome said said' (told_refusal refusal.Memory)
+
+-- Objects were to be imported into a file. No file was opened: the words do not go together, or the text of the
+-- input was refused, or not all of it was read. Or the file's opening was refused; or it was opened, of which
+-- `opens` tells, and with this status there is left what was done on it: objects were put into the layer that
+-- this word names. `failing` tells whether the last read of the input failed.
 abbrev pub OpensAndImports : {D R W : Type 0} → device.Ghosts D → (D → Table → Type 0)
-    → (Result D OpenError → Type 0) → Bool → Option (List ℕ) → R → R → W → W → ℕ → Type 0
-OpensAndImports {D} m S opens create said r r' w w' status =
+    → (Result D OpenError → Type 0) → (R → Bool) → Bool → Option (List ℕ) → R → R → W → W
+    → Option (List ℕ) → Option (List ℕ) → ℕ → Type 0
+OpensAndImports {D} m S opens failing create word r r' w w' said said' status =
     IsMisused r r' w w' status
-    ⊎ ((status ≡ 1)
-    ⊎ (((e : OpenError) × opens (Err e) × (status ≡ 1))
+    ⊎ IsRefusedText failing r' status
+    ⊎ IsUnread failing r r' said said' status
+    ⊎ ((e : OpenError) × opens (Err e) × (status ≡ 1))
     ⊎ ((device : D) × (left : Served D) × opens (Ok device) × (left.status ≡ status)
-    × IntoLayerOf m S create said device left)))
+    × IntoLayerOf m S create word device left)

@@ -15,7 +15,7 @@ use Rattle.store_law.specs.States.StoreState.{Alive}
 use Rattle.plain_table.specs.Table.{Table}
 use Rattle.command_shell.specs.Runs.{LeavesTablesOf, with_last}
 use Rattle.command_shell.specs.Serving.{IsSession}
-use Rattle.command_shell.specs.Strict.{IsLeft, RunsStrictly, TellsOutcome}
+use Rattle.command_shell.specs.Strict.{IsLeft, RunsStrictly, SettlesInImage, TellsOutcome}
 use Rattle.command_shell.specs.declared.session.LinesEnd.{LinesEnd}
 use Rattle.command_shell.specs.declared.strict.Outcome.{Outcome}
 use Rattle.command_shell.specs.declared.strict.Outcome.TheVariants.{WentWell, StoppedAtLine, Failed, Unclosed}
@@ -63,8 +63,15 @@ pub record HasServedStrictly {D : Type 0} (m : device.Ghosts D) (S : D → Table
       (λ c. P c ⊎ IsRefusedOrImageOf (with_last new.state new.stops.so_far) c)
 
 -- Commands were answered, lawfully from the first check on that was answered ok, up to the first that was
--- refused.
-pub record HasServedStrictlyOnceChecked (unread unread' written written' said said' : Option (List ℕ))
+-- refused. With status 0 the blocks are an image of the table in the end.
+pub record HasServedStrictlyOnceChecked (blocks : Blocks)
+    (unread unread' written written' said said' : Option (List ℕ)) (status : ℕ) : Type 0 where
+  pub ends : EndsSo said said' status
+  pub runs : RunsStrictly (LawfulOnceChecked (SettlesInImage ends.outcome blocks)) ends.end
+      unread unread' written written'
+
+-- the same over blocks that are only read
+pub record HasAnsweredStrictlyOnceChecked (unread unread' written written' said said' : Option (List ℕ))
     (status : ℕ) : Type 0 where
   pub ends : EndsSo said said' status
   pub runs : RunsStrictly (LawfulOnceChecked (λ s. ⊤)) ends.end unread unread' written written'
@@ -85,13 +92,25 @@ pub record HasServedStrictlyOn {D R W : Type 0} (m : device.Ghosts D) (S : D →
       ⊎ HasServedStrictly m S (m.may_leave device) t device unread unread' written written' said said' left
   pub checked : create ≡ false → m.honest device →
       IsRefusedOpening m.shown m.moment m.left_since m.recovery m.may_leave device r r' w w' left
-      ⊎ HasServedStrictlyOnceChecked unread unread' written written' said said' left.status
+      ⊎ HasServedStrictlyOnceChecked (m.shown left.device) unread unread' written written' said said'
+      left.status
   pub refused : create ≡ false → m.honest device → (f : Fault) → OpeningRefuses (m.shown device) f →
       IsRefusedOpening m.shown m.moment m.left_since m.recovery m.may_leave device r r' w w' left
 
 -- Commands were answered by a lawful session that begins with this table, up to the first that was refused.
+-- The count of faults never rose from 0, so no reply blames a device.
 pub record HasAnsweredStrictly (t : Table) (unread unread' written written' said said' : Option (List ℕ))
     (status : ℕ) : Type 0 where
+  pub old : SessionState
+  pub new : SessionState
+  pub begins : old.state ≡ Alive t
+  pub ends : EndsSo said said' status
+  pub runs : RunsStrictly (IsSession old new) ends.end unread unread' written written'
+  pub faultless : new.faults ≡ 0
+
+-- the same, of faults that may have been there
+pub record HasAnsweredStrictlyFrom (t : Table)
+    (unread unread' written written' said said' : Option (List ℕ)) (status : ℕ) : Type 0 where
   pub old : SessionState
   pub new : SessionState
   pub begins : old.state ≡ Alive t
@@ -103,12 +122,12 @@ pub record HasReadStrictly {B R W : Type 0} (m : reader.Ghosts B) (blocks : B) (
     (unread unread' written written' said said' : Option (List ℕ)) (status : ℕ) : Type 0 where
   pub answers : m.honest blocks → (t : Table) → IsImage (m.shown blocks) t →
       HasNotBegun r r' w w' status
-      ⊎ HasAnsweredStrictly t unread unread' written written' said said' status
+      ⊎ HasAnsweredStrictlyFrom t unread unread' written written' said said' status
   pub refused : m.honest blocks → (f : Fault) → OpeningRefuses (m.shown blocks) f
       → HasNotBegun r r' w w' status
   pub checked : m.honest blocks
       → HasNotBegun r r' w w' status
-      ⊎ HasServedStrictlyOnceChecked unread unread' written written' said said' status
+      ⊎ HasAnsweredStrictlyOnceChecked unread unread' written written' said said' status
 
 -- ---- strictly, or not
 

@@ -2,11 +2,15 @@
 //! of a file, all of them or none.
 ghost use Rattle.std.specs.Io.KnownBytes.{Keeps};
 ghost use Rattle.std.specs.Prelude.{◌≡◌, ◌≤◌, ◌⊎◌, ◌==◌, Ok, Err, IfErr, IfNone, IfOk, IfSome, is_ok};
-ghost use Rattle.std.specs.Prelude.{option_map};
+ghost use Rattle.std.specs.Prelude.{option_map, true};
 ghost use Rattle.std.specs.declared.alloc.Global.{Global};
 ghost use Rattle.plain_table.specs.Table.{Table};
+ghost use Rattle.plain_table.specs.declared.refusal.Refusal.TheVariants as refusal;
 ghost use Rattle.layer_store.specs.Representation.{BeginsWith, device_in};
-ghost use Rattle.command_line.specs.Importing.{HasImportedOn, IntoLayerOf, OpensAndImports, PutsInto};
+ghost use Rattle.command_shell.specs.Texts.{told_refusal};
+ghost use Rattle.command_shell.specs.Writing.{AppendsSome};
+ghost use Rattle.command_line.specs.Importing.{HasImportedOn, IntoLayerOf, IsRefusedText, OpensAndImports};
+ghost use Rattle.command_line.specs.Importing.{PutsInto};
 ghost use Rattle.command_line.specs.Serving.{HasStarted};
 ghost use Rattle.command_line.specs.Targets.{IsTarget, IsTargetOf, colon_in};
 ghost use Rattle.command_line.specs.declared.program.Served.{Served};
@@ -21,7 +25,7 @@ use box_import::{
     Axes, Columns, CsvRows, FeatureLines, ImportError, ImportedObject, Properties, Scale,
     whole_number,
 };
-use command_shell::{FlushedWrite, Reply, tell_refusal, write_reply};
+use command_shell::{CountedRead, FlushedWrite, Reply, tell_refusal, write_reply};
 use file_device::OpenError;
 use layer_import::{Import, PutProgress, Unimported, import_and_close};
 use layer_store::{Refusal, Store, create_store, open_store};
@@ -30,6 +34,9 @@ use std::io::{BufRead, BufReader, Read, Write};
 
 // The fanout of a layer that is made where none is asked for.
 const FANOUT: u64 = 100;
+
+// The exit status where the text of the input is refused.
+const REFUSED: u8 = 3;
 
 // How many bytes are read at once.
 const READ_BYTES: usize = 65536;
@@ -59,13 +66,14 @@ struct Batch {
 
 /// Imports as the words ask: reads all objects of the input, and then opens or makes the file and puts them
 /// into the layer. Nothing is written to `output`. The status is 2 where the words name no file, or do not
-/// go together, and then nothing is read; 1 where a row is refused, and then no file is opened, or where
-/// the file can't be opened or the store refuses the objects; and else 0.
+/// go together, and then nothing is read; 3 where the text of the input is refused; 1 where it can't be read
+/// or there is no memory for it, and in these three cases no file is opened; 1 also where the file can't be
+/// opened or the store refuses the objects; and else 0.
 pub(crate) fn import_asked<
     D: BlockDevice,
     O: FnOnce(&str, bool) -> Result<D, OpenError>,
     K: FnOnce(&str, D),
-    I: Read,
+    I: CountedRead,
     W: FlushedWrite,
     E: Write,
     P: PutProgress,
@@ -81,7 +89,7 @@ pub(crate) fn import_asked<
 ) -> u8
     requires opens { O.IsAlwaysCallable open_at }
     requires ends { K.IsAlwaysCallable end_at }
-    ensures status { result ≤ 2 }
+    ensures status { result ≤ 3 }
     ensures quiet { result ≡ 0 → Keeps (E.contents errors.old) (E.contents errors.new) }
     ensures flushed { result ≡ 0 → W.is_flushed output.new }
     ensures unwritten { Keeps (W.contents output.old) (W.contents output.new) }
@@ -89,9 +97,9 @@ pub(crate) fn import_asked<
     ensures nameless { IfNone options.now.file (result ≡ 2) }
     ensures imported { IfSome options.now.file (λ path.
         OpensAndImports D.BlockDevice (HasStarted Global D.BlockDevice options.now.limits.newest)
-        (O.post open_at path options.now.create) options.now.create
+        (O.post open_at path options.now.create) I.is_failing options.now.create
         (option_map (λ w. w.now) options.now.import.layer)
-        input.old input.new output.old output.new result) }
+        input.old input.new output.old output.new (E.contents errors.old) (E.contents errors.new) result) }
 {
     let Some(path) = options.file else {
         return tell_misuse(errors);
@@ -115,11 +123,22 @@ pub(crate) fn import_asked<
                 alloc, path, options, &import, open_at, end_at, errors, progress,
             )
         }
-        Err(error) => {
-            let _ = write!(errors, "rstore: {error}\n");
-            FAILED
-        }
+        Err(error) => tell_error(&error, input, errors),
     }
+}
+
+// Says why the objects of an input were not read, and answers the status.
+fn tell_error<I: CountedRead, E: Write>(error: &ImportError, input: &I, errors: &mut E) -> u8
+    ensures { IsRefusedText I.is_failing input.now result
+        ⊎ ((result ≡ 1) × ((I.is_failing input.now ≡ true)
+        ⊎ AppendsSome (E.contents errors.old) (E.contents errors.new) (told_refusal refusal.Memory))) }
+{
+    if let ImportError::Memory = error {
+        let _ = tell_refusal(Refusal::Memory, errors);
+        return FAILED;
+    }
+    let _ = write!(errors, "rstore: {error}\n");
+    if input.has_failed() { FAILED } else { REFUSED }
 }
 
 // Says that the words do not go together.
@@ -317,7 +336,7 @@ fn import_path<
             status
         }
         Err(error) => {
-            tell_unopened(error, errors);
+            tell_unopened(error, path, errors);
             FAILED
         }
     }

@@ -78,7 +78,7 @@ pub(crate) fn show_asked<
     match read_at(path) {
         Ok(blocks) => show_reader(alloc, &blocks, options, output, errors),
         Err(error) => {
-            tell_unopened(error, errors);
+            tell_unopened(error, path, errors);
             FAILED
         }
     }

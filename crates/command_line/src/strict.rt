@@ -85,7 +85,7 @@ fn settle_opened<D: BlockDevice, I: CountedRead, W: FlushedWrite, E: Write>(
     ensures checked { D.honest device →
         IsRefusedOpening D.shown D.moment D.left_since D.recovery D.may_leave
         device input.old input.new output.old output.new result
-        ⊎ HasServedStrictlyOnceChecked
+        ⊎ HasServedStrictlyOnceChecked (D.shown result.device)
         (I.remaining input.old) (I.remaining input.new) (W.contents output.old) (W.contents output.new)
         (E.contents errors.old) (E.contents errors.new) result.status }
     ensures refuses { (f : Fault) → D.honest device → OpeningRefuses (D.shown device) f →
@@ -149,7 +149,7 @@ fn settle_store<D: BlockDevice, I: CountedRead, W: FlushedWrite, E: Write>(
         (I.remaining input.old) (I.remaining input.new) (W.contents output.old) (W.contents output.new)
         (E.contents errors.old) (E.contents errors.new) result) }
     ensures checked { IfOk store (λ it. D.honest (device_in it) →
-        HasServedStrictlyOnceChecked
+        HasServedStrictlyOnceChecked (D.shown result.device)
         (I.remaining input.old) (I.remaining input.new) (W.contents output.old) (W.contents output.new)
         (E.contents errors.old) (E.contents errors.new) result.status) }
     ensures refused { IfErr store (λ e. (result.status ≡ 1) × (result.device ≡ e.1)

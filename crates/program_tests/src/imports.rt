@@ -1,6 +1,6 @@
 //! Runs that import: objects of CSV and of GeoJSON, put into a layer of a file, all of them or none.
 
-use crate::runs::{run, runs, says, untold};
+use crate::runs::{Fails, run, runs, says, untold};
 use command_line::{ProgressLine, ProgressReader, PutProgress, serve};
 use command_shell::CountedReader;
 use file_device::open_reader;
@@ -81,7 +81,7 @@ fn three_axes_and_a_layer_without_objects(rt: HostRuntime) -> Result<(), Fail> {
     Ok(())
 }
 
-// Each row that is refused, with what is said of it.
+// Each text that is refused, with what is said of it.
 const REFUSED: [(&str, &str); 6] = [
     (
         "id,minx,miny,maxx,maxy\n1,0,0,1,1\n2,0,0,1x,1\n",
@@ -100,11 +100,11 @@ const REFUSED: [(&str, &str); 6] = [
         "rstore: line 2, column maxx: \"3e10\" is out of range\n",
     ),
     ("id,minx,miny,maxx\n", "rstore: no column maxy\n"),
-    (
-        "id,minx,miny,maxx,maxy\n3,0,0,1,1\n3,0,0,1,1\n",
-        "rstore: fail 13 DuplicateInLoad 3\n",
-    ),
+    ("id,x,y,_X\n", "rstore: column _X is given twice\n"),
 ];
+
+// Rows that say objects of which two have one identifier.
+const TWINS: &str = "id,minx,miny,maxx,maxy\n3,0,0,1,1\n3,0,0,1,1\n";
 
 #[test]
 fn a_bad_row_changes_nothing(rt: HostRuntime) -> Result<(), Fail> {
@@ -118,22 +118,45 @@ fn a_bad_row_changes_nothing(rt: HostRuntime) -> Result<(), Fail> {
     let before = fs::read(&rt, file)?;
     for (rows, said) in REFUSED {
         let words = ["rstore", "--import", "a", file];
-        assert_eq!(rt; runs(&rt, &words, rows, "", said)?, Some(1));
+        assert_eq!(rt; runs(&rt, &words, rows, "", said)?, Some(3));
         assert!(rt; fs::read(&rt, file)? == before);
     }
-    for (layer, said) in [
-        ("b", "rstore: fail 8 WrongDims\n"),
-        ("B", "rstore: fail 1 BadName\n"),
-        ("c:3", "rstore: fail 5 BadFanout\n"),
+    for (layer, rows, said) in [
+        ("a", TWINS, "rstore: fail 13 DuplicateInLoad 3\n"),
+        ("b", BOXES, "rstore: fail 8 WrongDims\n"),
+        ("B", BOXES, "rstore: fail 1 BadName\n"),
+        ("c:3", BOXES, "rstore: fail 5 BadFanout\n"),
     ] {
         let words = ["rstore", "--import", layer, file];
-        assert_eq!(rt; runs(&rt, &words, BOXES, "", said)?, Some(1));
+        assert_eq!(rt; runs(&rt, &words, rows, "", said)?, Some(1));
         assert!(rt; fs::read(&rt, file)? == before);
     }
     fs::remove_file(&rt, file)?;
     let words = ["rstore", "--create", "--import", "a", file];
-    assert_eq!(rt; runs(&rt, &words, REFUSED[0].0, "", REFUSED[0].1)?, Some(1));
+    assert_eq!(rt; runs(&rt, &words, REFUSED[0].0, "", REFUSED[0].1)?, Some(3));
     assert!(rt; !fs::exists(&rt, file)?);
+    Ok(())
+}
+
+// A read that fails is no text that is refused, and opens no file either.
+#[test]
+fn an_import_whose_reading_fails(rt: HostRuntime) -> Result<(), Fail> {
+    let file = "command_line_unread";
+    let _ = fs::remove_file(&rt, file);
+    for (word, text) in [
+        ("--create", ""),
+        ("--create", "id,x,y\n1,2,3\n"),
+        ("--geojson", ""),
+    ] {
+        let words = ["rstore", word, "--import", "a", file];
+        let mut input = text.as_bytes().chain(Fails);
+        let mut output = Vec::new(rt.alloc());
+        let mut errors = Vec::new(rt.alloc());
+        assert_eq!(rt; run(&rt, &words, &mut input, &mut output, &mut errors), 1);
+        let said = b"rstore: the input could not be read: ".as_slice();
+        assert!(rt; output.is_empty() && errors.starts_with(said));
+        assert!(rt; !fs::exists(&rt, file)?);
+    }
     Ok(())
 }
 

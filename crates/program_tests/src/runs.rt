@@ -73,13 +73,22 @@ pub(crate) fn says(rt: &HostRuntime, words: &[&str], said: &str) -> Result<Optio
     runs(rt, words, "", "", said)
 }
 
-const MISSING: &str = "rstore: cannot open FILE: no such file\n";
+// The same of a run whose file, the last of the words, can't be opened.
+fn refuses(rt: &HostRuntime, words: &[&str], why: &str) -> Result<Option<u8>, Fail> {
+    let Some(path) = words.last() else {
+        return Ok(None);
+    };
+    let said = format!(in rt.alloc(); "rstore: {why} (FILE is {path})\n")?;
+    says(rt, words, said.as_str())
+}
 
-const A_FOLDER: &str = "rstore: cannot open FILE: is a directory\n";
+const MISSING: &str = "cannot open FILE: no such file";
 
-const UNOPENED: &str = "rstore: cannot open FILE\n";
+const A_FOLDER: &str = "cannot open FILE: is a directory";
 
-// What is no file that can be opened, and what is said of it.
+const UNOPENED: &str = "cannot open FILE";
+
+// What is no file that can be opened, and why it is not.
 const NO_FILES: [(&str, &str); 3] = [
     (".", A_FOLDER),
     ("/dev/null", UNOPENED),
@@ -108,7 +117,7 @@ fn in_memory(rt: HostRuntime) -> Result<(), Fail> {
 fn in_a_file(rt: HostRuntime) -> Result<(), Fail> {
     let file = "command_line_a";
     let _ = fs::remove_file(&rt, file);
-    assert_eq!(rt; says(&rt, &["rstore", file], MISSING)?, Some(1));
+    assert_eq!(rt; refuses(&rt, &["rstore", file], MISSING)?, Some(1));
     assert!(rt; fs::metadata(&rt, file).is_err());
     assert_eq!(rt;
         runs(&rt, &["rstore", "--create", file], FIRST, SAID, "")?,
@@ -175,9 +184,9 @@ fn files_that_are_refused(rt: HostRuntime) -> Result<(), Fail> {
         Some(1)
     );
     fs::remove_file(&rt, file)?;
-    for (path, said) in NO_FILES {
-        assert_eq!(rt; says(&rt, &["rstore", path], said)?, Some(1));
-        assert_eq!(rt; says(&rt, &["rstore", "--create", path], said)?, Some(1));
+    for (path, why) in NO_FILES {
+        assert_eq!(rt; refuses(&rt, &["rstore", path], why)?, Some(1));
+        assert_eq!(rt; refuses(&rt, &["rstore", "--create", path], why)?, Some(1));
     }
     Ok(())
 }
@@ -188,7 +197,7 @@ fn a_file_that_is_only_read(rt: HostRuntime) -> Result<(), Fail> {
     let file = "command_line_e";
     let _ = fs::remove_file(&rt, file);
     let words = ["rstore", "--read-only", file];
-    assert_eq!(rt; says(&rt, &words, MISSING)?, Some(1));
+    assert_eq!(rt; refuses(&rt, &words, MISSING)?, Some(1));
     assert_eq!(rt;
         runs(&rt, &["rstore", "--create", file], FIRST, SAID, "")?,
         Some(0)
@@ -225,13 +234,16 @@ fn a_file_that_is_only_read(rt: HostRuntime) -> Result<(), Fail> {
         assert!(rt; fs::read(&rt, file)?.as_slice() == bytes);
     }
     fs::remove_file(&rt, file)?;
-    for (path, said) in NO_FILES {
-        assert_eq!(rt; says(&rt, &["rstore", "--read-only", path], said)?, Some(1));
+    for (path, why) in NO_FILES {
+        assert_eq!(rt;
+            refuses(&rt, &["rstore", "--read-only", path], why)?,
+            Some(1)
+        );
     }
     Ok(())
 }
 
-const IN_USE: &str = "rstore: FILE is in use\n";
+const IN_USE: &str = "FILE is in use";
 
 // One writer or many readers: another open of the file holds its lock meanwhile.
 #[test]
@@ -258,7 +270,7 @@ fn a_file_that_is_in_use(rt: HostRuntime) -> Result<(), Fail> {
         ["rstore", file].as_slice(),
         ["rstore", "--create", file].as_slice(),
     ] {
-        assert_eq!(rt; says(&rt, words, IN_USE)?, Some(1));
+        assert_eq!(rt; refuses(&rt, words, IN_USE)?, Some(1));
     }
     drop(readers);
     let writer = open_file(&rt, file, false)?;
@@ -267,7 +279,7 @@ fn a_file_that_is_in_use(rt: HostRuntime) -> Result<(), Fail> {
         ["rstore", "--create", file].as_slice(),
         ["rstore", "--read-only", file].as_slice(),
     ] {
-        assert_eq!(rt; says(&rt, words, IN_USE)?, Some(1));
+        assert_eq!(rt; refuses(&rt, words, IN_USE)?, Some(1));
     }
     drop(writer);
     assert_eq!(rt;
@@ -285,21 +297,27 @@ type OnlyRead = FileReader<HostReader>;
 // What a run says whose file is refused so, by either opening.
 #[test]
 fn each_refusal_of_a_file_is_told(rt: HostRuntime) -> Result<(), Fail> {
-    for (error, said) in [
+    for (error, why) in [
         (OpenError::NotFound, MISSING),
         (OpenError::IsADirectory, A_FOLDER),
         (
             OpenError::PermissionDenied,
-            "rstore: cannot open FILE: permission denied\n",
+            "cannot open FILE: permission denied",
         ),
         (OpenError::Refused, UNOPENED),
         (OpenError::InUse, IN_USE),
-        (OpenError::NoLocks, "rstore: FILE cannot be locked\n"),
+        (OpenError::NoLocks, "FILE cannot be locked"),
+        (OpenError::ClosedStream, "a standard stream is closed"),
         (
-            OpenError::ClosedStream,
-            "rstore: a standard stream is closed\n",
+            OpenError::NoJournal,
+            "FILE-journal is missing, or is no journal",
+        ),
+        (
+            OpenError::OtherJournal,
+            "FILE-journal is the journal of another file",
         ),
     ] {
+        let said = format!(in rt.alloc(); "rstore: {why} (FILE is a)\n")?;
         for words in [
             ["rstore", "a"].as_slice(),
             ["rstore", "--create", "a"].as_slice(),
@@ -346,7 +364,7 @@ fn an_empty_file_is_made_a_store(rt: HostRuntime) -> Result<(), Fail> {
 
 /// A reader that fails, and a writer.
 #[derive(Drop)]
-struct Fails;
+pub(crate) struct Fails;
 
 impl Read for Fails {
     fn read(&mut self, _: &mut [u8]) -> io::Result<usize> {

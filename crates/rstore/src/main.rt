@@ -1,4 +1,4 @@
-//! The program `rstore`: `rstore [--cache N] [--format N] [--create | --read-only] [FILE]`, and with
+//! The program `rstore`: `rstore [--cache N] [--format N] [--create | --read-only] [--strict] [FILE]`, and with
 //! `--draw LAYER`, `--stats` or `--import LAYER` in place of lines (docs/COMMANDS.md, "The program").
 #![tactic(auto)]
 

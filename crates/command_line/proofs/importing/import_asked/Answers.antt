@@ -1,12 +1,30 @@
 -- Objects that were read, and then put into the layer that the words name.
-use Rattle.std.proofs.Common.{◌≡◌, Option, Some, inr, subst, sym}
+use Rattle.std.proofs.Common.{◌≡◌, ◌⊎◌, ℕ, Bool, true, List, Option, Some, inl, inr, subst, sym}
 use Rattle.std.specs.Prelude.{IfSome}
+use Rattle.plain_table.specs.declared.refusal.Refusal.TheVariants as refusal
+use Rattle.command_shell.specs.Texts.{told_refusal}
+use Rattle.command_shell.specs.Writing.{AppendsSome}
+use Rattle.command_line.specs.Importing.{IsRefusedText, IsUnread}
 use Rattle.command_line.proofs.importing.import_asked.Goals as goal
 
 if_some : {X : Type 0} (o : Option X) (x : X) (P : X → Type 0) → o ≡ Some x → P x → IfSome o P
 if_some o x P is p = subst (λ y. IfSome y P) (sym is) p
 
+-- the text was refused, or not all of it was read
+unopened : {R M Opened : Type 0} (failing : R → Bool) (r r' : R) (said said' : Option (List ℕ)) (status : ℕ)
+    → IsRefusedText failing r' status
+    ⊎ ((status ≡ 1) × ((failing r' ≡ true) ⊎ AppendsSome said said' (told_refusal refusal.Memory)))
+    → M ⊎ IsRefusedText failing r' status ⊎ IsUnread failing r r' said said' status ⊎ Opened
+unopened failing r r' said said' status (inl refused) = inr (inl refused)
+unopened failing r r' said said' status (inr (failed, why)) =
+    inr (inr (inl (record { failed = failed; why = inr why })))
+
+pub returns-in-Err-clause-imported : goal.returns-in-Err-clause-imported
+returns-in-Err-clause-imported g c =
+    if_some c.args.options.now.file c.in-Some.path _ c.in-Some.is
+    (unopened _ _ _ _ _ _ c.tell_error.ensures)
+
 pub returns-in-Ok-clause-imported : goal.returns-in-Ok-clause-imported
 returns-in-Ok-clause-imported g c =
     if_some c.args.options.now.file c.in-Some.path _ c.in-Some.is
-    (inr (inr (c.import_path.ensures.imported _ c.in-Some-task_of.ensures)))
+    (inr (inr (inr (c.import_path.ensures.imported _ c.in-Some-task_of.ensures))))

@@ -13,6 +13,7 @@ returns-in-Ok-clause-imported g c = λ said target.
         layer = c.args.import.now.layer.now;
         fanout = c.args.import.now.fanout;
         target = target;
+        few = c.import_device-served.ensures.status;
         imported = c.import_device-served.ensures.imported;
       },
     )

@@ -12,12 +12,12 @@ or_answered : {A B X C : Type 0} → (B → X) → A ⊎ B → A ⊎ (X ⊎ C)
 or_answered so (inl a) = inl a
 or_answered so (inr b) = inr (inl (so b))
 
--- with status 3 the words ask for a strict run
+-- with status 3 the words ask for a strict run, or for an import
 status_so : (words : List (List ℕ)) (strict : Bool) (status : ℕ) → AsksToBeStrict words strict
     → (status ≤ 1) ⊎ ((status ≤ 3) × (strict ≡ true))
-    → (status ≤ 2) ⊎ ((status ≤ 3) × AsksToBeStrict words true)
+    → (status ≤ 2) ⊎ ((status ≤ 3) × (AsksToBeStrict words true ⊎ AsksToImport words true))
 status_so words strict status asks (inl few) = inl (omega (arith, few))
-status_so words strict status asks (inr (few, is)) = inr (few, subst (AsksToBeStrict words) is asks)
+status_so words strict status asks (inr (few, is)) = inr (few, inl (subst (AsksToBeStrict words) is asks))
 
 -- what was asked and what was tested are one
 now_so : (P : Bool → Type 0) (asked is now : Bool) → P asked → is ≡ asked → is ≡ now → P now
@@ -179,6 +179,13 @@ returns-clause-in_file g c = λ path taken named.
         record { failed = refl; unread = refused.1; unwritten = refused.2 },
       ),
     )))
+
+pub returns-then-any-clause-status : goal.returns-then-any-clause-status
+returns-then-any-clause-status g c =
+    let imports =
+    now_so (AsksToImport (texts c.args.words.now)) _ c.any.result true c.in-Ok.ensures.imports c.any.ensures
+    c.if-any.true in
+    inr (c.import_asked.ensures.status, inr imports)
 
 pub returns-then-any-clause-in_memory : goal.returns-then-any-clause-in_memory
 returns-then-any-clause-in_memory g c = λ taken none.

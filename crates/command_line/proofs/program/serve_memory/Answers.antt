@@ -7,7 +7,7 @@ pub returns-then-options-clause-answered : goal.returns-then-options-clause-answ
 returns-then-options-clause-answered g c =
     rw c.if-options.true
     (begun_or_answered_strictly _ _ _ _ _ _ _ _ _ _ _ _ _ _ _ _ c.settle_new.result
-    (c.settle_new.ensures.serves c.new-device.ensures.honest))
+    (c.settle_new.ensures.serves c.new-device.ensures.honest) refl)
 
 pub returns-then-options-clause-flushed : goal.returns-then-options-clause-flushed
 returns-then-options-clause-flushed g c = flushed_so _ _ c.settle_new.ensures.flushed

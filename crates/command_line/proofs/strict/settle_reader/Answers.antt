@@ -1,6 +1,8 @@
 -- The strict session over the store that a reader has.
 use Rattle.std.proofs.Common.{inl, inr, refl, subst, sym}
 use Rattle.live_layers.specs.Image.{IsImage, OpeningRefuses}
+use Rattle.layer_store.proofs.SessionLemmas.{once_checked_so}
+use Rattle.command_shell.proofs.RunLemmas.{strict_so}
 use Rattle.command_line.specs.Strict.{EndsSo}
 use Rattle.command_line.proofs.Starts.{flushed_by, quiet_so, status_is_small}
 use Rattle.command_line.proofs.strict.settle_reader.Goals as goal
@@ -34,7 +36,8 @@ returns-in-Ok-clause-served g c =
       checked = λ honest.
           inr (record {
             ends = ends;
-            runs = settles.checked (c.in-Ok.ensures.honest (subst g.B.BlockReader.honest is honest));
+            runs = strict_so _ _ (λ rs xs once. once_checked_so _ _ (λ s image. tt) rs xs once) settles.end
+                _ _ _ _ (settles.checked (c.in-Ok.ensures.honest (subst g.B.BlockReader.honest is honest)));
           });
       refused =
           λ honest f refuses. absurd
