@@ -1,5 +1,5 @@
-//! The program `rstore`: `rstore [--cache N] [--format N] [--create | --read-only] [--strict] [FILE]`, and with
-//! `--draw LAYER`, `--stats` or `--import LAYER` in place of lines (docs/COMMANDS.md, "The program").
+//! The program `rstore`: `rstore [--cache N] [--format N] [--create | --read-only] [--strict] [FILE]`, and
+//! with `--draw LAYER`, `--stats` or `--import LAYER` in place of lines (docs/COMMANDS.md, "The program").
 #![tactic(auto)]
 
 use command_line::{ProgressLine, ProgressReader, greet, imports, serve};
