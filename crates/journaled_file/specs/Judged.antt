@@ -36,7 +36,7 @@ pub record HasEntries (e : Blocks) : Type 0 where
 pub record IsNeedless (a e : Blocks) : Type 0 where
   pub journal : IsJournal e
   pub not_ended : ¬ HasEnded a e
-  pub empty : (length e ≤ 4) ⊎ (IsOf a e × ¬ HasEntries e)
+  pub empty : (length e ≤ 4) ⊎ ((2 ≤ length a) × IsOf a e × ¬ HasEntries e)
 
 -- what is so of a base and such a file, of which just one is
 abbrev pub IsJudged : Found → Blocks → Blocks → Type 0
@@ -44,7 +44,8 @@ IsJudged Fresh a e = (¬ IsMarked a) × (((¬ IsJournal e) × (length e ≤ 2)) 
 IsJudged Own a e = IsJournal e × (¬ HasEnded a e) × (IsMarked a ⊎ (HasEntries e × IsOf a e))
 IsJudged Ended a e = IsJournal e × HasEnded a e
 IsJudged Missing a e = (¬ IsJournal e) × (IsMarked a ⊎ (2 < length e))
-IsJudged Foreign a e = IsJournal e × (¬ HasEnded a e) × (¬ IsMarked a) × HadEntries e × ¬ IsOf a e
+IsJudged Foreign a e = IsJournal e × (¬ HasEnded a e) × (¬ IsMarked a) × HadEntries e
+    × ((length a < 2) ⊎ ¬ IsOf a e)
 
 -- it has no title, or has entries beside a base without a header, or what stands behind its title is no
 -- journal

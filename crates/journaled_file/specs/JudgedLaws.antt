@@ -1,6 +1,6 @@
 -- Laws of what is found beside a base.
 use Rattle.std.proofs.Common.{◌≡◌, ◌∙◌, ◌<◌, ◌≤◌, ℕ, true, List, [], length, zero, suc, refl, sym, ap, subst}
-use Rattle.std.proofs.Common.{arith, get_or}
+use Rattle.std.proofs.Common.{arith, get_or, ⊎_elim}
 use Rattle.std.proofs.lemmas.List.{get_or_default}
 use Rattle.block_bytes.specs.Numbers.{put_number, zeros}
 use Rattle.block_device.specs.Device.{Blocks, block_at}
@@ -37,9 +37,11 @@ pub none_foreign : (n : ℕ) (base journal a e : Blocks) → n ≡ length base
 none_foreign n base journal a e size of has left judged =
     let plain = left.plain judged.2 in
     let two : 2 ≤ n = many n plain.few in
-    judged.4
+    ⊎_elim (λ (few : length a < 2). absurd (omega (arith, two, few, plain.there)))
+    (λ (other : ¬ IsOf a e). other
     (has.title ∙ of (λ m. judged.2 (left.found m))
-    ∙ sym (same_title n base a (untitled e) size two plain))
+    ∙ sym (same_title n base a (untitled e) size two plain)))
+    judged.4
   where
     many : (k : ℕ) → (k < 2 → length (untitled e) ≤ 2) → 2 ≤ k
     many zero few = absurd (omega (arith, few (omega arith), length-untitled e, judged.3))

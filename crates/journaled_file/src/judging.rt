@@ -82,8 +82,9 @@ fn judge_titled<P: DevicePair>(
     if pair.journal_blocks() <= EMPTY_BLOCKS {
         return Ok(Found::Fresh);
     }
-    // Also one that is empty again: the file that it is of has the mark, and is not read without it.
-    if *title != title_of_base(pair)? {
+    // Also one that is empty again: the file that it is of has the mark, and is not read without it. A base
+    // without a header never brings about an entry, though a session that made its file has the same title.
+    if pair.base_blocks() < 2 || *title != title_of_base(pair)? {
         return Ok(Found::Foreign);
     }
     Ok(if has_entries(pair)? {
