@@ -1,5 +1,5 @@
 -- A call that asked the store is told as the definitions say.
-use Rattle.std.proofs.Common.{ℕ, ◌≡◌, inr, false, Option, Some, Result, Ok, Err}
+use Rattle.std.proofs.Common.{ℕ, ◌≡◌, ◌⊎◌, inl, inr, sym, false, Option, Some, Result, Ok, Err}
 use Rattle.std.proofs.Common.{List, ap, subst, ◌≤◌, ◌++◌, map, take, drop, min, length, arith}
 use Rattle.plain_table.specs.Commands.{Command}
 use Rattle.plain_table.specs.Step.{Answer}
@@ -126,3 +126,21 @@ numbered refusal.WrongVersion = omega arith
 numbered refusal.BadCache = omega arith
 numbered refusal.BadLine = omega arith
 numbered refusal.NoPages = omega arith
+
+-- what went well is no refusal
+pub no_refusal : {T E : Type 0} {v : T} {e : E} → Ok v ≡ Err e → ⊥
+no_refusal h = absurd (cc)
+
+-- a store in which nothing was changed is closed, or had failed
+pub settled_so : {P Q T E : Type 0} {v : T} {e : E} → P ⊎ (Err e ≡ Ok v) → P ⊎ Q
+settled_so (inl p) = inl p
+settled_so (inr same) = absurd (no_refusal (sym same))
+
+-- the refusal of a close
+abbrev pub refusal_in : {D : Type 0} → Refusal → Result D (Refusal × D) → Result (Unit {0}) Refusal
+refusal_in none (Ok device) = Err none
+refusal_in none (Err e) = Err e.0
+
+pub is_end_of : {D : Type 0} (none : Refusal) (x y : Result D (Refusal × D)) → x ≡ y
+    → refusal_in none x ≡ refusal_in none y
+is_end_of none x y h = ap (refusal_in none) h

@@ -1,6 +1,6 @@
 -- What each call of a session keeps: one lawful step of its store, and its answer as a number. Our rule,
 -- docs/LIBRARY.md.
-use Rattle.std.specs.Prelude.{ℕ, ◌≡◌, ◌⊎◌, ◌++◌, Bool, true, false, Option, None, Some, Result, Ok, Err, IsOk}
+use Rattle.std.specs.Prelude.{ℕ, ◌≡◌, ◌⊎◌, ◌++◌, Bool, true, false, Option, None, Some, Result, Ok, Err, IsOk, IfErr}
 use Rattle.std.specs.Prelude.{List, map, take, drop, length, min, if◌then◌else◌}
 use Rattle.arrayvec.specs.ArrayVec.{ArrayVec}
 use Rattle.block_device.specs.Device.{Only}
@@ -12,13 +12,16 @@ use Rattle.plain_table.specs.Step.{Answer}
 use Rattle.plain_table.specs.Table.{Table}
 use Rattle.plain_table.specs.declared.boxes.AnyBox.{AnyBox}
 use Rattle.plain_table.specs.declared.refusal.Refusal.{Refusal}
+use Rattle.plain_table.specs.declared.refusal.Refusal.TheVariants as refusal
 use Rattle.plain_table.specs.declared.rows.LayerInfo.{LayerInfo}
 use Rattle.layer_store.specs.Commands.{Answers, Changes, StaysHonest, TakesReply, TakesStep}
-use Rattle.layer_store.specs.Representation.{IsInState, blocks_in, device_in}
+use Rattle.layer_store.specs.Faults.{IsMemoryOrDevice}
+use Rattle.layer_store.specs.Representation.{IsInState, IsSettled, blocks_in, device_in}
+use Rattle.live_layers.specs.Faults.{HasRefusalCause}
 use Rattle.layer_store.specs.declared.store.Store.{Store}
 use Rattle.store_law.specs.States.StoreState.{Alive, Dead}
 use Rattle.c_rows.specs.Layers.{layer_of}
-use Rattle.c_rows.specs.Numbers.{number_of}
+use Rattle.c_rows.specs.Numbers.{detail_after, number_of}
 use Rattle.c_rows.specs.Rows.{row_of}
 use Rattle.c_rows.specs.declared.layers.Layer.{Layer}
 use Rattle.c_rows.specs.declared.rows.Row.{Row}
@@ -122,14 +125,23 @@ CommitsBy {D} {A} {m} old new number = IsClosed old new number
     ⊎ ((s t : Store D A m) × (r : Result (Unit {0}) Refusal) × (old.store ≡ Some s) × Commits s t r
     × (new ≡ after old t r) × (number ≡ number_of r))
 
--- The store was closed for good: where it was sound and the answer is 0, the device has an image of its
--- table, and a stop leaves nothing else. A device comes back in any case.
-pub record Closes {D A : Type 0} {m : _} (s : Store D A m) (number : ℕ) (device : D) : Type 0 where
-  pub closed : (table : Table) → IsInState s (Alive table) → number ≡ 0 → IsImage (m.shown device) table
-  pub durable : (table : Table) → IsInState s (Alive table) → number ≡ 0
+-- The store was closed for good, and answered so: where it was sound and went well, the device has an image of
+-- its table, and a stop leaves nothing else. It is refused by `Memory` or `Device`, which it tells by the
+-- device's faults; one that had failed is refused, and one in which nothing was changed is not.
+pub record Closes {D A : Type 0} {m : _} (s : Store D A m) (r : Result (Unit {0}) Refusal)
+    (device : D) : Type 0 where
+  pub closed : (table : Table) → IsInState s (Alive table) → IsOk r → IsImage (m.shown device) table
+  pub durable : (table : Table) → IsInState s (Alive table) → IsOk r
       → Only (m.shown device) (m.may_leave device)
+  pub refused : (table : Table) → IsInState s (Alive table) → IfErr r IsMemoryOrDevice
+  pub failed : IsInState s Dead → r ≡ Err (refusal.StoreFailed 19)
+  pub quiet : IsSettled s → IsInState s Dead ⊎ IsOk r
+  pub cause : HasRefusalCause (m.faults (device_in s)) (m.faults device) r
 
-abbrev pub ClosesBy : {D A : Type 0} {m : _} → Session D A m → ℕ × Option D → Type 0
-ClosesBy {D} {A} {m} old result = ((old.store ≡ None) × (result ≡ (103, None)))
-    ⊎ ((s : Store D A m) × (device : D) × (old.store ≡ Some s) × (result.1 ≡ Some device)
-    × Closes s result.0 device)
+-- the number is that of what the store answered, and what came with a refusal is kept
+abbrev pub ClosesBy : {D A : Type 0} {m : _} → Session D A m → Session D A m → ℕ × Option D → Type 0
+ClosesBy {D} {A} {m} old new result =
+    ((old.store ≡ None) × (result ≡ (103, None)) × (new.detail ≡ old.detail))
+    ⊎ ((s : Store D A m) × (r : Result (Unit {0}) Refusal) × (device : D) × (old.store ≡ Some s)
+    × (result.1 ≡ Some device) × Closes s r device × (result.0 ≡ number_of r)
+    × (new.detail ≡ detail_after r old.detail))

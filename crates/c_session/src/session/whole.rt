@@ -53,7 +53,7 @@ impl<D: BlockDevice, A: Allocator + Copy> Session<D, A> {
     /// Closes the store, frees the rows that were kept, and hands the device back. Nothing is kept of a store
     /// that is refused.
     pub fn close(&mut self, alloc: A) -> (u32, Option<D>)
-        ensures closes { ClosesBy self.old result }
+        ensures closes { ClosesBy self.old self.new result }
         ensures closed { self.new.store ≡ None }
         ensures boxes { self.new.boxes.items ≡ [] }
         ensures near { self.new.near.items ≡ [] }

@@ -101,7 +101,8 @@ pub extern "C" fn rstore_c_close(
     output: Stdout,
     handle: &mut Handle,
 ) -> u32
-    ensures closes { (device : _) × ClosesBy handle.old.value.session (result, device) }
+    ensures closes { (device : _) × ClosesBy handle.old.value.session handle.new.value.session
+        (result, device) }
     ensures closed { handle.new.value.session.store ≡ None }
     ensures boxes { handle.new.value.session.boxes.items ≡ [] }
     ensures near { handle.new.value.session.near.items ≡ [] }

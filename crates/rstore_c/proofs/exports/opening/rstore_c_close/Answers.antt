@@ -7,13 +7,15 @@ use Rattle.rstore_c.proofs.exports.opening.rstore_c_close.Goals as goal
 pub returns-then-not-read_only-clause-closes : goal.returns-then-not-read_only-clause-closes
 returns-then-not-read_only-clause-closes c = (
   c.close-number.result.1,
-  subst (λ (held : Held). ClosesBy held.session c.close-number.result) c.held.ensures.value
+  subst (λ (held : Held). ClosesBy held.session c.close-number.new.self
+      c.close-number.result) c.held.ensures.value
       c.close-number.ensures.closes,
 )
 
 pub returns-else-not-read_only-clause-closes : goal.returns-else-not-read_only-clause-closes
 returns-else-not-read_only-clause-closes c = (
   c.close-number.result.1,
-  subst (λ (held : Held). ClosesBy held.session c.close-number.result) c.held.ensures.value
+  subst (λ (held : Held). ClosesBy held.session c.close-number.new.self
+      c.close-number.result) c.held.ensures.value
       c.close-number.ensures.closes,
 )
