@@ -16,8 +16,9 @@ use Rattle.tree_node.proofs.RowLemmas.{occurs-branches_of}
 use Rattle.node_page.specs.Layout.{IsOfLevel, IsSpellable}
 use Rattle.node_page.specs.Standing.{PageMap, RowStands}
 use Rattle.reinsert.specs.Children.{Child, child_at, occurs_at}
-use Rattle.reinsert.specs.Placed.{set_box}
-use Rattle.reinsert.proofs.AboveLemmas.{length-set_box, set_box-refers}
+use Rattle.node_page.specs.Enlarged.{set_box}
+use Rattle.node_page.proofs.BoxedLemmas.{length-set_box}
+use Rattle.reinsert.proofs.AboveLemmas.{set_box-refers}
 use Rattle.condense.specs.Taken.{IsCut, items_without}
 
 abbrev pub cut : {A : Type 0} → List A → ℕ → List A

@@ -8,6 +8,7 @@ pub mod Editing
 pub mod Named
 pub mod OnePage
 pub mod TidyLemmas
+pub mod BoxedLemmas
 pub mod ColumnLemmas
 pub mod Examples
 pub mod StandingLemmas

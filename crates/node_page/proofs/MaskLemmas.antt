@@ -1,6 +1,6 @@
 -- Masks of the boxes in a page: by axes, cut where the places end, and from a place on.
 use Rattle.std.proofs.Common.{◌≡◌, ℕ, zero, suc, ◌+◌, ◌*◌, ◌/◌, ◌%◌, ◌-◌, ◌^◌, ◌<◌, ◌≤◌, ◌==◌, ⊎_elim, ℤ}
-use Rattle.std.proofs.Common.{◌&&◌, nat_lt, int_le, min, Bool, false, bit_and, List, FitsSigned, w32, map}
+use Rattle.std.proofs.Common.{◌&&◌, nat_lt, int_le, min, Bool, false, true, bit_and, List, FitsSigned, w32, map}
 use Rattle.std.proofs.Common.{refl, sym, ◌∙◌, ap, ap₂, subst, inl, inr, of_z, to_z, pow_mono, arith}
 use Rattle.std.proofs.lemmas.Bool.{cases_lt, le-ltb, lt-ltb}
 use Rattle.std.proofs.lemmas.Int.{ints, to_z-of_z}
@@ -11,6 +11,7 @@ use Rattle.std.proofs.lemmas.Nat.Bits.{bit_at-trailing_zeros, bit_at-zero}
 use Rattle.std.proofs.lemmas.Simd.{mask_l-lt}
 use Rattle.std.proofs.Math.Nat.{mod-lt}
 use Rattle.std.specs.Int.{bit_at, trailing_zeros, w128}
+use Rattle.std.specs.Int.Count.{trailing_of_zero}
 use Rattle.std.specs.List.{range_with_len}
 use Rattle.block_bytes.specs.Laws.{number_at-lt}
 use Rattle.block_bytes.specs.Numbers.{AreBytes, number_at, signed_at}
@@ -103,3 +104,21 @@ unset_before mask from k small up below =
     let bit : bit_at mask k ≡ 0 = shifted mask from k up
     ∙ none_before (mask / 2 ^ from) (k - from) small (omega (arith, up, below)) in
     ap (λ (b : ℕ). b == 1) bit
+
+-- the first one that is set
+pub set_there : (mask from : ℕ) → mask / 2 ^ from < 2 ^ 128 → from + trailing_zeros w128 (mask / 2 ^ from) < 128
+    → has_bit mask (from + trailing_zeros w128 (mask / 2 ^ from)) ≡ true
+set_there mask from small within = ⊎_elim
+    (λ (some : 0 < mask / 2 ^ from).
+    ap (λ (b : ℕ). b == 1)
+    (shifted mask from (from + trailing_zeros w128 (mask / 2 ^ from)) (omega arith)
+    ∙ ap (bit_at (mask / 2 ^ from))
+    (let e : from + trailing_zeros w128 (mask / 2 ^ from) - from ≡ trailing_zeros w128 (mask / 2 ^ from) =
+    omega arith in e)
+    ∙ (bit_at-trailing_zeros w128 (mask / 2 ^ from) some small).1))
+    (λ (none : mask / 2 ^ from ≤ 0). absurd (omega (arith, within, none_set none)))
+    (cases_lt 0 (mask / 2 ^ from))
+  where
+    none_set : mask / 2 ^ from ≤ 0 → trailing_zeros w128 (mask / 2 ^ from) ≡ 128
+    none_set none = ap (trailing_zeros w128) (let e : mask / 2 ^ from ≡ 0 = omega (arith, none) in e)
+        ∙ trailing_of_zero 128

@@ -26,10 +26,10 @@ columns_apart dims place within =
     λ axis lt other below. apart 4 (low_place place + 800 * axis) 4 (high_place place + 800 * other)
     (λ l. omega arith)
 
--- ---- an entry is clear of those in later places
+-- ---- an entry is clear of those in other places
 
-module _ (dims : ℕ) (tagged : Bool) (place k axis : ℕ) (before : k < place) (within : place < 100)
-    (lt : axis < dims) where
+module _ (dims : ℕ) (tagged : Bool) (place k axis : ℕ) (differs : ¬ (k ≡ place)) (there : k < 100)
+    (within : place < 100) (lt : axis < dims) where
   low_clear : IsClearOfEntry dims tagged place 4 (low_place k + 800 * axis)
   low_clear = record {
     bounds = record {
@@ -50,20 +50,31 @@ module _ (dims : ℕ) (tagged : Bool) (place k axis : ℕ) (before : k < place) 
     tag = λ has. inl (omega arith);
   }
 
-reference_clear : (dims : ℕ) (tagged : Bool) (place k : ℕ) → k < place → place < 100
+-- the references and the tags lie behind all boxes
+reference_behind : (dims place k : ℕ) → k < 100 → place < 100
+    → IsClearOfBox dims (low_place place) (high_place place) 800 8 (reference_place dims k)
+reference_behind dims place k there within =
+    record { lows = λ a h. inr (omega arith); highs = λ a h. inr (omega arith) }
+
+tag_behind : (dims place k : ℕ) → k < 100 → place < 100
+    → IsClearOfBox dims (low_place place) (high_place place) 800 4 (tag_place dims k)
+tag_behind dims place k there within =
+    record { lows = λ a h. inr (omega arith); highs = λ a h. inr (omega arith) }
+
+reference_clear : (dims : ℕ) (tagged : Bool) (place k : ℕ) → ¬ (k ≡ place) → k < 100 → place < 100
     → IsClearOfEntry dims tagged place 8 (reference_place dims k)
-reference_clear dims tagged place k before within = record {
-  bounds = record { lows = λ a h. inr (omega arith); highs = λ a h. inr (omega arith) };
-  reference = inl (omega arith);
+reference_clear dims tagged place k differs there within = record {
+  bounds = reference_behind dims place k there within;
+  reference = apart 8 (reference_place dims k) 8 (reference_place dims place) (λ l. omega arith);
   tag = λ has. inl (omega arith);
 }
 
-tag_clear : (dims : ℕ) (tagged : Bool) (place k : ℕ) → k < place → place < 100
+tag_clear : (dims : ℕ) (tagged : Bool) (place k : ℕ) → ¬ (k ≡ place) → k < 100 → place < 100
     → IsClearOfEntry dims tagged place 4 (tag_place dims k)
-tag_clear dims tagged place k before within = record {
-  bounds = record { lows = λ a h. inr (omega arith); highs = λ a h. inr (omega arith) };
+tag_clear dims tagged place k differs there within = record {
+  bounds = tag_behind dims place k there within;
   reference = inr (omega arith);
-  tag = λ has. inl (omega arith);
+  tag = λ has. apart 4 (tag_place dims k) 4 (tag_place dims place) (λ l. omega arith);
 }
 
 -- the head is clear of each entry
@@ -165,22 +176,57 @@ item_same dims place a b tags same =
     (λ has. number_at-same 4 (tag_place dims place) a b
     (λ k le lt. same k (inr (inr (inr (has, le, lt)))))))
 
--- an entry stays where a later one is written
-pub item_stays : (dims : ℕ) (tagged : Bool) (place k : ℕ) (old new : List ℕ) → k < place → place < 100
-    → Keeps (IsClearOfEntry dims tagged place) old new → item_at dims new k ≡ item_at dims old k
+-- an entry stays where another one is written
+pub item_beside : (dims : ℕ) (tagged : Bool) (place k : ℕ) (old new : List ℕ) → ¬ (k ≡ place) → k < 100
+    → place < 100 → Keeps (IsClearOfEntry dims tagged place) old new
+    → item_at dims new k ≡ item_at dims old k
 unfolding item_at
-item_stays dims tagged place k old new before within keeps =
+item_beside dims tagged place k old new differs there within keeps =
     same_item (corner_at dims new (low_place k) 800) (corner_at dims old (low_place k) 800)
     (corner_at dims new (high_place k) 800) (corner_at dims old (high_place k) 800)
     (number_at 8 (reference_place dims k) new) (number_at 8 (reference_place dims k) old) (tag_at dims new k)
     (tag_at dims old k)
     (corner_at-stays (IsClearOfEntry dims tagged place) old new dims (low_place k) 800 keeps
-    (λ axis lt. low_clear dims tagged place k axis before within lt))
+    (λ axis lt. low_clear dims tagged place k axis differs there within lt))
     (corner_at-stays (IsClearOfEntry dims tagged place) old new dims (high_place k) 800 keeps
-    (λ axis lt. high_clear dims tagged place k axis before within lt))
-    (keeps 8 (reference_place dims k) (reference_clear dims tagged place k before within))
+    (λ axis lt. high_clear dims tagged place k axis differs there within lt))
+    (keeps 8 (reference_place dims k) (reference_clear dims tagged place k differs there within))
     (tag_same dims k new old (tags_stay dims tagged place old new keeps)
-    (λ has. keeps 4 (tag_place dims k) (tag_clear dims tagged place k before within)))
+    (λ has. keeps 4 (tag_place dims k) (tag_clear dims tagged place k differs there within)))
+
+-- as one before it does
+pub item_stays : (dims : ℕ) (tagged : Bool) (place k : ℕ) (old new : List ℕ) → k < place → place < 100
+    → Keeps (IsClearOfEntry dims tagged place) old new → item_at dims new k ≡ item_at dims old k
+item_stays dims tagged place k old new before within keeps =
+    item_beside dims tagged place k old new (λ same. omega (arith, same, before)) (omega (arith, before, within))
+    within keeps
+
+-- ---- an entry whose box is written
+
+-- what is clear of the entry is clear of its box
+pub keeps_boxed : (dims : ℕ) (tagged : Bool) (place : ℕ) (old new : List ℕ)
+    → Keeps (IsClearOfBox dims (low_place place) (high_place place) 800) old new
+    → Keeps (IsClearOfEntry dims tagged place) old new
+keeps_boxed dims tagged place old new keeps n at clear = keeps n at clear.bounds
+
+-- it has that box, and its reference and its tag stay
+pub item_boxed : (dims place : ℕ) (old new : List ℕ) (b : Bounds) → place < 100
+    → Keeps (IsClearOfBox dims (low_place place) (high_place place) 800) old new
+    → box_at dims new (low_place place) (high_place place) 800 ≡ b
+    → ◌≡◌ {A = Item} (item_at dims new place)
+    (record {
+      bounds = b;
+      reference = (item_at dims old place).reference;
+      tag = (item_at dims old place).tag;
+    })
+unfolding item_at
+item_boxed dims place old new b within keeps is =
+    sym (item_is dims place new b (number_at 8 (reference_place dims place) old) (tag_at dims old place)
+    (sym is)
+    (sym (keeps 8 (reference_place dims place) (reference_behind dims place place within within)))
+    (sym (tag_same dims place new old
+    (tags_stay dims false place old new (keeps_boxed dims false place old new keeps))
+    (λ has. keeps 4 (tag_place dims place) (tag_behind dims place place within within)))))
 
 -- ---- what is read as an entry of a level
 

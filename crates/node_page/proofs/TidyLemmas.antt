@@ -29,13 +29,20 @@ pub page_of_node : (dims : ℕ) (page : List ℕ) (c : NodeContent) → node_at 
     → number_at 1 0 page ≡ node_kind → IsTidy dims page → IsPageOfNode dims page c
 page_of_node dims page c is kind tidy = record { spelled = kind_read dims page kind ∙ is; rest = tidy }
 
+-- the bytes that were left at a page spell a node, and are its page where they were tidy before
+pub record Left (dims : ℕ) (new : Option (List ℕ)) (was : List ℕ) (c : NodeContent) : Type 0 where
+  pub now : List ℕ
+  pub there : new ≡ Some now
+  pub spelled : node_at dims now ≡ Some c
+  pub is_page : IsTidy dims was → IsPageOfNode dims now c
+
 -- and it is at a page that has these bytes
 pub at_page : (dims : ℕ) (page : Option (List ℕ)) (bytes : List ℕ) (c : NodeContent) → page ≡ Some bytes
     → IsPageOfNode dims bytes c → IsSomeAnd page (λ bytes. IsPageOfNode dims bytes c)
 at_page dims page bytes c there is =
     subst (λ (o : Option (List ℕ)). IsSomeAnd o (λ bytes. IsPageOfNode dims bytes c)) (sym there) is
 
-named_as : (dims : ℕ) (t u : Bool) (n m k : ℕ) → t ≡ u → n ≡ m → IsNamed dims t n k → IsNamed dims u m k
+pub named_as : (dims : ℕ) (t u : Bool) (n m k : ℕ) → t ≡ u → n ≡ m → IsNamed dims t n k → IsNamed dims u m k
 named_as dims t u n m k tags count named =
     subst (λ b. IsNamed dims b m k) tags (subst (λ i. IsNamed dims t i k) count named)
 

@@ -1,5 +1,6 @@
 -- The files of definitions.
 pub mod Layout
+pub mod Enlarged
 pub mod PageLaws
 pub mod Columns
 pub mod Standing

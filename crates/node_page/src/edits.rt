@@ -5,12 +5,15 @@ ghost use Rattle.block_bytes.specs.Numbers.{number_at};
 ghost use Rattle.block_bytes.specs.Kinds.{node_kind};
 ghost use Rattle.box_math.specs.Bounds.{IsDims};
 ghost use Rattle.tree_node.specs.Nodes.{NodeContent, item_of};
+ghost use Rattle.node_page.specs.Enlarged.{with_box_at};
 ghost use Rattle.node_page.specs.Layout.{IsOfLevel, IsPageOfNode, IsTidy, node_at, pushed};
 
 use crate::entries::write_entry;
 use crate::head::{count_at, is_tagged};
 use crate::tags::add_tags;
 use block_bytes::write_u16;
+use box_bytes::write_box;
+use box_math::BBox;
 use tree_node::Entry;
 
 /// Adds an entry to a node page whose count is below 100: it is written in the place after the last one, and
@@ -30,6 +33,20 @@ pub(crate) fn push_entry<const D: usize>(page: &mut [u8; 4096], entry: &Entry<D>
     let count = count_at(page);
     write_entry(page, count, entry, tagged);
     write_u16(page, 2, count as u16 + 1);
+}
+
+/// Gives the entry in a place of a node page another box. A page of format 1 becomes one with tags. One with
+/// zeros in all bytes that it does not name stays one.
+pub(crate) fn write_box_at<const D: usize>(page: &mut [u8; 4096], place: usize, bounds: &BBox<D>)
+    requires dims { IsDims D }
+    requires within { place < 100 }
+    ensures boxed { (c : NodeContent) → node_at D page.old ≡ Some c → place < length c.entries
+        → node_at D page.new ≡ Some (with_box_at c place bounds.now) }
+    ensures is_page { IsTidy D page.old → (c : NodeContent) → node_at D page.old ≡ Some c
+        → place < length c.entries → IsPageOfNode D page.new (with_box_at c place bounds.now) }
+{
+    add_tags::<D>(page);
+    write_box(page, 16 + 4 * place, 416 + 4 * place, 800, bounds);
 }
 
 /// Adds an entry to a node page as `push_entry` does, where its count is below 100.

@@ -6,6 +6,7 @@ mod adding;
 mod check;
 mod columns;
 mod edits;
+mod enlarging;
 mod entries;
 mod head;
 pub mod laws;
@@ -20,6 +21,7 @@ mod visits;
 
 pub use adding::add_entry;
 pub use check::{TreeFacts, check_tree};
+pub use enlarging::enlarge_entry;
 pub use leaves::leaf_lists;
 pub use lending::view_node;
 pub use masks::next_set;

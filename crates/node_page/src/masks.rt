@@ -1,7 +1,8 @@
 //! The boxes of a node page compared with a window, eight at once, in the columns where they stand; and the
 //! places whose bits are set.
 
-ghost use Rattle.std.specs.Prelude.{◌≡◌, ℕ, ◌+◌, ◌*◌, ◌<◌, ◌≤◌, ◌&&◌, nat_lt, int_le, map, false, FitsSigned};
+ghost use Rattle.std.specs.Prelude.{◌≡◌, ℕ, ◌+◌, ◌*◌, ◌<◌, ◌≤◌, ◌&&◌, nat_lt, int_le, map, false, true};
+ghost use Rattle.std.specs.Prelude.{FitsSigned};
 ghost use Rattle.std.specs.Int.{w32};
 ghost use Rattle.std.specs.List.{range_with_len};
 ghost use Rattle.block_bytes.specs.Numbers.{signed_at};
@@ -90,6 +91,7 @@ pub fn next_set(mask: u128, from: usize) -> usize
     requires { from < 128 }
     ensures within { from ≤ result }
     ensures few { result < 256 }
+    ensures set { result < 128 → has_bit mask result ≡ true }
     ensures unset { (k : ℕ) → from ≤ k → k < result → has_bit mask k ≡ false }
 {
     from + (mask >> from).trailing_zeros() as usize

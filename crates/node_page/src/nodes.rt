@@ -7,8 +7,8 @@ ghost use Rattle.page_file.specs.Fault.{IsDamage, IsOfDevice};
 ghost use Rattle.page_file.specs.Pages.{SameBut};
 ghost use Rattle.page_file.specs.declared.fault.Fault.TheVariants as fault;
 ghost use Rattle.page_file.specs.declared.gate.Gate.TheVariants.{Open};
-ghost use Rattle.page_cache.specs.Cache.{Grows, IsHonest, IsLive, IsPageMap, IsUnchanged, device_of, gate_of};
-ghost use Rattle.page_cache.specs.Cache.{given, looks_of, next_of, pages};
+ghost use Rattle.page_cache.specs.Cache.{Grows, IsHeld, IsHonest, IsLive, IsPageMap, IsUnchanged};
+ghost use Rattle.page_cache.specs.Cache.{device_of, gate_of, given, looks_of, next_of, pages};
 ghost use Rattle.page_cache.specs.Calls.{Asks, Changes};
 ghost use Rattle.tree_node.specs.Nodes.{NodeContent, content_of};
 ghost use Rattle.node_page.specs.Layout.{IsPageOfNode, IsSpellable, node_at};
@@ -25,8 +25,8 @@ use tree_node::Node;
 /// refused. A page that spells none of that dimension and level is `Damaged` with its number, and so is a
 /// number outside 2 to the last one given out, without a call of the device.
 ///
-/// On an honest device a refusal where there is such a node is `Memory` or `Device`. Map and gate stay, also
-/// after a refusal.
+/// On an honest device a refusal where there is such a node is `Memory` or `Device`, and none where the page
+/// is held. Map and gate stay, also after a refusal.
 #[tactic(auto, using(page_cache::specs::Calls::ends_so))]
 pub fn read_node<const D: usize, B: BlockDevice, A: Allocator + Copy>(
     cache: &mut PageCache<B, A>,
@@ -52,6 +52,7 @@ pub fn read_node<const D: usize, B: BlockDevice, A: Allocator + Copy>(
     ensures given_there { IsHonest cache.old → (c : NodeContent) → node_in D (given cache.old page) ≡ Some c
         → c.level ≡ level → IfErr result IsOfDevice }
     ensures faults { IsHonest cache.old → IfErr result (λ f. IsOfDevice f ⊎ (f ≡ fault.Damaged page)) }
+    ensures held { IsHeld cache.old page → IfErr result (λ f. f ≡ fault.Damaged page) }
     ensures other_faults { IfErr result (λ f. IsOfDevice f ⊎ IsDamage f) }
 {
     match decode(cache.page(page)?, level) {
@@ -84,6 +85,7 @@ pub fn read_into<const D: usize, B: BlockDevice, A: Allocator + Copy>(
     ensures there { IsHonest cache.old → (c : NodeContent) → node_in D (pages cache.old page) ≡ Some c
         → c.level ≡ level → IfErr result IsOfDevice }
     ensures faults { IsHonest cache.old → IfErr result (λ f. IsOfDevice f ⊎ (f ≡ fault.Damaged page)) }
+    ensures held { IsHeld cache.old page → IfErr result (λ f. f ≡ fault.Damaged page) }
     ensures other_faults { IfErr result (λ f. IsOfDevice f ⊎ IsDamage f) }
 {
     if decode_into(cache.page(page)?, level, node) {

@@ -1,6 +1,7 @@
 //! The pages that a walk over pages has come to.
 
-ghost use Rattle.std.specs.Prelude.{◌≡◌, ◌⊎◌, ◌++◌, ◌∷◌, [], ◌+◌, ◌<◌, ◌≤◌, IfErr, IfOk, OnErr, OnOk, length};
+ghost use Rattle.std.specs.Prelude.{◌≡◌, ◌⊎◌, ◌++◌, ◌∷◌, [], ◌+◌, ◌<◌, ◌≤◌, IfErr, IfOk};
+ghost use Rattle.std.specs.Prelude.{IsErrOf, OnErr, OnOk, length};
 ghost use Rattle.page_file.specs.declared.fault.Fault.TheVariants as fault;
 ghost use Rattle.node_page.specs.Visits.{AreMarked, times_in};
 
@@ -36,6 +37,8 @@ impl<H: Allocator + Copy> Visits<H> {
         ensures unchanged { OnErr result (self.new.pages.items ≡ self.old.pages.items) }
         ensures first { times_in page self.old.pages.items ≡ 0 → page < length self.old.marks.items
             → IfErr result (λ f. f ≡ fault.Memory) }
+        ensures again { (0 < times_in page self.old.pages.items) ⊎ (length self.old.marks.items ≤ page)
+            → IsErrOf result (fault.Damaged page) }
         ensures faults { IfErr result (λ f. (f ≡ fault.Memory) ⊎ (f ≡ fault.Damaged page)) }
     {
         match self.marks.get(page as usize) {

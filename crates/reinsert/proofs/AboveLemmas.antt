@@ -12,7 +12,9 @@ use Rattle.tree_node.specs.declared.node.Entry.{Entry}
 use Rattle.tree_node.specs.Nodes.{Item, item_of}
 use Rattle.node_page.specs.Layout.{IsOfLevel}
 use Rattle.reinsert.specs.declared.settled.Settled.{Settled}
-use Rattle.reinsert.specs.Placed.{items_after, items_beside, set_box}
+use Rattle.node_page.proofs.BoxedLemmas.{length-set_box}
+use Rattle.node_page.specs.Enlarged.{set_box}
+use Rattle.reinsert.specs.Placed.{items_after, items_beside}
 use Rattle.reinsert.specs.Steps.{HasLower}
 use Rattle.reinsert.proofs.WaitLemmas.{All-one}
 
@@ -47,18 +49,17 @@ set_box-same [] at = refl
 set_box-same (x ∷ xs) zero = refl
 set_box-same (x ∷ xs) (suc at) = ap (λ (es : List Item). x ∷ es) (set_box-same xs at)
 
+-- where nothing was split off, only the child's box is another
+pub items_boxed : {D : ℕ} (items : List Item) (at : ℕ) (lower : Settled D) → lower.beside ≡ None
+    → items_after items at lower ≡ set_box items at lower.bounds
+items_boxed items at lower none = ap (λ o. set_box items at lower.bounds ++ items_beside o) none
+    ∙ append-nil (set_box items at lower.bounds)
+
 -- a child that kept its box, and beside which nothing was split off, leaves the entries as they were
 pub items_kept : {D : ℕ} (items : List Item) (at : ℕ) (lower : Settled D) → lower.beside ≡ None
     → lower.bounds ≡ box_at items at → items_after items at lower ≡ items
 items_kept items at lower none same =
-    ap (λ (b : Bounds). set_box items at b ++ items_beside lower.beside) same
-    ∙ ap (λ o. set_box items at (box_at items at) ++ items_beside o) none
-    ∙ append-nil (set_box items at (box_at items at)) ∙ set_box-same items at
-
-pub length-set_box : (xs : List Item) (at : ℕ) (b : Bounds) → length (set_box xs at b) ≡ length xs
-length-set_box [] at b = refl
-length-set_box (x ∷ xs) zero b = refl
-length-set_box (x ∷ xs) (suc at) b = ap suc (length-set_box xs at b)
+    items_boxed items at lower none ∙ ap (set_box items at) same ∙ set_box-same items at
 
 set_box-reference : (xs : List Item) (at : ℕ) (b : Bounds) (k : ℕ) (d : Item)
     → (get_or (set_box xs at b) k d).reference ≡ (get_or xs k d).reference

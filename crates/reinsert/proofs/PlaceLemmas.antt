@@ -5,7 +5,12 @@ use Rattle.std.proofs.Common.{subst, ⊎_elim, arith, append_assoc}
 use Rattle.std.proofs.lemmas.Bool.{cases_eq}
 use Rattle.std.proofs.lemmas.List.{map-append, reverse-append}
 use Rattle.std.specs.Option.{option_map}
+use Rattle.page_file.specs.declared.fault.Fault.{Fault}
+use Rattle.page_cache.specs.Cache.{IsPageMap, pages}
+use Rattle.page_cache.specs.Calls.{AsksUntil, asks_and_changes}
+use Rattle.page_cache.specs.declared.cache.PageCache.{PageCache}
 use Rattle.tree_node.specs.declared.node.Entry.{Entry}
+use Rattle.tree_node.specs.declared.node.Root.{Root}
 use Rattle.tree_node.specs.Nodes.{NodeContent, Item, item_of}
 use Rattle.tree_node.specs.Trees.{Row, end, more, Branch, object, child, row_items, row_length, occurs}
 use Rattle.tree_node.specs.Shape.{RowHasShape}
@@ -23,11 +28,13 @@ use Rattle.node_page.specs.Changes.{AllWait}
 use Rattle.node_page.proofs.PartLemmas.{moves_same, moves_from, moves_in_turn}
 use Rattle.reinsert.specs.declared.settled.Settled.{Settled}
 use Rattle.reinsert.specs.declared.waiting.Wait.{Wait}
+use Rattle.reinsert.specs.declared.waiting.Waiting.{Waiting as Room}
 use Rattle.reinsert.specs.Children.{occurs_at, Child, child_at, with_child, boxed}
 use Rattle.reinsert.specs.Placing.{Outcome, Settles, Places, beside_branches, after_child}
+use Rattle.reinsert.specs.Steps.{SettlesThere}
 use Rattle.reinsert.specs.Placed.{held_of, held_in, BesideStands, occurs_beside, occurs_after, HasFewEntries}
 use Rattle.reinsert.specs.Placed.{CanSettle, SettlesTo, Shows, CanPlace, PlacesTo, items_after, items_beside}
-use Rattle.reinsert.specs.Placed.{set_box}
+use Rattle.node_page.specs.Enlarged.{set_box}
 use Rattle.reinsert.proofs.StandLemmas.{RowStands-append, zero_there, moves_with, rest_same, rest_once}
 use Rattle.reinsert.proofs.SettledLemmas.{AllWait_frame, waiting_live}
 use Rattle.reinsert.proofs.ChildLemmas.{HasChild, has_child, items-with_child, occurs-with_child}
@@ -510,3 +517,29 @@ there_after {D} Y most top level target at reference called called1 branch row m
       still_there most top level target at called called1 branch row m0 m1 page lower waits waits1 can
           above h reference is both.1,
     )
+
+-- a node was asked for before it settled
+pub settles_after_asking : {D : ℕ} {B A : Type 0} {m : _} {most top : ℕ} {at : Root}
+    {Asked : List Item → Type 0} {after : List Item → List Item} {waiting waiting' : Room D}
+    (old mid new : PageCache B A m) (result : Result (Settled D) Fault) → AsksUntil old mid None
+    → SettlesThere most top at Asked after mid new waiting waiting' result
+    → SettlesThere most top at Asked after old new waiting waiting' result
+settles_after_asking {D} {B} {A} {m} {most} {top} {at} {Asked} {after} {waiting} {waiting'} old mid new result
+    asked s =
+    let stays : IsPageMap old → (n : ℕ) → pages mid n ≡ pages old n = λ h. asked.map.pages_stay h.honest in
+    record {
+      changes = asks_and_changes old mid new result asked s.changes;
+      grows = omega (arith, s.grows, asked.map.next);
+      measure = s.measure;
+      beside = s.beside;
+      settled = λ h items there branches are can.
+          settles_from result (IsPageMap new) most top at.level waiting.called branches (pages old) (pages mid)
+          (pages new) at.page waiting.waits.items waiting'.waits.items waiting'.called (stays h)
+          (s.settled (asked.map.sound.0 h) items (ap (node_in D) (stays h at.page) ∙ there) branches are
+          (can_settle_from D (pages old) (pages mid) at.page at.level branches (stays h) can));
+      faults = λ h items there within few.
+          s.faults (asked.map.sound.0 h) items (ap (node_in D) (stays h at.page) ∙ there) within few;
+      sound = λ h. s.sound (asked.map.sound.0 h);
+      damaged = λ h. s.damaged (asked.map.sound.0 h);
+      other_faults = s.other_faults;
+    }

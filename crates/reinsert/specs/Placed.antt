@@ -1,6 +1,6 @@
 -- What the code has done where a placing is done below a node: the words of its inner contracts
 -- (docs/RULES.md, "Insertion").
-use Rattle.std.specs.Prelude.{◌≡◌, ℕ, zero, suc, ◌+◌, ◌-◌, ◌≤◌, Bool, List, [], ◌∷◌, ◌++◌, length, map}
+use Rattle.std.specs.Prelude.{◌≡◌, ℕ, ◌+◌, ◌-◌, ◌≤◌, Bool, List, [], ◌∷◌, ◌++◌, length, map}
 use Rattle.std.specs.Prelude.{reverse, ⊤, ◌*◌, Option, Some, None, IsSome}
 use Rattle.std.specs.Option.{option_map}
 use Rattle.tree_node.specs.declared.node.Entry.{Entry}
@@ -11,6 +11,7 @@ use Rattle.tree_node.specs.Boxes.{box_at, least_box, reference_at}
 use Rattle.tree_node.specs.Shape.{RowHasShape}
 use Rattle.node_page.specs.Changes.{AllWait}
 use Rattle.node_page.specs.Standing.{PageMap, HasNode, RowStands, node_in}
+use Rattle.node_page.specs.Enlarged.{set_box}
 use Rattle.node_page.specs.Parts.{Moves}
 use Rattle.choose_subtree.specs.Choice.{IsChosenChild}
 use Rattle.reinsert.specs.declared.settled.Settled.{Settled}
@@ -137,12 +138,6 @@ pub record SplitsOff (dims : ℕ) (m m' : PageMap) (page number : ℕ) (first se
   pub first_there : node_in dims (m' page) ≡ Some first
   pub second_there : node_in dims (m' number) ≡ Some second
   pub others : (k : ℕ) → ¬ (k ≡ page) → ¬ (k ≡ number) → m' k ≡ m k
-
--- the entries with another box at a place
-abbrev pub set_box : List Item → ℕ → Bounds → List Item
-set_box [] at b = []
-set_box (item ∷ items) zero b = record { bounds = b; reference = item.reference; tag = item.tag } ∷ items
-set_box (item ∷ items) (suc at) b = item ∷ set_box items at b
 
 -- what was split off, if anything was
 abbrev pub items_beside : {D : ℕ} → Option (Entry D) → List Item

@@ -23,7 +23,7 @@ use crate::waiting::Waiting;
 use crate::way::{Way, way_down};
 use arrayvec::ArrayVec;
 use block_device::BlockDevice;
-use node_page::{add_entry, read_into};
+use node_page::{add_entry, enlarge_entry, read_into};
 use page_cache::PageCache;
 use page_file::Fault;
 use std::alloc::Allocator;
@@ -136,8 +136,38 @@ fn keeps_entries<const D: usize>(way: &Way<D>, lower: &Settled<D>) -> bool
     lower.beside.is_none() && lower.bounds == way.bounds
 }
 
-// Reads a node whose child at the place has settled, and settles it.
+// Settles a node whose child at the place has settled. A box that only grew is written where it lies.
 fn put_above<const D: usize, B: BlockDevice, A: Allocator + Copy>(
+    cache: &mut PageCache<B, A>,
+    at: Root,
+    place: usize,
+    lower: Settled<D>,
+    limits: Limits,
+    waiting: &mut Waiting<D>,
+) -> Result<Settled<D>, Fault>
+    requires dims { IsDims D }
+    requires open { gate_of cache.old ≡ Open }
+    requires most { (4 ≤ limits.fanout) × (limits.fanout ≤ 100) }
+    requires top { (at.level ≤ limits.top) × (limits.top ≤ 40) }
+    requires beside { IfSome lower.beside (λ e. IsOfLevel at.level e.reference e.tag) }
+    ensures { SettlesThere limits.fanout limits.top at (λ items. place < length items)
+        (λ items. items_after items place lower.entry) cache.old cache.new waiting.old waiting.new result }
+{
+    if lower.beside.is_some() {
+        return put_anew(cache, at, place, lower, limits, waiting);
+    }
+    let most = limits.fanout;
+    if let Some(bounds) = enlarge_entry(cache, at.page, at.level, place, &lower.bounds, most)? {
+        return Ok(Settled {
+            bounds,
+            beside: None,
+        });
+    }
+    put_anew(cache, at, place, lower, limits, waiting)
+}
+
+// Reads a node whose child at the place has settled, and settles it.
+fn put_anew<const D: usize, B: BlockDevice, A: Allocator + Copy>(
     cache: &mut PageCache<B, A>,
     at: Root,
     place: usize,

@@ -8,7 +8,7 @@ use Rattle.box_math.specs.Bounds.{Bounds}
 use Rattle.tree_node.specs.declared.node.Entry.{Entry}
 use Rattle.tree_node.specs.Boxes.{least_box}
 use Rattle.tree_node.specs.Nodes.{item_of}
-use Rattle.reinsert.specs.Placed.{set_box}
+use Rattle.node_page.specs.Enlarged.{set_box}
 use Rattle.reinsert.proofs.AboveLemmas.{All-mapped, above_none}
 use Rattle.condense.proofs.CutLemmas.{cut_boxed, refilled, same_box, set_same}
 use Rattle.reinsert.proofs.FaultLemmas.{changes_refused, no_success}

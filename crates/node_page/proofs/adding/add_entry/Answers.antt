@@ -13,16 +13,10 @@ use Rattle.tree_node.specs.Nodes.{NodeContent, item_of}
 use Rattle.node_page.specs.Layout.{IsOfLevel, IsPageOfNode, IsTidy, node_at, pushed}
 use Rattle.node_page.proofs.GivenLemmas.{node_was_given_out}
 use Rattle.node_page.proofs.NodeLemmas.{at_error, bytes_of_node, node_of_page}
-use Rattle.node_page.proofs.TidyLemmas.{at_page}
+use Rattle.node_page.proofs.TidyLemmas.{Left, at_page}
 use Rattle.node_page.proofs.adding.add_entry.Goals as goal
 
 -- the bytes that the edit left at the page
-record Left (dims : ℕ) (new : Option (List ℕ)) (was : List ℕ) (c : NodeContent) : Type 0 where
-  now : List ℕ
-  there : new ≡ Some now
-  spelled : node_at dims now ≡ Some c
-  is_page : IsTidy dims was → IsPageOfNode dims now c
-
 left : (g : _) (c : goal.In_ok-edit g) → IsHonest c.args.cache.now → (content : NodeContent) (was : List ℕ)
     → pages c.args.cache.now c.args.page ≡ Some was → node_at g.row.D was ≡ Some content
     → Left g.row.D (pages c.edit.new.self c.args.page) was (pushed content (item_of c.args.entry.now))

@@ -22,6 +22,7 @@ returns-in_err-bytes g c = (
     there = search rules;
     given_there = search rules;
     faults = search rules;
+    held = search rules;
     other_faults = search rules;
   },
 )
