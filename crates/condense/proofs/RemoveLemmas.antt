@@ -1,11 +1,10 @@
 -- What a removal answers, from what its steps ensure.
 use Rattle.std.proofs.Common.{Result, Ok, Err, IfOk, IfErr, OnErr, IsErrAnd, List, [], ◌≡◌, ◌∙◌, ℕ, ◌≤◌}
-use Rattle.std.proofs.Common.{◌∷◌, None, Some, sym, subst}
+use Rattle.std.proofs.Common.{◌∷◌, None, sym, subst}
 use Rattle.std.specs.List.Sorted.{IsPermutation}
 use Rattle.box_math.specs.Objects.{Object}
 use Rattle.page_file.specs.Fault.{IsOfDevice}
 use Rattle.page_file.specs.declared.fault.Fault.{Fault}
-use Rattle.page_file.specs.declared.fault.Fault.TheVariants.{Damaged}
 use Rattle.page_cache.specs.Calls.{Asks, AsksUntil}
 use Rattle.page_cache.specs.declared.cache.PageCache.{PageCache}
 use Rattle.tree_node.specs.declared.node.Root.{Root}

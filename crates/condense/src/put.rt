@@ -14,9 +14,10 @@ ghost use Rattle.page_cache.specs.Calls.{Changes};
 ghost use Rattle.tree_node.specs.Boxes.{least_box};
 ghost use Rattle.tree_node.specs.Nodes.{content_of, item_of};
 ghost use Rattle.tree_node.specs.Shape;
+ghost use Rattle.node_page.specs.Enlarged.{set_box};
 ghost use Rattle.node_page.specs.Layout.{IsSpellable};
 ghost use Rattle.node_page.specs.Standing.{node_in};
-ghost use Rattle.reinsert.specs.Placed.{held_with, set_box};
+ghost use Rattle.reinsert.specs.Placed.{held_with};
 ghost use Rattle.condense.specs.Steps.{PutsBack, PutsChild};
 ghost use Rattle.condense.specs.Taken.{IsCut, held_now, items_without};
 

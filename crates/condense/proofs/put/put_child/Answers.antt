@@ -1,5 +1,5 @@
 -- The goals of `put_child` that are proved by hand.
-use Rattle.std.proofs.Common.{rules, ◌≡◌, Some, arith, inl, inr, map, refl, subst, sym, true}
+use Rattle.std.proofs.Common.{◌≡◌, Some, arith, inl, inr, map, refl, subst, sym, true}
 use Rattle.std.proofs.lemmas.Bool.{true≢false}
 use Rattle.std.proofs.lemmas.List.{length-map}
 use Rattle.page_cache.specs.Cache.{IsLive, IsPageMap, pages}
