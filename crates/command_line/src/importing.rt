@@ -146,9 +146,9 @@ fn tell_misuse<E: Write>(errors: &mut E) -> u8
     ensures { result ≡ 2 }
 {
     let _ = errors.write_all(
-        b"rstore: --import LAYER[:FANOUT], FANOUT a number, is for a FILE and not for --strict or --read-only, --columns \
-LIST (of GeoJSON at most ID,TAG) and --scale N (1 to 1000000000) are for --import, and --axes N (2 or 3) is for \
---geojson\n",
+        b"rstore: --import LAYER[:FANOUT], FANOUT a number, is for a FILE and not for --strict or --read-only, \
+--columns LIST (of GeoJSON at most ID,TAG) and --scale N (1 to 1000000000) are for --import, and --axes N \
+(2 or 3) is for --geojson\n",
     );
     MISUSED
 }

@@ -70,8 +70,10 @@ layer_text l = l.name ++ space ∷ decimal l.dims ++ space ∷ decimal l.fanout 
 
 -- a row of a dump: the line of a command
 abbrev pub dump_text : DumpLine → List ℕ
-dump_text (CreateLine name dims fanout) = codes "create " ++ name ++ space ∷ decimal dims ++ space ∷ decimal fanout ++ newline ∷ []
-dump_text (InsertLine name id object) = codes "insert " ++ name ++ space ∷ decimal id ++ bounds_text (bounds_of object) ++ tag_text (tag_of object) ++ newline ∷ []
+dump_text (CreateLine name dims fanout) =
+    codes "create " ++ name ++ space ∷ decimal dims ++ space ∷ decimal fanout ++ newline ∷ []
+dump_text (InsertLine name id object) = codes "insert " ++ name ++ space ∷ decimal id
+    ++ bounds_text (bounds_of object) ++ tag_text (tag_of object) ++ newline ∷ []
 
 -- the text of an answer
 abbrev pub answer_text : Answer → List ℕ

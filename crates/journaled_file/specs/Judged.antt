@@ -41,7 +41,8 @@ pub record IsNeedless (a e : Blocks) : Type 0 where
 -- what is so of a base and such a file, of which just one is
 abbrev pub IsJudged : Found → Blocks → Blocks → Type 0
 IsJudged Fresh a e = (¬ IsMarked a) × (((¬ IsJournal e) × (length e ≤ 2)) ⊎ IsNeedless a e)
-IsJudged Own a e = IsJournal e × (¬ HasEnded a e) × (IsMarked a ⊎ (HasEntries e × IsOf a e))
+IsJudged Own a e = IsJournal e × (¬ HasEnded a e)
+    × (IsMarked a ⊎ ((2 ≤ length a) × HasEntries e × IsOf a e))
 IsJudged Ended a e = IsJournal e × HasEnded a e
 IsJudged Missing a e = (¬ IsJournal e) × (IsMarked a ⊎ (2 < length e))
 IsJudged Foreign a e = IsJournal e × (¬ HasEnded a e) × (¬ IsMarked a) × HadEntries e

@@ -11,7 +11,8 @@ use Rattle.node_page.specs.Checked.{ComesTo, named_pages}
 use Rattle.node_page.specs.Standing.{PageMap}
 use Rattle.layer_pages.specs.Layers.{IsLayerAt, LayerPages, Objects, part_of_layer}
 
--- the pages stand for a layer with its root and its identifier table there, of so many objects, and the list has its pages
+-- the pages stand for a layer with its root and its identifier table there, of so many objects, and the list
+-- has its pages
 pub record IsCheckedLayer (dims most : ℕ) (pages : PageMap) (root : Root) (ids_root count : ℕ)
     (list : List ℕ)
     : Type 0 where

@@ -16,7 +16,8 @@ is_page next n = nat_le 3 n && nat_lt n next
 abbrev pub is_layer : Record → Bool
 is_layer r = is_layer_name r.name && is_dims r.dims && is_fanout r.fanout
 
--- the record of one: the level of its root is at most 40, and its root and the first page of its identifier table are pages given out
+-- the record of one: the level of its root is at most 40, and its root and the first page of its identifier
+-- table are pages given out
 abbrev pub is_layer_record : ℕ → Record → Bool
 is_layer_record next r = is_layer r && nat_le r.level 40 && is_page next r.root && is_page next r.ids_root
 

@@ -21,9 +21,9 @@ const DUMPED: &str = "ok 5\ncreate a 2 8\ninsert a 2 7 8 7 8 tag 4\ninsert a 7 -
 insert a 8 0 0 10 10\ninsert a 9 0 -2 2 1 tag 3\nok\n";
 
 pub(crate) const MISUSED: &str =
-    "rstore: --import LAYER[:FANOUT], FANOUT a number, is for a FILE and not for --strict or --read-only, --columns \
-LIST (of GeoJSON at most ID,TAG) and --scale N (1 to 1000000000) are for --import, and --axes N (2 or 3) is for \
---geojson\n";
+    "rstore: --import LAYER[:FANOUT], FANOUT a number, is for a FILE and not for --strict or --read-only, \
+--columns LIST (of GeoJSON at most ID,TAG) and --scale N (1 to 1000000000) are for --import, and --axes N \
+(2 or 3) is for --geojson\n";
 
 #[test]
 fn rows_and_features_are_put_into_a_layer(rt: HostRuntime) -> Result<(), Fail> {

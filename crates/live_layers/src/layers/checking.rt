@@ -102,8 +102,8 @@ fn are_good(records: &[LayerRecord], next: u32, object_count: u64) -> bool
     count_of(records) == object_count
 }
 
-// Sees that the layers of the records stand in the pages, with tables that the file may have, and that each page given out stands in one place:
-// in the catalog, in a layer, or among the free pages.
+// Sees that the layers of the records stand in the pages, with tables that the file may have, and that each
+// page given out stands in one place: in the catalog, in a layer, or among the free pages.
 fn check_pages<B: BlockDevice, A: Allocator + Copy>(
     alloc: A,
     cache: &mut PageCache<B, A>,
@@ -114,7 +114,8 @@ fn check_pages<B: BlockDevice, A: Allocator + Copy>(
     ensures found { IsHonest cache.old → OnOk result (IsPageMap cache.old ×
         FindsLayers (pages cache.old) (version_of cache.old) (each record_of records.now)) }
     ensures stands { IsPageMap cache.old → (hs : List Reading) → each row_of hs ≡ each record_of records.now →
-        LayersStand (pages cache.old) hs → AllowsTables (version_of cache.old) hs → IsAllOf (pages cache.old) (in_use hs) → IfErr result IsOfDevice }
+        LayersStand (pages cache.old) hs → AllowsTables (version_of cache.old) hs
+        → IsAllOf (pages cache.old) (in_use hs) → IfErr result IsOfDevice }
     ensures looks { looks_of cache.new ≤ looks_of cache.old + 2 * (length records.now * next_of cache.old)
         + 2 * length records.now }
     ensures damage { IsHonest cache.old → IfErr result (λ f. (n : ℕ) → f ≡ Damaged n →
