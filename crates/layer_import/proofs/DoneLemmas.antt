@@ -1,5 +1,5 @@
 -- What lawful answers say of the table, where each command was done.
-use Rattle.std.proofs.Common.{◌≡◌, ◌∙◌, ◌⊎◌, ◌<◌, ℕ, Bool, true, false, not, cond, List, [], ◌∷◌, Option}
+use Rattle.std.proofs.Common.{◌≡◌, ◌∙◌, ◌⊎◌, ℕ, Bool, true, false, not, cond, List, [], ◌∷◌, Option}
 use Rattle.std.proofs.Common.{Some}
 use Rattle.std.proofs.Common.{None, ap, ap₂, inl, inr, refl, subst, sym}
 use Rattle.std.specs.FinMap.{contains_key, len}

@@ -1,17 +1,16 @@
 -- How an import ends: the store is given up, or closed.
-use Rattle.std.proofs.Common.{◌≡◌, ◌∙◌, ◌⊎◌, ℕ, Bool, true, false, List, [], ◌∷◌, ap, inl, inr, refl, subst}
-use Rattle.std.proofs.Common.{sym}
-use Rattle.block_device.specs.Device.{Blocks, LeavesOnly, Only}
+use Rattle.std.proofs.Common.{◌≡◌, ◌∙◌, ℕ, Bool, true, false, List, [], ◌∷◌, ap, inl, inr, refl, subst}
+use Rattle.std.proofs.Common.{Result, sym}
+use Rattle.std.specs.Prelude.{is_ok}
+use Rattle.block_device.specs.Device.{LeavesOnly, Only}
 use Rattle.block_device.specs.Moments.{leaves_then, leaves_weaker}
-use Rattle.live_layers.specs.Image.{CommitsWhatOpens, IsImage, IsImageOfOne, IsRefusedOrImageOf}
+use Rattle.live_layers.specs.Image.{IsImage, IsImageOfOne, IsRefusedOrImageOf}
 use Rattle.live_layers.proofs.StopLemmas.{or_this}
 use Rattle.plain_table.specs.Commands.{Command}
 use Rattle.plain_table.specs.Loads.{GivenObjects}
-use Rattle.plain_table.specs.Step.{Answer}
 use Rattle.plain_table.specs.Table.{Table}
 use Rattle.store_law.specs.Laws.{a_session_keeps_its_beginning}
-use Rattle.store_law.specs.Sessions.{Session, SessionState}
-use Rattle.store_law.specs.States.{StoreState}
+use Rattle.store_law.specs.Sessions.{SessionState}
 use Rattle.store_law.specs.States.StoreState.{Alive}
 use Rattle.store_law.specs.Stops.{Stops, tables_left}
 use Rattle.layer_store.specs.Calls.{Calls}
@@ -19,7 +18,8 @@ use Rattle.layer_store.specs.Representation.{IsInState, Represents, StopsLeave, 
 use Rattle.layer_store.specs.declared.store.Store.{Store}
 use Rattle.layer_store.proofs.CallLemmas.{LeavesNow, calls_are_a_session}
 use Rattle.layer_store.proofs.StopLemmas.{found_by_closing, found_of_store, left_more, session_state_is}
-use Rattle.layer_import.specs.Imports.{AreDone, Closed, HasImported, Puts, import_commands}
+use Rattle.layer_import.specs.declared.import.Unimported.{Unimported}
+use Rattle.layer_import.specs.Imports.{HasImported, Puts, import_commands}
 use Rattle.layer_import.proofs.DoneLemmas.{LeavesTable, put_so, session_keeps}
 
 -- A store into which objects were put, where a table was closed at this moment and since then no other.
@@ -34,12 +34,12 @@ pub record HasPut {D A : Type 0} {m : _} (old new : Store D A m) (moment : ℕ) 
   pub well : went_well ≡ true → LeavesTable t commands next
 
 pub has_put : {D A : Type 0} {m : _} → ((store : Store D A m) → LeavesNow store)
-    → (old new : Store D A m) (layer : List ℕ) (dims fanout : ℕ) (objects : GivenObjects) (went_well : Bool)
-    → Puts (Calls old new) layer dims fanout objects went_well
+    → (old new : Store D A m) (layer : List ℕ) (dims fanout : ℕ) (objects : GivenObjects)
+    (outcome : Result (Unit {0}) Unimported) → Puts (Calls old new) layer dims fanout objects outcome
     → (s : SessionState) (t : Table) (moment : ℕ) → Represents old s → s.state ≡ Alive t
     → s.stops ≡ closed_since moment t
-    → HasPut old new moment t (import_commands t layer dims fanout objects) went_well
-has_put now old new layer dims fanout objects went_well puts s t moment represents alive closed =
+    → HasPut old new moment t (import_commands t layer dims fanout objects) (is_ok outcome)
+has_put now old new layer dims fanout objects outcome puts s t moment represents alive closed =
     let all = calls_are_a_session now old new puts.requests puts.answers puts.so s represents in
     let same = session_keeps s all.next puts.requests puts.answers puts.are_put all.so.0 in
     let so_far = same.so_far ∙ ap (λ (x : Stops). x.so_far) closed in

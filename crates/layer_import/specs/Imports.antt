@@ -1,6 +1,6 @@
 -- Objects that are put into a layer of a store, all of them or none. Our rule, docs/COMMANDS.md, "Import".
 use Rattle.std.specs.Prelude.{ℕ, ◌≡◌, ◌⊎◌, Bool, true, false, if◌then◌else◌, nat_lt, List, [], ◌∷◌, ◌++◌, map}
-use Rattle.std.specs.Prelude.{take}
+use Rattle.std.specs.Prelude.{Err, IfErr, None, Ok, Option, Result, Some, is_ok}
 use Rattle.std.specs.FinMap.{contains_key, len}
 use Rattle.block_device.specs.Device.{Blocks, LeavesOnly, Only}
 use Rattle.block_device.specs.declared.device.BlockDevice as device
@@ -14,7 +14,13 @@ use Rattle.plain_table.specs.Table.{Table, layer_at}
 use Rattle.plain_table.specs.declared.refusal.Refusal.{Refusal}
 use Rattle.plain_table.specs.declared.refusal.Refusal.TheVariants as refusal
 use Rattle.store_law.specs.States.{Request}
-use Rattle.store_law.specs.States.Request.{Asks, BadCommand}
+use Rattle.store_law.specs.States.StoreState.{Alive}
+use Rattle.layer_store.specs.Calls.{Calls}
+use Rattle.layer_store.specs.Faults.{IsMemoryOrDevice}
+use Rattle.layer_store.specs.Representation.{IsInState}
+use Rattle.layer_store.specs.declared.store.Store.{Store}
+use Rattle.layer_import.specs.declared.import.Unimported.{Unimported}
+use Rattle.store_law.specs.States.Request.{Asks}
 
 -- the commands that insert objects one by one
 abbrev pub insertions : List ℕ → GivenObjects → List Command
@@ -84,16 +90,36 @@ asked commands = map (λ c. Asks c) commands
 abbrev pub all_done : List Command → List Answer
 all_done commands = map (λ c. Done) commands
 
+-- the object that is named where a request is refused: that of an insertion
+abbrev pub object_of : Request → Option ℕ
+object_of (Asks (Insert layer id box tag)) = Some id
+object_of r = None
+
+-- the last of the requests was answered by this refusal, and its object is named
+pub record EndsRefused (requests : List Request) (answers : List Answer) (why : Unimported) : Type 0 where
+  pub before : List Request
+  pub answered : List Answer
+  pub last : Request
+  pub requests_are : requests ≡ before ++ last ∷ []
+  pub answers_are : answers ≡ answered ++ Refused why.refusal ∷ []
+  pub object : why.object ≡ object_of last
+
+-- what is told where a call that names no object was answered so
+abbrev pub outcome_of : Result (Unit {0}) Refusal → Result (Unit {0}) Unimported
+outcome_of (Ok done) = Ok done
+outcome_of (Err r) = Err (record { refusal = r; object = None })
+
 -- Objects were inserted into a layer in turn, so that `So` holds of requests and answers: all of them where
--- it went well.
+-- it went well, and else the last one was refused.
 pub record Inserts (So : List Request → List Answer → Type 0) (layer : List ℕ) (objects : GivenObjects)
-    (went_well : Bool) : Type 0 where
+    (outcome : Result (Unit {0}) Unimported) : Type 0 where
   pub requests : List Request
   pub answers : List Answer
   pub so : So requests answers
   pub are_put : ArePut requests
-  pub all : went_well ≡ true
+  pub all : is_ok outcome ≡ true
       → (requests ≡ asked (insertions layer objects)) × (answers ≡ all_done (insertions layer objects))
+  pub refused : IfErr outcome (EndsRefused requests answers)
 
 -- where it went well: the layer had no object and was loaded
 abbrev pub IsLoaded : List ℕ → GivenObjects → List Request → List Answer → Type 0
@@ -113,12 +139,26 @@ IsFilled layer objects requests answers = (count : ℕ) × (nat_lt 0 count ≡ t
     × (requests ≡ Asks (Count layer) ∷ asked (insertions layer objects))
     × (answers ≡ Counted count ∷ all_done (insertions layer objects))
 
--- objects were put into a layer, so that `So` holds of requests and answers
+-- objects were put into a layer, so that `So` holds of requests and answers, or the last request was refused
 pub record Puts (So : List Request → List Answer → Type 0) (layer : List ℕ) (dims fanout : ℕ)
-    (objects : GivenObjects) (went_well : Bool) : Type 0 where
+    (objects : GivenObjects) (outcome : Result (Unit {0}) Unimported) : Type 0 where
   pub requests : List Request
   pub answers : List Answer
   pub so : So requests answers
   pub are_put : ArePut requests
-  pub all : went_well ≡ true → IsLoaded layer objects requests answers
+  pub all : is_ok outcome ≡ true → IsLoaded layer objects requests answers
       ⊎ (IsMade layer dims fanout objects requests answers ⊎ IsFilled layer objects requests answers)
+  pub refused : IfErr outcome (EndsRefused requests answers)
+
+-- ---- why objects were not put in
+
+-- The store was asked what an import asks, and then the last call was refused so; or its closing was, where
+-- every call was done.
+pub record IsUnimported {D A : Type 0} {m : _} (store : Store D A m) (why : Unimported) : Type 0 where
+  pub requests : List Request
+  pub answers : List Answer
+  pub next : Store D A m
+  pub calls : Calls store next requests answers
+  pub are_put : ArePut requests
+  pub refused : EndsRefused requests answers why ⊎ ((why.object ≡ None)
+      × ((t : Table) → IsInState next (Alive t) → IsMemoryOrDevice why.refusal))

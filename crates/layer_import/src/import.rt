@@ -1,11 +1,12 @@
 //! Objects put into a layer of a store, which is then closed, or given up.
-ghost use Rattle.std.specs.Prelude.{◌≡◌, true, is_ok, IfOk};
+ghost use Rattle.std.specs.Prelude.{◌≡◌, is_ok, IfErr};
 ghost use Rattle.plain_table.specs.Table.{Table};
 ghost use Rattle.store_law.specs.Sessions.{SessionState};
 ghost use Rattle.store_law.specs.States.StoreState.{Alive};
 ghost use Rattle.layer_store.specs.Calls.{Calls};
 ghost use Rattle.layer_store.specs.Representation.{Represents, closed_since, device_in};
-ghost use Rattle.layer_import.specs.Imports.{HasImported, Inserts, Puts, import_commands};
+ghost use Rattle.layer_import.specs.Imports.{HasImported, Inserts, IsUnimported, Puts, import_commands};
+ghost use Rattle.layer_import.specs.Imports.{outcome_of};
 
 use block_device::BlockDevice;
 use layer_store::{RawBox, Refusal, Store};
@@ -46,6 +47,10 @@ pub trait PutProgress {
 }
 
 impl From<Refusal> for Unimported {
+    ghost use Rattle.std.specs.Prelude.{◌≡◌, None};
+
+    ghost from_gives = { λ refusal why. why ≡ record { refusal = refusal; object = None } };
+
     fn from(refusal: Refusal) -> Unimported {
         Unimported {
             refusal,
@@ -71,17 +76,19 @@ pub struct Imported<D: BlockDevice> {
 /// was closed: over a device that commits the table is found as it was.** Where the closing is refused, by
 /// `Memory` or `Device`, the table is found as it was, or as it was to be.
 ///
-/// `progress` is told how many objects were put in.
+/// What is told of a refusal is what the store answered the last call, and an object is named where that was
+/// its insertion. `progress` is told how many objects were put in.
 pub fn import_and_close<D: BlockDevice, A: Allocator + Copy, P: PutProgress>(
     store: Store<D, A>,
     import: &Import<'_>,
     progress: &mut P,
 ) -> Imported<D>
-    ensures { (s : SessionState) (t : Table) (moment : _) → Represents store s → s.state ≡ Alive t →
+    ensures imported { (s : SessionState) (t : Table) (moment : _) → Represents store s → s.state ≡ Alive t →
         s.stops ≡ closed_since moment t →
         HasImported D.BlockDevice moment t
         (import_commands t import.now.layer.now import.now.dims import.now.fanout import.now.objects.now)
         (is_ok result.outcome) (device_in store) result.device }
+    ensures why { IfErr result.outcome (IsUnimported store) }
 {
     let mut store = store;
     if let Err(why) = put_all(&mut store, import, progress) {
@@ -109,7 +116,7 @@ fn put_all<D: BlockDevice, A: Allocator + Copy, P: PutProgress>(
     progress: &mut P,
 ) -> Result<(), Unimported>
     ensures { Puts (Calls store.old store.new) import.now.layer.now import.now.dims import.now.fanout
-        import.now.objects.now (is_ok result) }
+        import.now.objects.now result }
 {
     progress.begin(import.objects.len());
     let outcome = put(store, import, progress);
@@ -124,7 +131,7 @@ fn put<D: BlockDevice, A: Allocator + Copy, P: PutProgress>(
     progress: &mut P,
 ) -> Result<(), Unimported>
     ensures { Puts (Calls store.old store.new) import.now.layer.now import.now.dims import.now.fanout
-        import.now.objects.now (is_ok result) }
+        import.now.objects.now result }
 {
     match store.count(import.layer) {
         Ok(count) => {
@@ -157,7 +164,7 @@ fn told<P: PutProgress>(
     objects: usize,
     progress: &mut P,
 ) -> Result<(), Unimported>
-    ensures { is_ok result ≡ is_ok loaded }
+    ensures { result ≡ outcome_of loaded }
 {
     match loaded {
         Ok(()) => {
@@ -175,7 +182,7 @@ fn insert_each<D: BlockDevice, A: Allocator + Copy, P: PutProgress>(
     objects: &[(u64, RawBox, u32)],
     progress: &mut P,
 ) -> Result<(), Unimported>
-    ensures { Inserts (Calls store.old store.new) layer.now objects.now (is_ok result) }
+    ensures { Inserts (Calls store.old store.new) layer.now objects.now result }
 {
     for object in objects {
         if let Err(refusal) = store.insert(layer, object.0, object.1, object.2) {

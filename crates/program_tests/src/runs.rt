@@ -146,8 +146,6 @@ fn files_that_are_refused(rt: HostRuntime) -> Result<(), Fail> {
     if let Some(byte) = open.get_mut(GATE_BYTE) {
         *byte = 0;
     }
-    let mut cut = store.clone()?;
-    cut.truncate(store.len().saturating_sub(4000));
     for (bytes, create, said) in [
         (b"".as_slice(), false, "rstore: fail 21 NotAStore\n"),
         (
@@ -169,8 +167,22 @@ fn files_that_are_refused(rt: HostRuntime) -> Result<(), Fail> {
         assert_eq!(rt; status, Some(1));
         assert!(rt; fs::read(&rt, file)?.as_slice() == bytes);
     }
-    // Cut after its last object: the missing bytes of the last block read as zero. Cut by a block: a page is
-    // missing.
+    fs::remove_file(&rt, file)?;
+    Ok(())
+}
+
+// Cut after its last object: the missing bytes of the last block read as zero. Cut by a block: a page is
+// missing.
+#[test]
+fn a_file_that_is_cut_short(rt: HostRuntime) -> Result<(), Fail> {
+    let file = "command_line_cut";
+    let _ = fs::remove_file(&rt, file);
+    assert_eq!(rt;
+        runs(&rt, &["rstore", "--create", file], FIRST, SAID, "")?,
+        Some(0)
+    );
+    let mut cut = fs::read(&rt, file)?;
+    cut.truncate(cut.len().saturating_sub(4000));
     let rows = "ok 2\n1 0 0 10 10\n2 20 20 30 30\n";
     fs::write(&rt, file, cut.as_slice())?;
     assert_eq!(rt;
@@ -184,9 +196,18 @@ fn files_that_are_refused(rt: HostRuntime) -> Result<(), Fail> {
         Some(1)
     );
     fs::remove_file(&rt, file)?;
+    Ok(())
+}
+
+#[test]
+fn paths_of_no_file(rt: HostRuntime) -> Result<(), Fail> {
     for (path, why) in NO_FILES {
         assert_eq!(rt; refuses(&rt, &["rstore", path], why)?, Some(1));
         assert_eq!(rt; refuses(&rt, &["rstore", "--create", path], why)?, Some(1));
+        assert_eq!(rt;
+            refuses(&rt, &["rstore", "--read-only", path], why)?,
+            Some(1)
+        );
     }
     Ok(())
 }
@@ -217,8 +238,21 @@ fn a_file_that_is_only_read(rt: HostRuntime) -> Result<(), Fail> {
         Some(1)
     );
     assert!(rt; fs::read(&rt, file)?.as_slice() == store.as_slice());
+    fs::remove_file(&rt, file)?;
+    Ok(())
+}
+
+#[test]
+fn a_file_that_is_only_read_and_refused(rt: HostRuntime) -> Result<(), Fail> {
+    let file = "command_line_only_read";
+    let _ = fs::remove_file(&rt, file);
+    let words = ["rstore", "--read-only", file];
+    assert_eq!(rt;
+        runs(&rt, &["rstore", "--create", file], FIRST, SAID, "")?,
+        Some(0)
+    );
     // one that was not closed
-    let mut open = store.clone()?;
+    let mut open = fs::read(&rt, file)?;
     if let Some(byte) = open.get_mut(GATE_BYTE) {
         *byte = 0;
     }
@@ -234,12 +268,6 @@ fn a_file_that_is_only_read(rt: HostRuntime) -> Result<(), Fail> {
         assert!(rt; fs::read(&rt, file)?.as_slice() == bytes);
     }
     fs::remove_file(&rt, file)?;
-    for (path, why) in NO_FILES {
-        assert_eq!(rt;
-            refuses(&rt, &["rstore", "--read-only", path], why)?,
-            Some(1)
-        );
-    }
     Ok(())
 }
 
@@ -294,56 +322,65 @@ type Written = FileDevice<HostFile<fs::File>>;
 
 type OnlyRead = FileReader<HostReader>;
 
-// What a run says whose file is refused so, by either opening.
+// Each refusal of a file, and what a run says of it.
+const REFUSALS: [(OpenError, &str); 9] = [
+    (OpenError::NotFound, MISSING),
+    (OpenError::IsADirectory, A_FOLDER),
+    (
+        OpenError::PermissionDenied,
+        "cannot open FILE: permission denied",
+    ),
+    (OpenError::Refused, UNOPENED),
+    (OpenError::InUse, IN_USE),
+    (OpenError::NoLocks, "FILE cannot be locked"),
+    (OpenError::ClosedStream, "a standard stream is closed"),
+    (
+        OpenError::NoJournal,
+        "FILE-journal is missing, or is no journal",
+    ),
+    (
+        OpenError::OtherJournal,
+        "FILE-journal is the journal of another file",
+    ),
+];
+
+// Whether a run with these words, whose file is refused so by either opening, ends with 1, says just this, and
+// reads and answers nothing.
+fn tells(rt: &HostRuntime, words: &[&str], error: OpenError, said: &str) -> bool {
+    let open = |_: &str, _: bool| -> Result<Written, OpenError> { Err(error) };
+    let read = |_: &str| -> Result<OnlyRead, OpenError> { Err(error) };
+    let end = |_: &str, _: Written| {};
+    let mut input = FIRST.as_bytes();
+    let mut output = Vec::new(rt.alloc());
+    let mut errors = Vec::new(rt.alloc());
+    let mut counted = CountedReader::over(&mut input);
+    let status = serve(
+        rt.alloc(),
+        words,
+        open,
+        read,
+        end,
+        &mut counted,
+        &mut output,
+        &mut errors,
+        &mut untold(),
+    );
+    status == 1
+        && output.is_empty()
+        && errors.as_slice() == said.as_bytes()
+        && input.len() == FIRST.len()
+}
+
 #[test]
 fn each_refusal_of_a_file_is_told(rt: HostRuntime) -> Result<(), Fail> {
-    for (error, why) in [
-        (OpenError::NotFound, MISSING),
-        (OpenError::IsADirectory, A_FOLDER),
-        (
-            OpenError::PermissionDenied,
-            "cannot open FILE: permission denied",
-        ),
-        (OpenError::Refused, UNOPENED),
-        (OpenError::InUse, IN_USE),
-        (OpenError::NoLocks, "FILE cannot be locked"),
-        (OpenError::ClosedStream, "a standard stream is closed"),
-        (
-            OpenError::NoJournal,
-            "FILE-journal is missing, or is no journal",
-        ),
-        (
-            OpenError::OtherJournal,
-            "FILE-journal is the journal of another file",
-        ),
-    ] {
+    for (error, why) in REFUSALS {
         let said = format!(in rt.alloc(); "rstore: {why} (FILE is a)\n")?;
         for words in [
             ["rstore", "a"].as_slice(),
             ["rstore", "--create", "a"].as_slice(),
             ["rstore", "--read-only", "a"].as_slice(),
         ] {
-            let open = |_: &str, _: bool| -> Result<Written, OpenError> { Err(error) };
-            let read = |_: &str| -> Result<OnlyRead, OpenError> { Err(error) };
-            let end = |_: &str, _: Written| {};
-            let mut input = FIRST.as_bytes();
-            let mut output = Vec::new(rt.alloc());
-            let mut errors = Vec::new(rt.alloc());
-            let mut counted = CountedReader::over(&mut input);
-            let status = serve(
-                rt.alloc(),
-                words,
-                open,
-                read,
-                end,
-                &mut counted,
-                &mut output,
-                &mut errors,
-                &mut untold(),
-            );
-            assert_eq!(rt; status, 1);
-            assert!(rt; output.is_empty() && errors.as_slice() == said.as_bytes());
-            assert!(rt; input.len() == FIRST.len());
+            assert!(rt; tells(&rt, words, error, said.as_str()));
         }
     }
     Ok(())
@@ -407,25 +444,22 @@ fn input_or_output_fails(rt: HostRuntime) -> Result<(), Fail> {
         1
     );
     assert!(rt; errors.as_slice() == fault);
-    errors.clear();
-    let mut input = b"".as_slice();
-    assert_eq!(rt;
-        run(
-            &rt,
-            &["rstore", "--help"],
-            &mut input,
-            &mut Fails,
-            &mut errors
-        ),
-        1
-    );
-    assert!(rt; errors.as_slice() == fault);
     let rows = "ok 1\n1 0 0 10 10\n";
     assert_eq!(rt;
         runs(&rt, &["rstore", file], "window a 0 0 1 1", rows, "")?,
         Some(0)
     );
     fs::remove_file(&rt, file)?;
+    Ok(())
+}
+
+#[test]
+fn help_that_can_not_be_written(rt: HostRuntime) -> Result<(), Fail> {
+    let mut errors = Vec::new(rt.alloc());
+    let mut input = b"".as_slice();
+    let words = ["rstore", "--help"];
+    assert_eq!(rt; run(&rt, &words, &mut input, &mut Fails, &mut errors), 1);
+    assert!(rt; errors.as_slice() == b"rstore: input or output failed\n".as_slice());
     Ok(())
 }
 

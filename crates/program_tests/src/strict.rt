@@ -80,20 +80,31 @@ fn a_refused_line_undoes_those_before_it(rt: HostRuntime) -> Result<(), Fail> {
     let after = fs::read(&rt, file)?;
     assert!(rt; after.starts_with(before.as_slice()));
     assert!(rt; !fs::exists(&rt, "command_line_strict-journal")?);
-    // what a `reopen` closed before the refused line stands
-    let text = "insert a 2 5 5 6 6\nreopen\ndelete a 1\ncount b";
+    fs::remove_file(&rt, file)?;
+    Ok(())
+}
+
+#[test]
+fn what_a_reopen_closed_before_a_refused_line_stands(rt: HostRuntime) -> Result<(), Fail> {
+    let file = "command_line_strict_reopen";
+    let _ = fs::remove_file(&rt, file);
+    let words = ["rstore", "--strict", "--create", file];
+    let text = "create a 2 4\ninsert a 1 0 0 1 1\ninsert a 2 5 5 6 6\nreopen\ndelete a 1\ncount b";
     assert_eq!(rt;
         runs_journaled(
             &rt,
             &words,
             text,
-            "ok\nok\nok\nfail 3 NoLayer\n",
-            "rstore: line 4: count b: fail 3 NoLayer\n",
+            "ok\nok\nok\nok\nok\nfail 3 NoLayer\n",
+            "rstore: line 6: count b: fail 3 NoLayer\n",
         )?,
         Some(3)
     );
     let dumped = "ok 3\ncreate a 2 4\ninsert a 1 0 0 1 1\ninsert a 2 5 5 6 6\n";
-    assert_eq!(rt; runs(&rt, &words, "dump\n", dumped, "")?, Some(0));
+    assert_eq!(rt;
+        runs(&rt, &["rstore", file], "dump\n", dumped, "")?,
+        Some(0)
+    );
     fs::remove_file(&rt, file)?;
     Ok(())
 }

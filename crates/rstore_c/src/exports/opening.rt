@@ -1,9 +1,10 @@
 //! The calls that open, close and keep a store.
-ghost use Rattle.std.specs.Prelude.{◌≡◌, [], None};
+ghost use Rattle.std.specs.Prelude.{◌≡◌, [], None, Some, if◌then◌else◌};
 ghost use Rattle.plain_table.specs.Answers.{done_answer, layers_answer};
 ghost use Rattle.plain_table.specs.Commands.Command.{Check, Layers};
 ghost use Rattle.c_session.specs.Calls.{AsksBy, ClosesBy, CommitsBy, HasListed, TellsBy};
 ghost use Rattle.c_session.specs.Keeping.{as_it_is};
+ghost use Rattle.rstore_c.specs.Opening.{TellsUnopened, number_of_error};
 
 use crate::files::{self, Streams, Unopened};
 use crate::handle::Handle;
@@ -16,7 +17,9 @@ use std::alloc::Global;
 use std::rt::{Stdin, Stdout};
 
 // The number of a file that can't be opened.
-fn number_of(error: OpenError) -> u32 {
+fn number_of(error: OpenError) -> u32
+    ensures { result ≡ number_of_error error }
+{
     match error {
         OpenError::NotFound
         | OpenError::PermissionDenied
@@ -32,7 +35,9 @@ fn number_of(error: OpenError) -> u32 {
 }
 
 // Why no store was opened, as a number.
-fn unopened(why: Unopened, detail: &mut u64) -> u32 {
+fn unopened(why: Unopened, detail: &mut u64) -> u32
+    ensures { TellsUnopened why result detail.new }
+{
     match why {
         Unopened::File(error) => number_of(error),
         Unopened::Store(refusal) => tell(refusal, detail),
@@ -82,14 +87,24 @@ fn hand_out(
     at: &mut *mut u8,
     detail: &mut u64,
 ) -> u32 {
-    let session = Session::over(alloc, store, read_only, u64::from(unended));
-    match Box::new(alloc, Held { session }) {
+    match Box::new(alloc, held_over(alloc, store, read_only, unended)) {
         Ok(held) => {
             *at = Box::into_raw(held) as *mut u8;
             0
         }
         Err(_) => tell(Refusal::Memory, detail),
     }
+}
+
+// A session over the store, which takes changes where it is not only read. Whether the last run had not ended
+// is its detail.
+fn held_over(alloc: Global, store: Store<Device>, read_only: bool, unended: bool) -> Held
+    ensures read_only { result.session.read_only ≡ read_only }
+    ensures unended { result.session.detail ≡ (if unended then 1 else 0) }
+    ensures store { result.session.store ≡ Some store }
+{
+    let session = Session::over(alloc, store, read_only, u64::from(unended));
+    Held { session }
 }
 
 /// Closes the store, frees what the session has, and ends the run over its files. C then frees the session's

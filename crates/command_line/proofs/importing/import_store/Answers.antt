@@ -15,5 +15,5 @@ returns-in-Ok-clause-imported g c = λ t moment.
       imported =
           subst (λ (well : Bool). HasImported g.D.BlockDevice moment t commands well (device_in c.in-Ok.store)
           imported.result.device) (sym c.tell_outcome.ensures.is)
-          (imported.ensures begins.next t moment begins.represents begins.so.0 begins.so.1);
+          (imported.ensures.imported begins.next t moment begins.represents begins.so.0 begins.so.1);
     })

@@ -25,27 +25,30 @@ returns-then-count-gt0 g c =
 
 pub returns-else-count-gt0 : goal.returns-else-count-gt0
 returns-else-count-gt0 g c =
-    puts_loaded c.args.store.now c.count.new.self c.load.new.self _ _ _ _ _ c.load.result c.told.ensures
+    rw c.told.ensures
+    (puts_loaded c.args.store.now c.count.new.self c.load.new.self _ _ _ _ c.load.result
     (subst (λ (n : ℕ). IsAsked c.args.store.now (Asks (Count c.args.import.now.layer.now)) (Counted n)
     c.count.new.self) (none c.in-Ok.count c.if-count-gt0.false)
     (asked_by_question (λ e. absurd (cc)) c.in-Ok.ensures.answers))
     (asked_by_change
     (λ honest b left. g.met.D.BlockDevice.only_now (device_in c.count.new.self) b honest left)
-    (λ e. absurd (cc)) c.load.ensures.changes)
+    (λ e. absurd (cc)) c.load.ensures.changes))
 
 pub returns-in-Err-create : goal.returns-in-Err-create
 returns-in-Err-create g c =
-    puts_unmade c.args.store.now c.count.new.self c.create.new.self _ _ _ _ c.in-Err-create.refusal
+    rw c.from.ensures
+    (puts_unmade c.args.store.now c.count.new.self c.create.new.self _ _ _ _ c.in-Err-create.refusal
     (asked_by_question (λ e. absurd (cc))
     (rw c.in-Err-NoLayer.field-0-is at c.in-Err-NoLayer.ensures.answers))
     (asked_by_change
     (λ honest b left. g.met.D.BlockDevice.only_now (device_in c.count.new.self) b honest left)
-    (λ e. absurd (cc)) c.in-Err-create.ensures.changes)
+    (λ e. absurd (cc)) c.in-Err-create.ensures.changes))
 
 pub returns-in_default : goal.returns-in_default
 returns-in_default g c =
-    puts_made c.args.store.now c.count.new.self c.load-in-Err-NoLayer.new.self _ _ _ _ c.create.new.self _
-    c.load-in-Err-NoLayer.result c.told-in-Err-NoLayer.ensures
+    rw c.told-in-Err-NoLayer.ensures
+    (puts_made c.args.store.now c.count.new.self c.load-in-Err-NoLayer.new.self _ _ _ _ c.create.new.self
+    c.load-in-Err-NoLayer.result
     (asked_by_question (λ e. absurd (cc))
     (rw c.in-Err-NoLayer.field-0-is at c.in-Err-NoLayer.ensures.answers))
     (asked_by_change
@@ -53,9 +56,10 @@ returns-in_default g c =
     (λ e. absurd (cc)) c.in_default.ensures.changes)
     (asked_by_change
     (λ honest b left. g.met.D.BlockDevice.only_now (device_in c.create.new.self) b honest left)
-    (λ e. absurd (cc)) c.load-in-Err-NoLayer.ensures.changes)
+    (λ e. absurd (cc)) c.load-in-Err-NoLayer.ensures.changes))
 
 pub returns-in-Err : goal.returns-in-Err
 returns-in-Err g c =
-    puts_none c.args.store.now c.count.new.self _ _ _ _ c.in-Err.refusal
-    (asked_by_question (λ e. absurd (cc)) c.in-Err.ensures.answers)
+    rw c.from-in-Err.ensures
+    (puts_none c.args.store.now c.count.new.self _ _ _ _ c.in-Err.refusal
+    (asked_by_question (λ e. absurd (cc)) c.in-Err.ensures.answers))

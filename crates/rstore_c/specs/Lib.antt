@@ -1,0 +1,2 @@
+-- Definitions, which clauses cite.
+pub mod Opening
