@@ -139,6 +139,11 @@ IsFilled layer objects requests answers = (count : ℕ) × (nat_lt 0 count ≡ t
     × (requests ≡ Asks (Count layer) ∷ asked (insertions layer objects))
     × (answers ≡ Counted count ∷ all_done (insertions layer objects))
 
+-- in one of these ways all objects were put in
+abbrev pub AreAllPut : List ℕ → ℕ → ℕ → GivenObjects → List Request → List Answer → Type 0
+AreAllPut layer dims fanout objects requests answers = IsLoaded layer objects requests answers
+    ⊎ (IsMade layer dims fanout objects requests answers ⊎ IsFilled layer objects requests answers)
+
 -- objects were put into a layer, so that `So` holds of requests and answers, or the last request was refused
 pub record Puts (So : List Request → List Answer → Type 0) (layer : List ℕ) (dims fanout : ℕ)
     (objects : GivenObjects) (outcome : Result (Unit {0}) Unimported) : Type 0 where
@@ -146,19 +151,20 @@ pub record Puts (So : List Request → List Answer → Type 0) (layer : List ℕ
   pub answers : List Answer
   pub so : So requests answers
   pub are_put : ArePut requests
-  pub all : is_ok outcome ≡ true → IsLoaded layer objects requests answers
-      ⊎ (IsMade layer dims fanout objects requests answers ⊎ IsFilled layer objects requests answers)
+  pub all : is_ok outcome ≡ true → AreAllPut layer dims fanout objects requests answers
   pub refused : IfErr outcome (EndsRefused requests answers)
 
 -- ---- why objects were not put in
 
 -- The store was asked what an import asks, and then the last call was refused so; or its closing was, where
--- every call was done.
-pub record IsUnimported {D A : Type 0} {m : _} (store : Store D A m) (why : Unimported) : Type 0 where
+-- all objects were put in.
+pub record IsUnimported {D A : Type 0} {m : _} (store : Store D A m) (layer : List ℕ) (dims fanout : ℕ)
+    (objects : GivenObjects) (why : Unimported) : Type 0 where
   pub requests : List Request
   pub answers : List Answer
   pub next : Store D A m
   pub calls : Calls store next requests answers
   pub are_put : ArePut requests
-  pub refused : EndsRefused requests answers why ⊎ ((why.object ≡ None)
+  pub refused : EndsRefused requests answers why
+      ⊎ (AreAllPut layer dims fanout objects requests answers × (why.object ≡ None)
       × ((t : Table) → IsInState next (Alive t) → IsMemoryOrDevice why.refusal))

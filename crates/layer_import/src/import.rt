@@ -88,7 +88,8 @@ pub fn import_and_close<D: BlockDevice, A: Allocator + Copy, P: PutProgress>(
         HasImported D.BlockDevice moment t
         (import_commands t import.now.layer.now import.now.dims import.now.fanout import.now.objects.now)
         (is_ok result.outcome) (device_in store) result.device }
-    ensures why { IfErr result.outcome (IsUnimported store) }
+    ensures why { IfErr result.outcome (IsUnimported store import.now.layer.now import.now.dims import.now.fanout
+        import.now.objects.now) }
 {
     let mut store = store;
     if let Err(why) = put_all(&mut store, import, progress) {

@@ -51,13 +51,14 @@ returns-in-Err-clause-why g c = let puts = c.in-Err.ensures in record {
 }
 
 pub returns-in-Err-close-clause-why : goal.returns-in-Err-close-clause-why
-returns-in-Err-close-clause-why g c = let puts = c.put_all.ensures in record {
+returns-in-Err-close-clause-why g c = let puts = c.in_default.ensures in record {
   requests = puts.requests;
   answers = puts.answers;
   next = c.put_all.new.store;
   calls = puts.so;
   are_put = puts.are_put;
   refused = inr (
+    puts.all refl,
     ap (λ (why : Unimported). why.object) c.from.ensures,
     λ t state. subst (λ (why : Unimported). IsMemoryOrDevice why.refusal) (sym c.from.ensures)
         (c.in-Err-close.ensures.refused t state),
