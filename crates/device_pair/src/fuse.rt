@@ -1,8 +1,9 @@
 //! A pair that fails at a call of one's choice, for tests of what its users then do.
-ghost use Rattle.std.specs.Prelude.{◌≡◌, ◌<◌, ◌≤◌, ◌^◌, ◌-◌, if◌then◌else◌};
+ghost use Rattle.std.specs.Prelude.{◌≡◌, ◌<◌, ◌≤◌, ◌^◌, ◌-◌, true, if◌then◌else◌};
 ghost use Rattle.block_device.specs.Device.{one_more};
 ghost use Rattle.block_device.specs.Fuse.{faults_with, faults_with-fits};
 ghost use Rattle.device_pair.specs.Fuse.{inner_of, passes_of, mode_of, calls_of, blown_of, fails_next};
+ghost use Rattle.device_pair.specs.Fuse.{CallsBelow};
 
 use crate::DevicePair;
 use block_device::{DeviceError, FuseMode};
@@ -88,6 +89,27 @@ impl<P: DevicePair> DevicePair for FusePair<P> {
     ghost left_since = { λ f. P.left_since (inner_of f) };
 
     ghost faults = { λ f. faults_with (P.faults (inner_of f)) (blown_of f) };
+
+    // A read that the fuse fails leaves the buffer, too.
+    ghost read_base_gives = { λ f i into result bytes g.
+        CallsBelow f g result (P.read_base_gives (inner_of f) i into result bytes (inner_of g)) ×
+        (fails_next f ≡ true → bytes ≡ into) };
+
+    ghost read_journal_gives = { λ f i into result bytes g.
+        CallsBelow f g result (P.read_journal_gives (inner_of f) i into result bytes (inner_of g)) ×
+        (fails_next f ≡ true → bytes ≡ into) };
+
+    ghost write_base_gives = { λ f i bytes result g.
+        CallsBelow f g result (P.write_base_gives (inner_of f) i bytes result (inner_of g)) };
+
+    ghost write_journal_gives = { λ f i bytes result g.
+        CallsBelow f g result (P.write_journal_gives (inner_of f) i bytes result (inner_of g)) };
+
+    ghost sync_base_gives = { λ f result g.
+        CallsBelow f g result (P.sync_base_gives (inner_of f) result (inner_of g)) };
+
+    ghost sync_journal_gives = { λ f result g.
+        CallsBelow f g result (P.sync_journal_gives (inner_of f) result (inner_of g)) };
 
     fn base_blocks(&self) -> u32 {
         self.inner.base_blocks()

@@ -1,6 +1,7 @@
 //! Two devices of one disk: a base and its journal, which a stop leaves as they are at one moment.
-ghost use Rattle.std.specs.Prelude.{◌≡◌, ◌≤◌, ◌<◌, ◌+◌, ◌^◌, ◌↔◌, ℕ, List, length, Result, OnOk, OnErr};
+ghost use Rattle.std.specs.Prelude.{◌≡◌, ◌≤◌, ◌<◌, ◌+◌, ◌^◌, ◌↔◌, ℕ, List, length, Result, OnOk, OnErr, ⊤};
 ghost use Rattle.std.specs.List.{All};
+ghost use Rattle.block_device.specs.declared.device.DeviceError.{DeviceError};
 ghost use Rattle.block_device.specs.Device.{Blocks, IsBlock, Torn, Counts, block_at, written};
 ghost use Rattle.device_pair.specs.Pairs.{BaseFollows, JournalFollows, PairsNoMore, PairElapses};
 
@@ -33,6 +34,29 @@ pub trait DevicePair {
     /// How many calls have answered `Failed`.
     ghost faults: { Self → ℕ };
 
+    /// What a pair of this kind says beyond the trait of a read of the base: of the pair, the block's number,
+    /// the buffer, the answer, and then the buffer and the pair.
+    ghost read_base_gives: { Self → ℕ → List ℕ → Result (Unit {0}) DeviceError → List ℕ →
+        Self → Type 0 } = { λ _ _ _ _ _ _. ⊤ };
+
+    /// The same of a read of the journal.
+    ghost read_journal_gives: { Self → ℕ → List ℕ → Result (Unit {0}) DeviceError → List ℕ →
+        Self → Type 0 } = { λ _ _ _ _ _ _. ⊤ };
+
+    /// The same of a write of the base: of the pair, the block's number, the bytes, the answer and the pair.
+    ghost write_base_gives: { Self → ℕ → List ℕ → Result (Unit {0}) DeviceError → Self →
+        Type 0 } = { λ _ _ _ _ _. ⊤ };
+
+    /// The same of a write of the journal.
+    ghost write_journal_gives: { Self → ℕ → List ℕ → Result (Unit {0}) DeviceError → Self →
+        Type 0 } = { λ _ _ _ _ _. ⊤ };
+
+    /// The same of a sync of the base: of the pair, the answer and the pair.
+    ghost sync_base_gives: { Self → Result (Unit {0}) DeviceError → Self → Type 0 } = { λ _ _ _. ⊤ };
+
+    /// The same of a sync of the journal.
+    ghost sync_journal_gives: { Self → Result (Unit {0}) DeviceError → Self → Type 0 } = { λ _ _ _. ⊤ };
+
     /// How many blocks the base has, at most 2^31.
     fn base_blocks(&self) -> u32
         ensures is { result ≡ length (base self.now) }
@@ -54,7 +78,8 @@ pub trait DevicePair {
             PairElapses (moment self.old) (moment self.new) (left_since self.old) (left_since self.new)
             (may_leave self.new) }
         ensures honest { honest self.old ↔ honest self.new }
-        ensures faults { Counts (faults self.old) (faults self.new) result };
+        ensures faults { Counts (faults self.old) (faults self.new) result }
+        ensures gives { read_base_gives self.old i into.old result into.new self.new };
 
     /// Reads a block of the journal.
     fn read_journal(&mut self, i: u32, into: &mut [u8; 4096]) -> Result<(), DeviceError>
@@ -67,7 +92,8 @@ pub trait DevicePair {
             PairElapses (moment self.old) (moment self.new) (left_since self.old) (left_since self.new)
             (may_leave self.new) }
         ensures honest { honest self.old ↔ honest self.new }
-        ensures faults { Counts (faults self.old) (faults self.new) result };
+        ensures faults { Counts (faults self.old) (faults self.new) result }
+        ensures gives { read_journal_gives self.old i into.old result into.new self.new };
 
     /// Writes a block of the base, or appends it. Until a sync of the base succeeds, a stop may leave any
     /// bytes in it.
@@ -83,7 +109,8 @@ pub trait DevicePair {
             PairElapses (moment self.old) (moment self.new) (left_since self.old) (left_since self.new)
             (may_leave self.new) }
         ensures honest { honest self.old ↔ honest self.new }
-        ensures faults { Counts (faults self.old) (faults self.new) result };
+        ensures faults { Counts (faults self.old) (faults self.new) result }
+        ensures gives { write_base_gives self.old i bytes.now result self.new };
 
     /// Writes a block of the journal, or appends it.
     fn write_journal(&mut self, i: u32, bytes: &[u8; 4096]) -> Result<(), DeviceError>
@@ -98,7 +125,8 @@ pub trait DevicePair {
             PairElapses (moment self.old) (moment self.new) (left_since self.old) (left_since self.new)
             (may_leave self.new) }
         ensures honest { honest self.old ↔ honest self.new }
-        ensures faults { Counts (faults self.old) (faults self.new) result };
+        ensures faults { Counts (faults self.old) (faults self.new) result }
+        ensures gives { write_journal_gives self.old i bytes.now result self.new };
 
     /// Makes what was written of the base last: after an `Ok` a stop leaves it as it is read.
     fn sync_base(&mut self) -> Result<(), DeviceError>
@@ -111,7 +139,8 @@ pub trait DevicePair {
             PairElapses (moment self.old) (moment self.new) (left_since self.old) (left_since self.new)
             (may_leave self.new) }
         ensures honest { honest self.old ↔ honest self.new }
-        ensures faults { Counts (faults self.old) (faults self.new) result };
+        ensures faults { Counts (faults self.old) (faults self.new) result }
+        ensures gives { sync_base_gives self.old result self.new };
 
     /// Makes what was written of the journal last.
     fn sync_journal(&mut self) -> Result<(), DeviceError>
@@ -124,7 +153,8 @@ pub trait DevicePair {
             PairElapses (moment self.old) (moment self.new) (left_since self.old) (left_since self.new)
             (may_leave self.new) }
         ensures honest { honest self.old ↔ honest self.new }
-        ensures faults { Counts (faults self.old) (faults self.new) result };
+        ensures faults { Counts (faults self.old) (faults self.new) result }
+        ensures gives { sync_journal_gives self.old result self.new };
 
     /// There are at most 2^31 blocks of each.
     ghost few_blocks: { (d : Self) → (length (base d) ≤ 2 ^ 31) × (length (journal d) ≤ 2 ^ 31) };

@@ -69,6 +69,23 @@ impl<B: BlockDevice + Drop, J: BlockDevice + Drop> DevicePair for TwoDevices<B, 
 
     ghost faults = { λ d. faults_with (B.faults d.base) (J.faults d.journal) };
 
+    // Each call is the one of its device, and leaves the other as it is.
+    ghost read_base_gives = { λ d i into result bytes e.
+        B.read_gives d.base i into result bytes e.base × (e.journal ≡ d.journal) };
+
+    ghost read_journal_gives = { λ d i into result bytes e.
+        J.read_gives d.journal i into result bytes e.journal × (e.base ≡ d.base) };
+
+    ghost write_base_gives = { λ d i bytes result e.
+        B.write_gives d.base i bytes result e.base × (e.journal ≡ d.journal) };
+
+    ghost write_journal_gives = { λ d i bytes result e.
+        J.write_gives d.journal i bytes result e.journal × (e.base ≡ d.base) };
+
+    ghost sync_base_gives = { λ d result e. B.sync_gives d.base result e.base × (e.journal ≡ d.journal) };
+
+    ghost sync_journal_gives = { λ d result e. J.sync_gives d.journal result e.journal × (e.base ≡ d.base) };
+
     fn base_blocks(&self) -> u32 {
         self.base.blocks()
     }

@@ -1,5 +1,5 @@
 -- The page that is damaged is one that a walk comes to.
-use Rattle.std.proofs.Common.{◌≡◌, ◌∙◌, ◌⊎◌, ℕ, zero, suc, ◌<◌, ◌≤◌, ◌^◌, Option, Some, List, [], ◌∷◌}
+use Rattle.std.proofs.Common.{◌≡◌, ◌∙◌, ◌⊎◌, ℕ, zero, suc, ◌-◌, ◌<◌, ◌≤◌, ◌^◌, Option, Some, List, [], ◌∷◌}
 use Rattle.std.proofs.Common.{length, map, get_or, sym, ap, subst, ⊎_elim, arith}
 use Rattle.std.proofs.lemmas.List.{length-map}
 use Rattle.page_file.specs.Fault.{IsOfDevice}
@@ -7,7 +7,7 @@ use Rattle.page_file.specs.declared.fault.Fault.{Fault}
 use Rattle.page_file.specs.declared.fault.Fault.TheVariants as fault
 use Rattle.tree_node.specs.Boxes.{no_item}
 use Rattle.tree_node.specs.Nodes.{Item, NodeContent, references_of}
-use Rattle.node_page.specs.Checked.{ComesBelow, ComesTo, Leads, Names}
+use Rattle.node_page.specs.Checked.{ComesBelow, ComesTo, ComesToNone, Leads, Names}
 use Rattle.node_page.specs.Standing.{PageMap, node_in}
 use Rattle.node_page.proofs.NodeLemmas.{bytes_of_node}
 use Rattle.node_page.proofs.Reading.{spellable, spells}
@@ -77,6 +77,30 @@ comes_below_so dims old new c n same below =
 pub comes_so : (dims : ℕ) (old new : PageMap) (page n : ℕ) → ((k : ℕ) → new k ≡ old k)
     → ComesTo dims new page n → ComesTo dims old page n
 comes_so dims old new page n same walk = (walk.0, leads_so dims old new page walk.0 n same walk.1)
+
+-- memory and the device are no damage
+pub not_damaged : (f : Fault) (n : ℕ) → IsOfDevice f → f ≡ fault.Damaged n → ⊥
+not_damaged f n device damaged =
+    ⊎_elim (λ (is : f ≡ fault.Memory). absurd (cc)) (λ (is : f ≡ fault.Device). absurd (cc)) device
+
+-- a page of no node, and a page of none below a child
+pub none_here : (dims : ℕ) (m : PageMap) (page level n : ℕ) → n ≡ page
+    → ((c : NodeContent) → node_in dims (m page) ≡ Some c → ¬ (c.level ≡ level))
+    → ComesToNone dims m page level n
+none_here dims m page level n is none = (
+  [],
+  is,
+  λ c there same. none c (subst (λ (k : ℕ). node_in dims (m k) ≡ Some c) is there) (omega (arith, same)),
+)
+
+pub none_on : (dims : ℕ) (old new : PageMap) (page level : ℕ) (c : NodeContent) (next n : ℕ)
+    → node_in dims (old page) ≡ Some c → Names c next → 0 < level → ((k : ℕ) → new k ≡ old k)
+    → ComesToNone dims new next (level - 1) n → ComesToNone dims old page level n
+none_on dims old new page level c next n there names above same none = (
+  next ∷ none.0,
+  ((c, there, names), leads_so dims old new next none.0 n same none.1),
+  λ d is e. none.2 d (ap (node_in dims) (same n) ∙ is) (omega (arith, above, e)),
+)
 
 -- ---- each page that a walk comes to is the first one, or has a number that a node can refer to
 

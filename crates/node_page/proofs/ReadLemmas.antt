@@ -1,9 +1,11 @@
 -- A look at a page, as the reading of a node there that is refused.
-use Rattle.std.proofs.Common.{◌≡◌, ℕ, inl, inr, subst, sym}
+use Rattle.std.proofs.Common.{◌≡◌, ◌∙◌, ℕ, List, Bool, true, false, ◌||◌, Some, refl, inl, inr, subst, sym}
 use Rattle.std.specs.Prelude.{Result, Ok, Err, IsErrAnd}
 use Rattle.page_file.specs.declared.fault.Fault.{Fault}
 use Rattle.page_file.specs.declared.fault.Fault.TheVariants as fault
-use Rattle.page_cache.specs.Calls.{IsLookedAt}
+use Rattle.page_cache.specs.Cache.{touched_of}
+use Rattle.page_cache.specs.Calls.{AsksUntil, IsLookedAt}
+use Rattle.page_cache.specs.PageSteps.{Edits}
 use Rattle.page_cache.specs.declared.cache.PageCache.{PageCache}
 use Rattle.node_page.specs.Loan.{IsReadAt}
 
@@ -13,7 +15,7 @@ module _ {D A : Type 0} {m : _} {S T : Type 0} (old new : PageCache D A m) (n : 
       → IsLookedAt {T = S} old new n (Err f) → IsReadAt old new n result
   not_lent f (Ok x) is look = elim is [ ]
   not_lent f (Err e) is look = subst (λ (e : Fault). IsReadAt {T = T} old new n (Err e)) (sym is)
-      (record { asks = look.asks; looks = tt; refused_looks = inl look.looks; quiet = look.outside })
+      (record { asks = look.asks; looks = tt; refused_looks = inl look.looks; holds = tt; quiet = look.outside })
 
   -- it was lent, and spells no such node
   pub no_node : (x : S) → IsLookedAt {T = S} old new n (Ok x)
@@ -29,5 +31,23 @@ module _ {D A : Type 0} {m : _} {S T : Type 0} (old new : PageCache D A m) (n : 
     };
     looks = tt;
     refused_looks = inr look.looks;
+    holds = tt;
     quiet = look.outside;
   }
+
+or_not : (b : Bool) → (b || false) ≡ b
+or_not true = refl
+or_not false = refl
+
+-- an edit that was refused has only asked
+pub edit_refused : {D A : Type 0} {m : _} {T : Type 0} {did : List ℕ → T → List ℕ → Type 0}
+    (old new : PageCache D A m) (n : ℕ) (f : Fault) → Edits n did old new (Err f)
+    → AsksUntil old new (Some f)
+edit_refused old new n f edit = record {
+  gate = edit.changes.gate;
+  map = edit.in_memory.refused;
+  capacity = edit.changes.capacity;
+  looks = edit.changes.looks;
+  touched = edit.in_memory.touched ∙ or_not (touched_of old);
+  faults = edit.changes.faults;
+}

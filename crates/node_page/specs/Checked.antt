@@ -1,5 +1,5 @@
 -- What a check of a tree finds (our rule, docs/FORMAT.md, "Trees of pages").
-use Rattle.std.specs.Prelude.{◌≡◌, ℕ, ◌+◌, ◌<◌, List, [], ◌∷◌, ◌++◌, map, Contains, Some}
+use Rattle.std.specs.Prelude.{◌≡◌, ℕ, ◌+◌, ◌<◌, List, [], ◌∷◌, ◌++◌, length, map, Contains, Some}
 use Rattle.box_math.specs.Objects.{Object}
 use Rattle.node_page.specs.Visits.{times_in}
 use Rattle.tree_node.specs.Nodes.{Item, NodeContent, references_of}
@@ -55,6 +55,11 @@ Leads dims pages page (next ∷ walk) last =
 -- some walk from a page comes to another
 abbrev pub ComesTo : ℕ → PageMap → ℕ → ℕ → Type 0
 ComesTo dims pages page last = (walk : List ℕ) × Leads dims pages page walk last
+
+-- and no node of the level that is left there
+abbrev pub ComesToNone : ℕ → PageMap → ℕ → ℕ → ℕ → Type 0
+ComesToNone dims pages page level last = (walk : List ℕ) × Leads dims pages page walk last
+    × ((c : NodeContent) → node_in dims (pages last) ≡ Some c → ¬ (c.level + length walk ≡ level))
 
 -- and some walk from a child of a node
 abbrev pub ComesBelow : ℕ → PageMap → NodeContent → ℕ → Type 0

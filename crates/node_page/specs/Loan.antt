@@ -7,19 +7,20 @@ use Rattle.std.specs.declared.alloc.Allocator as alloc
 use Rattle.block_device.specs.Device.{one_more}
 use Rattle.block_device.specs.declared.device.BlockDevice as device
 use Rattle.page_file.specs.declared.fault.Fault.{Fault}
-use Rattle.page_cache.specs.Cache.{device_of, looks_of, next_of}
+use Rattle.page_cache.specs.Cache.{IsHeld, device_of, looks_of, next_of}
 use Rattle.page_cache.specs.Calls.{Asks}
 use Rattle.page_cache.specs.contracts.cache.PageCache.{the_row}
 use Rattle.page_cache.specs.declared.cache.PageCache.{PageCache}
 
--- A node was read at page n, or refused, in one look, or at most one where it is refused; a number of no page
--- given out needs no call of the device.
+-- A node was read at page n, which is held then, or refused, in one look, or at most one where it is refused;
+-- a number of no page given out needs no call of the device.
 pub record IsReadAt {D A : Type 0} {m : _} {T : Type 0} (old new : PageCache D A m) (n : ℕ)
     (result : Result T Fault)
     : Type 0 where
   pub asks : Asks old new result
   pub looks : OnOk result (looks_of new ≡ one_more (looks_of old))
   pub refused_looks : OnErr result ((looks_of new ≡ looks_of old) ⊎ (looks_of new ≡ one_more (looks_of old)))
+  pub holds : OnOk result (IsHeld new n)
   pub quiet : (n < 2) ⊎ (next_of old ≤ n) → device_of new ≡ device_of old
 
 module _ (D A : RattleType) (m : device.Ghosts D.Denot) (heap : alloc.Ghosts A.Denot) where

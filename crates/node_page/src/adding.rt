@@ -1,13 +1,14 @@
 //! An entry added to a node at a page of a cache, which is not decoded.
 
 ghost use Rattle.std.specs.Prelude.{◌≡◌, ◌⊎◌, ◌↔◌, ◌<◌, ◌≤◌, Some, None, IfErr, IfNone};
-ghost use Rattle.std.specs.Prelude.{IfOk, IfSome, IsSome, OnOk, length};
+ghost use Rattle.std.specs.Prelude.{IfOk, IfSome, IsErrOf, IsSome, OnOk, length};
 ghost use Rattle.box_math.specs.Bounds.{IsDims};
 ghost use Rattle.page_file.specs.Fault.{IsDamage, IsOfDevice};
 ghost use Rattle.page_file.specs.Pages.{SameBut};
 ghost use Rattle.page_file.specs.declared.fault.Fault.TheVariants as fault;
 ghost use Rattle.page_file.specs.declared.gate.Gate.TheVariants.{Open};
-ghost use Rattle.page_cache.specs.Cache.{Grows, IsHonest, IsLive, IsPageMap, gate_of, given, pages};
+ghost use Rattle.page_cache.specs.Cache.{Grows, IsHeld, IsHonest, IsLive, IsPageMap, gate_of, given, next_of};
+ghost use Rattle.page_cache.specs.Cache.{pages};
 ghost use Rattle.page_cache.specs.Calls.{Asks, AsksUntil, Changes};
 ghost use Rattle.tree_node.specs.Boxes.{least_box};
 ghost use Rattle.tree_node.specs.Nodes.{NodeContent, item_of};
@@ -57,11 +58,14 @@ pub fn add_entry<const D: usize, B: BlockDevice, A: Allocator + Copy>(
         SameBut page (pages cache.old) (pages cache.new) }
     ensures sound { IsPageMap cache.old → IsLive cache.old page → IsPageMap cache.new }
     ensures full { IfOk result (λ some. IfNone some (AsksUntil cache.old cache.new None)) }
+    ensures refused { IfErr result (λ f. AsksUntil cache.old cache.new (Some f)) }
     ensures grows { Grows 0 cache.old cache.new }
     ensures faults { IsHonest cache.old → (c : NodeContent) → node_in D (pages cache.old page) ≡ Some c
         → c.level ≡ level → IfErr result IsOfDevice }
     ensures given_node { IsHonest cache.old → OnOk result ((c : NodeContent)
         × (node_in D (given cache.old page) ≡ Some c) × (c.level ≡ level)) }
+    ensures outside { (page < 2) ⊎ (next_of cache.old ≤ page) → IsErrOf result (fault.Damaged page) }
+    ensures held { IsHeld cache.old page → IfErr result (λ f. f ≡ fault.Damaged page) }
     ensures named { IsHonest cache.old → IfErr result (λ f. IsOfDevice f ⊎ (f ≡ fault.Damaged page)) }
     ensures other_faults { IfErr result (λ f. IsOfDevice f ⊎ IsDamage f) }
 {
@@ -105,6 +109,9 @@ fn least_with<const D: usize, B: BlockDevice, A: Allocator + Copy>(
         → c.level ≡ level → IfErr result IsOfDevice }
     ensures given_node { IsHonest cache.old → OnOk result ((c : NodeContent)
         × (node_in D (given cache.old page) ≡ Some c) × (c.level ≡ level)) }
+    ensures outside { (page < 2) ⊎ (next_of cache.old ≤ page) → IsErrOf result (fault.Damaged page) }
+    ensures holds { OnOk result (IsHeld cache.new page) }
+    ensures held { IsHeld cache.old page → IfErr result (λ f. f ≡ fault.Damaged page) }
     ensures named { IsHonest cache.old → IfErr result (λ f. IsOfDevice f ⊎ (f ≡ fault.Damaged page)) }
     ensures other_faults { IfErr result (λ f. IsOfDevice f ⊎ IsDamage f) }
 {

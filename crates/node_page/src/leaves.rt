@@ -7,7 +7,7 @@ ghost use Rattle.page_file.specs.declared.fault.Fault.TheVariants as fault;
 ghost use Rattle.page_cache.specs.Cache.{IsHonest, IsPageMap, given, looks_of, pages};
 ghost use Rattle.page_cache.specs.Calls.{Asks};
 ghost use Rattle.tree_node.specs.Nodes.{content_of, references_of};
-ghost use Rattle.node_page.specs.Checked.{ComesTo};
+ghost use Rattle.node_page.specs.Checked.{ComesToNone};
 ghost use Rattle.node_page.specs.Lists.{AddsLeavesAt, AreLeavesAt, lists_of};
 ghost use Rattle.tree_node.specs.Trees.{Row, Tree, leaf_ids};
 ghost use Rattle.node_page.specs.Standing.{StandsAt, Stands};
@@ -24,8 +24,8 @@ use tree_node::{Node, Root};
 ///
 /// On an honest device it answers so only where the nodes of a tree, be it with a page twice, stand at that
 /// page and level, each of which it looks at once; else it is `Damaged` with the number of a page that a walk
-/// down the nodes comes to. Where they do, a refusal is `Memory` or `Device`. Map and gate stay, also after a
-/// refusal.
+/// down the nodes comes to, and that spells no node of the level that is left there. Where they do, a refusal
+/// is `Memory` or `Device`. Map and gate stay, also after a refusal.
 pub fn leaf_lists<const D: usize, B: BlockDevice, A: Allocator + Copy, H: Allocator + Copy>(
     alloc: H,
     cache: &mut PageCache<B, A>,
@@ -45,7 +45,8 @@ pub fn leaf_lists<const D: usize, B: BlockDevice, A: Allocator + Copy, H: Alloca
         → Stands D (pages cache.old) t →
         IfErr result IsOfDevice }
     ensures damage { IsHonest cache.old
-        → IfErr result (λ f. (n : ℕ) → f ≡ fault.Damaged n → ComesTo D (given cache.old) root.page n) }
+        → IfErr result (λ f. (n : ℕ) → f ≡ fault.Damaged n
+        → ComesToNone D (given cache.old) root.page root.level n) }
     ensures other_faults { IfErr result (λ f. IsOfDevice f ⊎ IsDamage f) }
 {
     let mut lists = Vec::new(alloc);
@@ -67,7 +68,8 @@ fn add_leaves<const D: usize, B: BlockDevice, A: Allocator + Copy, H: Allocator 
     ensures stands { IsHonest cache.old → (row : Row) → StandsAt D (given cache.old) root.page root.level row
         → IfErr result IsOfDevice }
     ensures damage { IsHonest cache.old
-        → IfErr result (λ f. (n : ℕ) → f ≡ fault.Damaged n → ComesTo D (given cache.old) root.page n) }
+        → IfErr result (λ f. (n : ℕ) → f ≡ fault.Damaged n
+        → ComesToNone D (given cache.old) root.page root.level n) }
     ensures other_faults { IfErr result (λ f. IsOfDevice f ⊎ IsDamage f) }
 {
     let node = read_node::<D, B, A>(cache, root.page, root.level)?;

@@ -1,7 +1,7 @@
 -- What each call does that changes, gives out or frees a page, also where it is refused: `old` is the cache
 -- before, `new` the one after, and `result` the call's answer.
 use Rattle.std.specs.Prelude.{◌≡◌, ◌⊎◌, ◌≤◌, ◌<◌, ◌+◌, ◌^◌, ◌||◌, ℕ, List, None, Some, Result, Err, true}
-use Rattle.std.specs.Prelude.{IfErr, IfOk, IsErrOf, OnErr, OnOk, is_ok}
+use Rattle.std.specs.Prelude.{IfErr, IfOk, IsErrOf, IsOk, OnErr, OnOk, is_ok}
 use Rattle.block_bytes.specs.Numbers.{zeros}
 use Rattle.page_file.specs.Fault.{IsDamage, IsOfDevice}
 use Rattle.page_file.specs.Pages.{SameBut, TakesFirst}
@@ -41,6 +41,8 @@ pub record Edits {D A : Type 0} {m : _} {T : Type 0} (n : ℕ) (did : List ℕ �
   pub sound : IsPageMap old → IsLive old n → IsPageMap new
   pub next : next_of new ≡ next_of old
   pub in_memory : ChangesInMemory n old new result
+  -- a page that is held is never refused
+  pub held : IsHeld old n → IsOk result
   -- a number of no page given out is named as damaged, without a call of the device
   pub outside : (n < 2) ⊎ (next_of old ≤ n)
       → IsErrOf result (fault.Damaged n) × (device_of new ≡ device_of old)

@@ -1,5 +1,6 @@
 //! A pair in memory.
 ghost use Rattle.std.specs.Prelude.{◌≡◌, ℕ, []};
+ghost use Rattle.block_device.specs.Memory.{IsLeftBy};
 ghost use Rattle.device_pair.specs.Memory.{base_of, journal_of, may_leave_of, AreLeft};
 ghost use Rattle.device_pair.specs.Memory.{base_history_of, earlier_of, journal_history_of};
 
@@ -26,6 +27,9 @@ impl<A: Allocator + Copy> TwoDevices<MemoryDevice<A>, MemoryDevice<A>> {
 
     /// The pair as a stop now leaves it, with nothing unsynced. It takes no memory.
     pub fn after_stop(self, base: Left, journal: Left) -> Self
+        ensures base { IsLeftBy base self.base result.base }
+        ensures journal { IsLeftBy journal self.journal result.journal }
+        ensures earlier { earlier_of result ≡ [] }
         ensures outcome { may_leave_of self (base_of result) (journal_of result) }
         ensures durable { AreLeft (base_of result) (journal_of result) (may_leave_of result) }
         ensures honest { ⟦<TwoDevices<MemoryDevice<A>, MemoryDevice<A>> as DevicePair>⟧.honest result }

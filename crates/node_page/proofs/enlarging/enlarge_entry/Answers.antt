@@ -3,12 +3,14 @@ use Rattle.std.proofs.Common.{◌≡◌, ◌∙◌, ℕ, ap, IfSome, is_some, tr
 use Rattle.std.proofs.Common.{subst, sym}
 use Rattle.std.specs.Prelude.{IsSomeAnd}
 use Rattle.page_cache.specs.Cache.{IsHonest, pages}
+use Rattle.page_cache.specs.Calls.{AsksUntil, asks_in_turn}
 use Rattle.page_cache.specs.Laws.{a_live_page_is_given}
 use Rattle.tree_node.specs.Boxes.{least_box}
 use Rattle.tree_node.specs.Nodes.{NodeContent}
 use Rattle.node_page.specs.Enlarged.{CanEnlarge, with_box_at}
 use Rattle.node_page.specs.Layout.{IsPageOfNode, IsTidy, node_at}
-use Rattle.node_page.proofs.NodeLemmas.{bytes_of_node, node_of_page}
+use Rattle.node_page.proofs.NodeLemmas.{at_error, bytes_of_node, node_of_page}
+use Rattle.node_page.proofs.ReadLemmas.{edit_refused}
 use Rattle.node_page.proofs.TidyLemmas.{Left, at_page}
 use Rattle.node_page.proofs.enlarging.enlarge_entry.Goals as goal
 
@@ -65,3 +67,16 @@ returns-clause-is_page g c = λ h content there tidy.
     at_page D (pages c.edit.new.self c.args.page) l.now
     (with_box_at content c.args.place c.args.bounds.now) l.there
     (l.is_page (subst (λ (o : Option (List ℕ)). IsSomeAnd o (IsTidy D)) was.1 tidy))
+
+pub returns-in_err-edit-clause-refused : goal.returns-in_err-edit-clause-refused
+returns-in_err-edit-clause-refused g c =
+    let mid = c.least_enlarged.new.cache in
+    let f = c.in_err-edit.field-0.0 in
+    at_error c.from_residual-in_err-edit.result f
+    (λ e. AsksUntil c.args.cache.now c.edit.new.self (Some e)) c.from_residual-in_err-edit.ensures.1
+    (asks_in_turn c.args.cache.now mid c.edit.new.self (Some f) c.in_ok-least.ensures.asks
+    (edit_refused mid c.edit.new.self c.args.page f c.in_err-edit.ensures))
+
+pub returns-in_err-edit-clause-held : goal.returns-in_err-edit-clause-held
+returns-in_err-edit-clause-held g c = λ held.
+    let no = c.in_err-edit.ensures.held c.in_ok-least.ensures.holds in absurd (cc)

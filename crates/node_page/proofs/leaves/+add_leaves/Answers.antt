@@ -1,5 +1,5 @@
 -- The goals of `add_leaves` that are proved by hand.
-use Rattle.std.proofs.Common.{◌≡◌, ◌∙◌, ◌<◌, ℕ, [], length, map, ap, sym, arith}
+use Rattle.std.proofs.Common.{◌≡◌, ◌∙◌, ◌<◌, ℕ, length, map, ap, sym, arith}
 use Rattle.std.proofs.lemmas.List.{length-map}
 use Rattle.page_file.specs.Fault.{IsOfDevice}
 use Rattle.page_file.specs.declared.fault.Fault.TheVariants as fault
@@ -7,10 +7,10 @@ use Rattle.page_cache.specs.Cache.{given, looks_of}
 use Rattle.page_cache.specs.Calls.{asks_and_refuses}
 use Rattle.tree_node.specs.Nodes.{content_of, item_of}
 use Rattle.tree_node.proofs.RowLemmas.{entry_item}
-use Rattle.node_page.specs.Checked.{ComesTo}
+use Rattle.node_page.specs.Checked.{ComesToNone}
 use Rattle.node_page.specs.Lists.{lists_of}
 use Rattle.node_page.specs.Standing.{PageMap}
-use Rattle.node_page.proofs.DamageLemmas.{comes_below_so, comes_on, damaged_read, entry_names}
+use Rattle.node_page.proofs.DamageLemmas.{damaged_read, entry_names, none_here, none_on, not_damaged}
 use Rattle.node_page.proofs.LeafLemmas.{below_here, child_page, child_tag, entries_there, found_all}
 use Rattle.node_page.proofs.LeafLemmas.{found_none, leaf_found, one_more_read}
 use Rattle.node_page.proofs.NodeLemmas.{at_error, if_error, on_ok}
@@ -87,19 +87,20 @@ returns-clause-found g t c = λ h.
 pub returns-in_err-node-clause-damage : goal.returns-in_err-node-clause-damage
 returns-in_err-node-clause-damage g t c = λ h.
     at_error c.from_residual.result c.in_err-node.field-0.0
-    (λ f. (n : ℕ) → f ≡ fault.Damaged n → ComesTo g.row.D (given c.args.cache.now) c.args.root.page n)
+    (λ f. (n : ℕ) → f ≡ fault.Damaged n → ComesToNone g.row.D (given c.args.cache.now) c.args.root.page
+    c.args.root.level n)
     c.from_residual.ensures.1
-    (λ n damaged. (
-      [],
-      damaged_read c.in_err-node.field-0.0 c.args.root.page n (c.in_err-node.ensures.faults h)
-          damaged,
-    ))
+    (λ n damaged. none_here g.row.D (given c.args.cache.now) c.args.root.page c.args.root.level n
+    (damaged_read c.in_err-node.field-0.0 c.args.root.page n (c.in_err-node.ensures.faults h) damaged)
+    (λ content there same. not_damaged c.in_err-node.field-0.0 n
+    (c.in_err-node.ensures.given_there h content there same) damaged))
 
 pub returns-then-root-eq0-clause-damage : goal.returns-then-root-eq0-clause-damage
 returns-then-root-eq0-clause-damage g t c = λ h.
     if_error c.add_leaf.result
     (λ f. f ≡ fault.Memory)
-    (λ f. (n : ℕ) → f ≡ fault.Damaged n → ComesTo g.row.D (given c.args.cache.now) c.args.root.page n)
+    (λ f. (n : ℕ) → f ≡ fault.Damaged n → ComesToNone g.row.D (given c.args.cache.now) c.args.root.page
+    c.args.root.level n)
     (λ f (memory : f ≡ fault.Memory) n (damaged : f ≡ fault.Damaged n). absurd (cc))
     c.add_leaf.ensures.memory
 
@@ -121,8 +122,8 @@ returns-in_err-add_leaves-clause-damage g t c = λ h.
     (omega (arith, c.in_ok-node.ensures.level, c.if-root-eq0.false)) within here in
     let asks = c.loop-entry.invariant.asks in
     at_error c.from_residual-in_err-add_leaves.result c.in_err-add_leaves.field-0.0
-    (λ f. (n : ℕ) → f ≡ fault.Damaged n → ComesTo g.row.D m c.args.root.page n)
+    (λ f. (n : ℕ) → f ≡ fault.Damaged n → ComesToNone g.row.D m c.args.root.page c.args.root.level n)
     c.from_residual-in_err-add_leaves.ensures.1
-    (λ n damaged. comes_on g.row.D m c.args.root.page content n (c.in_ok-node.ensures.given_node h)
-    (comes_below_so g.row.D m now content n (λ k. asks.map.given_stay h k)
-    (entry.reference, names, c.in_err-add_leaves.ensures.damage (asks.gate.honest.0 h) n damaged)))
+    (λ n damaged. none_on g.row.D m now c.args.root.page c.args.root.level content entry.reference n
+    (c.in_ok-node.ensures.given_node h) names (omega (arith, c.if-root-eq0.false))
+    (λ k. asks.map.given_stay h k) (c.in_err-add_leaves.ensures.damage (asks.gate.honest.0 h) n damaged))

@@ -1,5 +1,5 @@
 -- The goals of `PageCache::edit` that are proved by hand.
-use Rattle.std.proofs.Common.{◌≡◌, ◌∙◌, Some, is_some, ap, rules, subst, sym}
+use Rattle.std.proofs.Common.{◌≡◌, ◌∙◌, Some, is_some, ap, refl, rules, subst, sym}
 use Rattle.std.specs.Fn.{FnOnceReturnsAtMut}
 use Rattle.page_file.specs.File as below
 use Rattle.page_file.specs.declared.file.PageFile.{PageFile}
@@ -50,6 +50,7 @@ returns g c =
         uses = search rules;
         touched = search rules;
       };
+      held = λ is. refl;
       outside = search rules;
       faults = λ h low within. tt;
       other_faults = tt;
