@@ -21,7 +21,7 @@ struct Dice {
         int32_t right = x + roll() / 64, top = y + roll() / 64;
         return {{x, y}, {right, top}};
     }
-    void entries(Entries &to, uint64_t count) { to.clear(); for (uint64_t i = 0; i < count; i++) to.push_back({next_box(), i}); }
+    void entries(Entries &to, uint64_t count) { to.clear(); for (uint64_t i = 0; i < count; i++) to.push_back({next_box(), i + 3}); }
 };
 
 static Box join(const Box &a, const Box &b) {

@@ -14,7 +14,7 @@ for crate in refusing block_device block_bytes page_file page_cache box_math box
 done
 cp "$here/rule_times.rattle" "$work/crates/rule_times/src/main.rt"
 grep -E "^(refusing|block_device|block_bytes|page_file|page_cache|box_math|box_bytes|tree_node|choose_subtree|rstar_split|node_page|reinsert):" "$here/../crates.txt" >"$work/crates.txt"
-echo 'rule_times: choose_subtree rstar_split reinsert tree_node box_math arrayvec' >>"$work/crates.txt"
+echo 'rule_times: choose_subtree rstar_split reinsert node_page tree_node box_math arrayvec' >>"$work/crates.txt"
 git -C "$work" init -q
 (cd "$work/crates/rule_times" && rt run) >"$work/log" 2>&1 || { cat "$work/log" >&2; exit 1; }
 program="$work/crates/rule_times/out/rule_times"

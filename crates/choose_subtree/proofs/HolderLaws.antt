@@ -11,6 +11,7 @@ use Rattle.box_math.specs.Bounds.{Bounds, IsBox, Within, join_of, on_axis, withi
 use Rattle.box_math.specs.Measures.{product_over, side_of, volume_of}
 use Rattle.box_math.proofs.TestLaws.{within_test_true}
 use Rattle.box_math.proofs.BoxLaws.{join_of-encloses, join_of-commutes, join_of-enclosing}
+use Rattle.box_math.proofs.Growth.{volume_of-grows}
 use Rattle.tree_node.specs.Nodes.{Item}
 use Rattle.tree_node.specs.Boxes.{box_at}
 use Rattle.tree_node.specs.Keys.{AtMost, IsFirstLeast}
@@ -79,6 +80,18 @@ holder_stays dims a new box inside =
     ∙ join_of-enclosing dims new a box inside in
     rw stays (omega arith)
 
+-- and where the new box has a volume, any does that does not hold it
+pub grows_round_volume : (dims : ℕ) (a new : Bounds) → IsBox dims a → IsBox dims new
+    → (volume_of dims new ≢ 0) → (Within dims new a → ⊥) → 0 < growth_of dims a new
+grows_round_volume dims a new box new_box some out =
+    elim (cases_eq (volume_of dims a) 0) [
+      | inl flat ↦
+          let more =
+          volume_of-grows dims new (join_of dims a new) new_box (join_of-encloses dims a new).1 in
+          omega (arith, flat, more, some)
+      | inr wide ↦ grows_or_holds dims a new box wide out
+    ]
+
 -- ---- the child that is chosen
 
 -- a box whose lows are below its highs has a volume
@@ -97,16 +110,17 @@ wide_has_volume dims b wide =
           positive n f (λ k h. each k (omega arith)),
         )
 
--- Where each box has a volume, the first least of those that hold the new one is chosen: it does not grow,
--- nor does what it overlaps, and each other one grows.
+-- Where each box that does not hold the new one grows, the first least of those that hold it is chosen: it
+-- does not grow, nor does what it overlaps.
 pub holder_is_chosen : (dims level : ℕ) (items : List Item) (new : Bounds) (at : ℕ) → at < length items
-    → ((j : ℕ) → j < length items → IsBox dims (box_at items j) × (volume_of dims (box_at items j) ≢ 0))
-    → Within dims new (box_at items at)
+    → ((j : ℕ) → j < length items → IsBox dims (box_at items j))
+    → ((j : ℕ) → j < length items → (Within dims new (box_at items j) → ⊥)
+    → 0 < growth_of dims (box_at items j) new) → Within dims new (box_at items at)
     → ((j : ℕ) → j < length items → Within dims new (box_at items j)
     → AtMost (volume_of dims (box_at items at) ∷ at ∷ []) (volume_of dims (box_at items j) ∷ j ∷ []))
     → IsChosenChild dims level items new at
-holder_is_chosen dims level items new at within boxes holds least =
-    let stays = holder_stays dims (box_at items at) new (boxes at within).0 holds in
+holder_is_chosen dims level items new at within boxes grow holds least =
+    let stays = holder_stays dims (box_at items at) new (boxes at within) holds in
     let by_area : IsFirstLeast (length items) (area_key dims items new) at =
     first_least-of_placed_area (λ k. growth_of dims (box_at items k) new)
     (λ k. volume_of dims (box_at items k)) (length items) at within
@@ -115,11 +129,11 @@ holder_is_chosen dims level items new at within boxes holds least =
       λ _. elim (cases_Bool (within_test dims new (box_at items j))) [
         | inl held ↦
             let inside = (within_test_true dims new (box_at items j)).0 held in
-            let same = holder_stays dims (box_at items j) new (boxes j l).0 inside in
+            let same = holder_stays dims (box_at items j) new (boxes j l) inside in
             (omega (arith, stays), λ _. least j l inside)
         | inr apart ↦
             let grows =
-            grows_or_holds dims (box_at items j) new (boxes j l).0 (boxes j l).1
+            grow j l
             (λ inside. let t = (within_test_true dims new (box_at items j)).1 inside in absurd (cc)) in
             (omega (arith, stays), λ same. absurd (omega (arith, same, stays, grows)))
       ],
@@ -128,6 +142,6 @@ holder_is_chosen dims level items new at within boxes holds least =
       | inl is ↦ chosen_first dims items new level (length items) at is
           (first_least-of_zero (overlap_growth dims items new) (area_key dims items new) (length items) at
           by_area (sym
-          (overlap_growth-none dims items new at (box_at items at) refl (boxes at within).0 holds)))
+          (overlap_growth-none dims items new at (box_at items at) refl (boxes at within) holds)))
       | inr other ↦ chosen_above dims items new level (length items) at other by_area
     ]

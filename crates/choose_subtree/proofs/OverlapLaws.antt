@@ -1,12 +1,12 @@
 -- Sums of overlaps: how they grow with a box, and what a sum over the first entries says of the whole.
 use Rattle.std.proofs.Common.{◌≡◌, ◌≢◌, ℕ, zero, suc, ◌+◌, ◌<◌, ◌≤◌, true, false, List, length, arith, subst}
-use Rattle.std.proofs.Common.{sym, ◌∙◌, eqb, add-one, inl, inr}
+use Rattle.std.proofs.Common.{ap, sym, ◌∙◌, eqb, add-one, inl, inr}
 use Rattle.std.proofs.lemmas.Bool.{cases_eq}
 use Rattle.std.proofs.lemmas.Bool.Decides.{nat_tests}
-use Rattle.box_math.specs.Bounds.{Bounds, IsBox, Within, join_of}
+use Rattle.box_math.specs.Bounds.{Bounds, IsBox, Meets, Within, join_of}
 use Rattle.box_math.specs.Measures.{sum_over, overlap_of}
-use Rattle.box_math.proofs.BoxLaws.{join_of-commutes, join_of-encloses, join_of-enclosing}
-use Rattle.box_math.proofs.Growth.{sum_over-le, overlap_of-grows}
+use Rattle.box_math.proofs.BoxLaws.{Meets-sym, join_of-commutes, join_of-encloses, join_of-enclosing}
+use Rattle.box_math.proofs.Growth.{sum_over-le, overlap_of-apart, overlap_of-grows}
 use Rattle.tree_node.specs.Nodes.{Item}
 use Rattle.tree_node.specs.Boxes.{box_at}
 use Rattle.choose_subtree.specs.Choice.{overlap_with, overlap_at, overlap_growth}
@@ -28,6 +28,23 @@ sum_over-gain_le f g i (suc n) s h le e =
           subst (λ k. s + sum_over k g ≡ sum_over k f) z e in omega (arith, u)
       | inr o ↦ omega
           (arith, le n (omega arith), sum_over-gain_le f g i n s (omega arith) (λ k l. le k (omega arith)) e)
+    ]
+
+-- a sum of differences stays over terms that are 0
+sum_over-still : (f g : ℕ → ℕ) (i n s : ℕ) → i ≤ n → ((k : ℕ) → i ≤ k → k < n → (f k ≡ 0) × (g k ≡ 0))
+    → s + sum_over i g ≡ sum_over i f → s + sum_over n g ≡ sum_over n f
+sum_over-still f g i zero s up none e = let z : i ≡ 0 = omega arith in
+    subst (λ k. s + sum_over k g ≡ sum_over k f) z e
+sum_over-still f g i (suc n) s up none e =
+    elim (cases_eq i (suc n)) [
+      | inl z ↦ subst (λ k. s + sum_over k g ≡ sum_over k f) z e
+      | inr o ↦ let last = none n (omega arith) (omega arith) in
+          omega (
+            arith,
+            last.0,
+            last.1,
+            sum_over-still f g i n s (omega arith) (λ k u l. none k u (omega arith)) e,
+          )
     ]
 
 -- where no term falls, one of them grows by no more than the sum
@@ -136,6 +153,32 @@ overlap_more-same dims items new k i s z h =
     let a = overlap_with-same dims items k (box_at items k) i z in
     let b = overlap_with-same dims items k (join_of dims (box_at items k) new) i z in
     rw add-one (omega (arith, a, b, h))
+
+-- entries that do not meet the greater box have nothing in common with either
+pub overlap_passes : (dims : ℕ) (items : List Item) (new : Bounds) (k n next s : ℕ) (before after : Bounds)
+    → before ≡ box_at items k → after ≡ join_of dims before new → IsBox dims before
+    → ((j : ℕ) → j < length items → IsBox dims (box_at items j)) → n ≤ next → next ≤ length items
+    → ((j : ℕ) → n ≤ j → j < next → Meets dims (box_at items j) after → ⊥)
+    → GrewBy dims items new k n s → GrewBy dims items new k next s
+overlap_passes dims items new k n next s before after eb ea box boxes up within apart h =
+    let old = box_at items k in let joined = join_of dims old new in
+    let same : after ≡ joined = ea ∙ ap (λ b. join_of dims b new) eb in
+    let old_box : IsBox dims old = subst (IsBox dims) eb box in
+    sum_over-still (overlap_with dims items k joined) (overlap_with dims items k old) n next s up
+    (λ j from below. elim (cases_eq j k) [
+      | inl e ↦ (overlap_with-same dims items k joined j e, overlap_with-same dims items k old j e)
+      | inr o ↦
+          let none : overlap_of dims joined (box_at items j) ≡ 0 =
+          overlap_of-apart dims joined (box_at items j)
+          (λ m. apart j from below
+          (subst (λ b. Meets dims (box_at items j) b) (sym same) (Meets-sym dims joined (box_at items j) m))) in
+          let less =
+          overlap_of-grows dims old (box_at items j) joined old_box (boxes j (omega (arith, below, within)))
+          (join_of-encloses dims old new).0 in (
+            overlap_with-other dims items k joined j o ∙ none,
+            omega (arith, overlap_with-other dims items k old j o, less, none),
+          )
+    ]) h
 
 -- a box that holds the new one already does not grow, and neither does what it overlaps
 pub overlap_growth-none : (dims : ℕ) (items : List Item) (new : Bounds) (k : ℕ) (before : Bounds)

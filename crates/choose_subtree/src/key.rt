@@ -3,13 +3,14 @@
 ghost use Rattle.std.specs.Prelude.{◌≡◌, ℕ, ◌^◌, ◌<◌, ◌↔◌, List, length, IsTrue};
 ghost use Rattle.box_math.specs.Bounds.{IsDims};
 ghost use Rattle.box_math.specs.Measures.{volume_of};
-ghost use Rattle.tree_node.specs.Nodes.{items_of};
+ghost use Rattle.choose_subtree.specs.Choice.{numbers_of, growth_of};
+ghost use Rattle.node_page.specs.Views.{content_in};
 ghost use Rattle.tree_node.specs.Boxes.{box_at};
 ghost use Rattle.tree_node.specs.Keys.{AtMost};
-ghost use Rattle.choose_subtree.specs.Choice.{numbers_of, growth_of};
 
+use crate::entries::box_in;
 use box_math::BBox;
-use tree_node::{Entry, box_of};
+use node_page::NodeView;
 
 /// What decides between entries, the first that differs; the position is last, so ties go to the least one.
 #[derive(Clone, Copy)]
@@ -40,21 +41,21 @@ pub(crate) fn at_most(a: &Key, b: &Key) -> bool
 
 /// The key of an entry, the growth of its overlap being known.
 pub(crate) fn key_of<const D: usize>(
-    entries: &[Entry<D>],
+    node: &NodeView<D>,
     new: &BBox<D>,
     k: usize,
     overlap: u128,
 ) -> Key
     requires dims { IsDims D }
-    requires within { k < length entries.now }
+    requires within { k < length (content_in node.now).entries }
     ensures { result ≡ record {
       overlap = overlap;
-      growth = growth_of D (box_at (items_of entries.now) k) new.now;
-      area = volume_of D (box_at (items_of entries.now) k);
+      growth = growth_of D (box_at (content_in node.now).entries k) new.now;
+      area = volume_of D (box_at (content_in node.now).entries k);
       position = k;
     } }
 {
-    let bounds = box_of(entries, k);
+    let bounds = box_in(node, k);
     Key {
         overlap,
         growth: growth(&bounds, new),

@@ -9,7 +9,7 @@ use Rattle.box_math.specs.Masks.{has_bit}
 use Rattle.box_math.proofs.BoxLaws.{Within-refl}
 use Rattle.tree_node.specs.Boxes.{no_item}
 use Rattle.tree_node.specs.Nodes.{Item}
-use Rattle.reinsert.proofs.HolderLemmas.{unset_holds_not}
+use Rattle.choose_subtree.proofs.MaskLaws.{unset_holds_not}
 
 -- an entry whose bit is not set is not the object's
 pub unset_is_not : (dims : ℕ) (items : List Item) (bounds : Bounds) (id tag mask k : ℕ) (d : Item)

@@ -61,6 +61,8 @@ pub record Refills {D A : Type 0} {m : _} {T : Type 0} (n : ℕ) (did : List ℕ
   pub sound : IsPageMap old → IsLive old n → IsPageMap new
   pub next : next_of new ≡ next_of old
   pub in_memory : ChangesInMemory n old new result
+  -- a page that is held is never refused
+  pub held : IsHeld old n → IsOk result
   -- a number of no page given out is named as damaged, without a call of the device
   pub outside : (n < 2) ⊎ (next_of old ≤ n) → (result ≡ Err (fault.Damaged n)) × IsUnchanged old new
   pub faults : IsHonest old → 2 ≤ n → n < next_of old → IfErr result IsOfDevice
@@ -77,6 +79,8 @@ pub record Puts {D A : Type 0} {m : _} {T : Type 0} (n : ℕ) (bytes : List ℕ)
   pub sound : IsPageMap old → IsLive old n → IsPageMap new
   pub next : next_of new ≡ next_of old
   pub in_memory : ChangesInMemory n old new result
+  -- a page that is held is never refused
+  pub held : IsHeld old n → IsOk result
   -- a number of no page given out is named as damaged, without a call of the device
   pub outside : (n < 2) ⊎ (next_of old ≤ n) → (result ≡ Err (fault.Damaged n)) × IsUnchanged old new
   pub faults : IsHonest old → 2 ≤ n → n < next_of old → IfErr result IsOfDevice

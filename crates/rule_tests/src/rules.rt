@@ -4,6 +4,7 @@ ghost use Rattle.arrayvec.specs.ArrayVec.{array_vec_len};
 use arrayvec::ArrayVec;
 use box_math::BBox;
 use choose_subtree::choose;
+use node_page::{NodeView, encode};
 use reinsert::farthest;
 use rstar_split::split;
 use tree_node::{Entry, Node};
@@ -43,67 +44,88 @@ fn are<const D: usize>(entries: &ArrayVec<Entry<D>, 101>, references: &[u64]) ->
     true
 }
 
-#[test]
-fn chooses_by_overlap_on_the_first_level_alone(rt: HostRuntime) {
-    for (level, want) in [(1u8, 1usize), (2, 0)] {
-        let mut entries = ArrayVec::new();
-        entries.push(Entry {
-            bounds: plane([0, 0], [2, 100]),
-            reference: 10,
-            tag: 0,
-        });
-        entries.push(Entry {
-            bounds: plane([2, 0], [30, 4]),
-            reference: 11,
-            tag: 0,
-        });
-        let node = Node { level, entries };
-        assert!(rt; level > 0);
-        let point = plane([3, 100], [3, 100]);
-        assert_eq!(rt; choose(&node, &point), want, "on level {level}");
+/// The child that the box goes to, of a node that has these two.
+fn chosen(level: u8, first: BBox<2>, second: BBox<2>, bounds: &BBox<2>) -> Option<usize> {
+    let mut entries = ArrayVec::new();
+    entries.push(Entry {
+        bounds: first,
+        reference: 10,
+        tag: 0,
+    });
+    entries.push(Entry {
+        bounds: second,
+        reference: 11,
+        tag: 0,
+    });
+    let mut page = [0; 4096];
+    encode(&Node { level: 0, entries }, &mut page);
+    page[4] = level; // the same page is that of a node of any level
+    let view = NodeView::<2>::of(&page, level)?;
+    if view.level() == 0 || view.len() == 0 {
+        return None;
     }
+    Some(choose(&view, bounds))
 }
 
 #[test]
-fn chooses_the_first_of_equal_children(rt: HostRuntime) {
-    for level in [1u8, 2, 40] {
-        let mut entries = ArrayVec::new();
-        entries.push(Entry {
-            bounds: plane([0, 0], [5, 5]),
-            reference: 10,
-            tag: 0,
-        });
-        entries.push(Entry {
-            bounds: plane([0, 0], [5, 5]),
-            reference: 11,
-            tag: 0,
-        });
-        let node = Node { level, entries };
-        assert!(rt; level > 0);
+fn chooses_by_overlap_on_the_first_level_alone(rt: HostRuntime) {
+    let tall = plane([0, 0], [2, 100]);
+    let wide = plane([2, 0], [30, 4]);
+    let point = plane([3, 100], [3, 100]);
+    for (level, want) in [(1u8, 1usize), (2, 0)] {
         assert_eq!(rt;
-            choose(&node, &plane([9, 9], [9, 9])),
-            0,
+            chosen(level, tall, wide, &point),
+            Some(want),
             "on level {level}"
         );
     }
 }
 
 #[test]
+fn chooses_the_first_of_equal_children(rt: HostRuntime) {
+    let child = plane([0, 0], [5, 5]);
+    for level in [1u8, 2, 40] {
+        for at in [[9, 9], [5, 5]] {
+            assert_eq!(rt;
+                chosen(level, child, child, &plane(at, at)),
+                Some(0),
+                "at {at:?} on level {level}"
+            );
+        }
+    }
+}
+
+#[test]
 fn a_flat_child_takes_in_a_box_and_stays_flat(rt: HostRuntime) {
-    let mut entries = ArrayVec::new();
-    entries.push(Entry {
-        bounds: plane([0, 0], [10, 10]),
-        reference: 10,
-        tag: 0,
-    });
-    entries.push(Entry {
-        bounds: plane([5, 0], [5, 3]),
-        reference: 11,
-        tag: 0,
-    });
-    let node = Node { level: 2, entries };
-    assert_eq!(rt; choose(&node, &plane([5, 5], [5, 5])), 1);
-    assert_eq!(rt; choose(&node, &plane([6, 5], [6, 5])), 0);
+    let wide = plane([0, 0], [10, 10]);
+    let flat = plane([5, 0], [5, 3]);
+    for (at, want) in [([5, 5], 1usize), ([6, 5], 0)] {
+        assert_eq!(rt;
+            chosen(2, wide, flat, &plane(at, at)),
+            Some(want),
+            "at {at:?}"
+        );
+    }
+}
+
+#[test]
+fn a_box_with_a_volume_goes_to_the_least_child_that_holds_it(rt: HostRuntime) {
+    let wide = plane([0, 0], [10, 10]);
+    let less = plane([0, 0], [9, 10]);
+    let flat = plane([5, 0], [5, 3]);
+    let new = plane([4, 1], [6, 2]);
+    for level in [1u8, 2] {
+        assert_eq!(rt;
+            chosen(level, wide, less, &new),
+            Some(1),
+            "on level {level}"
+        );
+        assert_eq!(rt;
+            chosen(level, flat, wide, &new),
+            Some(1),
+            "on level {level}"
+        );
+    }
 }
 
 #[test]
@@ -118,19 +140,11 @@ fn chooses_between_two_leaves(rt: HostRuntime) {
         (grown, wide, [103, 101], 1),
         (grown, far, [60, 60], 0),
     ] {
-        let mut entries = ArrayVec::new();
-        entries.push(Entry {
-            bounds: first,
-            reference: 10,
-            tag: 0,
-        });
-        entries.push(Entry {
-            bounds: second,
-            reference: 11,
-            tag: 0,
-        });
-        let node = Node { level: 1, entries };
-        assert_eq!(rt; choose(&node, &plane(at, at)), want, "at {at:?}");
+        assert_eq!(rt;
+            chosen(1, first, second, &plane(at, at)),
+            Some(want),
+            "at {at:?}"
+        );
     }
 }
 

@@ -1,5 +1,8 @@
 //! A file by its streams.
-ghost use Rattle.std.specs.Prelude.{◌≡◌, ◌≤◌, [], true, false, IsErr, IfOk};
+ghost use Rattle.std.specs.Prelude.{◌≡◌, ◌≤◌, ◌+◌, ◌-◌, ◌^◌, ◌∷◌, ◌++◌, [], true, false, max, min};
+ghost use Rattle.std.specs.Prelude.{IsErr, IfOk, OnOk};
+ghost use Rattle.stream_file.specs.Requests.{Exchanges, TellsSize, read_letter, request_bytes, sync_letter};
+ghost use Rattle.stream_file.specs.Requests.{write_letter};
 
 use crate::request::{FileSide, outcome, send};
 use file_device::DiskFile;
@@ -25,7 +28,9 @@ pub struct StreamFile<I, O> {
 impl<I: Read + Drop, O: Write + Drop> StreamFile<I, O> {
     /// The file that the streams serve on a side, whose size is asked for.
     pub fn over(input: I, output: O, side: FileSide) -> io::Result<StreamFile<I, O>>
-        ensures { IfOk result (λ file. (file.lost ≡ false) × (file.none ≡ false)) }
+        ensures begins { IfOk result (λ file. (file.lost ≡ false) × (file.none ≡ false) × (file.side ≡ side)) }
+        ensures asked { IfOk result (λ file. TellsSize side file.size (O.contents output)
+            (O.contents file.output) (I.remaining input) (I.remaining file.input)) }
     {
         let mut file = StreamFile {
             input,
@@ -43,6 +48,7 @@ impl<I: Read + Drop, O: Write + Drop> StreamFile<I, O> {
     pub fn none(input: I, output: O) -> StreamFile<I, O>
         ensures none { result.none ≡ true }
         ensures size { result.size ≡ 8192 }
+        ensures quiet { (result.input ≡ input) × (result.output ≡ output) }
     {
         StreamFile {
             input,
@@ -58,6 +64,9 @@ impl<I: Read + Drop, O: Write + Drop> StreamFile<I, O> {
     fn asked_size(&mut self) -> io::Result<u64>
         ensures lost { self.new.lost ≡ self.old.lost }
         ensures none { self.new.none ≡ self.old.none }
+        ensures side { self.new.side ≡ self.old.side }
+        ensures asked { IfOk result (λ size. TellsSize self.old.side size (O.contents self.old.output)
+            (O.contents self.new.output) (I.remaining self.old.input) (I.remaining self.new.input)) }
     {
         send(&mut self.output, b's', self.side, 0)?;
         let mut bytes = [0; 8];
@@ -66,11 +75,43 @@ impl<I: Read + Drop, O: Write + Drop> StreamFile<I, O> {
         Ok(u64::from_le_bytes(bytes))
     }
 
+    // Asks for 4096 bytes.
+    fn get(&mut self, at: u64, into: &mut [u8; 4096]) -> io::Result<()>
+        ensures { OnOk result (Exchanges (request_bytes read_letter self.old.side at) (into.new ++ 0 ∷ [])
+            (O.contents self.old.output) (O.contents self.new.output) (I.remaining self.old.input)
+            (I.remaining self.new.input)) }
+    {
+        send(&mut self.output, b'r', self.side, at)?;
+        self.input.read_exact(into)?;
+        outcome(&mut self.input)
+    }
+
     // Asks for 4096 bytes to be written.
-    fn put(&mut self, at: u64, from: &[u8; 4096]) -> io::Result<()> {
+    fn put(&mut self, at: u64, from: &[u8; 4096]) -> io::Result<()>
+        ensures size { self.new.size ≡ self.old.size }
+        ensures asked { OnOk result (Exchanges (request_bytes write_letter self.old.side at ++ from.now)
+            (0 ∷ []) (O.contents self.old.output) (O.contents self.new.output) (I.remaining self.old.input)
+            (I.remaining self.new.input)) }
+    {
         send(&mut self.output, b'w', self.side, at)?;
         self.output.write_all(from)?;
         outcome(&mut self.input)
+    }
+
+    // Has 4096 bytes written. A write that failed may have made the file longer, so its size is asked for.
+    fn write(&mut self, at: u64, from: &[u8; 4096]) -> io::Result<()>
+        ensures size { OnOk result (self.new.size ≡ max self.old.size (min (at + 4096) (2 ^ 64 - 1))) }
+        ensures asked { OnOk result (Exchanges (request_bytes write_letter self.old.side at ++ from.now)
+            (0 ∷ []) (O.contents self.old.output) (O.contents self.new.output) (I.remaining self.old.input)
+            (I.remaining self.new.input)) }
+    {
+        let answer = self.put(at, from);
+        if answer.is_ok() {
+            self.size = self.size.max(at.saturating_add(4096));
+        } else if let Ok(size) = self.asked_size() {
+            self.size = size;
+        }
+        answer
     }
 
     // Takes a block of a file that is none, unless it has four.
@@ -78,6 +119,8 @@ impl<I: Read + Drop, O: Write + Drop> StreamFile<I, O> {
         ensures lost { self.new.lost ≡ self.old.lost }
         ensures none { self.new.none ≡ self.old.none }
         ensures few { self.old.size ≤ 16384 → self.new.size ≤ 16384 }
+        ensures size { OnOk result (self.new.size ≡ max self.old.size (at + 4096)) }
+        ensures quiet { (self.new.input ≡ self.old.input) × (self.new.output ≡ self.old.output) }
     {
         if at > 12288 {
             return Err(io::Error::from(ErrorKind::ReadOnlyFilesystem));
@@ -87,7 +130,11 @@ impl<I: Read + Drop, O: Write + Drop> StreamFile<I, O> {
     }
 
     // Has the disk take what was written.
-    fn ask_sync(&mut self) -> io::Result<()> {
+    fn ask_sync(&mut self) -> io::Result<()>
+        ensures { OnOk result (Exchanges (request_bytes sync_letter self.old.side 0) (0 ∷ [])
+            (O.contents self.old.output) (O.contents self.new.output) (I.remaining self.old.input)
+            (I.remaining self.new.input)) }
+    {
         send(&mut self.output, b'y', self.side, 0)?;
         outcome(&mut self.input)
     }
@@ -96,6 +143,9 @@ impl<I: Read + Drop, O: Write + Drop> StreamFile<I, O> {
     fn sync_unless_lost(&mut self) -> io::Result<()>
         ensures lost { self.old.lost ≡ true → IsErr result }
         ensures loses { IsErr result → self.new.lost ≡ true }
+        ensures asked { OnOk result (Exchanges (request_bytes sync_letter self.old.side 0) (0 ∷ [])
+            (O.contents self.old.output) (O.contents self.new.output) (I.remaining self.old.input)
+            (I.remaining self.new.input)) }
     {
         if self.lost {
             return Err(io::Error::from(ErrorKind::BrokenPipe));
@@ -126,23 +176,14 @@ impl<I: Read + Drop, O: Write + Drop> DiskFile for StreamFile<I, O> {
             *into = [0; 4096];
             return Ok(());
         }
-        send(&mut self.output, b'r', self.side, at)?;
-        self.input.read_exact(into)?;
-        outcome(&mut self.input)
+        self.get(at, into)
     }
 
-    // A write that failed may have made the file longer, so its size is asked for.
     fn write_at(&mut self, at: u64, from: &[u8; 4096]) -> io::Result<()> {
         if self.none {
             return self.forget(at);
         }
-        let answer = self.put(at, from);
-        if answer.is_ok() {
-            self.size = self.size.max(at.saturating_add(4096));
-        } else if let Ok(size) = self.asked_size() {
-            self.size = size;
-        }
-        answer
+        self.write(at, from)
     }
 
     fn sync(&mut self) -> io::Result<()> {

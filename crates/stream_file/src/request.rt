@@ -1,7 +1,9 @@
 //! Requests, and how they went.
-ghost use Rattle.std.specs.Prelude.{◌≡◌, OnOk, true};
-ghost use Rattle.std.specs.Io.KnownBytes.{Appends};
-ghost use Rattle.stream_file.specs.Requests.{number_of, request_bytes};
+ghost use Rattle.std.specs.Prelude.{◌≡◌, ◌⊎◌, ◌∷◌, ℕ, [], IfErr, IfOk, OnOk, true};
+ghost use Rattle.std.specs.Io.KnownBytes.{Appends, Consumes};
+ghost use Rattle.file_device.specs.declared.open.OpenError.TheVariants as error;
+ghost use Rattle.stream_file.specs.Requests.{Exchanges, letter_of, number_of, refusal_of, request_bytes};
+ghost use Rattle.stream_file.specs.declared.request.FileSide.TheVariants.{Journal};
 
 use file_device::OpenError;
 use std::io::{self, ErrorKind, Read, Write};
@@ -38,6 +40,19 @@ impl FileSide {
     }
 }
 
+impl JournalWish {
+    // Its letter in a request.
+    fn letter(self) -> u8
+        ensures { result ≡ letter_of self }
+    {
+        match self {
+            JournalWish::Open => b'o',
+            JournalWish::Make => b'm',
+            JournalWish::Remove => b'x',
+        }
+    }
+}
+
 /// Sends a request: a letter, the file's number, and a place in the file, least byte first.
 pub(crate) fn send<O: Write>(output: &mut O, letter: u8, side: FileSide, at: u64) -> io::Result<()>
     ensures { OnOk result
@@ -48,7 +63,9 @@ pub(crate) fn send<O: Write>(output: &mut O, letter: u8, side: FileSide, at: u64
 }
 
 /// Reads how a request went: a byte, which is 0 where it was done.
-pub(crate) fn outcome<I: Read>(input: &mut I) -> io::Result<()> {
+pub(crate) fn outcome<I: Read>(input: &mut I) -> io::Result<()>
+    ensures { OnOk result (Consumes (I.remaining input.old) (I.remaining input.new) (0 ∷ [])) }
+{
     match answer(input)? {
         0 => Ok(()),
         _ => Err(io::Error::from(ErrorKind::Other)),
@@ -56,7 +73,9 @@ pub(crate) fn outcome<I: Read>(input: &mut I) -> io::Result<()> {
 }
 
 // One byte.
-fn answer<I: Read>(input: &mut I) -> io::Result<u8> {
+fn answer<I: Read>(input: &mut I) -> io::Result<u8>
+    ensures { IfOk result (λ byte. Consumes (I.remaining input.old) (I.remaining input.new) (byte ∷ [])) }
+{
     let mut byte = [1];
     input.read_exact(&mut byte)?;
     Ok(byte[0])
@@ -68,13 +87,14 @@ pub fn ask_journal<I: Read, O: Write>(
     input: &mut I,
     output: &mut O,
     wish: JournalWish,
-) -> Result<(), OpenError> {
-    let letter = match wish {
-        JournalWish::Open => b'o',
-        JournalWish::Make => b'm',
-        JournalWish::Remove => b'x',
-    };
-    if send(output, letter, FileSide::Journal, 0).is_err() {
+) -> Result<(), OpenError>
+    ensures done { OnOk result (Exchanges (request_bytes (letter_of wish) Journal 0) (0 ∷ [])
+        (O.contents output.old) (O.contents output.new) (I.remaining input.old) (I.remaining input.new)) }
+    ensures refused { IfErr result (λ e. (e ≡ error.Refused) ⊎ ((byte : ℕ) × (e ≡ refusal_of byte)
+        × Exchanges (request_bytes (letter_of wish) Journal 0) (byte ∷ [])
+        (O.contents output.old) (O.contents output.new) (I.remaining input.old) (I.remaining input.new))) }
+{
+    if send(output, wish.letter(), FileSide::Journal, 0).is_err() {
         return Err(OpenError::Refused);
     }
     match answer(input) {

@@ -1,6 +1,6 @@
 use Rattle.std.proofs.Common.{rules, refl, ◌≡◌, ◌+◌, length, arith, subst, sym, ap}
 use Rattle.tree_node.specs.Keys.{AtMost}
-use Rattle.tree_node.specs.Nodes.{items_of}
+use Rattle.node_page.specs.Views.{content_in}
 use Rattle.choose_subtree.specs.declared.key.Key.{Key}
 use Rattle.choose_subtree.specs.Choice.{numbers_with, numbers_of}
 use Rattle.choose_subtree.proofs.ChoiceLaws.{IsBest, best_of_one, best_keeps, best_takes}
@@ -10,14 +10,14 @@ use Rattle.choose_subtree.proofs.choice.least_area.Goals.{then-not-at_most, else
 
 pub loop-k-init : goal.loop-k-init
 loop-k-init g c =
-    best_of_one (numbers_with 0 g.row.D (items_of c.args.entries.now) c.args.new.now)
-    (length c.args.entries.now) _ _ c.requires.some (ap (λ (x : Key). x.position) c.key_of-best.ensures)
+    best_of_one (numbers_with 0 g.row.D (content_in c.args.node.now).entries c.args.new.now)
+    (length (content_in c.args.node.now).entries) _ _ c.requires.some (ap (λ (x : Key). x.position) c.key_of-best.ensures)
     (ap numbers_of c.key_of-best.ensures)
 
 pub loop-k-preserved : goal.loop-k-preserved
 loop-k-preserved g c =
-    let e = c.args.entries.now in
-    let key = numbers_with 0 g.row.D (items_of e) c.args.new.now in
+    let e = (content_in c.args.node.now).entries in
+    let key = numbers_with 0 g.row.D e c.args.new.now in
     let k = c.loop-k.k in
     let b = c.loop-k.best in
     let i = c.loop-k.invariant in
@@ -27,7 +27,7 @@ loop-k-preserved g c =
       | then-not-at_most w ↦
           let taken : IsBest key (length e) (k + 1) (numbers_of c.key_of-key.result) k =
           best_takes key (length e) k (numbers_of b) b.position (numbers_of c.key_of-key.result) i
-          c.loop-k-test.true is refl (λ h. let t = c.at_most.ensures.1 h in search rules) in
+          (omega (arith, c.loop-k-test.true, c.len-k-end.ensures.count)) is refl (λ h. let t = c.at_most.ensures.1 h in search rules) in
           subst turn (sym w.best-is)
           (subst (IsBest key (length e) (k + 1) (numbers_of c.key_of-key.result))
           (sym (ap (λ (x : Key). x.position) c.key_of-key.ensures)) taken)
@@ -38,5 +38,5 @@ loop-k-preserved g c =
 
 pub returns : goal.returns
 returns g c =
-    first_least-of_best_area g.row.D (items_of c.args.entries.now) c.args.new.now (length c.args.entries.now)
+    first_least-of_best_area g.row.D (content_in c.args.node.now).entries c.args.new.now (length (content_in c.args.node.now).entries)
     c.loop-k.k _ _ (omega arith) c.loop-k.invariant

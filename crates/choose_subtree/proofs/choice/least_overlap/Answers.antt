@@ -1,7 +1,7 @@
 use Rattle.std.proofs.Common.{rules, refl, ◌≡◌, ℕ, ◌+◌, ◌<◌, List, length, arith, subst, sym, ap}
 use Rattle.tree_node.specs.Keys.{AtMost}
-use Rattle.tree_node.specs.Nodes.{items_of}
 use Rattle.tree_node.proofs.KeyLemmas.{AtMost-itself, AtMost-other, AtMost-trans}
+use Rattle.node_page.specs.Views.{content_in}
 use Rattle.choose_subtree.specs.declared.key.Key.{Key}
 use Rattle.choose_subtree.specs.Choice.{overlap_growth, area_key, numbers_with, numbers_of}
 use Rattle.choose_subtree.proofs.ChoiceLaws.{IsBest, best_of_none, best_keeps, best_takes, numbers_of-is}
@@ -12,22 +12,22 @@ use Rattle.choose_subtree.proofs.choice.least_overlap.Goals.{in-Some+else-not-at
 
 pub returns-then-overlap-eq0 : goal.returns-then-overlap-eq0
 returns-then-overlap-eq0 g c =
-    let e = items_of c.args.entries.now in
-    let count = length c.args.entries.now in
+    let e = (content_in c.args.node.now).entries in
+    let count = length (content_in c.args.node.now).entries in
     first_least-of_zero (overlap_growth g.row.D e c.args.new.now) (area_key g.row.D e c.args.new.now) count
     c.least_area-first.result c.least_area-first.ensures
-    (omega (arith, c.whole_overlap_growth-overlap.ensures.value))
+    (omega (arith, c.whole_overlap_growth-overlap.ensures))
 
 pub loop-k-init : goal.loop-k-init
 loop-k-init g c =
-    let e = items_of c.args.entries.now in
-    let count = length c.args.entries.now in
+    let e = (content_in c.args.node.now).entries in
+    let count = length (content_in c.args.node.now).entries in
     let f = c.least_area-first.result in
     let key : ℕ
     → List ℕ = λ k. numbers_with (overlap_growth g.row.D e c.args.new.now k) g.row.D e c.args.new.now k in
     let b = c.key_of-best.result in
     let is : numbers_of b ≡ key f =
-    numbers_of-is g.row.D e c.args.new.now f _ _ _ c.whole_overlap_growth-overlap.ensures.value
+    numbers_of-is g.row.D e c.args.new.now f _ _ _ c.whole_overlap_growth-overlap.ensures
     c.key_of-best.ensures in (
       subst (IsBest key count 0 (numbers_of b)) (sym (ap (λ (x : Key). x.position) c.key_of-best.ensures))
           (best_of_none key count (numbers_of b) f c.least_area-first.ensures.within is),
@@ -36,20 +36,20 @@ loop-k-init g c =
 
 pub loop-k-preserved-then-k-first : goal.loop-k-preserved-then-k-first
 loop-k-preserved-then-k-first g c =
-    let e = items_of c.args.entries.now in
+    let e = (content_in c.args.node.now).entries in
     let key : ℕ
     → List ℕ = λ k. numbers_with (overlap_growth g.row.D e c.args.new.now k) g.row.D e c.args.new.now k in
     let b = c.loop-k.best in
     let i = c.loop-k.invariant in (
-      best_keeps key (length c.args.entries.now) c.loop-k.k (numbers_of b) b.position i.0
+      best_keeps key (length (content_in c.args.node.now).entries) c.loop-k.k (numbers_of b) b.position i.0
           (subst (λ k. AtMost (numbers_of b) (key k)) (sym c.if-k-first.true) i.1),
       i.1,
     )
 
 pub loop-k-preserved : goal.loop-k-preserved
 loop-k-preserved g c =
-    let e = items_of c.args.entries.now in
-    let count = length c.args.entries.now in
+    let e = (content_in c.args.node.now).entries in
+    let count = length (content_in c.args.node.now).entries in
     let new = c.args.new.now in
     let key : ℕ → List ℕ = λ k. numbers_with (overlap_growth g.row.D e new k) g.row.D e new k in
     let k = c.loop-k.k in
@@ -66,7 +66,7 @@ loop-k-preserved g c =
           → ⊥ = λ h. let t = w.at_most.ensures.1 h in search rules in
           let taken : IsBest key count (k + 1) (numbers_of w.key_of-key.result) k =
           best_takes key count k (numbers_of b) b.position (numbers_of w.key_of-key.result) i.0
-          c.loop-k-test.true is refl fails in
+          (omega (arith, c.loop-k-test.true, c.len-k-end.ensures.count)) is refl fails in
           let less = AtMost-other (numbers_of b) (numbers_of w.key_of-key.result) refl fails in
           subst turn (sym w.best-is) (
             subst (IsBest key count (k + 1) (numbers_of w.key_of-key.result))
@@ -91,5 +91,5 @@ loop-k-preserved g c =
 
 pub returns : goal.returns
 returns g c =
-    first_least-of_best g.row.D (items_of c.args.entries.now) c.args.new.now (length c.args.entries.now)
+    first_least-of_best g.row.D (content_in c.args.node.now).entries c.args.new.now (length (content_in c.args.node.now).entries)
     c.loop-k.k _ _ (omega arith) c.loop-k.invariant.0

@@ -1,11 +1,15 @@
-use Rattle.std.proofs.Common.{◌*◌, ◌^◌, ◌≤◌}
-use Rattle.tree_node.specs.Nodes.{items_of}
+use Rattle.std.proofs.Common.{◌*◌, ◌^◌, ◌-◌, ◌≤◌, length}
+use Rattle.node_page.specs.Views.{content_in}
 use Rattle.choose_subtree.proofs.OverlapLaws.{GrewBy}
 use Rattle.choose_subtree.proofs.overlap.overlap_growth_up_to.Given as goal
 
-abbrev pub invariant-loop-i : goal.invariant-loop-i
-invariant-loop-i g l = record {
-  value : GrewBy g.row.D (items_of l.entries) l.new l.k l.i l.sum;
-  bound : l.sum ≤ l.i * 2 ^ 96;
+abbrev pub invariant-entries : goal.invariant-entries
+invariant-entries g l = record {
+  value : GrewBy g.row.D (content_in l.node).entries l.new l.k l.place l.sum;
+  few : l.place ≤ length (content_in l.node).entries;
+  bound : l.sum ≤ l.place * 2 ^ 96;
   small : l.sum ≤ l.limit;
 }
+
+abbrev pub decreases-entries : goal.decreases-entries
+decreases-entries g l = 100 - l.place

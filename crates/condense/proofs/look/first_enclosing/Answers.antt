@@ -6,7 +6,7 @@ use Rattle.box_math.specs.Bounds.{Within}
 use Rattle.tree_node.specs.Boxes.{box_at, no_item}
 use Rattle.tree_node.specs.Nodes.{Item, item_of}
 use Rattle.node_page.specs.Views.{content_in}
-use Rattle.reinsert.proofs.HolderLemmas.{unset_holds_not}
+use Rattle.choose_subtree.proofs.MaskLaws.{unset_holds_not}
 use Rattle.condense.proofs.HoldLemmas.{up_to}
 use Rattle.condense.proofs.look.first_enclosing.Goals as goal
 

@@ -35,10 +35,10 @@ returns-clause-way g c = λ h content there level.
     let view = content_in c.in_ok-node.node in
     let live = page_of_node D (m c.args.at.page) content there in
     let same = same_content D m c.args.at.page view content (c.in_ok-node.ensures.node h live) there in
-    let place = c.chosen_child-place.result in
+    let place = c.choose-place.result in
     let child = c.entry-child.result in
     let item : item_of child ≡ get_or view.entries place no_item = c.entry-child.ensures
-    ∙ get_or_default view.entries place (item_of child) no_item c.chosen_child-place.ensures.within in
+    ∙ get_or_default view.entries place (item_of child) no_item c.choose-place.ensures.within in
     let way : Way D =
     record { place = place; page = child.reference; bounds = child.bounds; least = c.least.result } in
     subst (λ items. IsWay D c.args.fanout c.args.at.level items c.args.bounds.now way)
@@ -46,7 +46,7 @@ returns-clause-way g c = λ h content there level.
       few = omega (arith, c.if-len-fanout.false, c.len.ensures.count);
       chosen =
           subst (λ l. IsChosenChild D l view.entries c.args.bounds.now place) c.in_ok-node.ensures.level
-          c.chosen_child-place.ensures;
+          c.choose-place.ensures.chosen;
       page = ap (λ (x : Item). x.reference) item;
       bounds = ap (λ (x : Item). x.bounds) item;
       least = c.least.ensures;
@@ -58,6 +58,6 @@ returns-clause-named g c = λ h.
     let above : 0 < view.level = omega (arith, c.requires.above, c.in_ok-node.ensures.level) in (
       view,
       c.in_ok-node.ensures.given_node h,
-      entry_names view view.entries c.chosen_child-place.result (item_of c.entry-child.result) refl above
-          c.chosen_child-place.ensures.within c.entry-child.ensures,
+      entry_names view view.entries c.choose-place.result (item_of c.entry-child.result) refl above
+          c.choose-place.ensures.within c.entry-child.ensures,
     )

@@ -1,6 +1,7 @@
 -- The goals of `PageCache::refill` that are proved by hand.
-use Rattle.std.proofs.Common.{inl, inr, ◌≡◌, ◌⊎◌, ◌∙◌, ◌∷◌, ◌<◌, ◌≤◌, ◌||◌, ℕ, List, Some, ap, arith, is_some}
+use Rattle.std.proofs.Common.{inl, inr, ◌≡◌, ◌⊎◌, ◌∙◌, ◌∷◌, ◌<◌, ◌≤◌, ◌||◌, ℕ, List, Some, ap, arith, false, is_some}
 use Rattle.std.proofs.Common.{refl, rules, subst, sym, ⊎_elim}
+use Rattle.std.proofs.lemmas.Bool.{false≢true}
 use Rattle.std.specs.Map.{keys_of}
 use Rattle.std.specs.Prelude.{Result, IsErrAnd}
 use Rattle.block_device.specs.Device.{IsBlock}
@@ -43,9 +44,10 @@ gives_up : {D A : Type 0} {m : _} {T : Type 0} {did : List ℕ → List ℕ → 
     (n : ℕ) (r : Result T Fault) (f : Fault) → IsErrAnd r (λ e. e ≡ f) → KeepsBlocks old new
     → m.faults (device_of new) ≡ faults_after f (m.faults (device_of old))
     → (held_pages new ≡ held_pages old) ⊎ (held_pages new ≡ with_room (capacity_of old) (held_pages old))
+    → is_some (frame_at old.frames.entries n) ≡ false
     → 2 ≤ n → n < next_of old → (IsHonest old → IsOfDevice f) → IsOfDevice f ⊎ IsDamage f
     → Refills n did old new r
-gives_up old new n r f refused kept faults room low within of_device other =
+gives_up old new n r f refused kept faults room absent low within of_device other =
     let map = map_kept old new kept in
     record {
       changes = changes_and_refuses old old new f r refused (no_call_changes old)
@@ -64,6 +66,7 @@ gives_up old new n r f refused kept faults room low within of_device other =
         uses = uses_refused old new n f r refused room;
         touched = kept.touched ∙ sym (untouched_by old.touched r f refused);
       };
+      held = λ is. absurd (false≢true (sym absent ∙ is));
       outside = λ out. absurd (⊎_elim (λ (less : n < 2). omega (arith, less, low))
           (λ (more : next_of old ≤ n). omega (arith, more, within)) out);
       faults = λ h _ _. at_error r f IsOfDevice refused (of_device h);
@@ -105,6 +108,7 @@ returns-then-promote g c =
         uses = search rules;
         touched = search rules;
       };
+      held = λ is. refl;
       outside = search rules;
       faults = λ h low below. tt;
       other_faults = tt;
@@ -142,6 +146,7 @@ returns-then-n-lt2 g c =
         uses = record { used = tt; refused = inl (c.promote.ensures.absent c.if-promote.false) };
         touched = same.touched ∙ sym (or_none old.touched);
       };
+      held = λ is. absurd (false≢true (sym (sym c.promote.ensures.answer ∙ c.if-promote.false) ∙ is));
       outside = λ _. (
         refl,
         unchanged old mid same.file (λ k. ap newer_bytes (same.frames k)) same.looks same.capacity,
@@ -165,6 +170,7 @@ returns-in_err-make_room g c =
     ∙ ap (λ (x : PageFile _ _). faults_after f (g.D.BlockDevice.faults (below.device_of x)))
     c.promote.ensures.same.file)
     (inl (failed.refused ∙ c.promote.ensures.absent c.if-promote.false))
+    (sym c.promote.ensures.answer ∙ c.if-promote.false)
     (omega (arith, c.if-n-lt2.false))
     (omega (
       arith,
@@ -192,6 +198,7 @@ returns-in_err-bytes g c =
     (faults ∙ sym (ap (λ x. faults_after x (g.D.BlockDevice.faults (device_of old))) memory))
     (inr (room_made_for old mid c.promote.ensures.same (c.promote.ensures.absent c.if-promote.false) new
     (ap (λ d. keys_of d.entries) c.blank.ensures.frames ∙ c.in_ok-make_room.ensures.held)))
+    (sym c.promote.ensures.answer ∙ c.if-promote.false)
     (omega (arith, c.if-n-lt2.false))
     (omega (
       arith,
@@ -295,6 +302,7 @@ returns g c =
         };
         touched = search rules;
       };
+      held = λ is. absurd (false≢true (sym (sym c.promote.ensures.answer ∙ c.if-promote.false) ∙ is));
       outside = search rules;
       faults = search rules;
       other_faults = search rules;

@@ -1,20 +1,15 @@
 -- The first least of the entries of a node that hold a new box, found one after the other.
-use Rattle.std.proofs.Common.{◌≡◌, ◌∙◌, ℕ, ◌+◌, ◌<◌, ◌≤◌, ◌⊎◌, ◌<ℤ◌, List, [], ◌∷◌, All, IfNone, IfSome}
-use Rattle.std.proofs.Common.{Option, None, Some, false, length, get_or, sym, subst, inl, inr, arith}
-use Rattle.std.proofs.lemmas.Bool.{cases_eq, cases_lt, false≢true}
-use Rattle.std.proofs.lemmas.Int.{ints}
-use Rattle.std.proofs.lemmas.Option.{slice_get-get_or}
-use Rattle.std.specs.Prelude.{slice_get}
-use Rattle.box_math.specs.Bounds.{Bounds, IsBox, Meets, Within, meets_test, on_axis}
-use Rattle.box_math.specs.Masks.{has_bit}
+use Rattle.std.proofs.Common.{◌≡◌, ℕ, ◌+◌, ◌<◌, ◌≤◌, ◌⊎◌, List, [], ◌∷◌, All, IfNone, IfSome}
+use Rattle.std.proofs.Common.{Option, None, Some, length, sym, subst, inl, inr, arith}
+use Rattle.std.proofs.lemmas.Bool.{cases_eq, cases_lt}
+use Rattle.box_math.specs.Bounds.{Bounds, IsBox, Within}
 use Rattle.box_math.specs.Measures.{volume_of}
-use Rattle.box_math.proofs.TestLaws.{meets_test_true}
 use Rattle.tree_node.specs.Boxes.{box_at, no_item}
 use Rattle.tree_node.specs.Keys.{AtMost}
 use Rattle.tree_node.specs.Nodes.{Item}
-use Rattle.choose_subtree.specs.Choice.{IsChosenChild}
-use Rattle.choose_subtree.proofs.HolderLaws.{holder_is_chosen, wide_has_volume}
-use Rattle.reinsert.specs.declared.way.Holder.{Holder}
+use Rattle.choose_subtree.specs.Choice.{IsChosenChild, growth_of}
+use Rattle.choose_subtree.proofs.HolderLaws.{holder_is_chosen}
+use Rattle.choose_subtree.specs.declared.holder.Holder.{Holder}
 
 -- of the first n entries this one holds the new box, and none of those that do comes before it
 pub record IsLeast (dims : ℕ) (items : List Item) (new : Bounds) (n : ℕ) (h : Holder) : Type 0 where
@@ -110,30 +105,12 @@ holder_takes dims items new n least area lesser within holds is alone both so_fa
       })
     ]
 
--- an entry that does not meet the box does not hold it
-pub unset_holds_not : (dims : ℕ) (items : List Item) (new : Bounds) (mask j : ℕ) → IsBox dims new
-    → ((place : ℕ) (item : Item) → slice_get items place ≡ Some item
-    → has_bit mask place ≡ meets_test dims item.bounds new) → has_bit mask j ≡ false → j < length items
-    → Within dims new (box_at items j) → ⊥
-unset_holds_not dims items new mask j box met unset lt inside =
-    let b = box_at items j in
-    let meets : Meets dims b new = λ axis h. let w = inside axis h in let s = (box.spans axis h).ordered in
-    (omega (arith, ints, w.0, s), omega (arith, ints, w.1, s)) in
-    false≢true
-    (sym unset ∙ met j (get_or items j no_item) (slice_get-get_or items j no_item lt)
-    ∙ (meets_test_true dims b new).1 meets)
-
--- the least of all is chosen, where none is flat
+-- the least of all is chosen, where each other one grows
 pub least_is_chosen : (dims level : ℕ) (items : List Item) (new : Bounds) (n : ℕ) (h : Holder)
     → length items ≤ n → All (λ (item : Item). IsBox dims item.bounds) items
-    → ((axis place : ℕ) (item : Item) → axis < dims → slice_get items place ≡ Some item
-    → on_axis item.bounds.low axis <ℤ on_axis item.bounds.high axis)
+    → ((j : ℕ) → j < length items → (Within dims new (box_at items j) → ⊥)
+    → 0 < growth_of dims (box_at items j) new)
     → IsLeast dims items new n h → IsChosenChild dims level items new h.place
-least_is_chosen dims level items new n h past boxes wide least =
-    holder_is_chosen dims level items new h.place least.within
-    (λ j lt. (
-      boxes j no_item lt,
-      wide_has_volume dims (box_at items j)
-          (λ axis below. wide axis j (get_or items j no_item) below (slice_get-get_or items j no_item lt)),
-    ))
-    least.holds (λ j lt inside. least.least j (omega (arith, past, lt)) lt inside)
+least_is_chosen dims level items new n h past boxes grow least =
+    holder_is_chosen dims level items new h.place least.within (λ j lt. boxes j no_item lt) grow least.holds
+    (λ j lt inside. least.least j (omega (arith, past, lt)) lt inside)
