@@ -5,3 +5,4 @@ pub mod Opened
 -- Lemmas on them, which laws cite.
 pub mod JudgedLaws
 pub mod EndingLaws
+pub mod Paired

@@ -16,23 +16,24 @@ ghost use Rattle.page_file.specs.Layout.{gate_block};
 ghost use Rattle.titled_pair.specs.Pair.{pair_of as files_of};
 
 use crate::judging::{Found, judge};
-use block_device::{BlockDevice, DeviceError};
+use crate::pairing::{JournalSource, pair_up};
+use block_device::DeviceError;
 use device_pair::{DevicePair, TwoDevices};
 use file_device::{FileDevice, HostFile, OpenError, journal_path, open_file, remove_journal};
 use journaled_device::{JournaledDevice, OpenFault};
-use marked_pair::{MARKED, MarkedPair, SHUT, gate_page, reads_as};
+use marked_pair::{MarkedPair, SHUT, gate_page};
 use std::alloc::{Alloc, Allocator, Global};
 use std::fs::{self, File, Files};
-use titled_pair::{TITLE_BLOCKS, TitledPair, make_title};
+use titled_pair::{TITLE_BLOCKS, TitledPair};
 
 /// A base and its journal, as a device that commits.
 pub type JournaledOver<P, A> = JournaledDevice<MarkedPair<TitledPair<P>>, A>;
 
 /// A file with its journal, as such a device.
-pub type JournaledFile = JournaledOver<Pair, Global>;
+pub type JournaledFile = JournaledOver<TwoDevices<SystemFile, SystemFile>, Global>;
 
-// A file and its journal.
-type Pair = TwoDevices<FileDevice<HostFile<File>>, FileDevice<HostFile<File>>>;
+// A file or its journal.
+type SystemFile = FileDevice<HostFile<File>>;
 
 /// Opens the file at `path` for reading and writing, and its journal beside it, which is made where there is
 /// none. With `create` an empty file is made where there is none.
@@ -49,7 +50,8 @@ pub fn open_journaled<R: Files<File = File> + Alloc>(
 ) -> Result<(JournaledFile, bool), OpenError> {
     let base = open_file(rt, path, create)?;
     let name = journal_name(rt, alloc, path)?;
-    let (pair, unended) = paired(rt, name.as_str(), base)?;
+    let name = name.as_str();
+    let (pair, unended) = pair_up(base, &mut JournalAt { rt, name })?;
     match open_over(pair, alloc) {
         Ok(device) => Ok((device, unended)),
         Err((error, _)) => Err(error),
@@ -69,55 +71,21 @@ pub(crate) fn journal_name<R: Files<File = File> + Alloc>(
     }
 }
 
-// Opens the journal of a file, and judges both. The pair has a title; whether the last run had not ended is
-// told.
-fn paired<R: Files<File = File>>(
-    rt: &R,
-    name: &str,
-    base: FileDevice<HostFile<File>>,
-) -> Result<(Pair, bool), OpenError> {
-    let mut base = base;
-    let marked = has_mark(&mut base)?;
-    // A file that has the mark can't be read without its journal.
-    let journal = match open_file(rt, name, !marked) {
-        Err(error) if marked && error.is_of_system() => return Err(OpenError::NoJournal),
-        opened => opened?,
-    };
-    let mut pair = TwoDevices::of(base, journal);
-    match judge_and_finish(&mut pair)? {
-        Found::Own => Ok((pair, marked)),
-        Found::Fresh | Found::Ended => Ok((renewed(rt, name, pair)?, false)),
-        Found::Missing => Err(OpenError::NoJournal),
-        Found::Foreign => Err(OpenError::OtherJournal),
-    }
+// The journal of a file, which the system opens, locks and removes by this path.
+#[derive(Drop)]
+struct JournalAt<'a, R> {
+    rt: &'a R,
+    name: &'a str,
 }
 
-// Whether the gate of a file has the mark of a run that has not ended.
-fn has_mark<D: BlockDevice>(base: &mut D) -> Result<bool, DeviceError> {
-    if base.blocks() == 0 {
-        return Ok(false);
+impl<R: Files<File = File>> JournalSource<SystemFile> for JournalAt<'_, R> {
+    fn open(&mut self, make: bool) -> Result<SystemFile, OpenError> {
+        open_file(self.rt, self.name, make)
     }
-    let mut gate = [0; 4096];
-    base.read(0, &mut gate)?;
-    Ok(reads_as(&gate, MARKED))
-}
 
-// The pair with a journal that is made anew, and has a title.
-fn renewed<R: Files<File = File>>(rt: &R, name: &str, pair: Pair) -> Result<Pair, OpenError> {
-    let mut pair = pair;
-    if pair.journal_blocks() != 0 {
-        let (base, old) = pair.into_devices();
-        if remove_journal(rt, name).is_err() {
-            return Err(OpenError::Refused);
-        }
-        drop(old);
-        pair = TwoDevices::of(base, open_file(rt, name, true)?);
+    fn remove(&mut self) -> Result<(), OpenError> {
+        remove_journal(self.rt, self.name).map_err(|_| OpenError::Refused)
     }
-    if pair.journal_blocks() != 0 {
-        return Err(OpenError::Refused); // another program made it meanwhile
-    }
-    make_title(&mut pair)?;
-    Ok(pair)
 }
 
 /// Judges, and finishes a clean end that was cut short, after which the base is read without its journal.

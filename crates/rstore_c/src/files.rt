@@ -1,17 +1,14 @@
-//! How a file and its journal are opened and ended, as `journaled_file` does with files of its own: by
-//! streams, over which C opens, locks and removes.
+//! How a file and its journal are opened and ended by streams, over which C opens, locks and removes.
 
-use crate::held::{Device, Pair};
-use block_device::{BlockDevice, DeviceError};
-use device_pair::{DevicePair, TwoDevices};
+use crate::held::{ByStreams, Device};
+use block_device::BlockDevice;
+use device_pair::TwoDevices;
 use file_device::{FileDevice, OpenError};
-use journaled_file::{Found, end_session, judge, judge_and_finish, open_over};
+use journaled_file::{Found, JournalSource, end_session, judge, open_over, pair_up};
 use layer_store::{Refusal, Store, Version, create_store, open_store};
-use marked_pair::{MARKED, reads_as};
 use std::alloc::Global;
 use std::rt::{Stdin, Stdout};
 use stream_file::{FileSide, JournalWish, StreamFile, ask_journal};
-use titled_pair::make_title;
 
 /// The two streams of C.
 #[derive(Drop)]
@@ -26,6 +23,11 @@ impl Streams {
     /// These two.
     pub fn of(input: Stdin, output: Stdout) -> Streams {
         Streams { input, output }
+    }
+
+    // Asks C for the journal.
+    fn ask(&mut self, wish: JournalWish) -> Result<(), OpenError> {
+        ask_journal(&mut self.input, &mut self.output, wish)
     }
 }
 
@@ -60,7 +62,12 @@ pub fn open(
     create: bool,
     cache: u32,
 ) -> Result<(Store<Device>, bool), Unopened> {
-    let (pair, unended) = paired(base, journal, anew, ask)?;
+    let mut source = JournalByStreams {
+        ask: &mut *ask,
+        journal: Some(journal),
+        anew: Some(anew),
+    };
+    let (pair, unended) = pair_up(side(base, FileSide::Base)?, &mut source)?;
     let device = match open_over(pair, alloc) {
         Ok(device) => device,
         Err((error, _)) => return Err(Unopened::File(error)),
@@ -111,82 +118,48 @@ pub fn open_to_read(
 pub fn end(device: Device, ask: &mut Streams) {
     let mut pair = device.into_pair().into_pair().into_pair();
     if let Ok(true) = end_session(&mut pair) {
-        let _ = ask_journal(&mut ask.input, &mut ask.output, JournalWish::Remove);
+        let _ = ask.ask(JournalWish::Remove);
     }
 }
 
 // The device of a file.
-fn side(
-    streams: Streams,
-    side: FileSide,
-) -> Result<FileDevice<StreamFile<Stdin, Stdout>>, OpenError> {
+fn side(streams: Streams, side: FileSide) -> Result<ByStreams, OpenError> {
     let Ok(file) = StreamFile::over(streams.input, streams.output, side) else {
         return Err(OpenError::Refused);
     };
     Ok(FileDevice::over(file)?)
 }
 
-// The journal of the file, which C opens or makes.
-fn journal_side(
-    streams: Streams,
-    ask: &mut Streams,
-    wish: JournalWish,
-) -> Result<FileDevice<StreamFile<Stdin, Stdout>>, OpenError> {
-    ask_journal(&mut ask.input, &mut ask.output, wish)?;
-    side(streams, FileSide::Journal)
+// The journal of a file, which C opens, locks and removes. It is opened by these streams, and once it was
+// removed by those of `anew`.
+#[derive(Drop)]
+struct JournalByStreams<'a> {
+    ask: &'a mut Streams,
+    journal: Option<Streams>,
+    anew: Option<Streams>,
 }
 
-// Opens the file and its journal, and judges both. The pair has a title; whether the last run had not ended
-// is told.
-fn paired(
-    base: Streams,
-    journal: Streams,
-    anew: Streams,
-    ask: &mut Streams,
-) -> Result<(Pair, bool), OpenError> {
-    let mut base = side(base, FileSide::Base)?;
-    let marked = has_mark(&mut base)?;
-    // A file that has the mark can't be read without its journal.
-    let wish = if marked {
-        JournalWish::Open
-    } else {
-        JournalWish::Make
-    };
-    let journal = match journal_side(journal, ask, wish) {
-        Err(error) if marked && error.is_of_system() => return Err(OpenError::NoJournal),
-        opened => opened?,
-    };
-    let mut pair = TwoDevices::of(base, journal);
-    match judge_and_finish(&mut pair)? {
-        Found::Own => Ok((pair, marked)),
-        Found::Fresh | Found::Ended => Ok((renewed(pair, anew, ask)?, false)),
-        Found::Missing => Err(OpenError::NoJournal),
-        Found::Foreign => Err(OpenError::OtherJournal),
+impl JournalSource<ByStreams> for JournalByStreams<'_> {
+    fn open(&mut self, make: bool) -> Result<ByStreams, OpenError> {
+        let first = self.journal.take();
+        let streams = if first.is_some() {
+            first
+        } else {
+            self.anew.take()
+        };
+        let Some(streams) = streams else {
+            return Err(OpenError::Refused);
+        };
+        let wish = if make {
+            JournalWish::Make
+        } else {
+            JournalWish::Open
+        };
+        self.ask.ask(wish)?;
+        side(streams, FileSide::Journal)
     }
-}
 
-// Whether the gate of a file has the mark of a run that has not ended.
-fn has_mark<D: BlockDevice>(base: &mut D) -> Result<bool, DeviceError> {
-    if base.blocks() == 0 {
-        return Ok(false);
+    fn remove(&mut self) -> Result<(), OpenError> {
+        self.ask.ask(JournalWish::Remove)
     }
-    let mut gate = [0; 4096];
-    base.read(0, &mut gate)?;
-    Ok(reads_as(&gate, MARKED))
-}
-
-// The pair with a journal that is made anew, and has a title.
-fn renewed(pair: Pair, anew: Streams, ask: &mut Streams) -> Result<Pair, OpenError> {
-    let mut pair = pair;
-    if pair.journal_blocks() != 0 {
-        let (base, old) = pair.into_devices();
-        ask_journal(&mut ask.input, &mut ask.output, JournalWish::Remove)?;
-        drop(old);
-        pair = TwoDevices::of(base, journal_side(anew, ask, JournalWish::Make)?);
-    }
-    if pair.journal_blocks() != 0 {
-        return Err(OpenError::Refused); // another program made it meanwhile
-    }
-    make_title(&mut pair)?;
-    Ok(pair)
 }

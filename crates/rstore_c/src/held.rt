@@ -8,14 +8,11 @@ use std::alloc::Global;
 use std::rt::{Stdin, Stdout};
 use stream_file::StreamFile;
 
-/// A file and its journal, by the streams that C serves.
-pub type Pair = TwoDevices<
-    FileDevice<StreamFile<Stdin, Stdout>>,
-    FileDevice<StreamFile<Stdin, Stdout>>,
->;
+/// A file or its journal, by streams that C serves.
+pub type ByStreams = FileDevice<StreamFile<Stdin, Stdout>>;
 
 /// The device that a store lies on.
-pub type Device = JournaledOver<Pair, Global>;
+pub type Device = JournaledOver<TwoDevices<ByStreams, ByStreams>, Global>;
 
 /// A session over a store in a file.
 #[derive(Drop)]

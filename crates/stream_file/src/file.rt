@@ -77,7 +77,8 @@ impl<I: Read + Drop, O: Write + Drop> StreamFile<I, O> {
 
     // Asks for 4096 bytes.
     fn get(&mut self, at: u64, into: &mut [u8; 4096]) -> io::Result<()>
-        ensures { OnOk result (Exchanges (request_bytes read_letter self.old.side at) (into.new ++ 0 ∷ [])
+        ensures lost { self.new.lost ≡ self.old.lost }
+        ensures asked { OnOk result (Exchanges (request_bytes read_letter self.old.side at) (into.new ++ 0 ∷ [])
             (O.contents self.old.output) (O.contents self.new.output) (I.remaining self.old.input)
             (I.remaining self.new.input)) }
     {
@@ -88,6 +89,7 @@ impl<I: Read + Drop, O: Write + Drop> StreamFile<I, O> {
 
     // Asks for 4096 bytes to be written.
     fn put(&mut self, at: u64, from: &[u8; 4096]) -> io::Result<()>
+        ensures lost { self.new.lost ≡ self.old.lost }
         ensures size { self.new.size ≡ self.old.size }
         ensures asked { OnOk result (Exchanges (request_bytes write_letter self.old.side at ++ from.now)
             (0 ∷ []) (O.contents self.old.output) (O.contents self.new.output) (I.remaining self.old.input)
@@ -100,6 +102,7 @@ impl<I: Read + Drop, O: Write + Drop> StreamFile<I, O> {
 
     // Has 4096 bytes written. A write that failed may have made the file longer, so its size is asked for.
     fn write(&mut self, at: u64, from: &[u8; 4096]) -> io::Result<()>
+        ensures lost { self.new.lost ≡ self.old.lost }
         ensures size { OnOk result (self.new.size ≡ max self.old.size (min (at + 4096) (2 ^ 64 - 1))) }
         ensures asked { OnOk result (Exchanges (request_bytes write_letter self.old.side at ++ from.now)
             (0 ∷ []) (O.contents self.old.output) (O.contents self.new.output) (I.remaining self.old.input)
