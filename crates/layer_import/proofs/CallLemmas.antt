@@ -1,13 +1,14 @@
 -- The calls of an import, one more.
 use Rattle.std.proofs.Common.{◌≡◌, ◌∙◌, ◌+◌, ◌<◌, ◌≤◌, ◌++◌, ℕ, List, [], ◌∷◌, ap, length, get_or}
 use Rattle.std.proofs.Common.{refl, sym}
-use Rattle.std.proofs.Common.{subst, take}
-use Rattle.std.proofs.Common.{Err, None, Ok, Result, Some, inl, inr, true}
-use Rattle.std.specs.Prelude.{IfErr, is_ok, nat_lt}
-use Rattle.std.proofs.lemmas.List.{take_all, take_more}
+use Rattle.std.proofs.Common.{drop, subst, take}
+use Rattle.std.proofs.Common.{Bool, Err, None, Ok, Result, Some, inl, inr, true}
+use Rattle.std.specs.Prelude.{IfErr, if◌then◌else◌, is_ok, nat_lt}
+use Rattle.std.proofs.lemmas.List.{append_assoc, map-append, take-append-drop, take_all, take_more}
 use Rattle.plain_table.specs.Answers.{done_answer}
 use Rattle.plain_table.specs.declared.refusal.Refusal.{Refusal}
 use Rattle.plain_table.specs.declared.refusal.Refusal.TheVariants as refusal
+use Rattle.plain_table.specs.Commands.{Command}
 use Rattle.plain_table.specs.Commands.Command.{Count, Create, Insert, Load}
 use Rattle.plain_table.specs.Loads.{GivenObjects}
 use Rattle.plain_table.specs.Step.{Answer}
@@ -19,8 +20,8 @@ use Rattle.layer_store.specs.Calls.{Calls, IsAsked}
 use Rattle.layer_store.specs.declared.store.Store.{Store}
 use Rattle.layer_store.proofs.SessionLemmas.{steps_join}
 use Rattle.layer_import.specs.declared.import.Unimported.{Unimported}
-use Rattle.layer_import.specs.Imports.{ArePut, EndsRefused, Inserts, IsPut, Puts, all_done, asked}
-use Rattle.layer_import.specs.Imports.{insertions, outcome_of}
+use Rattle.layer_import.specs.Imports.{ArePut, EndsRefused, Inserts, IsPut, IsPutRefused, Puts, all_done}
+use Rattle.layer_import.specs.Imports.{asked, commands_after, insertions, outcome_of}
 
 -- calls in turn, and one more
 pub calls_more : {D A : Type 0} {m : _} (old mid new : Store D A m) (rs : List Request) (as' : List Answer)
@@ -38,34 +39,22 @@ pub put_more : (rs : List Request) (r : Request) → ArePut rs → IsPut r → A
 put_more [] r h one = (one, tt)
 put_more (q ∷ rs) r h one = (h.0, put_more rs r h.1 one)
 
--- of two lists of objects, the insertions of one and then of the other
-asked-append : (layer : List ℕ) (xs ys : GivenObjects)
-    → asked (insertions layer (xs ++ ys)) ≡ asked (insertions layer xs) ++ asked (insertions layer ys)
-asked-append layer [] ys = refl
-asked-append layer (x ∷ xs) ys = ap (λ (rs : List Request). asked (insertions layer (x ∷ [])) ++ rs)
-    (asked-append layer xs ys)
-
-done-append : (layer : List ℕ) (xs ys : GivenObjects)
-    → all_done (insertions layer (xs ++ ys)) ≡ all_done (insertions layer xs) ++ all_done (insertions
-    layer ys)
-done-append layer [] ys = refl
-done-append layer (x ∷ xs) ys = ap (λ (as' : List Answer). all_done (insertions layer (x ∷ [])) ++ as')
-    (done-append layer xs ys)
-
 -- the insertions of the first objects, and of one more
 pub asked_more : (layer : List ℕ) (objects : GivenObjects) (i : ℕ) (d : ℕ × RawBox × ℕ) → i < length objects
     → asked (insertions layer (take (i + 1) objects))
     ≡ asked (insertions layer (take i objects)) ++ asked (insertions layer (get_or objects i d ∷ []))
 asked_more layer objects i d h =
     ap (λ (xs : GivenObjects). asked (insertions layer xs)) (take_more objects i d h)
-    ∙ asked-append layer (take i objects) (get_or objects i d ∷ [])
+    ∙ ap asked (map-append _ (take i objects) (get_or objects i d ∷ []))
+    ∙ map-append _ (insertions layer (take i objects)) _
 
 pub done_more : (layer : List ℕ) (objects : GivenObjects) (i : ℕ) (d : ℕ × RawBox × ℕ) → i < length objects
     → all_done (insertions layer (take (i + 1) objects))
     ≡ all_done (insertions layer (take i objects)) ++ all_done (insertions layer (get_or objects i d ∷ []))
 done_more layer objects i d h =
     ap (λ (xs : GivenObjects). all_done (insertions layer xs)) (take_more objects i d h)
-    ∙ done-append layer (take i objects) (get_or objects i d ∷ [])
+    ∙ ap all_done (map-append _ (take i objects) (get_or objects i d ∷ []))
+    ∙ map-append _ (insertions layer (take i objects)) _
 
 -- ---- objects that are inserted in turn
 
@@ -92,24 +81,38 @@ module _ {D A : Type 0} {m : _} (old mid new : Store D A m) (layer : List ℕ) (
       (calls_more old mid new rs xs (insertion (get_or objects i d)) Done first one))
 
   -- one that was refused
-  pub insertion_refused : (i : ℕ) (object : ℕ × RawBox × ℕ) (r : Refusal) → First mid i
-      → IsAsked mid (insertion object) (Refused r) new
-      → Inserts (Calls old new) layer objects (Err (record { refusal = r; object = Some object.0 }))
-  insertion_refused i object r first one = record {
-    requests = asked (insertions layer (take i objects)) ++ insertion object ∷ [];
-    answers = all_done (insertions layer (take i objects)) ++ Refused r ∷ [];
-    so = calls_more old mid new _ _ (insertion object) (Refused r) first one;
-    are_put = put_more _ (insertion object) (insertions_put layer (take i objects)) tt;
-    all = λ is. absurd (cc);
-    refused = record {
-      before = asked (insertions layer (take i objects));
-      answered = all_done (insertions layer (take i objects));
-      last = insertion object;
-      requests_are = refl;
-      answers_are = refl;
-      object = refl;
-    };
-  }
+  pub insertion_refused : (i : ℕ) (d : ℕ × RawBox × ℕ) (r : Refusal) → i < length objects → First mid i
+      → IsAsked mid (insertion (get_or objects i d)) (Refused r) new
+      → Inserts (Calls old new) layer objects
+      (Err (record { refusal = r; object = Some (get_or objects i d).0 }))
+  insertion_refused i d r h first one =
+      let object = get_or objects i d in
+      let done = insertions layer (take i objects) in
+      let last = Insert layer object.0 object.1 object.2 in record {
+        requests = asked done ++ Asks last ∷ [];
+        answers = all_done done ++ Refused r ∷ [];
+        so = calls_more old mid new _ _ (Asks last) (Refused r) first one;
+        are_put = put_more _ (Asks last) (insertions_put layer (take i objects)) tt;
+        all = λ is. absurd (cc);
+        refused = record {
+          done = done;
+          last = last;
+          left = insertions layer (drop (i + 1) objects);
+          commands_are = ap (insertions layer) (parted i d h)
+              ∙ map-append _ (take i objects) (object ∷ drop (i + 1) objects);
+          requests_are = sym (map-append _ done (last ∷ []));
+          answers_are = refl;
+          object = refl;
+        };
+      }
+    where
+      -- the objects before one, it, and those after it
+      parted : (i : ℕ) (d : ℕ × RawBox × ℕ) → i < length objects
+          → objects ≡ take i objects ++ get_or objects i d ∷ drop (i + 1) objects
+      parted i d h =
+          sym (take-append-drop (i + 1) objects)
+          ∙ ap (λ (xs : GivenObjects). xs ++ drop (i + 1) objects) (take_more objects i d h)
+          ∙ append_assoc (take i objects) (get_or objects i d ∷ []) (drop (i + 1) objects)
 
 -- all of them
 pub all_inserted : {D A : Type 0} {m : _} (old new : Store D A m) (layer : List ℕ) (objects : GivenObjects)
@@ -135,34 +138,31 @@ done_is : (loaded : Result (Unit {0}) Refusal) → is_ok (outcome_of loaded) ≡
 done_is (Ok u) is = refl
 done_is (Err r) is = absurd (cc)
 
--- and what was refused as refused
-load_refused : (loaded : Result (Unit {0}) Refusal) (before : List Request) (answered : List Answer)
-    (layer : List ℕ) (objects : GivenObjects)
+-- and what was refused as refused, after these commands
+load_refused : (loaded : Result (Unit {0}) Refusal) (done commands : List Command) (layer : List ℕ)
+    (objects : GivenObjects) → commands ≡ done ++ Load layer objects ∷ []
     → IfErr (outcome_of loaded)
-    (EndsRefused (before ++ Asks (Load layer objects) ∷ []) (answered ++ done_answer loaded ∷ []))
-load_refused (Ok u) before answered layer objects = tt
-load_refused (Err r) before answered layer objects = record {
-  before = before;
-  answered = answered;
-  last = Asks (Load layer objects);
+    (EndsRefused commands (asked (done ++ Load layer objects ∷ [])) (all_done done ++ done_answer loaded ∷ []))
+load_refused (Ok u) done commands layer objects are = tt
+load_refused (Err r) done commands layer objects are = record {
+  done = done;
+  last = Load layer objects;
+  left = [];
+  commands_are = are;
   requests_are = refl;
   answers_are = refl;
   object = refl;
 }
 
--- requests before those of which the last was refused
-refused_after : (q : Request) (a : Answer) (rs : List Request) (as' : List Answer)
-    (outcome : Result (Unit {0}) Unimported) → IfErr outcome (EndsRefused rs as')
-    → IfErr outcome (EndsRefused (q ∷ rs) (a ∷ as'))
-refused_after q a rs as' (Ok u) h = tt
-refused_after q a rs as' (Err why) h = record {
-  before = q ∷ h.before;
-  answered = a ∷ h.answered;
-  last = h.last;
-  requests_are = ap (λ (xs : List Request). q ∷ xs) h.requests_are;
-  answers_are = ap (λ (xs : List Answer). a ∷ xs) h.answers_are;
-  object = h.object;
-}
+-- the count before them
+refused_after : (counted : Answer) (layer : List ℕ) (dims fanout : ℕ) (objects : GivenObjects)
+    (rest : List Request) (answered : List Answer) (outcome : Result (Unit {0}) Unimported)
+    → IfErr outcome (EndsRefused (commands_after counted layer dims fanout objects) rest answered)
+    → IfErr outcome
+    (IsPutRefused layer dims fanout objects (Asks (Count layer) ∷ rest) (counted ∷ answered))
+refused_after counted layer dims fanout objects rest answered (Ok u) h = tt
+refused_after counted layer dims fanout objects rest answered (Err why) h =
+    inr (counted, rest, answered, refl, refl, h)
 
 module _ {D A : Type 0} {m : _} (old mid new : Store D A m) (layer : List ℕ) (dims fanout : ℕ)
     (objects : GivenObjects) where
@@ -176,7 +176,10 @@ module _ {D A : Type 0} {m : _} (old mid new : Store D A m) (layer : List ℕ) (
     so = (mid, count, (new, load, refl));
     are_put = (tt, (tt, tt));
     all = λ is. inl (refl, ap (λ (a : Answer). Counted 0 ∷ a ∷ []) (done_is loaded is));
-    refused = load_refused loaded (Asks (Count layer) ∷ []) (Counted 0 ∷ []) layer objects;
+    refused =
+        refused_after (Counted 0) layer dims fanout objects (Asks (Load layer objects) ∷ [])
+        (done_answer loaded ∷ []) (outcome_of loaded)
+        (load_refused loaded [] (Load layer objects ∷ []) layer objects refl);
   }
 
   -- it had objects
@@ -197,7 +200,10 @@ module _ {D A : Type 0} {m : _} (old mid new : Store D A m) (layer : List ℕ) (
           ap (λ (as' : List Answer). Counted count ∷ as') all.1,
         ));
     refused =
-        refused_after (Asks (Count layer)) (Counted count) rest.requests rest.answers outcome rest.refused;
+        refused_after (Counted count) layer dims fanout objects rest.requests rest.answers outcome
+        (subst (λ (b : Bool). IfErr outcome
+        (EndsRefused (if b then insertions layer objects else Load layer objects ∷ []) rest.requests
+        rest.answers)) (sym some) rest.refused);
   }
 
   -- it was not there, and was not made
@@ -210,14 +216,22 @@ module _ {D A : Type 0} {m : _} (old mid new : Store D A m) (layer : List ℕ) (
     so = (mid, count, (new, create, refl));
     are_put = (tt, (tt, tt));
     all = λ is. absurd (cc);
-    refused = record {
-      before = Asks (Count layer) ∷ [];
-      answered = Refused refusal.NoLayer ∷ [];
-      last = Asks (Create layer dims fanout);
-      requests_are = refl;
-      answers_are = refl;
-      object = refl;
-    };
+    refused = inr (
+      Refused refusal.NoLayer,
+      Asks (Create layer dims fanout) ∷ [],
+      Refused r ∷ [],
+      refl,
+      refl,
+      record {
+        done = [];
+        last = Create layer dims fanout;
+        left = Load layer objects ∷ [];
+        commands_are = refl;
+        requests_are = refl;
+        answers_are = refl;
+        object = refl;
+      },
+    );
   }
 
   -- or it was
@@ -237,8 +251,11 @@ module _ {D A : Type 0} {m : _} (old mid new : Store D A m) (layer : List ℕ) (
           ap (λ (a : Answer). Refused refusal.NoLayer ∷ Done ∷ a ∷ []) (done_is loaded is),
         ));
     refused =
-        load_refused loaded (Asks (Count layer) ∷ Asks (Create layer dims fanout) ∷ [])
-        (Refused refusal.NoLayer ∷ Done ∷ []) layer objects;
+        refused_after (Refused refusal.NoLayer) layer dims fanout objects
+        (Asks (Create layer dims fanout) ∷ Asks (Load layer objects) ∷ []) (Done ∷ done_answer loaded ∷ [])
+        (outcome_of loaded)
+        (load_refused loaded (Create layer dims fanout ∷ [])
+        (Create layer dims fanout ∷ Load layer objects ∷ []) layer objects refl);
   }
 
 -- or nothing was asked further
@@ -251,12 +268,5 @@ puts_none old new layer dims fanout objects r count = record {
   so = (new, count, refl);
   are_put = (tt, tt);
   all = λ is. absurd (cc);
-  refused = record {
-    before = [];
-    answered = [];
-    last = Asks (Count layer);
-    requests_are = refl;
-    answers_are = refl;
-    object = refl;
-  };
+  refused = inl (refl, refl, refl);
 }

@@ -95,14 +95,16 @@ abbrev pub object_of : Request → Option ℕ
 object_of (Asks (Insert layer id box tag)) = Some id
 object_of r = None
 
--- the last of the requests was answered by this refusal, and its object is named
-pub record EndsRefused (requests : List Request) (answers : List Answer) (why : Unimported) : Type 0 where
-  pub before : List Request
-  pub answered : List Answer
-  pub last : Request
-  pub requests_are : requests ≡ before ++ last ∷ []
-  pub answers_are : answers ≡ answered ++ Refused why.refusal ∷ []
-  pub object : why.object ≡ object_of last
+-- Of these commands the first were asked and done, and then one was refused, whose object is named.
+pub record EndsRefused (commands : List Command) (requests : List Request) (answers : List Answer)
+    (why : Unimported) : Type 0 where
+  pub done : List Command
+  pub last : Command
+  pub left : List Command
+  pub commands_are : commands ≡ done ++ last ∷ left
+  pub requests_are : requests ≡ asked (done ++ last ∷ [])
+  pub answers_are : answers ≡ all_done done ++ Refused why.refusal ∷ []
+  pub object : why.object ≡ object_of (Asks last)
 
 -- what is told where a call that names no object was answered so
 abbrev pub outcome_of : Result (Unit {0}) Refusal → Result (Unit {0}) Unimported
@@ -119,7 +121,7 @@ pub record Inserts (So : List Request → List Answer → Type 0) (layer : List 
   pub are_put : ArePut requests
   pub all : is_ok outcome ≡ true
       → (requests ≡ asked (insertions layer objects)) × (answers ≡ all_done (insertions layer objects))
-  pub refused : IfErr outcome (EndsRefused requests answers)
+  pub refused : IfErr outcome (EndsRefused (insertions layer objects) requests answers)
 
 -- where it went well: the layer had no object and was loaded
 abbrev pub IsLoaded : List ℕ → GivenObjects → List Request → List Answer → Type 0
@@ -144,6 +146,22 @@ abbrev pub AreAllPut : List ℕ → ℕ → ℕ → GivenObjects → List Reques
 AreAllPut layer dims fanout objects requests answers = IsLoaded layer objects requests answers
     ⊎ (IsMade layer dims fanout objects requests answers ⊎ IsFilled layer objects requests answers)
 
+-- what is asked once the objects of the layer were counted, by the answer
+abbrev pub commands_after : Answer → List ℕ → ℕ → ℕ → GivenObjects → List Command
+commands_after (Counted count) layer dims fanout objects =
+    if nat_lt 0 count then insertions layer objects else Load layer objects ∷ []
+commands_after (Refused refusal.NoLayer) layer dims fanout objects =
+    Create layer dims fanout ∷ Load layer objects ∷ []
+commands_after other layer dims fanout objects = []
+
+-- the count was refused, or one of the commands after it
+abbrev pub IsPutRefused : List ℕ → ℕ → ℕ → GivenObjects → List Request → List Answer → Unimported → Type 0
+IsPutRefused layer dims fanout objects requests answers why =
+    ((requests ≡ Asks (Count layer) ∷ []) × (answers ≡ Refused why.refusal ∷ []) × (why.object ≡ None))
+    ⊎ ((counted : Answer) × (rest : List Request) × (answered : List Answer)
+    × (requests ≡ Asks (Count layer) ∷ rest) × (answers ≡ counted ∷ answered)
+    × EndsRefused (commands_after counted layer dims fanout objects) rest answered why)
+
 -- objects were put into a layer, so that `So` holds of requests and answers, or the last request was refused
 pub record Puts (So : List Request → List Answer → Type 0) (layer : List ℕ) (dims fanout : ℕ)
     (objects : GivenObjects) (outcome : Result (Unit {0}) Unimported) : Type 0 where
@@ -152,19 +170,18 @@ pub record Puts (So : List Request → List Answer → Type 0) (layer : List ℕ
   pub so : So requests answers
   pub are_put : ArePut requests
   pub all : is_ok outcome ≡ true → AreAllPut layer dims fanout objects requests answers
-  pub refused : IfErr outcome (EndsRefused requests answers)
+  pub refused : IfErr outcome (IsPutRefused layer dims fanout objects requests answers)
 
 -- ---- why objects were not put in
 
--- The store was asked what an import asks, and then the last call was refused so; or its closing was, where
--- all objects were put in.
+-- The store was asked how many objects the layer has, and then the commands after that, until one was refused
+-- so; or its closing was, where all objects were put in.
 pub record IsUnimported {D A : Type 0} {m : _} (store : Store D A m) (layer : List ℕ) (dims fanout : ℕ)
     (objects : GivenObjects) (why : Unimported) : Type 0 where
   pub requests : List Request
   pub answers : List Answer
   pub next : Store D A m
   pub calls : Calls store next requests answers
-  pub are_put : ArePut requests
-  pub refused : EndsRefused requests answers why
+  pub refused : IsPutRefused layer dims fanout objects requests answers why
       ⊎ (AreAllPut layer dims fanout objects requests answers × (why.object ≡ None)
       × ((t : Table) → IsInState next (Alive t) → IsMemoryOrDevice why.refusal))

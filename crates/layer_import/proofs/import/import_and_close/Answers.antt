@@ -46,7 +46,6 @@ returns-in-Err-clause-why g c = let puts = c.in-Err.ensures in record {
   answers = puts.answers;
   next = c.put_all.new.store;
   calls = puts.so;
-  are_put = puts.are_put;
   refused = inl puts.refused;
 }
 
@@ -56,7 +55,6 @@ returns-in-Err-close-clause-why g c = let puts = c.in_default.ensures in record 
   answers = puts.answers;
   next = c.put_all.new.store;
   calls = puts.so;
-  are_put = puts.are_put;
   refused = inr (
     puts.all refl,
     ap (λ (why : Unimported). why.object) c.from.ensures,

@@ -8,7 +8,7 @@ pub returns-in-Err : goal.returns-in-Err
 returns-in-Err g c =
     insertion_refused c.args.store.now c.loop-object.store c.insert.new.self c.args.layer.now
     c.args.objects.now
-    c.loop-object.object-index _ c.in-Err.refusal c.loop-object.invariant
+    c.loop-object.object-index _ c.in-Err.refusal c.loop-object-test.true c.loop-object.invariant
     (asked_by_change
     (λ honest b left. g.met.D.BlockDevice.only_now (device_in c.loop-object.store) b honest left)
     (λ e. absurd (cc)) c.in-Err.ensures.changes)
