@@ -23,7 +23,7 @@ import subprocess
 import sys
 import tempfile
 
-UNENDED = "rstore: the last run did not end; what it had closed is kept\n"
+UNENDED = "rstore: the last run did not end; what changed after its last closing is lost\n"
 DEVICE = "fail 17 Device"
 FAILED = "fail 19 StoreFailed"
 FILLER = 192 * 1024

@@ -18,7 +18,7 @@ import time
 
 from plain_table import RandomText, Table
 
-UNENDED = "rstore: the last run did not end; what it had closed is kept\n"
+UNENDED = "rstore: the last run did not end; what changed after its last closing is lost\n"
 SIGNALS = [signal.SIGKILL, signal.SIGINT, signal.SIGTERM]
 KILLS_OF_A_FILE = 40
 

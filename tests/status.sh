@@ -113,7 +113,7 @@ unopened='rstore: cannot open FILE'
 missing="$unopened: no such file"
 failed='rstore: input or output failed'
 in_use='rstore: FILE is in use'
-unended='rstore: the last run did not end; what it had closed is kept'
+unended='rstore: the last run did not end; what changed after its last closing is lost'
 closed_stream='rstore: a standard stream is closed'
 readers='1 2 3 4 5 6 7 8 9 10'
 

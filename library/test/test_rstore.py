@@ -426,7 +426,7 @@ def exchange(folder: str, program: str) -> None:
     os.waitpid(pid, 0)
     status, said, told = run([path], "get a 9003\nget a 9004\n")
     assert said.startswith("ok 1\n9003 0 0 1 1\nfail 10 NoObject"), said
-    assert told == "rstore: the last run did not end; what it had closed is kept\n", told
+    assert told == "rstore: the last run did not end; what changed after its last closing is lost\n", told
     print("python: files exchanged with the program both ways")
 
 
