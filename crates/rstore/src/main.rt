@@ -13,7 +13,8 @@ use std::process::ExitCode;
 use std::{env, io};
 
 // What is said where the last run over a file was cut short after a closing.
-const UNENDED: &[u8] = b"rstore: the last run did not end; what changed after its last closing is lost\n";
+const UNENDED: &[u8] =
+    b"rstore: the last run did not end; what changed after its last closing is lost\n";
 
 /// Runs on the words of the command line, standard input and standard output, and ends with the status of the
 /// run.
