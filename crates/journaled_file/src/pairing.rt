@@ -30,8 +30,9 @@ pub fn pair_up<B: BlockDevice + Drop, J: BlockDevice + Drop, S: JournalSource<J>
     base: B,
     source: &mut S,
 ) -> Result<(TwoDevices<B, J>, bool), OpenError>
-    ensures { IfOk result (λ r. B.honest r.0.base → J.honest r.0.journal
-        → IsPaired (B.shown base) (B.shown r.0.base) (J.shown r.0.journal) r.1) }
+    ensures { IfOk result (λ r. ⟦<TwoDevices<B, J> as DevicePair>⟧.honest r.0
+        → IsPaired (B.shown base) (⟦<TwoDevices<B, J> as DevicePair>⟧.base r.0)
+        (⟦<TwoDevices<B, J> as DevicePair>⟧.journal r.0) r.1) }
 {
     let mut base = base;
     let marked = has_mark(&mut base)?;
@@ -69,8 +70,8 @@ fn renewed<B: BlockDevice + Drop, J: BlockDevice + Drop, S: JournalSource<J>>(
     pair: TwoDevices<B, J>,
     source: &mut S,
 ) -> Result<TwoDevices<B, J>, OpenError>
-    ensures { IfOk result (λ new. B.honest new.base → J.honest new.journal
-        → IsNew (B.shown new.base) (J.shown new.journal)) }
+    ensures { IfOk result (λ new. ⟦<TwoDevices<B, J> as DevicePair>⟧.honest new
+        → IsNew (⟦<TwoDevices<B, J> as DevicePair>⟧.base new) (⟦<TwoDevices<B, J> as DevicePair>⟧.journal new)) }
 {
     let mut pair = pair;
     if pair.journal_blocks() != 0 {
