@@ -1,5 +1,5 @@
 -- What a check of an identifier tree finds.
-use Rattle.std.specs.Prelude.{◌≡◌, ◌&&◌, ◌==◌, ℕ, Bool, false, ◌+◌, ◌<◌, ◌≤◌, List, [], ◌∷◌, ◌++◌, All, Some}
+use Rattle.std.specs.Prelude.{◌≡◌, ◌⊎◌, ◌&&◌, ◌==◌, ℕ, Bool, false, ◌+◌, ◌<◌, ◌≤◌, List, [], ◌∷◌, ◌++◌, All, Some}
 use Rattle.std.specs.Prelude.{length, slice_index_or, take}
 use Rattle.std.specs.BTreeSet.{BTreeSet}
 use Rattle.bucket_page.specs.Layout.{Entry}
@@ -152,3 +152,7 @@ Leads dims pages page (next ∷ walk) last =
 -- some walk from a page comes to another
 abbrev pub ComesInTree : ℕ → PageMap → ℕ → ℕ → Type 0
 ComesInTree dims pages page last = (walk : List ℕ) × Leads dims pages page walk last
+
+-- the place of an identifier that a search found is in no leaf, or in one that a walk from the root comes to
+abbrev pub IsMet : ℕ → PageMap → ℕ → ℕ → Type 0
+IsMet dims pages root leaf = (leaf ≡ 0) ⊎ ComesInTree dims pages root leaf

@@ -1,14 +1,15 @@
 -- Rows of children taken apart at the child where an identifier is, and nodes that stand in pages.
 use Rattle.std.specs.Prelude.{◌≡◌, ℕ, ◌+◌, ◌-◌, ◌<◌, ◌≤◌, Bool, List, length, slice_index_or, Option, Some}
-use Rattle.std.specs.Prelude.{None, ⊤, if◌then◌else◌, ◌==◌}
+use Rattle.std.specs.Prelude.{None, ⊤, if◌then◌else◌, ◌==◌, ◌⊎◌}
+use Rattle.std.specs.FinMap as map
 use Rattle.box_math.specs.Objects.{Object}
 use Rattle.bucket_page.specs.Layout.{Entry}
 use Rattle.id_words.specs.Objects.{kept_in, times_in}
 use Rattle.id_page.specs.Leaf.{most_objects}
 use Rattle.node_page.specs.Parts.{Part}
 use Rattle.node_page.specs.Standing.{PageMap}
-use Rattle.id_tree.specs.Tree.{HasNode, IsFilled, IsParted, Row, end, more, object, child, RowStands}
-use Rattle.id_tree.specs.Tree.{links_of, objects_in, occurs}
+use Rattle.id_tree.specs.Tree.{HasNode, IdTree, IsFilled, IsParted, Row, end, more, object, child, RowStands}
+use Rattle.id_tree.specs.Tree.{links_of, objects_in, objects_of, occurs}
 
 -- two rows one after the other
 abbrev pub joined : Row → Row → Row
@@ -100,6 +101,23 @@ pub record IsBelow (page level id : ℕ) (row : Row) (leaf place : ℕ) (kept : 
 abbrev pub IsFoundBelow : ℕ → ℕ → ℕ → Row → Option (ℕ × ℕ × Object) → Type 0
 IsFoundBelow page level id row None = kept_in id (objects_in row) ≡ None
 IsFoundBelow page level id row (Some found) = IsBelow page level id row found.0 found.1 found.2
+
+-- the leaf to which the way from a node leads, if the node has one
+abbrev pub LeadsBelow : ℕ → ℕ → ℕ → Row → Option ℕ → Type 0
+LeadsBelow page level id row None = kept_in id (objects_in row) ≡ None
+LeadsBelow page level id row (Some leaf) = (last : Row) × Reaches id level page row leaf last
+
+-- a way leads from the root to this leaf
+pub record LeadsToLeaf (t : IdTree) (id leaf : ℕ) : Type 0 where
+  pub last : Row
+  pub way : Reaches id t.level t.page t.row leaf last
+
+-- where a table has an identifier, or would get it: in the leaf to which the way leads, and there in this
+-- place where its object is there; leaf 0 where the root has no child
+pub record IsLeafPlace (t : IdTree) (id leaf place : ℕ) : Type 0 where
+  pub there : (kept : Object) → map.get (objects_of t) id ≡ Some kept
+      → IsBelow t.page t.level id t.row leaf place kept
+  pub missing : map.get (objects_of t) id ≡ None → (leaf ≡ 0) ⊎ LeadsToLeaf t id leaf
 
 -- a node that stands, without an identifier twice
 pub record MaySeek (dims : ℕ) (pages : PageMap) (page level : ℕ) (edge : Bool) (row : Row) : Type 0 where

@@ -12,14 +12,16 @@ ghost use Rattle.node_page.specs.Faults.{IsNoDamage};
 ghost use Rattle.id_words.specs.Damage.{MayBreakAt};
 ghost use Rattle.id_words.specs.Objects.{kept_in};
 ghost use Rattle.id_tree.specs.Changes.{Sets, most_added_pages};
-ghost use Rattle.id_tree.specs.Checked.{ComesInTree};
+ghost use Rattle.id_tree.specs.Checked.{ComesInTree, IsMet};
+ghost use Rattle.id_tree.specs.Rows.{IsLeafPlace};
 ghost use Rattle.id_tree.specs.Steps.{Becomes, IsFullBelow, IsFullTree, MayGrow, Widens};
 ghost use Rattle.id_tree.specs.Steps.Step.{adds};
 ghost use Rattle.id_tree.specs.Tidy.{KeepsTidy};
 ghost use Rattle.id_tree.specs.Tree.{IdTree, Row, TreeStands, objects_in, objects_of};
 
-use crate::below::look_below;
+use crate::below::{has_room, look_below};
 use crate::looks::step;
+use crate::search::LeafPlace;
 use crate::pushing::push;
 use crate::rooting::{deepen, start};
 use crate::splitting::split;
@@ -33,19 +35,21 @@ use std::alloc::Allocator;
 /// The greatest level of a root: a tree with one level more would have more pages than there are numbers.
 pub(crate) const MOST_LEVELS: u8 = 6;
 
-/// Adds an object to the table, which does not have its identifier. The gate has to be open.
+/// Adds an object to the table, which does not have its identifier, where [`find`](crate::find) found that it
+/// would come. The gate has to be open.
+///
+/// A leaf with room is all that it looks at, which no clause says; else it walks down from the root.
 ///
 /// Pages with zeros in all bytes that they do not name stay so, and so are new ones.
 ///
 /// With a sound map, where the pages stand for a table at that root, a refusal is `Memory` or `Device`, or
-/// `NoPages` where each page number is live. On other pages it may be `Damaged` too. On an honest device,
-/// where
-/// no page is touched, that comes with the number of a page that a walk down the forks comes to, or, where
-/// the
+/// `NoPages` where each page number is live. On other pages it may be `Damaged` too. On an honest device, where
+/// no page is touched, that comes with the number of a page that a walk down the forks comes to, or, where the
 /// map is not sound, of a page given out that is not live.
 pub fn add<const D: usize, B: BlockDevice, A: Allocator + Copy>(
     cache: &mut PageCache<B, A>,
     root: u32,
+    at: LeafPlace,
     id: u64,
     bounds: &BBox<D>,
     tag: u32,
@@ -54,21 +58,26 @@ pub fn add<const D: usize, B: BlockDevice, A: Allocator + Copy>(
     requires open { gate_of cache.old ≡ Open }
     ensures changes { Changes cache.old cache.new result }
     ensures sound { IsPageMap cache.old → (t : IdTree) → t.page ≡ root → TreeStands D (pages cache.old) t
-        → IsPageMap cache.new }
+        → IsLeafPlace t id at.leaf at.place → IsPageMap cache.new }
     ensures tidy { IsPageMap cache.old → (t : IdTree) → t.page ≡ root → TreeStands D (pages cache.old) t
+        → IsLeafPlace t id at.leaf at.place
         → OnOk result (KeepsTidy D (pages cache.old) (pages cache.new)) }
     ensures added { IsPageMap cache.old → (t : IdTree) → t.page ≡ root → TreeStands D (pages cache.old) t
-        → map.contains_key (objects_of t) id ≡ false
+        → IsLeafPlace t id at.leaf at.place → map.contains_key (objects_of t) id ≡ false
         → OnOk result (Sets D (pages cache.old) (pages cache.new) t id (bounds.now, tag)) }
     ensures grows { Grows most_added_pages cache.old cache.new }
     ensures faults { IsPageMap cache.old → (t : IdTree) → t.page ≡ root → TreeStands D (pages cache.old) t
-        → IfErr result (IsNoDamage cache.new) }
-    ensures damage { IsHonest cache.old → touched_of cache.new ≡ false
+        → IsLeafPlace t id at.leaf at.place → IfErr result (IsNoDamage cache.new) }
+    ensures damage { IsHonest cache.old → IsMet D (given cache.old) root at.leaf → touched_of cache.new ≡ false
         → IfErr result (λ f. (n : ℕ) → f ≡ fault.Damaged n
         → ComesInTree D (given cache.old) root n ⊎ MayBreakAt cache.old n) }
     ensures other_faults { IfErr result (λ f. IsNoDamage cache.new f ⊎ IsDamage f) }
 {
-    add_object::<D, B, A>(cache, root, &(id, (*bounds, tag)))
+    let object = (id, (*bounds, tag));
+    if at.leaf != 0 && has_room::<D, B, A>(cache, at.leaf, 0)? {
+        return push(cache, at.leaf, &object);
+    }
+    add_object(cache, root, &object)
 }
 
 // Adds an object to the table at a root.

@@ -76,7 +76,7 @@ pub(crate) fn is_last(edge: bool, place: usize, count: usize) -> bool
 }
 
 // Whether the node of that level at a page has room for an object or a child more, in one look.
-fn has_room<const D: usize, B: BlockDevice, A: Allocator + Copy>(
+pub(crate) fn has_room<const D: usize, B: BlockDevice, A: Allocator + Copy>(
     cache: &mut PageCache<B, A>,
     number: u32,
     level: u8,

@@ -33,5 +33,5 @@ pub use filling::fill;
 pub use freeing::free_all;
 pub use making::make;
 pub use removing::remove;
-pub use search::get;
+pub use search::{LeafPlace, Sought, find};
 pub use updating::update;

@@ -9,8 +9,9 @@ ghost use Rattle.page_file.specs.declared.gate.Gate.TheVariants.{Open};
 ghost use Rattle.page_cache.specs.Cache.{Grows, IsHonest, IsPageMap, gate_of, given, pages, touched_of};
 ghost use Rattle.page_cache.specs.Calls.{Changes};
 ghost use Rattle.id_tree.specs.Changes.{Removes};
-ghost use Rattle.id_tree.specs.Checked.{ComesInTree};
+ghost use Rattle.id_tree.specs.Checked.{ComesInTree, IsMet};
 ghost use Rattle.id_tree.specs.Joining.{Has, IsAmong, IsOnly, MayShrink};
+ghost use Rattle.id_tree.specs.Rows.{IsLeafPlace};
 ghost use Rattle.id_tree.specs.Steps.{Becomes};
 ghost use Rattle.id_tree.specs.Steps.Step.{drops};
 ghost use Rattle.id_tree.specs.Tidy.{KeepsTidy};
@@ -23,16 +24,19 @@ use crate::lowering::lower;
 use crate::moving::take_at;
 use crate::pairs::put_and_free;
 use crate::rooting::no_child;
+use crate::search::LeafPlace;
 use block_device::BlockDevice;
 use page_cache::PageCache;
 use page_file::Fault;
 use std::alloc::Allocator;
 
-/// Removes an object from the table, which has its identifier. The gate has to be open.
+/// Removes the object with that identifier, where [`find`](crate::find) found it in the table: the last object of
+/// its leaf fills the place. The gate has to be open.
 ///
-/// It is one walk, which no clause says: on the way down each child with less than two fifths of what fits is joined with the one
-/// next to it, and what does not fit into one page then is cut in two in the middle. A root that keeps one
-/// child above others takes its place.
+/// A leaf with two fifths of what fits, or more, is all that it looks at, which no clause says. Where the leaf has
+/// less, it walks down from the root: each child with less than two fifths of what fits is joined with the one
+/// next to it, and what does not fit into one page then is cut in two in the middle. A root that keeps one child
+/// above others takes its place.
 ///
 /// Pages with zeros in all bytes that they do not name stay so.
 ///
@@ -40,6 +44,38 @@ use std::alloc::Allocator;
 /// other pages it may be `Damaged` too. On an honest device, where no page is touched, that comes with the
 /// number of a page that a walk down the forks comes to.
 pub fn remove<const D: usize, B: BlockDevice, A: Allocator + Copy>(
+    cache: &mut PageCache<B, A>,
+    root: u32,
+    at: LeafPlace,
+    id: u64,
+) -> Result<(), Fault>
+    requires dims { IsDims D }
+    requires open { gate_of cache.old ≡ Open }
+    ensures changes { Changes cache.old cache.new result }
+    ensures sound { IsPageMap cache.old → (t : IdTree) → t.page ≡ root → TreeStands D (pages cache.old) t
+        → IsLeafPlace t id at.leaf at.place → IsPageMap cache.new }
+    ensures tidy { IsPageMap cache.old → (t : IdTree) → t.page ≡ root → TreeStands D (pages cache.old) t
+        → IsLeafPlace t id at.leaf at.place → map.contains_key (objects_of t) id ≡ true
+        → OnOk result (KeepsTidy D (pages cache.old) (pages cache.new)) }
+    ensures removed { IsPageMap cache.old → (t : IdTree) → t.page ≡ root → TreeStands D (pages cache.old) t
+        → IsLeafPlace t id at.leaf at.place → map.contains_key (objects_of t) id ≡ true
+        → OnOk result (Removes D (pages cache.old) (pages cache.new) t id) }
+    ensures grows { Grows 0 cache.old cache.new }
+    ensures faults { IsPageMap cache.old → (t : IdTree) → t.page ≡ root → TreeStands D (pages cache.old) t
+        → IsLeafPlace t id at.leaf at.place
+        → map.contains_key (objects_of t) id ≡ true → IfErr result IsOfDevice }
+    ensures damage { IsHonest cache.old → IsMet D (given cache.old) root at.leaf → touched_of cache.new ≡ false
+        → IfErr result (λ f. (n : ℕ) → f ≡ fault.Damaged n → ComesInTree D (given cache.old) root n) }
+    ensures other_faults { IfErr result (λ f. IsOfDevice f ⊎ IsDamage f) }
+{
+    if at.leaf != 0 && is_ample::<D, B, A>(cache, at.leaf, 0)? {
+        return take_at::<D, B, A>(cache, at.leaf, at.place);
+    }
+    remove_from_root::<D, B, A>(cache, root, id)
+}
+
+// Removes an object from the table by a walk down from the root. A table without it is `Damaged`.
+fn remove_from_root<const D: usize, B: BlockDevice, A: Allocator + Copy>(
     cache: &mut PageCache<B, A>,
     root: u32,
     id: u64,
