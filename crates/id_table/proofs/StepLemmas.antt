@@ -19,11 +19,15 @@ use Rattle.id_chains.specs.Table.{IdChains, IdChainsStand}
 use Rattle.id_chains.specs.Walks as walks
 use Rattle.id_tree.specs.Changes as trees
 use Rattle.id_tree.specs.Checked as checked_trees
+use Rattle.id_tree.specs.Rows.{IsLeafPlace}
 use Rattle.id_tree.specs.Tree.{IdTree, TreeStands}
+use Rattle.id_tree.specs.declared.search.LeafPlace.{LeafPlace}
 use Rattle.id_table.specs.Changes.{Fills, KeepsTidy, Makes, Removes, Sets}
 use Rattle.id_table.specs.Checked.{ComesInTable, IsCheckedTable, MeetsInTable}
-use Rattle.id_table.specs.Table.{IdTable, IdsStand, kind_of, page_of}
+use Rattle.id_table.specs.Table.{IdTable, IdsStand, IsSpot, kind_of, page_of}
 use Rattle.id_table.specs.Table.IdTable.{chained, treed}
+use Rattle.id_table.specs.declared.asking.Spot.{Spot}
+use Rattle.id_table.specs.declared.asking.Spot.TheVariants.{InChain, InLeaf}
 use Rattle.id_table.specs.declared.kind.TableKind.{TableKind}
 use Rattle.id_table.specs.declared.kind.TableKind.TheVariants.{Chains, Tree}
 
@@ -59,6 +63,26 @@ module _ {D A : Type 0} {m : _} (dims page : ℕ) (old mid : PageCache D A m) (a
           case (chained c) told at s = absurd (apart (sym told ∙ is))
           case (treed c) told at s =
               call c at (subst (λ (p : PageMap). TreeStands dims p c) (sym (same_pages honest)) s)
+
+-- what a call promises at a spot is promised of the table that stands: a spot tells the kind
+module _ (dims page : ℕ) (m : PageMap) (P : IdTable → Type 0) (id : ℕ) (spot : Spot) (t : IdTable)
+    (at : page_of t ≡ page) (stands : IdsStand dims m t) (is : IsSpot t id spot) where
+  pub at_chain : spot ≡ InChain → ((c : IdChains) → c.page ≡ page → IdChainsStand dims m c → P (chained c))
+      → P t
+  at_chain same call = case t at stands (subst (IsSpot t id) same is)
+    where
+      case : (s : IdTable) → page_of s ≡ page → IdsStand dims m s → IsSpot s id InChain → P s
+      case (chained c) at s is = call c at s
+      case (treed c) at s is = absurd is
+
+  pub at_leaf : (place : LeafPlace) → spot ≡ InLeaf place
+      → ((c : IdTree) → c.page ≡ page → TreeStands dims m c → IsLeafPlace c id place.leaf place.place
+      → P (treed c)) → P t
+  at_leaf place same call = case t at stands (subst (IsSpot t id) same is)
+    where
+      case : (s : IdTable) → page_of s ≡ page → IdsStand dims m s → IsSpot s id (InLeaf place) → P s
+      case (chained c) at s is = absurd is
+      case (treed c) at s is = call c at s is
 
 -- ---- what the calls of each kind make of a table
 

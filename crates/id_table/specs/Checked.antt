@@ -1,5 +1,5 @@
 -- What a check of an identifier table finds (our rule, docs/FORMAT.md, "Identifier tables").
-use Rattle.std.specs.Prelude.{◌≡◌, ◌⊎◌, ℕ, List}
+use Rattle.std.specs.Prelude.{◌≡◌, ◌⊎◌, ℕ, ⊤, List}
 use Rattle.bucket_page.specs.Layout.{Entry}
 use Rattle.id_chains.specs.Checked as chains
 use Rattle.id_chains.specs.Walks as walks
@@ -7,6 +7,8 @@ use Rattle.id_tree.specs.Checked as trees
 use Rattle.node_page.specs.Checked.{named_pages}
 use Rattle.node_page.specs.Standing.{PageMap}
 use Rattle.id_table.specs.Table.{IdTable, IdsStand, entries_of, page_of, part_of}
+use Rattle.id_table.specs.declared.asking.Spot.{Spot}
+use Rattle.id_table.specs.declared.asking.Spot.TheVariants.{InChain, InLeaf}
 
 -- the pages stand for a table that begins at this page, with these objects page after page, and with these
 -- pages
@@ -28,3 +30,8 @@ ComesInTable dims pages page last =
 abbrev pub MeetsInTable : ℕ → PageMap → ℕ → ℕ → Type 0
 MeetsInTable dims pages page last =
     (last ≡ page) ⊎ (walks.MeetsInTable dims pages page last ⊎ trees.ComesInTree dims pages page last)
+
+-- a spot in a leaf is in one that a walk down the tree comes to, if it is in any
+abbrev pub MeetsSpot : ℕ → PageMap → ℕ → Spot → Type 0
+MeetsSpot dims pages page InChain = ⊤
+MeetsSpot dims pages page (InLeaf at) = trees.IsMet dims pages page at.leaf

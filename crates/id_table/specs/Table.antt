@@ -1,6 +1,6 @@
 -- Identifier tables of either kind, and the pages that they stand in (our rule, docs/FORMAT.md, "Identifier
 -- tables").
-use Rattle.std.specs.Prelude.{ℕ, List, []}
+use Rattle.std.specs.Prelude.{ℕ, ◌≡◌, ⊤, List, []}
 use Rattle.std.specs.FinMap.{FinMap, from_entries}
 use Rattle.std.specs.Ordering.{nat_cmp}
 use Rattle.box_math.specs.Objects.{Object}
@@ -8,9 +8,12 @@ use Rattle.bucket_page.specs.Layout.{Entry}
 use Rattle.id_chains.specs.Table as chains
 use Rattle.id_chains.specs.Table.{IdChains, IdChainsStand}
 use Rattle.id_tree.specs.Tree as trees
+use Rattle.id_tree.specs.Rows.{IsLeafPlace}
 use Rattle.id_tree.specs.Tree.{IdTree, TreeStands}
 use Rattle.node_page.specs.Parts.{Part}
 use Rattle.node_page.specs.Standing.{PageMap}
+use Rattle.id_table.specs.declared.asking.Spot.{Spot}
+use Rattle.id_table.specs.declared.asking.Spot.TheVariants.{InChain, InLeaf}
 use Rattle.id_table.specs.declared.kind.TableKind.{TableKind}
 use Rattle.id_table.specs.declared.kind.TableKind.TheVariants.{Chains, Tree}
 
@@ -54,3 +57,15 @@ IdsStand dims pages (treed t) = TreeStands dims pages t
 -- a table that stands nowhere
 abbrev pub no_table : IdTable
 no_table = chained (record { page = 0; chains = [] })
+
+-- the table has an identifier at this spot, or would get it there
+abbrev pub IsSpot : IdTable → ℕ → Spot → Type 0
+IsSpot (chained t) id InChain = ⊤
+IsSpot (chained t) id (InLeaf at) = ⊥
+IsSpot (treed t) id InChain = ⊥
+IsSpot (treed t) id (InLeaf at) = IsLeafPlace t id at.leaf at.place
+
+-- so does whatever table stands in the pages and begins at this one
+abbrev pub IsSpotAt : ℕ → PageMap → ℕ → ℕ → Spot → Type 0
+IsSpotAt dims pages page id spot =
+    (t : IdTable) → page_of t ≡ page → IdsStand dims pages t → IsSpot t id spot

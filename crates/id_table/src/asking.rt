@@ -7,12 +7,13 @@ ghost use Rattle.page_file.specs.Fault.{IsDamage, IsOfDevice};
 ghost use Rattle.page_file.specs.declared.fault.Fault.TheVariants as fault;
 ghost use Rattle.page_cache.specs.Cache.{IsHonest, IsPageMap, given, looks_of, next_of, pages};
 ghost use Rattle.page_cache.specs.Calls.{Asks};
-ghost use Rattle.id_table.specs.Checked.{ComesInTable, IsCheckedTable, MeetsInTable};
-ghost use Rattle.id_table.specs.Table.{IdTable, IdsStand, objects_of, page_of};
+ghost use Rattle.id_table.specs.Checked.{ComesInTable, IsCheckedTable, MeetsInTable, MeetsSpot};
+ghost use Rattle.id_table.specs.Table.{IdTable, IdsStand, IsSpotAt, objects_of, page_of};
 
 use crate::kind::{TableKind, kind_at};
 use block_device::BlockDevice;
 use box_math::BBox;
+use id_tree::LeafPlace;
 use page_cache::PageCache;
 use page_file::Fault;
 use std::alloc::Allocator;
@@ -26,30 +27,64 @@ pub struct TableFacts<const D: usize, H: Allocator> {
     pub pages: Vec<u32, H>,
 }
 
-/// The box and the tag of an object, if the table that begins at a page has its identifier.
+/// Where a search found an identifier in a table, or found that it would come. It stays so as long as the table
+/// does, whatever becomes of other pages.
+#[derive(Clone, Copy, Debug, PartialEq, Eq)]
+pub enum Spot {
+    /// In a chain of buckets, which a change walks once more.
+    InChain,
+    /// In this place of a tree's leaf.
+    InLeaf(LeafPlace),
+}
+
+/// What a search for an identifier finds.
+#[derive(Clone, Copy, Debug)]
+pub struct Sought<const D: usize> {
+    /// Where the identifier is, or would come.
+    pub spot: Spot,
+    /// The box and the tag of its object, if the table has it.
+    pub kept: Option<(BBox<D>, u32)>,
+}
+
+/// The box and the tag of an object, if the table that begins at a page has its identifier, and where it is or
+/// would come.
 ///
 /// On an honest device, where the pages stand for a table there, a refusal is `Memory` or `Device`. On other
 /// pages it may be `Damaged` too, with the number of a page that a walk through the table comes to. Map and
 /// gate stay, also after a refusal.
-#[tactic(auto, using(page_cache::specs::Calls::turns))]
-pub fn get<const D: usize, B: BlockDevice, A: Allocator + Copy>(
+#[tactic(auto, using(page_cache::specs::Calls::turns, page_cache::specs::Calls::asks_and_refuses))]
+pub fn find<const D: usize, B: BlockDevice, A: Allocator + Copy>(
     cache: &mut PageCache<B, A>,
     page: u32,
     id: u64,
-) -> Result<Option<(BBox<D>, u32)>, Fault>
+) -> Result<Sought<D>, Fault>
     requires dims { IsDims D }
     ensures asks { Asks cache.old cache.new result }
     ensures found { IsHonest cache.old → (t : IdTable) → page_of t ≡ page → IdsStand D (pages cache.old) t
-        → IfOk result (λ kept. kept ≡ map.get (objects_of t) id) }
+        → IfOk result (λ sought. sought.kept ≡ map.get (objects_of t) id) }
+    ensures spot { IsHonest cache.old → IfOk result (λ sought. IsSpotAt D (pages cache.old) page id sought.spot) }
     ensures stands { IsHonest cache.old → (t : IdTable) → page_of t ≡ page → IdsStand D (pages cache.old) t
         → IfErr result IsOfDevice }
+    ensures met { IsHonest cache.old → IfOk result (λ sought. MeetsSpot D (given cache.old) page sought.spot) }
     ensures damage { IsHonest cache.old
         → IfErr result (λ f. (n : ℕ) → f ≡ fault.Damaged n → MeetsInTable D (given cache.old) page n) }
     ensures other_faults { IfErr result (λ f. IsOfDevice f ⊎ IsDamage f) }
 {
     match kind_at::<D, B, A>(cache, page)? {
-        TableKind::Chains => id_chains::get::<D, B, A>(cache, page, id),
-        TableKind::Tree => id_tree::get::<D, B, A>(cache, page, id),
+        TableKind::Chains => {
+            let kept = id_chains::get::<D, B, A>(cache, page, id)?;
+            Ok(Sought {
+                spot: Spot::InChain,
+                kept,
+            })
+        }
+        TableKind::Tree => {
+            let sought = id_tree::find::<D, B, A>(cache, page, id)?;
+            Ok(Sought {
+                spot: Spot::InLeaf(sought.at),
+                kept: sought.kept,
+            })
+        }
     }
 }
 

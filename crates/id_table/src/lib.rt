@@ -8,7 +8,7 @@ mod changing;
 mod filling;
 mod kind;
 
-pub use asking::{TableFacts, check_table, get};
+pub use asking::{Sought, Spot, TableFacts, check_table, find};
 pub use changing::{add, free_all, make, remove, update};
 pub use filling::fill;
 pub use kind::{TableKind, kind_at};

@@ -140,6 +140,18 @@ module _ {X : Type 0} where
       → promoted (nat_eq n) es ≡ es
   promoted_none n es absent = stays n es (lookup_entry (nat_eq n) es) refl absent
 
+  -- a page that is used again at once changes none either
+  pub promoted_first : (n : ℕ) (es : List (ℕ × X)) → option_map (λ e. e.0) (slice_get es 0) ≡ Some n
+      → (promoted (nat_eq n) es ≡ es) × (is_some (lookup (nat_eq n) es) ≡ true)
+  promoted_first n [] first = absurd (cc)
+  promoted_first n (e ∷ es) first =
+      let at_n : e.0 ≡ n = cc in
+      let same : nat_eq n e.0 ≡ true = eq-eqb n e.0 (sym at_n) in (
+        ap (λ y. option_map_or (λ f. f ∷ cond y es (e ∷ remove_entry (nat_eq n) es))
+        (cond y (Some e) (lookup_entry (nat_eq n) es)) (e ∷ es)) same,
+        ap (λ y. is_some (cond y (Some e.1) (lookup (nat_eq n) es))) same,
+      )
+
   put_first : (c : LruCache ℕ X) (n : ℕ) (v : X) (o : Option (ℕ × X)) → lookup_entry (nat_eq n) c.entries ≡ o
       → lookup (nat_eq n) c.entries ≡ None
       → keys_of (option_map_or (λ e. (e.0, v) ∷ remove_entry (nat_eq n) c.entries) o

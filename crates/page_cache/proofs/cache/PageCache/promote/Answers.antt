@@ -4,7 +4,7 @@ use Rattle.page_cache.specs.Frames.{frame_at}
 use Rattle.page_cache.proofs.Lookups.{first-promoted, lookup-promoted}
 use Rattle.page_cache.proofs.Kept.{kept_same}
 use Rattle.std.specs.Map.{keys_of}
-use Rattle.page_cache.proofs.Uses.{promoted_none, used_held}
+use Rattle.page_cache.proofs.Uses.{promoted_first, promoted_none, used_held}
 use Rattle.page_cache.proofs.cache.PageCache.promote.Goals as goal
 
 pub invariant_of-self : goal.invariant_of-self
@@ -46,3 +46,20 @@ pub returns-clause-absent : goal.returns-clause-absent
 returns-clause-absent g c = λ no.
     ap (λ d. keys_of d.entries) c.promote.ensures.entries
     ∙ ap keys_of (promoted_none c.args.n c.args.self.now.frames.entries (sym c.promote.ensures.value ∙ no))
+
+-- ---- the page that was used last is used again
+
+pub returns-then-is_first-clause-answer : goal.returns-then-is_first-clause-answer
+returns-then-is_first-clause-answer g c =
+    sym (promoted_first c.args.n c.args.self.now.frames.entries (c.is_first.ensures c.if-is_first.true)).1
+
+pub returns-then-is_first-clause-entries : goal.returns-then-is_first-clause-entries
+returns-then-is_first-clause-entries g c =
+    sym (promoted_first c.args.n c.args.self.now.frames.entries (c.is_first.ensures c.if-is_first.true)).0
+
+pub returns-then-is_first-clause-used : goal.returns-then-is_first-clause-used
+returns-then-is_first-clause-used g c = λ is. let cache = c.args.self.now in
+    let entries = cache.frames.entries in
+    let first = promoted_first c.args.n entries (c.is_first.ensures c.if-is_first.true) in
+    ap keys_of (sym first.0)
+    ∙ used_held cache.frames.cap c.args.n entries c.len-count.ensures.valid.0 c.len-count.ensures.valid.1 first.1
