@@ -7,20 +7,20 @@ ghost use Rattle.page_file.specs.declared.gate.Gate.TheVariants.{Open};
 ghost use Rattle.page_cache.specs.Cache.{Grows, IsPageMap, gate_of, pages};
 ghost use Rattle.page_cache.specs.Calls.{Changes};
 ghost use Rattle.node_page.specs.Faults.{IsChangeFault, IsNoDamage};
-ghost use Rattle.id_table.specs.Table.{kind_of};
+ghost use Rattle.id_table.specs.Table.{IsSpotAt, kind_of};
 ghost use Rattle.layer_pages.specs.Changes.{BecomesLayer, HasInserted, most_inserted_pages};
 ghost use Rattle.layer_pages.specs.Layers.{CanBeRoot, IsLayerAt, LayerPages, Objects, part_of_layer};
 
-use crate::layer::Layer;
+use crate::layer::{Layer, ObjectAt};
 use block_device::BlockDevice;
-use node_page::{Entry, Root};
+use node_page::Root;
 use page_cache::PageCache;
 use page_file::Fault;
 use reinsert::{Waiting, insert_with};
 use std::alloc::Allocator;
 
 /// Inserts an object, whose identifier the layer does not have, and answers the root of its tree: by a lawful
-/// insertion into the tree, and then into the identifier table. The gate has to be open.
+/// insertion into the tree, and then into the identifier table, at the spot where it would come. The gate has to be open.
 ///
 /// With a sound map, where the pages stand for that layer, a refusal is `Memory` or `Device`, or `NoPages`
 /// where each page number is live. One that touched no page leaves the map as it was. Also after a refusal at
@@ -28,7 +28,7 @@ use std::alloc::Allocator;
 pub fn insert<const D: usize, B: BlockDevice, A: Allocator + Copy>(
     cache: &mut PageCache<B, A>,
     layer: Layer,
-    object: &Entry<D>,
+    object: &ObjectAt<D>,
     waiting: &mut Waiting<D>,
 ) -> Result<Root, Fault>
     requires dims { IsDims D }
@@ -38,38 +38,41 @@ pub fn insert<const D: usize, B: BlockDevice, A: Allocator + Copy>(
     ensures changes { Changes cache.old cache.new result }
     ensures root { IfOk result CanBeRoot }
     ensures sound { IsPageMap cache.old → (l : LayerPages) (objects : Objects)
-        → IsLayerAt D layer.fanout (pages cache.old) layer.root layer.ids_root l objects →
+        → IsLayerAt D layer.fanout (pages cache.old) layer.root layer.ids_root l objects
+        → IsSpotAt D (pages cache.old) layer.ids_root object.now.entry.reference object.now.spot →
         IfOk result (λ _. IsPageMap cache.new) }
     ensures inserted { IsPageMap cache.old → (l : LayerPages) (objects : Objects)
         → IsLayerAt D layer.fanout (pages cache.old) layer.root layer.ids_root l objects
-        → map.contains_key objects object.now.reference ≡ false → IfOk result (λ after.
+        → IsSpotAt D (pages cache.old) layer.ids_root object.now.entry.reference object.now.spot → map.contains_key objects object.now.entry.reference ≡ false → IfOk result (λ after.
         BecomesLayer D layer.fanout (pages cache.old) (pages cache.new) (part_of_layer l)
         (kind_of l.ids) after
         layer.ids_root
-        (map.insert objects object.now.reference (object.now.bounds, object.now.tag))
-        (HasInserted D layer.fanout l object.now.reference (object.now.bounds, object.now.tag))) }
+        (map.insert objects object.now.entry.reference (object.now.entry.bounds, object.now.entry.tag))
+        (HasInserted D layer.fanout l object.now.entry.reference (object.now.entry.bounds, object.now.entry.tag))) }
     ensures grows { Grows most_inserted_pages cache.old cache.new }
     ensures faults { IsPageMap cache.old → (l : LayerPages) (objects : Objects)
         → IsLayerAt D layer.fanout (pages cache.old) layer.root layer.ids_root l objects
-        → IfErr result (IsNoDamage cache.new) }
+        → IsSpotAt D (pages cache.old) layer.ids_root object.now.entry.reference object.now.spot → IfErr result (IsNoDamage cache.new) }
     ensures other_faults { IfErr result IsChangeFault }
 {
     // a box that was looked at is known to be one
-    let _ = object.bounds.low();
+    let _ = object.entry.bounds.low();
     let after = insert_with(
         cache,
         layer.root,
-        object,
+        &object.entry,
         0,
         usize::from(layer.fanout),
         waiting,
     )?;
+    let ObjectAt { entry, spot } = object;
     id_table::add(
         cache,
         layer.ids_root,
-        object.reference,
-        &object.bounds,
-        object.tag,
+        *spot,
+        entry.reference,
+        &entry.bounds,
+        entry.tag,
     )?;
     Ok(after)
 }

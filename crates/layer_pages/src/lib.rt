@@ -15,7 +15,7 @@ mod replacing;
 pub use checking::check;
 pub use freeing::free;
 pub use inserting::insert;
-pub use layer::Layer;
+pub use layer::{Layer, ObjectAt};
 pub use loading::load;
 pub use making::make;
 pub use removing::remove;

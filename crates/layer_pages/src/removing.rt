@@ -8,14 +8,14 @@ ghost use Rattle.page_cache.specs.Cache.{Grows, IsPageMap, gate_of, pages};
 ghost use Rattle.page_cache.specs.Calls.{Changes};
 ghost use Rattle.node_page.specs.Faults.{IsChangeFault, IsNoDamage};
 ghost use Rattle.condense.specs.Removed.{IsRefused, most_removal_pages};
-ghost use Rattle.id_table.specs.Table.{kind_of};
+ghost use Rattle.id_table.specs.Table.{IsSpotAt, kind_of};
 ghost use Rattle.layer_pages.specs.Changes.{BecomesLayer, HasRemoved};
 ghost use Rattle.layer_pages.specs.Layers.{CanBeRoot, IsLayerAt, LayerPages, Objects, part_of_layer};
 
-use crate::layer::Layer;
+use crate::layer::{Layer, ObjectAt};
 use block_device::BlockDevice;
 use condense::{Kept, remove_with};
-use node_page::{Entry, Root};
+use node_page::Root;
 use page_cache::PageCache;
 use page_file::Fault;
 use reinsert::Waiting;
@@ -33,7 +33,7 @@ use std::alloc::Allocator;
 pub fn remove<const D: usize, B: BlockDevice, A: Allocator + Copy>(
     cache: &mut PageCache<B, A>,
     layer: Layer,
-    object: &Entry<D>,
+    object: &ObjectAt<D>,
     waiting: &mut Waiting<D>,
     kept: &mut Kept<D>,
 ) -> Result<Root, Fault>
@@ -44,29 +44,32 @@ pub fn remove<const D: usize, B: BlockDevice, A: Allocator + Copy>(
     ensures changes { Changes cache.old cache.new result }
     ensures root { IfOk result CanBeRoot }
     ensures sound { IsPageMap cache.old → (l : LayerPages) (objects : Objects)
-        → IsLayerAt D layer.fanout (pages cache.old) layer.root layer.ids_root l objects →
+        → IsLayerAt D layer.fanout (pages cache.old) layer.root layer.ids_root l objects
+        → IsSpotAt D (pages cache.old) layer.ids_root object.now.entry.reference object.now.spot →
         IfOk result (λ _. IsPageMap cache.new) }
     ensures removed { IsPageMap cache.old → (l : LayerPages) (objects : Objects)
-        → IsLayerAt D layer.fanout (pages cache.old) layer.root layer.ids_root l objects →
-        map.get objects object.now.reference ≡ Some (object.now.bounds, object.now.tag)
+        → IsLayerAt D layer.fanout (pages cache.old) layer.root layer.ids_root l objects
+        → IsSpotAt D (pages cache.old) layer.ids_root object.now.entry.reference object.now.spot →
+        map.get objects object.now.entry.reference ≡ Some (object.now.entry.bounds, object.now.entry.tag)
         → IfOk result (λ after.
         BecomesLayer D layer.fanout (pages cache.old) (pages cache.new) (part_of_layer l)
         (kind_of l.ids) after
-        layer.ids_root (map.remove objects object.now.reference)
-        (HasRemoved D layer.fanout l object.now.reference (object.now.bounds, object.now.tag))) }
+        layer.ids_root (map.remove objects object.now.entry.reference)
+        (HasRemoved D layer.fanout l object.now.entry.reference (object.now.entry.bounds, object.now.entry.tag))) }
     ensures absent { IsPageMap cache.old → (l : LayerPages) (objects : Objects)
         → IsLayerAt D layer.fanout (pages cache.old) layer.root layer.ids_root l objects →
-        ¬ (map.get objects object.now.reference ≡ Some (object.now.bounds, object.now.tag))
+        ¬ (map.get objects object.now.entry.reference ≡ Some (object.now.entry.bounds, object.now.entry.tag))
         → IsRefused layer.root.page cache.old cache.new result }
     ensures grows { Grows most_removal_pages cache.old cache.new }
     ensures faults { IsPageMap cache.old → (l : LayerPages) (objects : Objects)
-        → IsLayerAt D layer.fanout (pages cache.old) layer.root layer.ids_root l objects →
-        map.get objects object.now.reference ≡ Some (object.now.bounds, object.now.tag)
+        → IsLayerAt D layer.fanout (pages cache.old) layer.root layer.ids_root l objects
+        → IsSpotAt D (pages cache.old) layer.ids_root object.now.entry.reference object.now.spot →
+        map.get objects object.now.entry.reference ≡ Some (object.now.entry.bounds, object.now.entry.tag)
         → IfErr result (IsNoDamage cache.new) }
     ensures other_faults { IfErr result IsChangeFault }
 {
     let most = usize::from(layer.fanout);
-    let after = remove_with(cache, layer.root, object, most, waiting, kept)?;
-    id_table::remove::<D, B, A>(cache, layer.ids_root, object.reference)?;
+    let after = remove_with(cache, layer.root, &object.entry, most, waiting, kept)?;
+    id_table::remove::<D, B, A>(cache, layer.ids_root, object.spot, object.entry.reference)?;
     Ok(after)
 }

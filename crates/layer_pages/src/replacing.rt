@@ -8,11 +8,11 @@ ghost use Rattle.page_cache.specs.Cache.{Grows, IsPageMap, gate_of, pages};
 ghost use Rattle.page_cache.specs.Calls.{Changes};
 ghost use Rattle.node_page.specs.Faults.{IsChangeFault, IsNoDamage};
 ghost use Rattle.condense.specs.Removed.{IsRefused};
-ghost use Rattle.id_table.specs.Table.{kind_of};
+ghost use Rattle.id_table.specs.Table.{IsSpotAt, kind_of};
 ghost use Rattle.layer_pages.specs.Changes.{BecomesLayer, HasReplaced, most_replaced_pages};
 ghost use Rattle.layer_pages.specs.Layers.{CanBeRoot, IsLayerAt, LayerPages, Objects, part_of_layer};
 
-use crate::layer::Layer;
+use crate::layer::{Layer, ObjectAt};
 use block_device::BlockDevice;
 use box_math::BBox;
 use condense::{Kept, remove_with};
@@ -34,7 +34,7 @@ use std::alloc::Allocator;
 pub fn replace<const D: usize, B: BlockDevice, A: Allocator + Copy>(
     cache: &mut PageCache<B, A>,
     layer: Layer,
-    object: &Entry<D>,
+    object: &ObjectAt<D>,
     new: &BBox<D>,
     waiting: &mut Waiting<D>,
     kept: &mut Kept<D>,
@@ -46,39 +46,50 @@ pub fn replace<const D: usize, B: BlockDevice, A: Allocator + Copy>(
     ensures changes { Changes cache.old cache.new result }
     ensures root { IfOk result CanBeRoot }
     ensures sound { IsPageMap cache.old → (l : LayerPages) (objects : Objects)
-        → IsLayerAt D layer.fanout (pages cache.old) layer.root layer.ids_root l objects →
-        map.get objects object.now.reference ≡ Some (object.now.bounds, object.now.tag)
+        → IsLayerAt D layer.fanout (pages cache.old) layer.root layer.ids_root l objects
+        → IsSpotAt D (pages cache.old) layer.ids_root object.now.entry.reference object.now.spot →
+        map.get objects object.now.entry.reference ≡ Some (object.now.entry.bounds, object.now.entry.tag)
         → IfOk result (λ _. IsPageMap cache.new) }
     ensures replaced { IsPageMap cache.old → (l : LayerPages) (objects : Objects)
-        → IsLayerAt D layer.fanout (pages cache.old) layer.root layer.ids_root l objects →
-        map.get objects object.now.reference ≡ Some (object.now.bounds, object.now.tag)
+        → IsLayerAt D layer.fanout (pages cache.old) layer.root layer.ids_root l objects
+        → IsSpotAt D (pages cache.old) layer.ids_root object.now.entry.reference object.now.spot →
+        map.get objects object.now.entry.reference ≡ Some (object.now.entry.bounds, object.now.entry.tag)
         → IfOk result (λ after.
         BecomesLayer D layer.fanout (pages cache.old) (pages cache.new) (part_of_layer l)
         (kind_of l.ids) after
-        layer.ids_root (map.insert objects object.now.reference (new.now, object.now.tag))
-        (HasReplaced D layer.fanout l object.now.reference (object.now.bounds, object.now.tag)
-        (new.now, object.now.tag))) }
+        layer.ids_root (map.insert objects object.now.entry.reference (new.now, object.now.entry.tag))
+        (HasReplaced D layer.fanout l object.now.entry.reference (object.now.entry.bounds, object.now.entry.tag)
+        (new.now, object.now.entry.tag))) }
     ensures absent { IsPageMap cache.old → (l : LayerPages) (objects : Objects)
         → IsLayerAt D layer.fanout (pages cache.old) layer.root layer.ids_root l objects →
-        ¬ (map.get objects object.now.reference ≡ Some (object.now.bounds, object.now.tag))
+        ¬ (map.get objects object.now.entry.reference ≡ Some (object.now.entry.bounds, object.now.entry.tag))
         → IsRefused layer.root.page cache.old cache.new result }
     ensures grows { Grows most_replaced_pages cache.old cache.new }
     ensures faults { IsPageMap cache.old → (l : LayerPages) (objects : Objects)
-        → IsLayerAt D layer.fanout (pages cache.old) layer.root layer.ids_root l objects →
-        map.get objects object.now.reference ≡ Some (object.now.bounds, object.now.tag)
+        → IsLayerAt D layer.fanout (pages cache.old) layer.root layer.ids_root l objects
+        → IsSpotAt D (pages cache.old) layer.ids_root object.now.entry.reference object.now.spot →
+        map.get objects object.now.entry.reference ≡ Some (object.now.entry.bounds, object.now.entry.tag)
         → IfErr result (IsNoDamage cache.new) }
     ensures other_faults { IfErr result IsChangeFault }
 {
     // a box that was looked at is known to be one
     let _ = new.low();
     let most = usize::from(layer.fanout);
-    let between = remove_with(cache, layer.root, object, most, waiting, kept)?;
+    let between = remove_with(cache, layer.root, &object.entry, most, waiting, kept)?;
+    let ObjectAt { entry, spot } = object;
     let moved = Entry {
         bounds: *new,
-        reference: object.reference,
-        tag: object.tag,
+        reference: entry.reference,
+        tag: entry.tag,
     };
     let after = insert_with(cache, between, &moved, 0, most, waiting)?;
-    id_table::update(cache, layer.ids_root, object.reference, new)?;
+    id_table::update(
+        cache,
+        layer.ids_root,
+        *spot,
+        entry.reference,
+        new,
+        entry.tag,
+    )?;
     Ok(after)
 }

@@ -1,10 +1,12 @@
 -- What is known of the layer of a name where it stands.
-use Rattle.std.specs.Prelude.{◌≡◌, ℕ, List}
+use Rattle.std.specs.Prelude.{◌≡◌, ℕ, List, slice_index_or}
 use Rattle.catalog_page.specs.Layout.{Record}
+use Rattle.id_table.specs.Table.{IsSpotAt}
+use Rattle.id_table.specs.declared.asking.Spot.{Spot}
 use Rattle.layer_pages.specs.Layers.{IsLayerAt, LayerPages}
 use Rattle.page_cache.specs.Cache.{pages}
 use Rattle.plain_table.specs.Table.{Table, layer_at}
-use Rattle.live_layers.specs.Keeping.{HasTree, cache_of}
+use Rattle.live_layers.specs.Keeping.{HasTree, cache_of, records_in}
 use Rattle.live_layers.specs.Layers.{root_of}
 use Rattle.live_layers.specs.declared.layers.Layers.{Layers}
 use Rattle.live_layers.specs.declared.located.Located.{Located}
@@ -22,3 +24,16 @@ pub record IsLocated {D A : Type 0} {m : _} (kept : Layers D A m) (t : Table) (n
 -- where the layer of a record stands, as the record says
 abbrev pub located_by : Record → Located
 located_by r = record { dims = r.dims; fanout = r.fanout; root = root_of r; ids_root = r.ids_root }
+
+-- the layer at a place was located so, by its record
+abbrev pub IsRecorded : {D A : Type 0} {m : _} → Layers D A m → ℕ → Located → Type 0
+IsRecorded kept place located = (row : Record) → located ≡ located_by (slice_index_or (records_in kept) place row)
+
+-- this is the spot of an identifier in the table of a layer that was located so
+abbrev pub IsSpotOf : {D A : Type 0} {m : _} → ℕ → Layers D A m → Located → ℕ → Spot → Type 0
+IsSpotOf dims kept located id spot = IsSpotAt dims (pages (cache_of kept)) located.ids_root id spot
+
+-- of the layer at a place
+abbrev pub IsSpotIn : {D A : Type 0} {m : _} → ℕ → Layers D A m → ℕ → ℕ → Spot → Type 0
+IsSpotIn dims kept place id spot =
+    (located : Located) → IsRecorded kept place located → IsSpotOf dims kept located id spot

@@ -5,6 +5,7 @@ use Rattle.std.specs.Prelude.{ℕ, ◌≡◌, ◌+◌, ◌≤◌, ◌⊎◌, Boo
 use Rattle.box_math.specs.Bounds.{Bounds}
 use Rattle.box_math.specs.Objects.{Object}
 use Rattle.box_math.specs.Queries.{admits}
+use Rattle.id_table.specs.declared.asking.Spot.{Spot}
 use Rattle.page_cache.specs.Cache.{looks_of}
 use Rattle.plain_table.specs.Queries.{given_query}
 use Rattle.plain_table.specs.Step.{Answer, first_refusal, layer_refusals, refused_or}
@@ -36,10 +37,10 @@ is_admitted dims query b = admits {D = dims} (given_query query) b
 
 -- ---- answers
 
--- the answers that an object and rows of objects of a known dimension are
-abbrev pub kept_answer : ℕ → Result Object Refusal → Answer
-kept_answer id (Ok kept) = Boxes ((id, kept) ∷ [])
-kept_answer id (Err r) = Refused r
+-- the answers that an object that was found, and rows of objects, of a known dimension are
+abbrev pub found_answer : ℕ → Result (Spot × Object) Refusal → Answer
+found_answer id (Ok found) = Boxes ((id, found.1) ∷ [])
+found_answer id (Err r) = Refused r
 
 abbrev pub rows_answer : {A : Type 0} → Result (Vec (ℕ × Object) A) Refusal → Answer
 rows_answer (Ok rows) = Boxes rows.items

@@ -1,11 +1,11 @@
 //! The layer at a place.
 
-ghost use Rattle.std.specs.Prelude.{◌≡◌, ◌<◌, ◌≤◌, ℕ, List, length, slice_index_or};
+ghost use Rattle.std.specs.Prelude.{◌<◌, ◌≤◌, ℕ, List, length};
 ghost use Rattle.box_math.specs.Bounds.{IsDims};
 ghost use Rattle.layer_pages.specs.Layers.{CanBeRoot};
 ghost use Rattle.plain_table.specs.Table.{Table};
 ghost use Rattle.live_layers.specs.Keeping.{Finds, IsSound, records_in};
-ghost use Rattle.live_layers.specs.Located.{IsLocated, located_by};
+ghost use Rattle.live_layers.specs.Located.{IsLocated, IsRecorded};
 
 use crate::layers::Layers;
 use crate::located::Located;
@@ -23,7 +23,7 @@ impl<D: BlockDevice, A: Allocator> Layers<D, A> {
         ensures located { (t : Table) (name : List ℕ) → IsSound self.now t → Finds t name place →
             IsLocated self.now t name result }
         ensures few { length (records_in self.now) ≤ 60 }
-        ensures by_record { (d : _) → result ≡ located_by (slice_index_or (records_in self.now) place d) }
+        ensures by_record { IsRecorded self.now place result }
     {
         let record = &self.records[place];
         Located {

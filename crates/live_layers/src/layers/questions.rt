@@ -64,10 +64,10 @@ impl<B: BlockDevice, A: Allocator + Copy> Layers<B, A> {
         let place = self.named(name)?;
         let located = self.locate(place);
         if located.dims == 2 {
-            let kept = self.object_of::<2>(&located, id)?;
+            let (_, kept) = self.object_of::<2>(&located, id)?;
             Ok((AnyBox::Two(kept.0), kept.1))
         } else {
-            let kept = self.object_of::<3>(&located, id)?;
+            let (_, kept) = self.object_of::<3>(&located, id)?;
             Ok((AnyBox::Three(kept.0), kept.1))
         }
     }

@@ -15,11 +15,11 @@ use Rattle.layer_pages.proofs.MadeLemmas.{ids_meanwhile, layer_inserted}
 use Rattle.layer_pages.proofs.inserting.insert.Goals as goal
 
 pub returns-in_err-after-clause-faults : goal.returns-in_err-after-clause-faults
-returns-in_err-after-clause-faults g c = λ sound l objects at.
+returns-in_err-after-clause-faults g c = λ sound l objects at spot.
     let D = g.row.D in
     let m = pages c.args.cache.now in
-    let id = c.args.object.now.reference in
-    let kept : Object = (c.args.object.now.bounds, c.args.object.now.tag) in
+    let id = c.args.object.now.entry.reference in
+    let kept : Object = (c.args.object.now.entry.bounds, c.args.object.now.entry.tag) in
     let is =
     subst (λ (most : ℕ). IsLayerAt D most m c.args.layer.root c.args.layer.ids_root l objects)
     (sym c.from.ensures)
@@ -39,11 +39,11 @@ returns-clause-changes g c =
     c.in_ok-after.ensures.inserts.changes c.in_ok-add.ensures.changes
 
 pub returns-clause-sound : goal.returns-clause-sound
-returns-clause-sound g c = λ sound l objects at.
+returns-clause-sound g c = λ sound l objects at spot.
     let D = g.row.D in
     let m = pages c.args.cache.now in
-    let id = c.args.object.now.reference in
-    let kept : Object = (c.args.object.now.bounds, c.args.object.now.tag) in
+    let id = c.args.object.now.entry.reference in
+    let kept : Object = (c.args.object.now.entry.bounds, c.args.object.now.entry.tag) in
     let is =
     subst (λ (most : ℕ). IsLayerAt D most m c.args.layer.root c.args.layer.ids_root l objects)
     (sym c.from.ensures)
@@ -54,15 +54,15 @@ returns-clause-sound g c = λ sound l objects at.
     (can_insert D c.from.result m c.args.layer.root c.args.layer.ids_root l objects is id kept) in
     c.in_ok-add.ensures.sound to.0 l.ids is.ids_root_is
     (ids_meanwhile D c.from.result m c.args.layer.root c.args.layer.ids_root l objects is id kept
-    (pages c.insert_with.new.cache) c.in_ok-after.after to.1)
+    (pages c.insert_with.new.cache) c.in_ok-after.after to.1) (spot l.ids is.ids_root_is is.ids)
 
 pub returns-clause-inserted : goal.returns-clause-inserted
-returns-clause-inserted g c = λ sound l objects at absent.
+returns-clause-inserted g c = λ sound l objects at spot absent.
     let D = g.row.D in
     let m = pages c.args.cache.now in
     let mid = pages c.insert_with.new.cache in
-    let id = c.args.object.now.reference in
-    let kept : Object = (c.args.object.now.bounds, c.args.object.now.tag) in
+    let id = c.args.object.now.entry.reference in
+    let kept : Object = (c.args.object.now.entry.bounds, c.args.object.now.entry.tag) in
     let is =
     subst (λ (most : ℕ). IsLayerAt D most m c.args.layer.root c.args.layer.ids_root l objects)
     (sym c.from.ensures)
@@ -77,7 +77,8 @@ returns-clause-inserted g c = λ sound l objects at absent.
     let none =
     absent_meanwhile D c.from.result m c.args.layer.root c.args.layer.ids_root l objects is id kept mid
     c.in_ok-after.after to.1 absent in
-    let added = c.in_ok-add.ensures.added to.0 l.ids is.ids_root_is stand none in
+    let added = c.in_ok-add.ensures.added to.0 l.ids is.ids_root_is stand
+    (spot l.ids is.ids_root_is is.ids) none in
     subst (λ (most : ℕ). BecomesLayer D most m (pages c.add.new.cache) (part_of_layer l)
     (kind_of l.ids) c.in_ok-after.after c.args.layer.ids_root (map.insert objects id kept) (HasInserted D most l id kept)) c.from.ensures
     (layer_inserted D c.from.result m c.args.layer.root c.args.layer.ids_root l objects is id kept mid
@@ -91,11 +92,11 @@ returns-in_err-add-clause-changes g c =
     c.in_ok-after.ensures.inserts.changes c.in_err-add.ensures.changes
 
 pub returns-in_err-add-clause-faults : goal.returns-in_err-add-clause-faults
-returns-in_err-add-clause-faults g c = λ sound l objects at.
+returns-in_err-add-clause-faults g c = λ sound l objects at spot.
     let D = g.row.D in
     let m = pages c.args.cache.now in
-    let id = c.args.object.now.reference in
-    let kept : Object = (c.args.object.now.bounds, c.args.object.now.tag) in
+    let id = c.args.object.now.entry.reference in
+    let kept : Object = (c.args.object.now.entry.bounds, c.args.object.now.entry.tag) in
     let is =
     subst (λ (most : ℕ). IsLayerAt D most m c.args.layer.root c.args.layer.ids_root l objects)
     (sym c.from.ensures)
@@ -109,7 +110,7 @@ returns-in_err-add-clause-faults g c = λ sound l objects at.
     (pages c.insert_with.new.cache) c.in_ok-after.after to.1 in
     at_error c.from_residual-in_err-add.result c.in_err-add.field-0.0 (IsNoDamage c.add.new.cache)
     c.from_residual-in_err-add.ensures.1
-    (c.in_err-add.ensures.faults to.0 l.ids is.ids_root_is stand)
+    (c.in_err-add.ensures.faults to.0 l.ids is.ids_root_is stand (spot l.ids is.ids_root_is is.ids))
 
 pub returns-in_err-add-clause-other_faults : goal.returns-in_err-add-clause-other_faults
 returns-in_err-add-clause-other_faults g c =

@@ -34,8 +34,8 @@ returns-in_err-after-clause-absent g c = λ sound l objects at absent.
     c.in_err-after.ensures.absent sound l.tree (part_of l.ids)
     (can_remove D c.from-most.result m c.args.layer.root c.args.layer.ids_root l objects is)
     (in_no_leaf D c.from-most.result m c.args.layer.root c.args.layer.ids_root l objects is
-    c.args.object.now.reference
-    (c.args.object.now.bounds, c.args.object.now.tag) absent) in (
+    c.args.object.now.entry.reference
+    (c.args.object.now.entry.bounds, c.args.object.now.entry.tag) absent) in (
       refused.0,
       refused_so c.from_residual.result c.in_err-after.field-0.0
           (λ f. IsOfDevice f ⊎ (f ≡ fault.Damaged c.args.layer.root.page)) c.from_residual.ensures.1
@@ -43,7 +43,7 @@ returns-in_err-after-clause-absent g c = λ sound l objects at absent.
     )
 
 pub returns-in_err-after-clause-faults : goal.returns-in_err-after-clause-faults
-returns-in_err-after-clause-faults g c = λ sound l objects at there.
+returns-in_err-after-clause-faults g c = λ sound l objects at spot there.
     let D = g.row.D in
     let m = pages c.args.cache.now in
     let is =
@@ -56,8 +56,8 @@ returns-in_err-after-clause-faults g c = λ sound l objects at there.
     (can_remove D c.from-most.result m c.args.layer.root c.args.layer.ids_root l objects is) is.tree.shape
     is.boxes
     (in_a_leaf D c.from-most.result m c.args.layer.root c.args.layer.ids_root l objects is
-    c.args.object.now.reference
-    (c.args.object.now.bounds, c.args.object.now.tag) there))
+    c.args.object.now.entry.reference
+    (c.args.object.now.entry.bounds, c.args.object.now.entry.tag) there))
 
 pub returns-clause-changes : goal.returns-clause-changes
 returns-clause-changes g c =
@@ -65,7 +65,7 @@ returns-clause-changes g c =
     c.in_ok-after.ensures.changes c.in_ok-remove.ensures.changes
 
 pub returns-clause-sound : goal.returns-clause-sound
-returns-clause-sound g c = λ sound l objects at.
+returns-clause-sound g c = λ sound l objects at spot.
     let D = g.row.D in
     let m = pages c.args.cache.now in
     let is =
@@ -77,17 +77,17 @@ returns-clause-sound g c = λ sound l objects at.
     (can_remove D c.from-most.result m c.args.layer.root c.args.layer.ids_root l objects is) in
     c.in_ok-remove.ensures.sound to.0 l.ids is.ids_root_is
     (ids_between D c.from-most.result m c.args.layer.root c.args.layer.ids_root l objects is
-    c.args.object.now.reference
-    (c.args.object.now.bounds, c.args.object.now.tag) (pages c.remove_with.new.cache) c.in_ok-after.after
-    to.1)
+    c.args.object.now.entry.reference
+    (c.args.object.now.entry.bounds, c.args.object.now.entry.tag) (pages c.remove_with.new.cache) c.in_ok-after.after
+    to.1) (spot l.ids is.ids_root_is is.ids)
 
 pub returns-clause-removed : goal.returns-clause-removed
-returns-clause-removed g c = λ sound l objects at there.
+returns-clause-removed g c = λ sound l objects at spot there.
     let D = g.row.D in
     let m = pages c.args.cache.now in
     let mid = pages c.remove_with.new.cache in
-    let id = c.args.object.now.reference in
-    let kept : Object = (c.args.object.now.bounds, c.args.object.now.tag) in
+    let id = c.args.object.now.entry.reference in
+    let kept : Object = (c.args.object.now.entry.bounds, c.args.object.now.entry.tag) in
     let is =
     subst (λ (most : ℕ). IsLayerAt D most m c.args.layer.root c.args.layer.ids_root l objects)
     (sym c.from-most.ensures)
@@ -100,6 +100,7 @@ returns-clause-removed g c = λ sound l objects at there.
     c.in_ok-after.after to.1 in
     let removed =
     c.in_ok-remove.ensures.removed to.0 l.ids is.ids_root_is stand
+    (spot l.ids is.ids_root_is is.ids)
     (in_table D c.from-most.result m c.args.layer.root c.args.layer.ids_root l objects is id kept there) in
     subst (λ (most : ℕ). BecomesLayer D most m (pages c.remove.new.cache) (part_of_layer l)
     (kind_of l.ids) c.in_ok-after.after c.args.layer.ids_root (map.remove objects id) (HasRemoved D most l id kept))
@@ -119,8 +120,8 @@ returns-clause-absent g c = λ sound l objects at absent.
     made_so_not_refused (c.in_ok-after.ensures.absent sound l.tree (part_of l.ids)
     (can_remove D c.from-most.result m c.args.layer.root c.args.layer.ids_root l objects is)
     (in_no_leaf D c.from-most.result m c.args.layer.root c.args.layer.ids_root l objects is
-    c.args.object.now.reference
-    (c.args.object.now.bounds, c.args.object.now.tag) absent))
+    c.args.object.now.entry.reference
+    (c.args.object.now.entry.bounds, c.args.object.now.entry.tag) absent))
 
 pub returns-in_err-remove-clause-changes : goal.returns-in_err-remove-clause-changes
 returns-in_err-remove-clause-changes g c =
@@ -139,15 +140,15 @@ returns-in_err-remove-clause-absent g c = λ sound l objects at absent.
     made_so_not_refused (c.in_ok-after.ensures.absent sound l.tree (part_of l.ids)
     (can_remove D c.from-most.result m c.args.layer.root c.args.layer.ids_root l objects is)
     (in_no_leaf D c.from-most.result m c.args.layer.root c.args.layer.ids_root l objects is
-    c.args.object.now.reference
-    (c.args.object.now.bounds, c.args.object.now.tag) absent))
+    c.args.object.now.entry.reference
+    (c.args.object.now.entry.bounds, c.args.object.now.entry.tag) absent))
 
 pub returns-in_err-remove-clause-faults : goal.returns-in_err-remove-clause-faults
-returns-in_err-remove-clause-faults g c = λ sound l objects at there.
+returns-in_err-remove-clause-faults g c = λ sound l objects at spot there.
     let D = g.row.D in
     let m = pages c.args.cache.now in
-    let id = c.args.object.now.reference in
-    let kept : Object = (c.args.object.now.bounds, c.args.object.now.tag) in
+    let id = c.args.object.now.entry.reference in
+    let kept : Object = (c.args.object.now.entry.bounds, c.args.object.now.entry.tag) in
     let is =
     subst (λ (most : ℕ). IsLayerAt D most m c.args.layer.root c.args.layer.ids_root l objects)
     (sym c.from-most.ensures)
@@ -162,6 +163,7 @@ returns-in_err-remove-clause-faults g c = λ sound l objects at there.
     c.from_residual-in_err-remove.ensures.1
     (inl
     (c.in_err-remove.ensures.faults to.0 l.ids is.ids_root_is stand
+    (spot l.ids is.ids_root_is is.ids)
     (in_table D c.from-most.result m c.args.layer.root c.args.layer.ids_root l objects is id kept there)))
 
 pub returns-in_err-remove-clause-other_faults : goal.returns-in_err-remove-clause-other_faults

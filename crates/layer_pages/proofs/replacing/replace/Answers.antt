@@ -1,5 +1,5 @@
 -- The object with another box in the tree, and then in the table.
-use Rattle.std.proofs.Common.{ℕ, ◌≡◌, ◌≤◌, None, inl, sym, subst, arith}
+use Rattle.std.proofs.Common.{ℕ, ◌≡◌, ◌≤◌, None, inl, refl, sym, subst, arith}
 use Rattle.std.specs.FinMap as map
 use Rattle.std.specs.Prelude.{◌⊎◌}
 use Rattle.page_file.specs.Fault.{IsOfDevice}
@@ -36,8 +36,8 @@ returns-in_err-between-clause-absent g c = λ sound l objects at absent.
     c.in_err-between.ensures.absent sound l.tree (part_of l.ids)
     (can_remove D c.from-most.result m c.args.layer.root c.args.layer.ids_root l objects is)
     (in_no_leaf D c.from-most.result m c.args.layer.root c.args.layer.ids_root l objects is
-    c.args.object.now.reference
-    (c.args.object.now.bounds, c.args.object.now.tag) absent) in (
+    c.args.object.now.entry.reference
+    (c.args.object.now.entry.bounds, c.args.object.now.entry.tag) absent) in (
       refused.0,
       refused_so c.from_residual.result c.in_err-between.field-0.0
           (λ f. IsOfDevice f ⊎ (f ≡ fault.Damaged c.args.layer.root.page)) c.from_residual.ensures.1
@@ -45,7 +45,7 @@ returns-in_err-between-clause-absent g c = λ sound l objects at absent.
     )
 
 pub returns-in_err-between-clause-faults : goal.returns-in_err-between-clause-faults
-returns-in_err-between-clause-faults g c = λ sound l objects at there.
+returns-in_err-between-clause-faults g c = λ sound l objects at spot there.
     let D = g.row.D in
     let m = pages c.args.cache.now in
     let is =
@@ -57,8 +57,8 @@ returns-in_err-between-clause-faults g c = λ sound l objects at there.
     (can_remove D c.from-most.result m c.args.layer.root c.args.layer.ids_root l objects is) is.tree.shape
     is.boxes
     (in_a_leaf D c.from-most.result m c.args.layer.root c.args.layer.ids_root l objects is
-    c.args.object.now.reference
-    (c.args.object.now.bounds, c.args.object.now.tag) there))
+    c.args.object.now.entry.reference
+    (c.args.object.now.entry.bounds, c.args.object.now.entry.tag) there))
 
 pub returns-in_err-after-clause-changes : goal.returns-in_err-after-clause-changes
 returns-in_err-after-clause-changes g c =
@@ -76,11 +76,11 @@ returns-in_err-after-clause-absent g c = λ sound l objects at absent.
     made_so_not_refused (c.in_ok-between.ensures.absent sound l.tree (part_of l.ids)
     (can_remove D c.from-most.result m c.args.layer.root c.args.layer.ids_root l objects is)
     (in_no_leaf D c.from-most.result m c.args.layer.root c.args.layer.ids_root l objects is
-    c.args.object.now.reference
-    (c.args.object.now.bounds, c.args.object.now.tag) absent))
+    c.args.object.now.entry.reference
+    (c.args.object.now.entry.bounds, c.args.object.now.entry.tag) absent))
 
 pub returns-in_err-after-clause-faults : goal.returns-in_err-after-clause-faults
-returns-in_err-after-clause-faults g c = λ sound l objects at there.
+returns-in_err-after-clause-faults g c = λ sound l objects at spot there.
     let D = g.row.D in
     let m = pages c.args.cache.now in
     let is =
@@ -92,23 +92,23 @@ returns-in_err-after-clause-faults g c = λ sound l objects at there.
     (can_remove D c.from-most.result m c.args.layer.root c.args.layer.ids_root l objects is) in
     let shape =
     shape_between D c.from-most.result m c.args.layer.root c.args.layer.ids_root l objects is four
-    c.args.object.now.reference
-    (c.args.object.now.bounds, c.args.object.now.tag) (c.args.new.now, c.args.object.now.tag)
+    c.args.object.now.entry.reference
+    (c.args.object.now.entry.bounds, c.args.object.now.entry.tag) (c.args.new.now, c.args.object.now.entry.tag)
     (pages c.remove_with.new.cache)
     c.in_ok-between.between to.1 in
     at_error c.from_residual-in_err-after.result c.in_err-after.field-0.0 (IsNoDamage c.insert_with.new.cache)
     c.from_residual-in_err-after.ensures.1
-    (c.in_err-after.ensures.inserts.faults to.0 to.1.new (object (c.args.new.now, c.args.object.now.tag)
-    c.args.object.now.reference)
+    (c.in_err-after.ensures.inserts.faults to.0 to.1.new (object (c.args.new.now, c.args.object.now.entry.tag)
+    c.args.object.now.entry.reference)
     (part_of l.ids)
     (can_insert_between D c.from-most.result m c.args.layer.root c.args.layer.ids_root l objects is four
-    c.args.object.now.reference
-    (c.args.object.now.bounds, c.args.object.now.tag) (c.args.new.now, c.args.object.now.tag)
+    c.args.object.now.entry.reference
+    (c.args.object.now.entry.bounds, c.args.object.now.entry.tag) (c.args.new.now, c.args.object.now.entry.tag)
     (pages c.remove_with.new.cache)
     c.in_ok-between.between to.1) (loose D c.from-most.result to.1.new shape.0) shape.1
     (entry_has_shape D c.from-most.result m c.args.layer.root c.args.layer.ids_root l objects is
-    c.args.object.now.reference
-    (c.args.new.now, c.args.object.now.tag) c.low.ensures.is_box))
+    c.args.object.now.entry.reference
+    (c.args.new.now, c.args.object.now.entry.tag) c.low.ensures.is_box))
 
 pub returns-in_err-after-clause-other_faults : goal.returns-in_err-after-clause-other_faults
 returns-in_err-after-clause-other_faults g c =
@@ -122,7 +122,7 @@ returns-clause-changes g c =
     c.in_ok-between.ensures.changes c.in_ok-after.ensures.inserts.changes) c.in_ok-update.ensures.changes
 
 pub returns-clause-sound : goal.returns-clause-sound
-returns-clause-sound g c = λ sound l objects at there.
+returns-clause-sound g c = λ sound l objects at spot there.
     let D = g.row.D in
     let m = pages c.args.cache.now in
     let is =
@@ -133,24 +133,24 @@ returns-clause-sound g c = λ sound l objects at there.
     c.in_ok-between.ensures.removed sound l.tree (part_of l.ids)
     (can_remove D c.from-most.result m c.args.layer.root c.args.layer.ids_root l objects is) in
     let into =
-    c.in_ok-after.ensures.inserts.inserted to.0 to.1.new (object (c.args.new.now, c.args.object.now.tag)
-    c.args.object.now.reference)
+    c.in_ok-after.ensures.inserts.inserted to.0 to.1.new (object (c.args.new.now, c.args.object.now.entry.tag)
+    c.args.object.now.entry.reference)
     (part_of l.ids)
     (can_insert_between D c.from-most.result m c.args.layer.root c.args.layer.ids_root l objects is four
-    c.args.object.now.reference
-    (c.args.object.now.bounds, c.args.object.now.tag) (c.args.new.now, c.args.object.now.tag)
+    c.args.object.now.entry.reference
+    (c.args.object.now.entry.bounds, c.args.object.now.entry.tag) (c.args.new.now, c.args.object.now.entry.tag)
     (pages c.remove_with.new.cache)
     c.in_ok-between.between to.1) in
     let stand =
     ids_unchanged D c.from-most.result m c.args.layer.root c.args.layer.ids_root l objects is four
-    c.args.object.now.reference
-    (c.args.object.now.bounds, c.args.object.now.tag) (c.args.new.now, c.args.object.now.tag)
+    c.args.object.now.entry.reference
+    (c.args.object.now.entry.bounds, c.args.object.now.entry.tag) (c.args.new.now, c.args.object.now.entry.tag)
     (pages c.remove_with.new.cache)
     c.in_ok-between.between to.1 (pages c.insert_with.new.cache) c.in_ok-after.after into.1 in
-    c.in_ok-update.ensures.sound into.0 l.ids is.ids_root_is stand
+    c.in_ok-update.ensures.sound into.0 l.ids is.ids_root_is stand (spot l.ids is.ids_root_is is.ids)
 
 pub returns-clause-replaced : goal.returns-clause-replaced
-returns-clause-replaced g c = λ sound l objects at there.
+returns-clause-replaced g c = λ sound l objects at spot there.
     let D = g.row.D in
     let m = pages c.args.cache.now in
     let is =
@@ -161,36 +161,37 @@ returns-clause-replaced g c = λ sound l objects at there.
     c.in_ok-between.ensures.removed sound l.tree (part_of l.ids)
     (can_remove D c.from-most.result m c.args.layer.root c.args.layer.ids_root l objects is) in
     let into =
-    c.in_ok-after.ensures.inserts.inserted to.0 to.1.new (object (c.args.new.now, c.args.object.now.tag)
-    c.args.object.now.reference)
+    c.in_ok-after.ensures.inserts.inserted to.0 to.1.new (object (c.args.new.now, c.args.object.now.entry.tag)
+    c.args.object.now.entry.reference)
     (part_of l.ids)
     (can_insert_between D c.from-most.result m c.args.layer.root c.args.layer.ids_root l objects is four
-    c.args.object.now.reference
-    (c.args.object.now.bounds, c.args.object.now.tag) (c.args.new.now, c.args.object.now.tag)
+    c.args.object.now.entry.reference
+    (c.args.object.now.entry.bounds, c.args.object.now.entry.tag) (c.args.new.now, c.args.object.now.entry.tag)
     (pages c.remove_with.new.cache)
     c.in_ok-between.between to.1) in
     let stand =
     ids_unchanged D c.from-most.result m c.args.layer.root c.args.layer.ids_root l objects is four
-    c.args.object.now.reference
-    (c.args.object.now.bounds, c.args.object.now.tag) (c.args.new.now, c.args.object.now.tag)
+    c.args.object.now.entry.reference
+    (c.args.object.now.entry.bounds, c.args.object.now.entry.tag) (c.args.new.now, c.args.object.now.entry.tag)
     (pages c.remove_with.new.cache)
     c.in_ok-between.between to.1 (pages c.insert_with.new.cache) c.in_ok-after.after into.1 in
     let set =
     c.in_ok-update.ensures.updated into.0 l.ids is.ids_root_is stand
-    (c.args.object.now.bounds, c.args.object.now.tag)
+    (spot l.ids is.ids_root_is is.ids)
+    (c.args.object.now.entry.bounds, c.args.object.now.entry.tag)
     (kept_in_table D c.from-most.result m c.args.layer.root c.args.layer.ids_root l objects is
-    c.args.object.now.reference
-    (c.args.object.now.bounds, c.args.object.now.tag) there) in
+    c.args.object.now.entry.reference
+    (c.args.object.now.entry.bounds, c.args.object.now.entry.tag) there) refl in
     subst (λ (most : ℕ). BecomesLayer D most m (pages c.update.new.cache) (part_of_layer l)
     (kind_of l.ids) c.in_ok-after.after
-    c.args.layer.ids_root (map.insert objects c.args.object.now.reference
-    (c.args.new.now, c.args.object.now.tag))
-    (HasReplaced D most l c.args.object.now.reference (c.args.object.now.bounds, c.args.object.now.tag)
-    (c.args.new.now, c.args.object.now.tag)))
+    c.args.layer.ids_root (map.insert objects c.args.object.now.entry.reference
+    (c.args.new.now, c.args.object.now.entry.tag))
+    (HasReplaced D most l c.args.object.now.entry.reference (c.args.object.now.entry.bounds, c.args.object.now.entry.tag)
+    (c.args.new.now, c.args.object.now.entry.tag)))
     c.from-most.ensures
     (layer_replaced D c.from-most.result m c.args.layer.root c.args.layer.ids_root l objects is four
-    c.args.object.now.reference
-    (c.args.object.now.bounds, c.args.object.now.tag) (c.args.new.now, c.args.object.now.tag)
+    c.args.object.now.entry.reference
+    (c.args.object.now.entry.bounds, c.args.object.now.entry.tag) (c.args.new.now, c.args.object.now.entry.tag)
     (pages c.remove_with.new.cache)
     c.in_ok-between.between to.1 (pages c.insert_with.new.cache) c.in_ok-after.after into.1
     (pages c.update.new.cache) set c.low.ensures.is_box there)
@@ -205,8 +206,8 @@ returns-clause-absent g c = λ sound l objects at absent.
     made_so_not_refused (c.in_ok-between.ensures.absent sound l.tree (part_of l.ids)
     (can_remove D c.from-most.result m c.args.layer.root c.args.layer.ids_root l objects is)
     (in_no_leaf D c.from-most.result m c.args.layer.root c.args.layer.ids_root l objects is
-    c.args.object.now.reference
-    (c.args.object.now.bounds, c.args.object.now.tag) absent))
+    c.args.object.now.entry.reference
+    (c.args.object.now.entry.bounds, c.args.object.now.entry.tag) absent))
 
 pub returns-in_err-update-clause-changes : goal.returns-in_err-update-clause-changes
 returns-in_err-update-clause-changes g c =
@@ -225,11 +226,11 @@ returns-in_err-update-clause-absent g c = λ sound l objects at absent.
     made_so_not_refused (c.in_ok-between.ensures.absent sound l.tree (part_of l.ids)
     (can_remove D c.from-most.result m c.args.layer.root c.args.layer.ids_root l objects is)
     (in_no_leaf D c.from-most.result m c.args.layer.root c.args.layer.ids_root l objects is
-    c.args.object.now.reference
-    (c.args.object.now.bounds, c.args.object.now.tag) absent))
+    c.args.object.now.entry.reference
+    (c.args.object.now.entry.bounds, c.args.object.now.entry.tag) absent))
 
 pub returns-in_err-update-clause-faults : goal.returns-in_err-update-clause-faults
-returns-in_err-update-clause-faults g c = λ sound l objects at there.
+returns-in_err-update-clause-faults g c = λ sound l objects at spot there.
     let D = g.row.D in
     let m = pages c.args.cache.now in
     let is =
@@ -240,26 +241,27 @@ returns-in_err-update-clause-faults g c = λ sound l objects at there.
     c.in_ok-between.ensures.removed sound l.tree (part_of l.ids)
     (can_remove D c.from-most.result m c.args.layer.root c.args.layer.ids_root l objects is) in
     let into =
-    c.in_ok-after.ensures.inserts.inserted to.0 to.1.new (object (c.args.new.now, c.args.object.now.tag)
-    c.args.object.now.reference)
+    c.in_ok-after.ensures.inserts.inserted to.0 to.1.new (object (c.args.new.now, c.args.object.now.entry.tag)
+    c.args.object.now.entry.reference)
     (part_of l.ids)
     (can_insert_between D c.from-most.result m c.args.layer.root c.args.layer.ids_root l objects is four
-    c.args.object.now.reference
-    (c.args.object.now.bounds, c.args.object.now.tag) (c.args.new.now, c.args.object.now.tag)
+    c.args.object.now.entry.reference
+    (c.args.object.now.entry.bounds, c.args.object.now.entry.tag) (c.args.new.now, c.args.object.now.entry.tag)
     (pages c.remove_with.new.cache)
     c.in_ok-between.between to.1) in
     let stand =
     ids_unchanged D c.from-most.result m c.args.layer.root c.args.layer.ids_root l objects is four
-    c.args.object.now.reference
-    (c.args.object.now.bounds, c.args.object.now.tag) (c.args.new.now, c.args.object.now.tag)
+    c.args.object.now.entry.reference
+    (c.args.object.now.entry.bounds, c.args.object.now.entry.tag) (c.args.new.now, c.args.object.now.entry.tag)
     (pages c.remove_with.new.cache)
     c.in_ok-between.between to.1 (pages c.insert_with.new.cache) c.in_ok-after.after into.1 in
     at_error c.from_residual-in_err-update.result c.in_err-update.field-0.0 (IsNoDamage c.update.new.cache)
     c.from_residual-in_err-update.ensures.1
     (inl (c.in_err-update.ensures.faults into.0 l.ids is.ids_root_is stand
+    (spot l.ids is.ids_root_is is.ids)
     (in_table D c.from-most.result m c.args.layer.root c.args.layer.ids_root l objects is
-    c.args.object.now.reference
-    (c.args.object.now.bounds, c.args.object.now.tag) there)))
+    c.args.object.now.entry.reference
+    (c.args.object.now.entry.bounds, c.args.object.now.entry.tag) there)))
 
 pub returns-in_err-update-clause-other_faults : goal.returns-in_err-update-clause-other_faults
 returns-in_err-update-clause-other_faults g c =

@@ -17,6 +17,8 @@ use crate::rooms::Room;
 use crate::unmade::Unmade;
 use block_device::BlockDevice;
 use condense::Kept;
+use layer_pages::ObjectAt;
+use node_page::Entry;
 use reinsert::Waiting;
 use std::alloc::Allocator;
 
@@ -41,8 +43,16 @@ impl<B: BlockDevice, A: Allocator + Copy> Layers<B, A> {
         ensures keeps { KeepsInChange self.old self.new (version_of (cache_of self.old)) result }
     {
         match self.object_of::<D>(located, id) {
-            Ok(known) => {
-                change_of(self.take_object(place, id, &known.0, known.1, waiting_room, kept_room))
+            Ok((spot, known)) => {
+                let object = ObjectAt {
+                    entry: Entry {
+                        bounds: known.0,
+                        reference: id,
+                        tag: known.1,
+                    },
+                    spot,
+                };
+                change_of(self.take_object(place, &object, waiting_room, kept_room))
             }
             Err(refusal) => Err(Unmade::Refused(refusal)),
         }

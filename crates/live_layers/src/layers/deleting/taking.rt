@@ -8,41 +8,41 @@ ghost use Rattle.page_file.specs.Fault.{IsOfDevice};
 ghost use Rattle.plain_table.specs.Table.{Table, layer_at, without_object};
 ghost use Rattle.live_layers.specs.Begun.{BeginsChange};
 ghost use Rattle.live_layers.specs.Keeping.{ChangesTree, Finds, IsSound, cache_of, records_in};
+ghost use Rattle.live_layers.specs.Located.{IsSpotIn};
 ghost use Rattle.live_layers.specs.Rules.{HasLost};
 
 use crate::broken::Broken;
 use crate::layers::Layers;
 use crate::rooms::{Room, take_kept, take_waiting};
 use block_device::BlockDevice;
-use box_math::BBox;
 use condense::Kept;
-use layer_pages::{Layer, remove};
-use node_page::Entry;
+use layer_pages::{Layer, ObjectAt, remove};
 use reinsert::Waiting;
 use std::alloc::Allocator;
 
 impl<B: BlockDevice, A: Allocator + Copy> Layers<B, A> {
-    // Takes out an object that the layer at a place has with that box and that tag. The memory of what is
+    // Takes out an object that the layer at a place has with that box and that tag, at that spot. The memory of what is
     // inserted again, and of what waits in that, is taken before the gate is opened.
     pub(crate) fn take_object<const D: usize>(
         &mut self,
         place: usize,
-        id: u64,
-        bounds: &BBox<D>,
-        tag: u32,
+        object: &ObjectAt<D>,
         waiting_room: &mut Room<Waiting<D>, A>,
         kept_room: &mut Room<Kept<D>, A>,
     ) -> Result<(), Broken>
         requires dims { IsDims D }
         requires within { place < length (records_in self.old) }
         ensures taken { (t : Table) (name : List ℕ) → IsSound self.old t → Finds t name place →
-            (layer_at t name).dims ≡ D → map.get (layer_at t name).objects id ≡ Some (bounds.now, tag) →
-            OnOk result (IsSound self.new (map.insert t name (without_object (layer_at t name) id))) }
+            (layer_at t name).dims ≡ D → map.get (layer_at t name).objects object.now.entry.reference ≡ Some (object.now.entry.bounds, object.now.entry.tag) →
+            IsSpotIn D self.old place object.now.entry.reference object.now.spot →
+            OnOk result (IsSound self.new (map.insert t name (without_object (layer_at t name) object.now.entry.reference))) }
         ensures tree { (t : Table) (name : List ℕ) → IsSound self.old t → Finds t name place →
-            (layer_at t name).dims ≡ D → map.get (layer_at t name).objects id ≡ Some (bounds.now, tag) →
-            OnOk result (ChangesTree self.old self.new name (HasLost (layer_at t name) id)) }
+            (layer_at t name).dims ≡ D → map.get (layer_at t name).objects object.now.entry.reference ≡ Some (object.now.entry.bounds, object.now.entry.tag) →
+            IsSpotIn D self.old place object.now.entry.reference object.now.spot →
+            OnOk result (ChangesTree self.old self.new name (HasLost (layer_at t name) object.now.entry.reference)) }
         ensures faults { (t : Table) (name : List ℕ) → IsSound self.old t → Finds t name place →
-            (layer_at t name).dims ≡ D → map.get (layer_at t name).objects id ≡ Some (bounds.now, tag) →
+            (layer_at t name).dims ≡ D → map.get (layer_at t name).objects object.now.entry.reference ≡ Some (object.now.entry.bounds, object.now.entry.tag) →
+            IsSpotIn D self.old place object.now.entry.reference object.now.spot →
             IfErr result (λ b. IsOfDevice b.cause) }
         ensures begins { BeginsChange self.old self.new (version_of (cache_of self.old)) result }
     {
@@ -55,12 +55,7 @@ impl<B: BlockDevice, A: Allocator + Copy> Layers<B, A> {
             ids_root: located.ids_root,
             fanout: located.fanout,
         };
-        let object = Entry {
-            bounds: *bounds,
-            reference: id,
-            tag,
-        };
-        let root = match remove(&mut self.cache, layer, &object, &mut waiting, &mut kept) {
+        let root = match remove(&mut self.cache, layer, object, &mut waiting, &mut kept) {
             Ok(root) => root,
             Err(fault) => return Err(self.broken_by(fault)),
         };

@@ -8,58 +8,54 @@ ghost use Rattle.page_file.specs.Fault.{IsOfDevice};
 ghost use Rattle.plain_table.specs.Table.{Table, layer_at, most_objects, with_object};
 ghost use Rattle.live_layers.specs.Begun.{BeginsChange};
 ghost use Rattle.live_layers.specs.Keeping.{ChangesTree, Finds, IsSound, cache_of, records_in};
+ghost use Rattle.live_layers.specs.Located.{IsSpotIn};
 ghost use Rattle.live_layers.specs.Rules.{HasGained};
 
 use crate::broken::Broken;
 use crate::layers::Layers;
 use crate::rooms::{Room, take_waiting};
 use block_device::BlockDevice;
-use box_math::BBox;
-use layer_pages::{Layer, insert};
-use node_page::Entry;
+use layer_pages::{Layer, ObjectAt, insert};
 use reinsert::Waiting;
 use std::alloc::Allocator;
 
 impl<B: BlockDevice, A: Allocator + Copy> Layers<B, A> {
-    // Adds an object that the layer at a place does not have. The memory of what waits in the insertion is
+    // Adds an object that the layer at a place does not have, at that spot. The memory of what waits in the insertion is
     // taken before the gate is opened.
     pub(crate) fn add_object<const D: usize>(
         &mut self,
         place: usize,
-        id: u64,
-        bounds: &BBox<D>,
-        tag: u32,
+        object: &ObjectAt<D>,
         waiting_room: &mut Room<Waiting<D>, A>,
     ) -> Result<(), Broken>
         requires dims { IsDims D }
         requires within { place < length (records_in self.old) }
         requires room { self.old.object_count < most_objects }
         ensures added { (t : Table) (name : List ℕ) → IsSound self.old t → Finds t name place →
-            (layer_at t name).dims ≡ D → map.contains_key (layer_at t name).objects id ≡ false →
+            (layer_at t name).dims ≡ D → map.contains_key (layer_at t name).objects object.now.entry.reference ≡ false →
+            IsSpotIn D self.old place object.now.entry.reference object.now.spot →
             OnOk result (IsSound self.new
-            (map.insert t name (with_object (layer_at t name) id (bounds.now, tag)))) }
+            (map.insert t name (with_object (layer_at t name) object.now.entry.reference
+            (object.now.entry.bounds, object.now.entry.tag)))) }
         ensures tree { (t : Table) (name : List ℕ) → IsSound self.old t → Finds t name place →
-            (layer_at t name).dims ≡ D → map.contains_key (layer_at t name).objects id ≡ false →
+            (layer_at t name).dims ≡ D → map.contains_key (layer_at t name).objects object.now.entry.reference ≡ false →
+            IsSpotIn D self.old place object.now.entry.reference object.now.spot →
             OnOk result (ChangesTree self.old self.new name
-            (HasGained (layer_at t name) id (bounds.now, tag))) }
+            (HasGained (layer_at t name) object.now.entry.reference (object.now.entry.bounds, object.now.entry.tag))) }
         ensures faults { (t : Table) (name : List ℕ) → IsSound self.old t → Finds t name place →
-            (layer_at t name).dims ≡ D → IfErr result (λ b. IsOfDevice b.cause) }
+            (layer_at t name).dims ≡ D → IsSpotIn D self.old place object.now.entry.reference object.now.spot →
+            IfErr result (λ b. IsOfDevice b.cause) }
         ensures begins { BeginsChange self.old self.new (version_of (cache_of self.old)) result }
     {
         let mut waiting = take_waiting(waiting_room, self.alloc)?;
         self.begin()?;
         let located = self.locate(place);
-        let object = Entry {
-            bounds: *bounds,
-            reference: id,
-            tag,
-        };
         let layer = Layer {
             root: located.root,
             ids_root: located.ids_root,
             fanout: located.fanout,
         };
-        let root = match insert(&mut self.cache, layer, &object, &mut waiting) {
+        let root = match insert(&mut self.cache, layer, object, &mut waiting) {
             Ok(root) => root,
             Err(fault) => return Err(self.broken_by(fault)),
         };

@@ -9,26 +9,27 @@ ghost use Rattle.plain_table.specs.declared.boxes.RawBox.{RawBox as GivenBox};
 ghost use Rattle.live_layers.specs.Changes.{KeepsInQuestion, Rose};
 ghost use Rattle.live_layers.specs.Inserting.{IsAllowedOr};
 ghost use Rattle.live_layers.specs.Keeping.{IsSound};
-ghost use Rattle.live_layers.specs.Located.{IsLocated};
+ghost use Rattle.live_layers.specs.Located.{IsLocated, IsSpotOf};
 
 use crate::faults::as_refusal;
 use crate::layers::Layers;
 use crate::located::Located;
 use block_device::BlockDevice;
 use box_math::BBox;
-use id_table::get;
+use id_table::{Spot, find};
 use plain_table::{MOST_OBJECTS, Refusal};
 use std::alloc::Allocator;
 
 impl<B: BlockDevice, A: Allocator + Copy> Layers<B, A> {
-    // The box of an object that may be inserted into the layer that stands there, or why it may not.
+    // The box of an object that may be inserted into the layer that stands there, and the spot where its
+    // identifier would come; or why it may not.
     pub(crate) fn check_object<const D: usize>(
         &mut self,
         located: &Located,
         id: u64,
         low: [i32; D],
         high: [i32; D],
-    ) -> Result<BBox<D>, Refusal>
+    ) -> Result<(Spot, BBox<D>), Refusal>
         requires dims { IsDims D }
         ensures allowed { (t : Table) (name : List ℕ) (box : GivenBox) → IsSound self.old t →
             IsLocated self.old t name located.now → dims_of box ≡ D →
@@ -36,8 +37,10 @@ impl<B: BlockDevice, A: Allocator + Copy> Layers<B, A> {
             IsAllowedOr (Rose self.old self.new)
             (first_refusal (object_refusals (layer_at t name) id box (nat_le most_objects (object_count t))))
             result }
-        ensures bounds { IfOk result (λ b. b ≡ record { low = low.entry; high = high.entry }) }
-        ensures room { IfOk result (λ b. self.new.object_count < most_objects) }
+        ensures bounds { IfOk result (λ found. found.1 ≡ record { low = low.entry; high = high.entry }) }
+        ensures spot { (t : Table) → IsSound self.old t →
+            IfOk result (λ found. IsSpotOf D self.new located.now id found.0) }
+        ensures room { IfOk result (λ _. self.new.object_count < most_objects) }
         ensures keeps { KeepsInQuestion self.old self.new result }
     {
         if usize::from(located.dims) != D {
@@ -46,16 +49,16 @@ impl<B: BlockDevice, A: Allocator + Copy> Layers<B, A> {
         let Some(bounds) = BBox::try_new(low, high) else {
             return Err(Refusal::BadBox);
         };
-        let known = match get::<D, B, A>(&mut self.cache, located.ids_root, id) {
-            Ok(known) => known,
+        let sought = match find::<D, B, A>(&mut self.cache, located.ids_root, id) {
+            Ok(sought) => sought,
             Err(fault) => return Err(as_refusal(fault)),
         };
-        if known.is_some() {
+        if sought.kept.is_some() {
             return Err(Refusal::Duplicate);
         }
         if self.object_count >= MOST_OBJECTS {
             return Err(Refusal::TooManyObjects);
         }
-        Ok(bounds)
+        Ok((sought.spot, bounds))
     }
 }

@@ -17,6 +17,8 @@ use crate::layers::Layers;
 use crate::rooms::Room;
 use crate::unmade::Unmade;
 use block_device::BlockDevice;
+use layer_pages::ObjectAt;
+use node_page::Entry;
 use reinsert::Waiting;
 use std::alloc::Allocator;
 
@@ -44,7 +46,17 @@ impl<B: BlockDevice, A: Allocator + Copy> Layers<B, A> {
     {
         let located = self.locate(place);
         match self.check_object(&located, id, low, high) {
-            Ok(bounds) => change_of(self.add_object(place, id, &bounds, tag, waiting_room)),
+            Ok((spot, bounds)) => {
+                let object = ObjectAt {
+                    entry: Entry {
+                        bounds,
+                        reference: id,
+                        tag,
+                    },
+                    spot,
+                };
+                change_of(self.add_object(place, &object, waiting_room))
+            }
             Err(refusal) => Err(Unmade::Refused(refusal)),
         }
     }

@@ -10,24 +10,26 @@ ghost use Rattle.plain_table.specs.declared.boxes.RawBox.{RawBox as GivenBox};
 ghost use Rattle.live_layers.specs.Changes.{KeepsInQuestion, Rose};
 ghost use Rattle.live_layers.specs.Inserting.{IsAllowedOr};
 ghost use Rattle.live_layers.specs.Keeping.{IsSound};
-ghost use Rattle.live_layers.specs.Located.{IsLocated};
+ghost use Rattle.live_layers.specs.Located.{IsLocated, IsSpotOf};
 
 use crate::layers::Layers;
 use crate::located::Located;
 use block_device::BlockDevice;
 use box_math::BBox;
+use id_table::Spot;
 use plain_table::Refusal;
 use std::alloc::Allocator;
 
 impl<B: BlockDevice, A: Allocator + Copy> Layers<B, A> {
-    // The object of the layer that stands there, and the box that it may get; or why it may not.
+    // The spot of an object of the layer that stands there, the object, and the box that it may get; or why it
+    // may not.
     pub(crate) fn check_move<const D: usize>(
         &mut self,
         located: &Located,
         id: u64,
         low: [i32; D],
         high: [i32; D],
-    ) -> Result<((BBox<D>, u32), BBox<D>), Refusal>
+    ) -> Result<(Spot, (BBox<D>, u32), BBox<D>), Refusal>
         requires dims { IsDims D }
         ensures allowed { (t : Table) (name : List ℕ) (box : GivenBox) → IsSound self.old t →
             IsLocated self.old t name located.now → dims_of box ≡ D →
@@ -38,8 +40,10 @@ impl<B: BlockDevice, A: Allocator + Copy> Layers<B, A> {
         ensures axes { IfOk result (λ _. located.now.dims ≡ D) }
         ensures has { (t : Table) (name : List ℕ) → IsSound self.old t →
             IsLocated self.old t name located.now →
-            IfOk result (λ both. map.get (layer_at t name).objects id ≡ Some both.0) }
-        ensures gets { IfOk result (λ both. both.1 ≡ record { low = low.entry; high = high.entry }) }
+            IfOk result (λ found. map.get (layer_at t name).objects id ≡ Some found.1) }
+        ensures gets { IfOk result (λ found. found.2 ≡ record { low = low.entry; high = high.entry }) }
+        ensures spot { (t : Table) → IsSound self.old t →
+            IfOk result (λ found. IsSpotOf D self.new located.now id found.0) }
         ensures keeps { KeepsInQuestion self.old self.new result }
     {
         if usize::from(located.dims) != D {
@@ -49,7 +53,7 @@ impl<B: BlockDevice, A: Allocator + Copy> Layers<B, A> {
             return Err(Refusal::BadBox);
         };
         match self.object_of::<D>(located, id) {
-            Ok(known) => Ok((known, bounds)),
+            Ok((spot, known)) => Ok((spot, known, bounds)),
             Err(refusal) => Err(refusal),
         }
     }

@@ -20,6 +20,8 @@ use crate::rooms::Room;
 use crate::unmade::Unmade;
 use block_device::BlockDevice;
 use condense::Kept;
+use layer_pages::ObjectAt;
+use node_page::Entry;
 use reinsert::Waiting;
 use std::alloc::Allocator;
 
@@ -50,21 +52,21 @@ impl<B: BlockDevice, A: Allocator + Copy> Layers<B, A> {
         ensures keeps { KeepsInChange self.old self.new (version_of (cache_of self.old)) result }
     {
         let located = self.locate(place);
-        let (known, bounds) = match self.check_move(&located, id, low, high) {
-            Ok(both) => both,
+        let (spot, known, bounds) = match self.check_move(&located, id, low, high) {
+            Ok(found) => found,
             Err(refusal) => return Err(Unmade::Refused(refusal)),
         };
         if known.0 == bounds {
             return Ok(());
         }
-        change_of(self.replace_box(
-            place,
-            id,
-            &known.0,
-            known.1,
-            &bounds,
-            waiting_room,
-            kept_room,
-        ))
+        let object = ObjectAt {
+            entry: Entry {
+                bounds: known.0,
+                reference: id,
+                tag: known.1,
+            },
+            spot,
+        };
+        change_of(self.replace_box(place, &object, &bounds, waiting_room, kept_room))
     }
 }

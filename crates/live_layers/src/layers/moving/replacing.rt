@@ -8,6 +8,7 @@ ghost use Rattle.page_file.specs.Fault.{IsOfDevice};
 ghost use Rattle.plain_table.specs.Table.{Table, layer_at, with_object};
 ghost use Rattle.live_layers.specs.Begun.{BeginsChange};
 ghost use Rattle.live_layers.specs.Keeping.{ChangesTree, Finds, IsSound, cache_of, records_in};
+ghost use Rattle.live_layers.specs.Located.{IsSpotIn};
 ghost use Rattle.live_layers.specs.Rules.{HasMoved};
 
 use crate::broken::Broken;
@@ -16,20 +17,17 @@ use crate::rooms::{Room, take_kept, take_waiting};
 use block_device::BlockDevice;
 use box_math::BBox;
 use condense::Kept;
-use layer_pages::{Layer, replace};
-use node_page::Entry;
+use layer_pages::{Layer, ObjectAt, replace};
 use reinsert::Waiting;
 use std::alloc::Allocator;
 
 impl<B: BlockDevice, A: Allocator + Copy> Layers<B, A> {
-    // Gives an object, which the layer at a place has with the box `known` and that tag, another box. The
+    // Gives an object, which the layer at a place has with that box and that tag, at that spot, another box. The
     // memory of what is inserted again, and of what waits in that, is taken before the gate is opened.
     pub(crate) fn replace_box<const D: usize>(
         &mut self,
         place: usize,
-        id: u64,
-        known: &BBox<D>,
-        tag: u32,
+        object: &ObjectAt<D>,
         bounds: &BBox<D>,
         waiting_room: &mut Room<Waiting<D>, A>,
         kept_room: &mut Room<Kept<D>, A>,
@@ -37,14 +35,17 @@ impl<B: BlockDevice, A: Allocator + Copy> Layers<B, A> {
         requires dims { IsDims D }
         requires within { place < length (records_in self.old) }
         ensures replaced { (t : Table) (name : List ℕ) → IsSound self.old t → Finds t name place →
-            (layer_at t name).dims ≡ D → map.get (layer_at t name).objects id ≡ Some (known.now, tag) →
+            (layer_at t name).dims ≡ D → map.get (layer_at t name).objects object.now.entry.reference ≡ Some (object.now.entry.bounds, object.now.entry.tag) →
+            IsSpotIn D self.old place object.now.entry.reference object.now.spot →
             OnOk result (IsSound self.new
-            (map.insert t name (with_object (layer_at t name) id (bounds.now, tag)))) }
+            (map.insert t name (with_object (layer_at t name) object.now.entry.reference (bounds.now, object.now.entry.tag)))) }
         ensures tree { (t : Table) (name : List ℕ) → IsSound self.old t → Finds t name place →
-            (layer_at t name).dims ≡ D → map.get (layer_at t name).objects id ≡ Some (known.now, tag) →
-            OnOk result (ChangesTree self.old self.new name (HasMoved (layer_at t name) id bounds.now)) }
+            (layer_at t name).dims ≡ D → map.get (layer_at t name).objects object.now.entry.reference ≡ Some (object.now.entry.bounds, object.now.entry.tag) →
+            IsSpotIn D self.old place object.now.entry.reference object.now.spot →
+            OnOk result (ChangesTree self.old self.new name (HasMoved (layer_at t name) object.now.entry.reference bounds.now)) }
         ensures faults { (t : Table) (name : List ℕ) → IsSound self.old t → Finds t name place →
-            (layer_at t name).dims ≡ D → map.get (layer_at t name).objects id ≡ Some (known.now, tag) →
+            (layer_at t name).dims ≡ D → map.get (layer_at t name).objects object.now.entry.reference ≡ Some (object.now.entry.bounds, object.now.entry.tag) →
+            IsSpotIn D self.old place object.now.entry.reference object.now.spot →
             IfErr result (λ b. IsOfDevice b.cause) }
         ensures begins { BeginsChange self.old self.new (version_of (cache_of self.old)) result }
     {
@@ -57,15 +58,10 @@ impl<B: BlockDevice, A: Allocator + Copy> Layers<B, A> {
             ids_root: located.ids_root,
             fanout: located.fanout,
         };
-        let object = Entry {
-            bounds: *known,
-            reference: id,
-            tag,
-        };
         let root = match replace(
             &mut self.cache,
             layer,
-            &object,
+            object,
             bounds,
             &mut waiting,
             &mut kept,

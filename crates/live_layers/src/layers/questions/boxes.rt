@@ -1,42 +1,47 @@
 //! The box and the tag of an object, from the identifier table of its layer.
 
-ghost use Rattle.std.specs.Prelude.{◌≡◌, ◌∷◌, [], ℕ, List};
+ghost use Rattle.std.specs.Prelude.{◌≡◌, ◌∷◌, [], ℕ, IfOk, List};
 ghost use Rattle.box_math.specs.Bounds.{IsDims};
 ghost use Rattle.plain_table.specs.Step.{first_refusal, missing_refusals, object_row};
 ghost use Rattle.plain_table.specs.Step.Answer.{Boxes};
 ghost use Rattle.plain_table.specs.Table.{Table, layer_at};
 ghost use Rattle.live_layers.specs.Changes.{KeepsInQuestion, Rose};
 ghost use Rattle.live_layers.specs.Keeping.{IsSound};
-ghost use Rattle.live_layers.specs.Located.{IsLocated};
-ghost use Rattle.live_layers.specs.Questions.{IsReply, kept_answer};
+ghost use Rattle.live_layers.specs.Located.{IsLocated, IsSpotOf};
+ghost use Rattle.live_layers.specs.Questions.{IsReply, found_answer};
 
 use crate::faults::as_refusal;
 use crate::layers::Layers;
 use crate::located::Located;
 use block_device::BlockDevice;
 use box_math::BBox;
-use id_table::get;
+use id_table::{Spot, find};
 use plain_table::Refusal;
 use std::alloc::Allocator;
 
 impl<B: BlockDevice, A: Allocator + Copy> Layers<B, A> {
-    // The box and the tag of an object of the layer that stands there, which has D axes. Refused by NoObject.
+    // The box and the tag of an object of the layer that stands there, which has D axes, and the spot of its
+    // identifier. Refused by NoObject.
     pub(crate) fn object_of<const D: usize>(
         &mut self,
         located: &Located,
         id: u64,
-    ) -> Result<(BBox<D>, u32), Refusal>
+    ) -> Result<(Spot, (BBox<D>, u32)), Refusal>
         requires dims { IsDims D }
         requires axes { located.now.dims ≡ D }
         ensures replied { (t : Table) (name : List ℕ) → IsSound self.old t →
             IsLocated self.old t name located.now →
             IsReply (Rose self.old self.new) (first_refusal (missing_refusals (layer_at t name) id))
-            (Boxes (object_row (layer_at t name) id ∷ [])) (kept_answer id result) }
+            (Boxes (object_row (layer_at t name) id ∷ [])) (found_answer id result) }
+        ensures spot { (t : Table) → IsSound self.old t →
+            IfOk result (λ found. IsSpotOf D self.new located.now id found.0) }
         ensures keeps { KeepsInQuestion self.old self.new result }
     {
-        match get::<D, B, A>(&mut self.cache, located.ids_root, id) {
-            Ok(Some(kept)) => Ok(kept),
-            Ok(None) => Err(Refusal::NoObject),
+        match find::<D, B, A>(&mut self.cache, located.ids_root, id) {
+            Ok(sought) => match sought.kept {
+                Some(kept) => Ok((sought.spot, kept)),
+                None => Err(Refusal::NoObject),
+            },
             Err(fault) => Err(as_refusal(fault)),
         }
     }

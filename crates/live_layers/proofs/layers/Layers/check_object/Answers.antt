@@ -44,7 +44,7 @@ returns-in-Err-clause-allowed g c = λ t name box sound located axes given.
     let its : there.dims ≡ g.row.D = sym c.from.ensures ∙ c.if-from.false in
     let stand : IdsStand g.row.D (pages old.cache) located.layer.ids =
     subst (λ (k : ℕ). IdsStand k (pages old.cache) located.layer.ids) its located.stands.ids in
-    let new = record old { cache = c.get.new.cache } in
+    let new = record old { cache = c.find.new.cache } in
     inr (subst (λ (x : Refusal). IsFault (Rose old new) x) (sym c.as_refusal.ensures)
     (device_refuses (Rose old new) c.in-Err.fault
     (c.in-Err.ensures.stands sound.map.honest located.layer.ids located.stands.ids_root_is stand)

@@ -25,6 +25,7 @@ returns-then-located-eq2-clause-change g c = record {
         named = c.in-Ok.ensures.named t sound;
         finds = finds;
         located = c.locate-located.ensures.located t name sound finds;
+        recorded = c.locate-located.ensures.by_record;
       });
 }
 
@@ -39,5 +40,6 @@ returns-else-located-eq2-clause-change g c = record {
         named = c.in-Ok.ensures.named t sound;
         finds = finds;
         located = c.locate-located.ensures.located t name sound finds;
+        recorded = c.locate-located.ensures.by_record;
       });
 }

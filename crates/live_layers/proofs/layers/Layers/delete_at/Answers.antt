@@ -11,6 +11,7 @@ use Rattle.live_layers.specs.Rules.{HasLost}
 use Rattle.live_layers.proofs.ChangeLemmas.{begun_change, begun_keeps, begun_tree, refused_change}
 use Rattle.live_layers.proofs.ChangeLemmas.{refused_keeps}
 use Rattle.live_layers.proofs.DeleteLemmas.{as_missing, has_object, it_shrinks, none_answered, not_missing}
+use Rattle.live_layers.proofs.SpotLemmas.{spot_in}
 use Rattle.live_layers.proofs.layers.Layers.delete_at.Goals as goal
 
 pub returns-in-Ok-clause-keeps : goal.returns-in-Ok-clause-keeps
@@ -29,11 +30,14 @@ returns-in-Ok-clause-change g c = λ t name sound reaches.
     let there = has_object (layer_at t name) id (Rose old mid) c.in-Ok.known reply in
     let dims = reaches.located.dims ∙ c.requires.axes in
     let before = c.in-Ok.ensures.keeps.sound t sound in
+    let spot = spot_in g.row.D old mid (c.in-Ok.ensures.keeps.trees.map.pages_stay sound.map.honest)
+    c.in-Ok.ensures.keeps.trees.records c.args.place c.args.id c.in-Ok.spot c.args.located.now
+    reaches.recorded (c.in-Ok.ensures.spot t sound) in
     begun_change old mid c.take_object.new.self c.in-Ok.ensures.keeps c.take_object.result
     c.take_object.ensures.begins c.change_of.result c.change_of.ensures t (Delete name id)
     (it_shrinks t name id reaches.named none) g.met.B.BlockDevice.only_now sound none refl
-    (c.take_object.ensures.taken t name before reaches.finds dims there)
-    (c.take_object.ensures.faults t name before reaches.finds dims there)
+    (c.take_object.ensures.taken t name before reaches.finds dims there spot)
+    (c.take_object.ensures.faults t name before reaches.finds dims there spot)
 
 pub returns-in-Ok-clause-tree : goal.returns-in-Ok-clause-tree
 returns-in-Ok-clause-tree g c = λ t name sound reaches.
@@ -44,10 +48,13 @@ returns-in-Ok-clause-tree g c = λ t name sound reaches.
     let there =
     has_object layer id (Rose old mid) c.in-Ok.known
     (c.in-Ok.ensures.replied t name sound reaches.located) in
+    let spot = spot_in g.row.D old mid (c.in-Ok.ensures.keeps.trees.map.pages_stay sound.map.honest)
+    c.in-Ok.ensures.keeps.trees.records c.args.place c.args.id c.in-Ok.spot c.args.located.now
+    reaches.recorded (c.in-Ok.ensures.spot t sound) in
     begun_tree old mid c.take_object.new.self c.in-Ok.ensures.keeps c.take_object.result
     c.take_object.ensures.begins c.change_of.result c.change_of.ensures t name (HasLost layer id) sound
     (c.take_object.ensures.tree t name (c.in-Ok.ensures.keeps.sound t sound) reaches.finds
-    (reaches.located.dims ∙ c.requires.axes) there)
+    (reaches.located.dims ∙ c.requires.axes) there spot)
 
 pub returns-in-Err-clause-keeps : goal.returns-in-Err-clause-keeps
 returns-in-Err-clause-keeps g c =

@@ -16,6 +16,7 @@ use Rattle.live_layers.proofs.ChangeLemmas.{begun_change, begun_keeps, begun_tre
 use Rattle.live_layers.proofs.ChangeLemmas.{refused_keeps}
 use Rattle.live_layers.proofs.InsertLemmas.{as_object, it_grows, its_dims}
 use Rattle.live_layers.proofs.Results.{on_ok}
+use Rattle.live_layers.proofs.SpotLemmas.{spot_in}
 use Rattle.live_layers.proofs.layers.Layers.insert_box.Goals as goal
 
 pub returns-in-Ok-clause-keeps : goal.returns-in-Ok-clause-keeps
@@ -36,18 +37,22 @@ returns-in-Ok-clause-change g c = λ t name box sound reaches.
     let before = c.in-Ok.ensures.keeps.sound t sound in
     let new = c.add_object.new.self in
     let made = c.add_object.result in
+    let spot = spot_in g.row.D c.args.self.now c.check_object.new.self
+    (c.in-Ok.ensures.keeps.trees.map.pages_stay sound.map.honest) c.in-Ok.ensures.keeps.trees.records
+    c.args.place id c.in-Ok.spot c.locate-located.result c.locate-located.ensures.by_record
+    (c.in-Ok.ensures.spot t sound) in
     let added =
     on_ok made
     (λ there. subst
     (λ (b : Bounds). IsSound new (map_insert t name (with_object layer id (b, c.args.tag))))
     (c.in-Ok.ensures.bounds ∙ sym reaches.given) there)
-    (c.add_object.ensures.added t name before reaches.finds dims absent) in
+    (c.add_object.ensures.added t name before reaches.finds dims absent spot) in
     let refused = as_object t name c.args.place id box c.args.tag g.row.D _ reaches ∙ none in
     begun_change c.args.self.now c.check_object.new.self new c.in-Ok.ensures.keeps made
     c.add_object.ensures.begins c.change_of.result c.change_of.ensures t (Insert name id box c.args.tag)
     (it_grows t name c.args.place id box c.args.tag g.row.D _ reaches refused absent)
     g.met.B.BlockDevice.only_now sound refused refl added
-    (c.add_object.ensures.faults t name before reaches.finds dims)
+    (c.add_object.ensures.faults t name before reaches.finds dims spot)
 
 pub returns-in-Ok-clause-tree : goal.returns-in-Ok-clause-tree
 returns-in-Ok-clause-tree g c = λ t name box sound reaches.
@@ -60,11 +65,16 @@ returns-in-Ok-clause-tree g c = λ t name box sound reaches.
     let dims = its_dims layer id box full none ∙ reaches.axes in
     let mid = c.check_object.new.self in
     let new = c.add_object.new.self in
+    let spot = spot_in g.row.D c.args.self.now c.check_object.new.self
+    (c.in-Ok.ensures.keeps.trees.map.pages_stay sound.map.honest) c.in-Ok.ensures.keeps.trees.records
+    c.args.place id c.in-Ok.spot c.locate-located.result c.locate-located.ensures.by_record
+    (c.in-Ok.ensures.spot t sound) in
     let there =
     subst (λ (b : Bounds). OnOk c.add_object.result
     (ChangesTree mid new name (HasGained layer id (b, c.args.tag))))
     (c.in-Ok.ensures.bounds ∙ sym reaches.given)
-    (c.add_object.ensures.tree t name (c.in-Ok.ensures.keeps.sound t sound) reaches.finds dims absent) in
+    (c.add_object.ensures.tree t name (c.in-Ok.ensures.keeps.sound t sound) reaches.finds dims absent
+    spot) in
     begun_tree c.args.self.now mid new c.in-Ok.ensures.keeps c.add_object.result c.add_object.ensures.begins
     c.change_of.result c.change_of.ensures t name (HasGained layer id (given_bounds box, c.args.tag))
     sound there

@@ -19,6 +19,7 @@ use Rattle.live_layers.proofs.ChangeLemmas.{refused_keeps, unbegun_change, unbeg
 use Rattle.live_layers.proofs.MoveLemmas.{as_move, tested_boxes}
 use Rattle.live_layers.proofs.ReplyLemmas.{is_named}
 use Rattle.live_layers.proofs.Results.{on_ok}
+use Rattle.live_layers.proofs.SpotLemmas.{spot_in}
 use Rattle.live_layers.proofs.TakeLemmas.{its_object}
 use Rattle.live_layers.proofs.layers.Layers.move_box.Goals as goal
 
@@ -51,7 +52,7 @@ returns-then-eq-clause-change g c = λ t name box sound reaches.
     ∙ c.in-Ok.ensures.allowed t name box sound located reaches.axes reaches.given in
     let there = c.in-Ok.ensures.has t name sound located in
     let still : changes t (Move name id box) ≡ false =
-    tested_boxes t name id box c.in-Ok.both.0 there none c.in-Ok.both.1
+    tested_boxes t name id box c.in-Ok.found.1 there none c.in-Ok.found.2
     (c.in-Ok.ensures.gets ∙ sym reaches.given) ∙ ap not (sym c.eq.ensures ∙ c.if-eq.true) in
     unbegun_change c.args.self.now c.check_move.new.self t (Move name id box) g.met.B.BlockDevice.only_now
     c.in-Ok.ensures.keeps sound none refl (no_change_leaves_the_table t (Move name id box) still)
@@ -65,7 +66,7 @@ returns-then-eq-clause-tree g c = λ t name box sound reaches moves.
     ∙ c.in-Ok.ensures.allowed t name box sound located reaches.axes reaches.given in
     let there = c.in-Ok.ensures.has t name sound located in
     let still : changes t (Move name id box) ≡ false =
-    tested_boxes t name id box c.in-Ok.both.0 there none c.in-Ok.both.1
+    tested_boxes t name id box c.in-Ok.found.1 there none c.in-Ok.found.2
     (c.in-Ok.ensures.gets ∙ sym reaches.given) ∙ ap not (sym c.eq.ensures ∙ c.if-eq.true) in
     let no : true ≡ false = sym moves ∙ still in absurd (cc)
 
@@ -87,24 +88,27 @@ returns-clause-change g c = λ t name box sound reaches.
     let none = as_move t name id box named
     ∙ c.in-Ok.ensures.allowed t name box sound located reaches.axes reaches.given in
     let there = c.in-Ok.ensures.has t name sound located in
-    let known = c.in-Ok.both.0 in
-    let given : c.in-Ok.both.1 ≡ given_bounds box = c.in-Ok.ensures.gets ∙ sym reaches.given in
+    let known = c.in-Ok.found.1 in
+    let given : c.in-Ok.found.2 ≡ given_bounds box = c.in-Ok.ensures.gets ∙ sym reaches.given in
     let moves : changes t (Move name id box) ≡ true =
-    tested_boxes t name id box c.in-Ok.both.0 there none c.in-Ok.both.1 given
+    tested_boxes t name id box c.in-Ok.found.1 there none c.in-Ok.found.2 given
     ∙ ap not (sym c.eq.ensures ∙ c.if-eq.false) in
     let dims = located.dims ∙ c.in-Ok.ensures.axes in
     let before = c.in-Ok.ensures.keeps.sound t sound in
+    let spot = spot_in g.row.D old mid (c.in-Ok.ensures.keeps.trees.map.pages_stay sound.map.honest)
+    c.in-Ok.ensures.keeps.trees.records c.args.place id c.in-Ok.found.0 c.locate-located.result
+    c.locate-located.ensures.by_record (c.in-Ok.ensures.spot t sound) in
     let made = c.replace_box.result in
-    let same : (c.in-Ok.both.1, tag_of known) ≡ (given_bounds box, tag_of (object_at layer id)) =
+    let same : (c.in-Ok.found.2, tag_of known) ≡ (given_bounds box, tag_of (object_at layer id)) =
     λ i. (given i, tag_of (its_object layer id known there i)) in
     let moved =
     on_ok made
     (λ so. subst (λ (o : Object). IsSound new (map_insert t name (with_object layer id o))) same so)
-    (c.replace_box.ensures.replaced t name before reaches.finds dims there) in
+    (c.replace_box.ensures.replaced t name before reaches.finds dims there spot) in
     begun_change old mid new c.in-Ok.ensures.keeps made c.replace_box.ensures.begins c.change_of.result
     c.change_of.ensures t (Move name id box)
     (a_change_makes_another_table t (Move name id box) moves) g.met.B.BlockDevice.only_now sound none refl
-    moved (c.replace_box.ensures.faults t name before reaches.finds dims there)
+    moved (c.replace_box.ensures.faults t name before reaches.finds dims there spot)
 
 pub returns-clause-tree : goal.returns-clause-tree
 returns-clause-tree g c = λ t name box sound reaches moves.
@@ -115,12 +119,15 @@ returns-clause-tree g c = λ t name box sound reaches moves.
     let id = c.args.id in
     let located = c.locate-located.ensures.located t name sound reaches.finds in
     let there = c.in-Ok.ensures.has t name sound located in
-    let given : c.in-Ok.both.1 ≡ given_bounds box = c.in-Ok.ensures.gets ∙ sym reaches.given in
+    let given : c.in-Ok.found.2 ≡ given_bounds box = c.in-Ok.ensures.gets ∙ sym reaches.given in
+    let spot = spot_in g.row.D old mid (c.in-Ok.ensures.keeps.trees.map.pages_stay sound.map.honest)
+    c.in-Ok.ensures.keeps.trees.records c.args.place id c.in-Ok.found.0 c.locate-located.result
+    c.locate-located.ensures.by_record (c.in-Ok.ensures.spot t sound) in
     let changed =
     subst (λ (b : Bounds). OnOk c.replace_box.result (ChangesTree mid new name (HasMoved layer id b)))
     given
     (c.replace_box.ensures.tree t name (c.in-Ok.ensures.keeps.sound t sound) reaches.finds
-    (located.dims ∙ c.in-Ok.ensures.axes) there) in
+    (located.dims ∙ c.in-Ok.ensures.axes) there spot) in
     begun_tree old mid new c.in-Ok.ensures.keeps c.replace_box.result c.replace_box.ensures.begins
     c.change_of.result c.change_of.ensures t name (HasMoved layer id (given_bounds box)) sound changed
 
@@ -133,6 +140,6 @@ returns-clause-same g c = λ t name box sound reaches still.
     ∙ c.in-Ok.ensures.allowed t name box sound located reaches.axes reaches.given in
     let there = c.in-Ok.ensures.has t name sound located in
     let moves : changes t (Move name id box) ≡ true =
-    tested_boxes t name id box c.in-Ok.both.0 there none c.in-Ok.both.1
+    tested_boxes t name id box c.in-Ok.found.1 there none c.in-Ok.found.2
     (c.in-Ok.ensures.gets ∙ sym reaches.given) ∙ ap not (sym c.eq.ensures ∙ c.if-eq.false) in
     let no : true ≡ false = sym moves ∙ still in absurd (cc)

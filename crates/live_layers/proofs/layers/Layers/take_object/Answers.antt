@@ -10,6 +10,7 @@ use Rattle.live_layers.specs.Rules.{HasLost}
 use Rattle.live_layers.proofs.AddLemmas.{stands_at}
 use Rattle.live_layers.proofs.BegunLemmas.{broke_behind, made_behind, no_memory, not_opened}
 use Rattle.live_layers.proofs.ReplaceLemmas.{changes_before, reading}
+use Rattle.live_layers.proofs.SpotLemmas.{spot_begun}
 use Rattle.live_layers.proofs.TakeLemmas.{sound_taken, tree_taken}
 use Rattle.live_layers.proofs.layers.Layers.take_object.Goals as goal
 
@@ -37,49 +38,58 @@ returns-in-Err-clause-begins g c =
     c.in-Err.ensures.changes
 
 pub returns-in-Err-clause-faults : goal.returns-in-Err-clause-faults
-returns-in-Err-clause-faults g c = λ t name sound finds dims there.
+returns-in-Err-clause-faults g c = λ t name sound finds dims there spot.
     let kept = c.begin.new.self in
     let before = c.begin.ensures.sound t sound in
-    let at =
-    stands_at kept t name c.args.place before finds c.locate-located.result
-    c.locate-located.ensures.by_record g.row.D dims in
+    let located = c.locate-located.result in
+    let by = c.locate-located.ensures.by_record in
+    let at = stands_at kept t name c.args.place before finds located by g.row.D dims in
+    let here = spot_begun g.row.D c.args.self.now kept
+    (c.begin.ensures.keeps.map.pages_stay sound.map.honest) c.begin.ensures.keeps.records c.args.place
+    c.args.object.now.entry.reference c.args.object.now.spot spot located by in
     subst (λ (b : Broken). IsOfDevice b.cause) (sym c.broken_by.ensures)
     (no_page_wanted kept t before c.locate-located.ensures.few most_removal_pages c.remove.new.cache _
     (omega (arith)) c.remove.ensures.grows
     (c.in-Err.ensures.faults before.map (reading kept t name c.args.place before finds).pages
-    (layer_at t name).objects at there))
+    (layer_at t name).objects at here there))
 
 pub returns-clause-taken : goal.returns-clause-taken
-returns-clause-taken g c = λ t name sound finds dims there.
+returns-clause-taken g c = λ t name sound finds dims there spot.
     let kept = c.begin.new.self in
     let before = c.begin.ensures.sound t sound in
     let located = c.locate-located.result in
     let by = c.locate-located.ensures.by_record in
     let at = stands_at kept t name c.args.place before finds located by g.row.D dims in
+    let here = spot_begun g.row.D c.args.self.now kept
+    (c.begin.ensures.keeps.map.pages_stay sound.map.honest) c.begin.ensures.keeps.records c.args.place
+    c.args.object.now.entry.reference c.args.object.now.spot spot located by in
     let l = (reading kept t name c.args.place before finds).pages in
     let objects = (layer_at t name).objects in
-    sound_taken kept t name c.args.place before finds located by g.row.D dims c.args.id
-    (c.args.bounds.now, c.args.tag) there c.remove.new.cache c.in-Ok.root
-    (c.in-Ok.ensures.removed before.map l objects at there) _ c.note.ensures.cache
+    sound_taken kept t name c.args.place before finds located by g.row.D dims c.args.object.now.entry.reference
+    (c.args.object.now.entry.bounds, c.args.object.now.entry.tag) there c.remove.new.cache c.in-Ok.root
+    (c.in-Ok.ensures.removed before.map l objects at here there) _ c.note.ensures.cache
     c.count_at.result c.saturating_sub-count.result c.count_at.ensures c.saturating_sub-count.ensures
     c.in-Ok.ensures.root c.in-Ok.ensures.changes.next
     (c.in-Ok.ensures.changes.gate.version before.map.honest) c.note.ensures.records
-    (c.in-Ok.ensures.sound before.map l objects at)
+    (c.in-Ok.ensures.sound before.map l objects at here)
     (omega (arith, c.note.ensures.count, c.saturating_sub-self.ensures)) c.note.ensures.written
 
 pub returns-clause-tree : goal.returns-clause-tree
-returns-clause-tree g c = λ t name sound finds dims there.
+returns-clause-tree g c = λ t name sound finds dims there spot.
     let kept = c.begin.new.self in
     let before = c.begin.ensures.sound t sound in
     let located = c.locate-located.result in
     let by = c.locate-located.ensures.by_record in
     let at = stands_at kept t name c.args.place before finds located by g.row.D dims in
+    let here = spot_begun g.row.D c.args.self.now kept
+    (c.begin.ensures.keeps.map.pages_stay sound.map.honest) c.begin.ensures.keeps.records c.args.place
+    c.args.object.now.entry.reference c.args.object.now.spot spot located by in
     let l = (reading kept t name c.args.place before finds).pages in
-    changes_before c.args.self.now kept _ name (HasLost (layer_at t name) c.args.id)
+    changes_before c.args.self.now kept _ name (HasLost (layer_at t name) c.args.object.now.entry.reference)
     (c.begin.ensures.keeps.map.pages_stay sound.map.honest) c.begin.ensures.keeps.records
-    (tree_taken kept t name c.args.place before finds located by g.row.D dims c.args.id
-    (c.args.bounds.now, c.args.tag) there c.remove.new.cache c.in-Ok.root
-    (c.in-Ok.ensures.removed before.map l (layer_at t name).objects at there) _ c.note.ensures.cache
+    (tree_taken kept t name c.args.place before finds located by g.row.D dims c.args.object.now.entry.reference
+    (c.args.object.now.entry.bounds, c.args.object.now.entry.tag) there c.remove.new.cache c.in-Ok.root
+    (c.in-Ok.ensures.removed before.map l (layer_at t name).objects at here there) _ c.note.ensures.cache
     c.count_at.result c.saturating_sub-count.result c.count_at.ensures c.saturating_sub-count.ensures
     c.in-Ok.ensures.root c.in-Ok.ensures.changes.next
     (c.in-Ok.ensures.changes.gate.version before.map.honest) c.note.ensures.records)
