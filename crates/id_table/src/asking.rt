@@ -27,8 +27,8 @@ pub struct TableFacts<const D: usize, H: Allocator> {
     pub pages: Vec<u32, H>,
 }
 
-/// Where a search found an identifier in a table, or found that it would come. It stays so as long as the table
-/// does, whatever becomes of other pages.
+/// Where a search found an identifier in a table, or found that it would come. It stays so as long as the
+/// table does, whatever becomes of other pages.
 #[derive(Clone, Copy, Debug, PartialEq, Eq)]
 pub enum Spot {
     /// In a chain of buckets, which a change walks once more.
@@ -46,8 +46,8 @@ pub struct Sought<const D: usize> {
     pub kept: Option<(BBox<D>, u32)>,
 }
 
-/// The box and the tag of an object, if the table that begins at a page has its identifier, and where it is or
-/// would come.
+/// The box and the tag of an object, if the table that begins at a page has its identifier, and where it is
+/// or would come.
 ///
 /// On an honest device, where the pages stand for a table there, a refusal is `Memory` or `Device`. On other
 /// pages it may be `Damaged` too, with the number of a page that a walk through the table comes to. Map and
@@ -62,10 +62,12 @@ pub fn find<const D: usize, B: BlockDevice, A: Allocator + Copy>(
     ensures asks { Asks cache.old cache.new result }
     ensures found { IsHonest cache.old → (t : IdTable) → page_of t ≡ page → IdsStand D (pages cache.old) t
         → IfOk result (λ sought. sought.kept ≡ map.get (objects_of t) id) }
-    ensures spot { IsHonest cache.old → IfOk result (λ sought. IsSpotAt D (pages cache.old) page id sought.spot) }
+    ensures spot { IsHonest cache.old
+        → IfOk result (λ sought. IsSpotAt D (pages cache.old) page id sought.spot) }
     ensures stands { IsHonest cache.old → (t : IdTable) → page_of t ≡ page → IdsStand D (pages cache.old) t
         → IfErr result IsOfDevice }
-    ensures met { IsHonest cache.old → IfOk result (λ sought. MeetsSpot D (given cache.old) page sought.spot) }
+    ensures met { IsHonest cache.old
+        → IfOk result (λ sought. MeetsSpot D (given cache.old) page sought.spot) }
     ensures damage { IsHonest cache.old
         → IfErr result (λ f. (n : ℕ) → f ≡ fault.Damaged n → MeetsInTable D (given cache.old) page n) }
     ensures other_faults { IfErr result (λ f. IsOfDevice f ⊎ IsDamage f) }

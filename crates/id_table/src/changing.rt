@@ -29,8 +29,8 @@ use std::alloc::Allocator;
 /// Makes a table of this kind and of no objects, and answers its first page, which stays its first. The gate
 /// has to be open. A tree wants a file of version 3: the caller raises it (`PageCache::raise_version`).
 ///
-/// With a sound map a refusal is `Memory` or `Device`, or `NoPages` where each page number is live. On an honest
-/// device it may be `Damaged` too, where the chain of free pages breaks.
+/// With a sound map a refusal is `Memory` or `Device`, or `NoPages` where each page number is live. On an
+/// honest device it may be `Damaged` too, where the chain of free pages breaks.
 pub fn make<const D: usize, B: BlockDevice, A: Allocator + Copy>(
     cache: &mut PageCache<B, A>,
     kind: TableKind,
@@ -59,9 +59,9 @@ pub fn make<const D: usize, B: BlockDevice, A: Allocator + Copy>(
 /// [`find`](crate::find) found that it would come. The gate has to be open.
 ///
 /// With a sound map, where the pages stand for a table there, a refusal is `Memory` or `Device`, or `NoPages`
-/// where each page number is live. On other pages it may be `Damaged` too: where no page was touched, with the
-/// number of a page that a walk meets, or at which the chain of free pages breaks. Also after a refusal at most
-/// `most_added_pages` more pages are live.
+/// where each page number is live. On other pages it may be `Damaged` too: where no page was touched, with
+/// the number of a page that a walk meets, or at which the chain of free pages breaks. Also after a refusal
+/// at most `most_added_pages` more pages are live.
 #[tactic(auto, using(page_cache::specs::Calls::changing))]
 pub fn add<const D: usize, B: BlockDevice, A: Allocator + Copy>(
     cache: &mut PageCache<B, A>,
@@ -84,7 +84,8 @@ pub fn add<const D: usize, B: BlockDevice, A: Allocator + Copy>(
     ensures grows { Grows most_added_pages cache.old cache.new }
     ensures faults { IsPageMap cache.old → (t : IdTable) → page_of t ≡ page → IdsStand D (pages cache.old) t
         → IsSpot t id spot → IfErr result (IsNoDamage cache.new) }
-    ensures damage { IsHonest cache.old → MeetsSpot D (given cache.old) page spot → touched_of cache.new ≡ false
+    ensures damage { IsHonest cache.old → MeetsSpot D (given cache.old) page spot
+        → touched_of cache.new ≡ false
         → IfErr result (λ f. (n : ℕ) → f ≡ fault.Damaged n
         → MeetsInTable D (given cache.old) page n ⊎ MayBreakAt cache.old n) }
     ensures other_faults { IfErr result (λ f. IsNoDamage cache.new f ⊎ IsDamage f) }
@@ -96,10 +97,12 @@ pub fn add<const D: usize, B: BlockDevice, A: Allocator + Copy>(
 }
 
 /// Gives the object with that identifier, which the table that begins at a page has, another box at the spot
-/// where [`find`](crate::find) found it: one page is written. Its tag is `tag`, as before. The gate has to be open.
+/// where [`find`](crate::find) found it: one page is written. Its tag is `tag`, as before. The gate has to be
+/// open.
 ///
-/// With a sound map, where the pages stand for a table there, a refusal is `Memory` or `Device`. On other pages
-/// it may be `Damaged` too, with the number of a page that a walk meets. Refused, it leaves the map as it was.
+/// With a sound map, where the pages stand for a table there, a refusal is `Memory` or `Device`. On other
+/// pages it may be `Damaged` too, with the number of a page that a walk meets. Refused, it leaves the map as
+/// it was.
 #[tactic(auto, using(page_cache::specs::Calls::changing))]
 pub fn update<const D: usize, B: BlockDevice, A: Allocator + Copy>(
     cache: &mut PageCache<B, A>,
@@ -137,8 +140,8 @@ pub fn update<const D: usize, B: BlockDevice, A: Allocator + Copy>(
 /// Removes an object from the table that begins at a page, which has its identifier, at the spot where
 /// [`find`](crate::find) found it. The gate has to be open.
 ///
-/// With a sound map, where the pages stand for a table there, a refusal is `Memory` or `Device`. On other pages
-/// it may be `Damaged` too: where no page was touched, with the number of a page that a walk meets.
+/// With a sound map, where the pages stand for a table there, a refusal is `Memory` or `Device`. On other
+/// pages it may be `Damaged` too: where no page was touched, with the number of a page that a walk meets.
 #[tactic(auto, using(page_cache::specs::Calls::changing))]
 pub fn remove<const D: usize, B: BlockDevice, A: Allocator + Copy>(
     cache: &mut PageCache<B, A>,
@@ -160,7 +163,8 @@ pub fn remove<const D: usize, B: BlockDevice, A: Allocator + Copy>(
     ensures grows { Grows 0 cache.old cache.new }
     ensures faults { IsPageMap cache.old → (t : IdTable) → page_of t ≡ page → IdsStand D (pages cache.old) t
         → IsSpot t id spot → map.contains_key (objects_of t) id ≡ true → IfErr result IsOfDevice }
-    ensures damage { IsHonest cache.old → MeetsSpot D (given cache.old) page spot → touched_of cache.new ≡ false
+    ensures damage { IsHonest cache.old → MeetsSpot D (given cache.old) page spot
+        → touched_of cache.new ≡ false
         → IfErr result (λ f. (n : ℕ) → f ≡ fault.Damaged n → MeetsInTable D (given cache.old) page n) }
     ensures other_faults { IfErr result (λ f. IsOfDevice f ⊎ IsDamage f) }
 {
@@ -172,8 +176,8 @@ pub fn remove<const D: usize, B: BlockDevice, A: Allocator + Copy>(
 
 /// Frees all pages of the table that begins at a page. The gate has to be open.
 ///
-/// With a sound map, where the pages stand for a table there, a refusal is `Memory` or `Device`. On other pages
-/// it may be `Damaged` too: where no page was touched, with the number of a page that a walk meets.
+/// With a sound map, where the pages stand for a table there, a refusal is `Memory` or `Device`. On other
+/// pages it may be `Damaged` too: where no page was touched, with the number of a page that a walk meets.
 #[tactic(auto, using(page_cache::specs::Calls::changing))]
 pub fn free_all<const D: usize, B: BlockDevice, A: Allocator + Copy>(
     cache: &mut PageCache<B, A>,

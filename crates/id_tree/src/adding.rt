@@ -21,9 +21,9 @@ ghost use Rattle.id_tree.specs.Tree.{IdTree, Row, TreeStands, objects_in, object
 
 use crate::below::{has_room, look_below};
 use crate::looks::step;
-use crate::search::LeafPlace;
 use crate::pushing::push;
 use crate::rooting::{deepen, start};
+use crate::search::LeafPlace;
 use crate::splitting::split;
 use block_device::BlockDevice;
 use box_math::BBox;

@@ -7,9 +7,10 @@ ghost use Rattle.page_file.specs.declared.gate.Gate.TheVariants.{Open};
 ghost use Rattle.page_cache.specs.Cache.{Grows, IsPageMap, gate_of, pages};
 ghost use Rattle.page_cache.specs.Calls.{Changes};
 ghost use Rattle.node_page.specs.Faults.{IsChangeFault, IsNoDamage};
-ghost use Rattle.id_table.specs.Table.{IsSpotAt, kind_of};
+ghost use Rattle.id_table.specs.Table.{kind_of};
 ghost use Rattle.layer_pages.specs.Changes.{BecomesLayer, HasInserted, most_inserted_pages};
-ghost use Rattle.layer_pages.specs.Layers.{CanBeRoot, IsLayerAt, LayerPages, Objects, part_of_layer};
+ghost use Rattle.layer_pages.specs.Layers.{CanBeRoot, IsAtSpot, IsLayerAt, LayerPages, Objects, id_of};
+ghost use Rattle.layer_pages.specs.Layers.{kept_of, part_of_layer};
 
 use crate::layer::{Layer, ObjectAt};
 use block_device::BlockDevice;
@@ -20,7 +21,8 @@ use reinsert::{Waiting, insert_with};
 use std::alloc::Allocator;
 
 /// Inserts an object, whose identifier the layer does not have, and answers the root of its tree: by a lawful
-/// insertion into the tree, and then into the identifier table, at the spot where it would come. The gate has to be open.
+/// insertion into the tree, and then into the identifier table, at the spot where it would come. The gate has
+/// to be open.
 ///
 /// With a sound map, where the pages stand for that layer, a refusal is `Memory` or `Device`, or `NoPages`
 /// where each page number is live. One that touched no page leaves the map as it was. Also after a refusal at
@@ -39,20 +41,19 @@ pub fn insert<const D: usize, B: BlockDevice, A: Allocator + Copy>(
     ensures root { IfOk result CanBeRoot }
     ensures sound { IsPageMap cache.old → (l : LayerPages) (objects : Objects)
         → IsLayerAt D layer.fanout (pages cache.old) layer.root layer.ids_root l objects
-        → IsSpotAt D (pages cache.old) layer.ids_root object.now.entry.reference object.now.spot →
-        IfOk result (λ _. IsPageMap cache.new) }
+        → IsAtSpot (pages cache.old) layer.ids_root object.now
+        → IfOk result (λ _. IsPageMap cache.new) }
     ensures inserted { IsPageMap cache.old → (l : LayerPages) (objects : Objects)
         → IsLayerAt D layer.fanout (pages cache.old) layer.root layer.ids_root l objects
-        → IsSpotAt D (pages cache.old) layer.ids_root object.now.entry.reference object.now.spot → map.contains_key objects object.now.entry.reference ≡ false → IfOk result (λ after.
-        BecomesLayer D layer.fanout (pages cache.old) (pages cache.new) (part_of_layer l)
-        (kind_of l.ids) after
-        layer.ids_root
-        (map.insert objects object.now.entry.reference (object.now.entry.bounds, object.now.entry.tag))
-        (HasInserted D layer.fanout l object.now.entry.reference (object.now.entry.bounds, object.now.entry.tag))) }
+        → IsAtSpot (pages cache.old) layer.ids_root object.now
+        → map.contains_key objects (id_of object.now) ≡ false → IfOk result (λ after.
+        BecomesLayer D layer.fanout (pages cache.old) (pages cache.new) (part_of_layer l) (kind_of l.ids)
+        after layer.ids_root (map.insert objects (id_of object.now) (kept_of object.now))
+        (HasInserted D layer.fanout l (id_of object.now) (kept_of object.now))) }
     ensures grows { Grows most_inserted_pages cache.old cache.new }
     ensures faults { IsPageMap cache.old → (l : LayerPages) (objects : Objects)
         → IsLayerAt D layer.fanout (pages cache.old) layer.root layer.ids_root l objects
-        → IsSpotAt D (pages cache.old) layer.ids_root object.now.entry.reference object.now.spot → IfErr result (IsNoDamage cache.new) }
+        → IsAtSpot (pages cache.old) layer.ids_root object.now → IfErr result (IsNoDamage cache.new) }
     ensures other_faults { IfErr result IsChangeFault }
 {
     // a box that was looked at is known to be one

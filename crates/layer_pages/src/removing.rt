@@ -1,6 +1,6 @@
 //! An object removed from a layer.
 
-ghost use Rattle.std.specs.Prelude.{◌≡◌, ◌≤◌, ℕ, Some, IfErr, IfOk};
+ghost use Rattle.std.specs.Prelude.{◌≤◌, ℕ, IfErr, IfOk};
 ghost use Rattle.std.specs.FinMap as map;
 ghost use Rattle.box_math.specs.Bounds.{IsDims};
 ghost use Rattle.page_file.specs.declared.gate.Gate.TheVariants.{Open};
@@ -8,9 +8,10 @@ ghost use Rattle.page_cache.specs.Cache.{Grows, IsPageMap, gate_of, pages};
 ghost use Rattle.page_cache.specs.Calls.{Changes};
 ghost use Rattle.node_page.specs.Faults.{IsChangeFault, IsNoDamage};
 ghost use Rattle.condense.specs.Removed.{IsRefused, most_removal_pages};
-ghost use Rattle.id_table.specs.Table.{IsSpotAt, kind_of};
+ghost use Rattle.id_table.specs.Table.{kind_of};
 ghost use Rattle.layer_pages.specs.Changes.{BecomesLayer, HasRemoved};
-ghost use Rattle.layer_pages.specs.Layers.{CanBeRoot, IsLayerAt, LayerPages, Objects, part_of_layer};
+ghost use Rattle.layer_pages.specs.Layers.{CanBeRoot, HasObject, IsAtSpot, IsLayerAt, LayerPages, Objects};
+ghost use Rattle.layer_pages.specs.Layers.{id_of, kept_of, part_of_layer};
 
 use crate::layer::{Layer, ObjectAt};
 use block_device::BlockDevice;
@@ -45,26 +46,22 @@ pub fn remove<const D: usize, B: BlockDevice, A: Allocator + Copy>(
     ensures root { IfOk result CanBeRoot }
     ensures sound { IsPageMap cache.old → (l : LayerPages) (objects : Objects)
         → IsLayerAt D layer.fanout (pages cache.old) layer.root layer.ids_root l objects
-        → IsSpotAt D (pages cache.old) layer.ids_root object.now.entry.reference object.now.spot →
-        IfOk result (λ _. IsPageMap cache.new) }
+        → IsAtSpot (pages cache.old) layer.ids_root object.now
+        → IfOk result (λ _. IsPageMap cache.new) }
     ensures removed { IsPageMap cache.old → (l : LayerPages) (objects : Objects)
         → IsLayerAt D layer.fanout (pages cache.old) layer.root layer.ids_root l objects
-        → IsSpotAt D (pages cache.old) layer.ids_root object.now.entry.reference object.now.spot →
-        map.get objects object.now.entry.reference ≡ Some (object.now.entry.bounds, object.now.entry.tag)
+        → IsAtSpot (pages cache.old) layer.ids_root object.now → HasObject objects object.now
         → IfOk result (λ after.
-        BecomesLayer D layer.fanout (pages cache.old) (pages cache.new) (part_of_layer l)
-        (kind_of l.ids) after
-        layer.ids_root (map.remove objects object.now.entry.reference)
-        (HasRemoved D layer.fanout l object.now.entry.reference (object.now.entry.bounds, object.now.entry.tag))) }
+        BecomesLayer D layer.fanout (pages cache.old) (pages cache.new) (part_of_layer l) (kind_of l.ids)
+        after layer.ids_root (map.remove objects (id_of object.now))
+        (HasRemoved D layer.fanout l (id_of object.now) (kept_of object.now))) }
     ensures absent { IsPageMap cache.old → (l : LayerPages) (objects : Objects)
-        → IsLayerAt D layer.fanout (pages cache.old) layer.root layer.ids_root l objects →
-        ¬ (map.get objects object.now.entry.reference ≡ Some (object.now.entry.bounds, object.now.entry.tag))
-        → IsRefused layer.root.page cache.old cache.new result }
+        → IsLayerAt D layer.fanout (pages cache.old) layer.root layer.ids_root l objects
+        → ¬ (HasObject objects object.now) → IsRefused layer.root.page cache.old cache.new result }
     ensures grows { Grows most_removal_pages cache.old cache.new }
     ensures faults { IsPageMap cache.old → (l : LayerPages) (objects : Objects)
         → IsLayerAt D layer.fanout (pages cache.old) layer.root layer.ids_root l objects
-        → IsSpotAt D (pages cache.old) layer.ids_root object.now.entry.reference object.now.spot →
-        map.get objects object.now.entry.reference ≡ Some (object.now.entry.bounds, object.now.entry.tag)
+        → IsAtSpot (pages cache.old) layer.ids_root object.now → HasObject objects object.now
         → IfErr result (IsNoDamage cache.new) }
     ensures other_faults { IfErr result IsChangeFault }
 {

@@ -148,7 +148,7 @@ module _ {X : Type 0} where
       let at_n : e.0 ≡ n = cc in
       let same : nat_eq n e.0 ≡ true = eq-eqb n e.0 (sym at_n) in (
         ap (λ y. option_map_or (λ f. f ∷ cond y es (e ∷ remove_entry (nat_eq n) es))
-        (cond y (Some e) (lookup_entry (nat_eq n) es)) (e ∷ es)) same,
+            (cond y (Some e) (lookup_entry (nat_eq n) es)) (e ∷ es)) same,
         ap (λ y. is_some (cond y (Some e.1) (lookup (nat_eq n) es))) same,
       )
 

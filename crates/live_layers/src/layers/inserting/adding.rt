@@ -5,6 +5,7 @@ ghost use Rattle.std.specs.FinMap as map;
 ghost use Rattle.box_math.specs.Bounds.{IsDims};
 ghost use Rattle.page_cache.specs.Cache.{version_of};
 ghost use Rattle.page_file.specs.Fault.{IsOfDevice};
+ghost use Rattle.layer_pages.specs.Layers.{id_of, kept_of};
 ghost use Rattle.plain_table.specs.Table.{Table, layer_at, most_objects, with_object};
 ghost use Rattle.live_layers.specs.Begun.{BeginsChange};
 ghost use Rattle.live_layers.specs.Keeping.{ChangesTree, Finds, IsSound, cache_of, records_in};
@@ -20,8 +21,8 @@ use reinsert::Waiting;
 use std::alloc::Allocator;
 
 impl<B: BlockDevice, A: Allocator + Copy> Layers<B, A> {
-    // Adds an object that the layer at a place does not have, at that spot. The memory of what waits in the insertion is
-    // taken before the gate is opened.
+    // Adds an object that the layer at a place does not have, at that spot. The memory of what waits in the
+    // insertion is taken before the gate is opened.
     pub(crate) fn add_object<const D: usize>(
         &mut self,
         place: usize,
@@ -32,18 +33,19 @@ impl<B: BlockDevice, A: Allocator + Copy> Layers<B, A> {
         requires within { place < length (records_in self.old) }
         requires room { self.old.object_count < most_objects }
         ensures added { (t : Table) (name : List ℕ) → IsSound self.old t → Finds t name place →
-            (layer_at t name).dims ≡ D → map.contains_key (layer_at t name).objects object.now.entry.reference ≡ false →
-            IsSpotIn D self.old place object.now.entry.reference object.now.spot →
+            (layer_at t name).dims ≡ D →
+            map.contains_key (layer_at t name).objects (id_of object.now) ≡ false →
+            IsSpotIn D self.old place (id_of object.now) object.now.spot →
             OnOk result (IsSound self.new
-            (map.insert t name (with_object (layer_at t name) object.now.entry.reference
-            (object.now.entry.bounds, object.now.entry.tag)))) }
+            (map.insert t name (with_object (layer_at t name) (id_of object.now) (kept_of object.now)))) }
         ensures tree { (t : Table) (name : List ℕ) → IsSound self.old t → Finds t name place →
-            (layer_at t name).dims ≡ D → map.contains_key (layer_at t name).objects object.now.entry.reference ≡ false →
-            IsSpotIn D self.old place object.now.entry.reference object.now.spot →
+            (layer_at t name).dims ≡ D →
+            map.contains_key (layer_at t name).objects (id_of object.now) ≡ false →
+            IsSpotIn D self.old place (id_of object.now) object.now.spot →
             OnOk result (ChangesTree self.old self.new name
-            (HasGained (layer_at t name) object.now.entry.reference (object.now.entry.bounds, object.now.entry.tag))) }
+            (HasGained (layer_at t name) (id_of object.now) (kept_of object.now))) }
         ensures faults { (t : Table) (name : List ℕ) → IsSound self.old t → Finds t name place →
-            (layer_at t name).dims ≡ D → IsSpotIn D self.old place object.now.entry.reference object.now.spot →
+            (layer_at t name).dims ≡ D → IsSpotIn D self.old place (id_of object.now) object.now.spot →
             IfErr result (λ b. IsOfDevice b.cause) }
         ensures begins { BeginsChange self.old self.new (version_of (cache_of self.old)) result }
     {

@@ -21,8 +21,8 @@ use plain_table::Refusal;
 use std::alloc::Allocator;
 
 impl<B: BlockDevice, A: Allocator + Copy> Layers<B, A> {
-    // The spot of an object of the layer that stands there, the object, and the box that it may get; or why it
-    // may not.
+    // The spot of an object of the layer that stands there, the object, and the box that it may get; or why
+    // it may not.
     pub(crate) fn check_move<const D: usize>(
         &mut self,
         located: &Located,

@@ -5,6 +5,7 @@ ghost use Rattle.std.specs.FinMap as map;
 ghost use Rattle.box_math.specs.Bounds.{IsDims};
 ghost use Rattle.page_cache.specs.Cache.{version_of};
 ghost use Rattle.page_file.specs.Fault.{IsOfDevice};
+ghost use Rattle.layer_pages.specs.Layers.{HasObject, id_of};
 ghost use Rattle.plain_table.specs.Table.{Table, layer_at, with_object};
 ghost use Rattle.live_layers.specs.Begun.{BeginsChange};
 ghost use Rattle.live_layers.specs.Keeping.{ChangesTree, Finds, IsSound, cache_of, records_in};
@@ -22,8 +23,8 @@ use reinsert::Waiting;
 use std::alloc::Allocator;
 
 impl<B: BlockDevice, A: Allocator + Copy> Layers<B, A> {
-    // Gives an object, which the layer at a place has with that box and that tag, at that spot, another box. The
-    // memory of what is inserted again, and of what waits in that, is taken before the gate is opened.
+    // Gives an object, which the layer at a place has with that box and that tag, at that spot, another box.
+    // The memory of what is inserted again, and of what waits in that, is taken before the gate is opened.
     pub(crate) fn replace_box<const D: usize>(
         &mut self,
         place: usize,
@@ -35,17 +36,19 @@ impl<B: BlockDevice, A: Allocator + Copy> Layers<B, A> {
         requires dims { IsDims D }
         requires within { place < length (records_in self.old) }
         ensures replaced { (t : Table) (name : List ℕ) → IsSound self.old t → Finds t name place →
-            (layer_at t name).dims ≡ D → map.get (layer_at t name).objects object.now.entry.reference ≡ Some (object.now.entry.bounds, object.now.entry.tag) →
-            IsSpotIn D self.old place object.now.entry.reference object.now.spot →
+            (layer_at t name).dims ≡ D → HasObject (layer_at t name).objects object.now →
+            IsSpotIn D self.old place (id_of object.now) object.now.spot →
             OnOk result (IsSound self.new
-            (map.insert t name (with_object (layer_at t name) object.now.entry.reference (bounds.now, object.now.entry.tag)))) }
+            (map.insert t name
+            (with_object (layer_at t name) (id_of object.now) (bounds.now, object.now.entry.tag)))) }
         ensures tree { (t : Table) (name : List ℕ) → IsSound self.old t → Finds t name place →
-            (layer_at t name).dims ≡ D → map.get (layer_at t name).objects object.now.entry.reference ≡ Some (object.now.entry.bounds, object.now.entry.tag) →
-            IsSpotIn D self.old place object.now.entry.reference object.now.spot →
-            OnOk result (ChangesTree self.old self.new name (HasMoved (layer_at t name) object.now.entry.reference bounds.now)) }
+            (layer_at t name).dims ≡ D → HasObject (layer_at t name).objects object.now →
+            IsSpotIn D self.old place (id_of object.now) object.now.spot →
+            OnOk result (ChangesTree self.old self.new name
+            (HasMoved (layer_at t name) (id_of object.now) bounds.now)) }
         ensures faults { (t : Table) (name : List ℕ) → IsSound self.old t → Finds t name place →
-            (layer_at t name).dims ≡ D → map.get (layer_at t name).objects object.now.entry.reference ≡ Some (object.now.entry.bounds, object.now.entry.tag) →
-            IsSpotIn D self.old place object.now.entry.reference object.now.spot →
+            (layer_at t name).dims ≡ D → HasObject (layer_at t name).objects object.now →
+            IsSpotIn D self.old place (id_of object.now) object.now.spot →
             IfErr result (λ b. IsOfDevice b.cause) }
         ensures begins { BeginsChange self.old self.new (version_of (cache_of self.old)) result }
     {
