@@ -1,12 +1,11 @@
 -- What a check of a layer finds: a tree and a table of the same objects, on pages of their own.
-use Rattle.std.proofs.Common.{Result, Ok, Err, IfErr, IfOk, ◌⊎◌, ◌≡◌, ◌∙◌, ℕ, suc, ◌+◌, ◌<◌, ◌≤◌, ◌==◌, ◌||◌}
+use Rattle.std.proofs.Common.{Result, Ok, Err, IfErr, IfOk, ◌⊎◌, ◌≡◌, ◌∙◌, ℕ, ◌+◌, ◌<◌, ◌≤◌, ◌==◌, ◌||◌}
 use Rattle.std.proofs.Common.{Bool, true, false, cond, eqb, Option, Some, None, IsSome, List, [], ◌∷◌, ◌++◌}
-use Rattle.std.proofs.Common.{length, get_or, not, All, refl, sym, ap, subst, ⊎_elim, inl, inr, arith}
+use Rattle.std.proofs.Common.{length, All, refl, sym, ap, subst, ⊎_elim, inl, inr, arith}
 use Rattle.std.specs.Prelude.{IsPermutation, is_some}
 use Rattle.std.specs.Cmp.{nat_cmp_total}
 use Rattle.std.specs.FinMap.{contains_key, entries, entries_sorted, from_entries, get-from_entries}
 use Rattle.std.specs.FinMap.{len-entries}
-use Rattle.std.specs.List.{flat_map}
 use Rattle.std.specs.List.Sorted.{IsNonDecreasingBy}
 use Rattle.std.specs.Ordering.{nat_cmp}
 use Rattle.std.proofs.lemmas.Bool.{cases_eq}

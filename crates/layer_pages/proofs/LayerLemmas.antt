@@ -12,7 +12,6 @@ use Rattle.node_page.proofs.ChangeLemmas.{trees_beside_stand}
 use Rattle.node_page.proofs.PartLemmas.{moves_beside, moves_in_turn, moves_same, none_or_some, staying_moves}
 use Rattle.node_page.proofs.StandingLemmas.{pages_are_there}
 use Rattle.id_table.specs.Table.{IdTable, IdsStand, kind_of, objects_of, page_of, part_of}
-use Rattle.id_table.specs.declared.kind.TableKind.{TableKind}
 use Rattle.id_table.proofs.TableLemmas.{ids_beside, ids_there}
 use Rattle.reinsert.specs.Inserted.{IsRootOf}
 use Rattle.layer_pages.specs.Changes.{BecomesLayer}

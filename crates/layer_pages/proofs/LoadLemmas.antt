@@ -23,8 +23,7 @@ use Rattle.node_page.proofs.RootedLemmas.{loose}
 use Rattle.node_page.proofs.StandingLemmas.{pages_are_there}
 use Rattle.id_words.specs.Objects.{AreNew, with_all}
 use Rattle.id_table.specs.Changes.{Fills}
-use Rattle.id_table.specs.Table.{entries_of, kind_of, objects_of, part_of}
-use Rattle.id_table.specs.declared.kind.TableKind.{TableKind}
+use Rattle.id_table.specs.Table.{kind_of, objects_of, part_of}
 use Rattle.id_table.proofs.TableLemmas.{ids_beside}
 use Rattle.bulk_load.specs.Loads.{Loads}
 use Rattle.reinsert.proofs.LevelLemmas.{shape_bounds_level}

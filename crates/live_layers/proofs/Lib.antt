@@ -25,6 +25,7 @@ pub mod InsertLemmas
 pub mod AddLemmas
 pub mod CreateLemmas
 pub mod JoinLemmas
+pub mod SpotLemmas
 pub mod TakeLemmas
 pub mod DeleteLemmas
 pub mod DropLemmas

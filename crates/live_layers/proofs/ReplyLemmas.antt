@@ -122,6 +122,13 @@ object_missing rose layer id e =
     inl (ap (λ (o : Option Object). refused_or (first_refusal ((not (is_some o), refusal.NoObject) ∷ []))
     (Boxes ((id, unwrap_or o no_object) ∷ []))) (sym e))
 
+pub object_found : (rose : Type 0) (layer : Layer) (id : ℕ) (kept : Object) → get layer.objects id ≡ Some kept
+    → IsReply rose (first_refusal (missing_refusals layer id)) (Boxes (object_row layer id ∷ []))
+    (Boxes ((id, kept) ∷ []))
+object_found rose layer id kept e =
+    inl (ap (λ (o : Option Object). refused_or (first_refusal ((not (is_some o), refusal.NoObject) ∷ []))
+    (Boxes ((id, unwrap_or o no_object) ∷ []))) (sym e))
+
 -- ---- the nearest
 
 -- a point of as many axes as the layer has, and a number that may be asked for

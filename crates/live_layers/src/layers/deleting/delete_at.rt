@@ -42,19 +42,18 @@ impl<B: BlockDevice, A: Allocator + Copy> Layers<B, A> {
             OnOk result (ChangesTree self.old self.new name (HasLost (layer_at t name) id)) }
         ensures keeps { KeepsInChange self.old self.new (version_of (cache_of self.old)) result }
     {
-        match self.object_of::<D>(located, id) {
-            Ok((spot, known)) => {
-                let object = ObjectAt {
-                    entry: Entry {
-                        bounds: known.0,
-                        reference: id,
-                        tag: known.1,
-                    },
-                    spot,
-                };
-                change_of(self.take_object(place, &object, waiting_room, kept_room))
-            }
-            Err(refusal) => Err(Unmade::Refused(refusal)),
-        }
+        let (spot, known) = match self.object_of::<D>(located, id) {
+            Ok(found) => found,
+            Err(refusal) => return Err(Unmade::Refused(refusal)),
+        };
+        let object = ObjectAt {
+            entry: Entry {
+                bounds: known.0,
+                reference: id,
+                tag: known.1,
+            },
+            spot,
+        };
+        change_of(self.take_object(place, &object, waiting_room, kept_room))
     }
 }

@@ -45,19 +45,18 @@ impl<B: BlockDevice, A: Allocator + Copy> Layers<B, A> {
         ensures keeps { KeepsInChange self.old self.new (version_of (cache_of self.old)) result }
     {
         let located = self.locate(place);
-        match self.check_object(&located, id, low, high) {
-            Ok((spot, bounds)) => {
-                let object = ObjectAt {
-                    entry: Entry {
-                        bounds,
-                        reference: id,
-                        tag,
-                    },
-                    spot,
-                };
-                change_of(self.add_object(place, &object, waiting_room))
-            }
-            Err(refusal) => Err(Unmade::Refused(refusal)),
-        }
+        let (spot, bounds) = match self.check_object(&located, id, low, high) {
+            Ok(found) => found,
+            Err(refusal) => return Err(Unmade::Refused(refusal)),
+        };
+        let object = ObjectAt {
+            entry: Entry {
+                bounds,
+                reference: id,
+                tag,
+            },
+            spot,
+        };
+        change_of(self.add_object(place, &object, waiting_room))
     }
 }

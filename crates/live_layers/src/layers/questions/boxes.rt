@@ -15,7 +15,7 @@ use crate::layers::Layers;
 use crate::located::Located;
 use block_device::BlockDevice;
 use box_math::BBox;
-use id_table::{Spot, find};
+use id_table::{Sought, Spot, find};
 use plain_table::Refusal;
 use std::alloc::Allocator;
 
@@ -37,12 +37,14 @@ impl<B: BlockDevice, A: Allocator + Copy> Layers<B, A> {
             IfOk result (λ found. IsSpotOf D self.new located.now id found.0) }
         ensures keeps { KeepsInQuestion self.old self.new result }
     {
-        match find::<D, B, A>(&mut self.cache, located.ids_root, id) {
-            Ok(sought) => match sought.kept {
-                Some(kept) => Ok((sought.spot, kept)),
-                None => Err(Refusal::NoObject),
-            },
-            Err(fault) => Err(as_refusal(fault)),
+        let sought = match find::<D, B, A>(&mut self.cache, located.ids_root, id) {
+            Ok(sought) => sought,
+            Err(fault) => return Err(as_refusal(fault)),
+        };
+        let Sought { spot, kept } = sought;
+        match kept {
+            Some(kept) => Ok((spot, kept)),
+            None => Err(Refusal::NoObject),
         }
     }
 }

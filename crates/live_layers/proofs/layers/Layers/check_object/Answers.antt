@@ -13,6 +13,7 @@ use Rattle.live_layers.proofs.AskLemmas.{device_refuses, risen_of, tested_other,
 use Rattle.live_layers.proofs.InsertLemmas.{bad_box, duplicate, full_so, none_refuses, room_so, too_many}
 use Rattle.live_layers.proofs.InsertLemmas.{wrong_dims}
 use Rattle.live_layers.proofs.QuestionLemmas.{asks_and_answers, asks_and_fails, asks_and_refuses}
+use Rattle.live_layers.proofs.SpotLemmas.{spot_stays}
 use Rattle.live_layers.proofs.layers.Layers.check_object.Goals as goal
 
 pub returns-then-from-clause-allowed : goal.returns-then-from-clause-allowed
@@ -127,3 +128,9 @@ returns-then-self-ge-MOST_OBJECTS-clause-keeps g c =
 
 pub returns-clause-keeps : goal.returns-clause-keeps
 returns-clause-keeps g c = asks_and_answers c.args.self.now _ (refl, refl, refl, refl) c.in-Ok.ensures.asks
+
+pub returns-clause-spot : goal.returns-clause-spot
+returns-clause-spot g c = λ t sound.
+    spot_stays g.row.D c.args.self.now (record c.args.self.now { cache = c.find.new.cache })
+    (c.in-Ok.ensures.asks.map.pages_stay sound.map.honest) refl 0 c.args.id c.in-Ok.sought.spot
+    c.args.located.now (c.in-Ok.ensures.spot sound.map.honest)

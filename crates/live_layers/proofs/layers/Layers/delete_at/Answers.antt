@@ -14,24 +14,24 @@ use Rattle.live_layers.proofs.DeleteLemmas.{as_missing, has_object, it_shrinks, 
 use Rattle.live_layers.proofs.SpotLemmas.{spot_in}
 use Rattle.live_layers.proofs.layers.Layers.delete_at.Goals as goal
 
-pub returns-in-Ok-clause-keeps : goal.returns-in-Ok-clause-keeps
-returns-in-Ok-clause-keeps g c =
+pub returns-clause-keeps : goal.returns-clause-keeps
+returns-clause-keeps g c =
     begun_keeps c.args.self.now c.object_of.new.self c.take_object.new.self c.in-Ok.ensures.keeps
     c.take_object.result c.take_object.ensures.begins c.change_of.result c.change_of.ensures
     c.in-Ok.ensures.keeps.trees.map.version
 
-pub returns-in-Ok-clause-change : goal.returns-in-Ok-clause-change
-returns-in-Ok-clause-change g c = λ t name sound reaches.
+pub returns-clause-change : goal.returns-clause-change
+returns-clause-change g c = λ t name sound reaches.
     let old = c.args.self.now in
     let mid = c.object_of.new.self in
     let id = c.args.id in
     let reply = c.in-Ok.ensures.replied t name sound reaches.located in
-    let none = not_missing t name id reaches.named (Rose old mid) c.in-Ok.known reply in
-    let there = has_object (layer_at t name) id (Rose old mid) c.in-Ok.known reply in
+    let none = not_missing t name id reaches.named (Rose old mid) c.in-Ok.found.1 reply in
+    let there = has_object (layer_at t name) id (Rose old mid) c.in-Ok.found.1 reply in
     let dims = reaches.located.dims ∙ c.requires.axes in
     let before = c.in-Ok.ensures.keeps.sound t sound in
     let spot = spot_in g.row.D old mid (c.in-Ok.ensures.keeps.trees.map.pages_stay sound.map.honest)
-    c.in-Ok.ensures.keeps.trees.records c.args.place c.args.id c.in-Ok.spot c.args.located.now
+    c.in-Ok.ensures.keeps.trees.records c.args.place c.args.id c.in-Ok.found.0 c.args.located.now
     reaches.recorded (c.in-Ok.ensures.spot t sound) in
     begun_change old mid c.take_object.new.self c.in-Ok.ensures.keeps c.take_object.result
     c.take_object.ensures.begins c.change_of.result c.change_of.ensures t (Delete name id)
@@ -39,17 +39,17 @@ returns-in-Ok-clause-change g c = λ t name sound reaches.
     (c.take_object.ensures.taken t name before reaches.finds dims there spot)
     (c.take_object.ensures.faults t name before reaches.finds dims there spot)
 
-pub returns-in-Ok-clause-tree : goal.returns-in-Ok-clause-tree
-returns-in-Ok-clause-tree g c = λ t name sound reaches.
+pub returns-clause-tree : goal.returns-clause-tree
+returns-clause-tree g c = λ t name sound reaches.
     let old = c.args.self.now in
     let mid = c.object_of.new.self in
     let layer = layer_at t name in
     let id = c.args.id in
     let there =
-    has_object layer id (Rose old mid) c.in-Ok.known
+    has_object layer id (Rose old mid) c.in-Ok.found.1
     (c.in-Ok.ensures.replied t name sound reaches.located) in
     let spot = spot_in g.row.D old mid (c.in-Ok.ensures.keeps.trees.map.pages_stay sound.map.honest)
-    c.in-Ok.ensures.keeps.trees.records c.args.place c.args.id c.in-Ok.spot c.args.located.now
+    c.in-Ok.ensures.keeps.trees.records c.args.place c.args.id c.in-Ok.found.0 c.args.located.now
     reaches.recorded (c.in-Ok.ensures.spot t sound) in
     begun_tree old mid c.take_object.new.self c.in-Ok.ensures.keeps c.take_object.result
     c.take_object.ensures.begins c.change_of.result c.change_of.ensures t name (HasLost layer id) sound

@@ -19,14 +19,14 @@ use Rattle.live_layers.proofs.Results.{on_ok}
 use Rattle.live_layers.proofs.SpotLemmas.{spot_in}
 use Rattle.live_layers.proofs.layers.Layers.insert_box.Goals as goal
 
-pub returns-in-Ok-clause-keeps : goal.returns-in-Ok-clause-keeps
-returns-in-Ok-clause-keeps g c =
+pub returns-clause-keeps : goal.returns-clause-keeps
+returns-clause-keeps g c =
     begun_keeps c.args.self.now c.check_object.new.self c.add_object.new.self c.in-Ok.ensures.keeps
     c.add_object.result c.add_object.ensures.begins c.change_of.result c.change_of.ensures
     c.in-Ok.ensures.keeps.trees.map.version
 
-pub returns-in-Ok-clause-change : goal.returns-in-Ok-clause-change
-returns-in-Ok-clause-change g c = λ t name box sound reaches.
+pub returns-clause-change : goal.returns-clause-change
+returns-clause-change g c = λ t name box sound reaches.
     let layer = layer_at t name in
     let full = nat_le most_objects (object_count t) in
     let id = c.args.id in
@@ -39,7 +39,7 @@ returns-in-Ok-clause-change g c = λ t name box sound reaches.
     let made = c.add_object.result in
     let spot = spot_in g.row.D c.args.self.now c.check_object.new.self
     (c.in-Ok.ensures.keeps.trees.map.pages_stay sound.map.honest) c.in-Ok.ensures.keeps.trees.records
-    c.args.place id c.in-Ok.spot c.locate-located.result c.locate-located.ensures.by_record
+    c.args.place id c.in-Ok.found.0 c.locate-located.result c.locate-located.ensures.by_record
     (c.in-Ok.ensures.spot t sound) in
     let added =
     on_ok made
@@ -54,8 +54,8 @@ returns-in-Ok-clause-change g c = λ t name box sound reaches.
     g.met.B.BlockDevice.only_now sound refused refl added
     (c.add_object.ensures.faults t name before reaches.finds dims spot)
 
-pub returns-in-Ok-clause-tree : goal.returns-in-Ok-clause-tree
-returns-in-Ok-clause-tree g c = λ t name box sound reaches.
+pub returns-clause-tree : goal.returns-clause-tree
+returns-clause-tree g c = λ t name box sound reaches.
     let layer = layer_at t name in
     let full = nat_le most_objects (object_count t) in
     let id = c.args.id in
@@ -67,7 +67,7 @@ returns-in-Ok-clause-tree g c = λ t name box sound reaches.
     let new = c.add_object.new.self in
     let spot = spot_in g.row.D c.args.self.now c.check_object.new.self
     (c.in-Ok.ensures.keeps.trees.map.pages_stay sound.map.honest) c.in-Ok.ensures.keeps.trees.records
-    c.args.place id c.in-Ok.spot c.locate-located.result c.locate-located.ensures.by_record
+    c.args.place id c.in-Ok.found.0 c.locate-located.result c.locate-located.ensures.by_record
     (c.in-Ok.ensures.spot t sound) in
     let there =
     subst (λ (b : Bounds). OnOk c.add_object.result
