@@ -1,5 +1,5 @@
 -- The layer of a name, and faults of a question.
-use Rattle.std.proofs.Common.{◌≡◌, ◌∙◌, ℕ, ◌+◌, List, [], ◌∷◌, map, true, false, refl, sym, ap, subst, arith}
+use Rattle.std.proofs.Common.{◌≡◌, ◌∙◌, ℕ, ◌+◌, List, true, false, refl, sym, ap, subst, arith}
 use Rattle.std.proofs.Common.{inl, inr, ⊎_elim}
 use Rattle.std.specs.Prelude.{◌==◌, ◌^◌, ◌-◌, is_some}
 use Rattle.std.proofs.Math.Nat.{min-eq_left, min-eq_right}
@@ -7,7 +7,6 @@ use Rattle.std.proofs.lemmas.Bool.{cases_lt}
 use Rattle.std.proofs.lemmas.Bool.Decides.{nat_tests}
 use Rattle.std.specs.FinMap.{contains_key, get-entries}
 use Rattle.block_device.specs.Device.{HasRisen, one_more}
-use Rattle.box_math.specs.Objects.{Object, bounds_of, tag_of}
 use Rattle.page_file.specs.Fault.{IsOfDevice, faults_after}
 use Rattle.page_file.specs.declared.fault.Fault.{Fault}
 use Rattle.page_file.specs.declared.fault.Fault.TheVariants as fault

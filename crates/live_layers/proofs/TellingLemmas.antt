@@ -1,5 +1,5 @@
 -- What is told of the layer of a name, or why nothing is.
-use Rattle.std.proofs.Common.{◌≡◌, ℕ, List, [], Some, ap, inl, inr, subst, sym}
+use Rattle.std.proofs.Common.{◌≡◌, ℕ, List, [], Some, inl, inr, subst, sym}
 use Rattle.std.specs.Prelude.{Result, Ok, Err, IfErr, IfOk, IsErrAnd}
 use Rattle.plain_table.specs.Step.{first_refusal, layer_refusals}
 use Rattle.plain_table.specs.Table.{Table}

@@ -3,7 +3,6 @@ use Rattle.std.proofs.Common.{◌≡◌, ◌∙◌, arith, inl}
 use Rattle.plain_table.specs.Commands.Command.{Load}
 use Rattle.plain_table.specs.Step.{load_refusals}
 use Rattle.plain_table.specs.Table.{layer_at, object_count}
-use Rattle.live_layers.specs.Loading.{NamesLayer}
 use Rattle.live_layers.proofs.ChangeLemmas.{refused_by}
 use Rattle.live_layers.proofs.LoadLemmas.{names_layer}
 use Rattle.live_layers.proofs.layers.Layers.load.Goals as goal

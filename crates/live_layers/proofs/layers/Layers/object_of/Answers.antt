@@ -1,13 +1,10 @@
 -- The identifier table has the layer's objects.
-use Rattle.std.proofs.Common.{◌∙◌, [], ◌∷◌, ap, refl, sym}
+use Rattle.std.proofs.Common.{◌∙◌, ap, refl, sym}
 use Rattle.block_device.specs.Device.{HasRisen}
 use Rattle.page_cache.specs.Cache.{device_of}
 use Rattle.std.specs.FinMap as map
 use Rattle.layer_pages.specs.Layers.{Objects}
-use Rattle.plain_table.specs.Step.{first_refusal, missing_refusals, object_row}
-use Rattle.plain_table.specs.Step.Answer.{Boxes, Refused}
 use Rattle.plain_table.specs.Table.{layer_at}
-use Rattle.live_layers.proofs.AskLemmas.{device_refuses, risen_of}
 use Rattle.live_layers.proofs.ReplyLemmas.{object_found, object_missing}
 use Rattle.live_layers.proofs.LocateLemmas.{stands_with}
 use Rattle.live_layers.proofs.QuestionLemmas.{asks_and_answers, asks_and_fails, asks_and_refuses}
