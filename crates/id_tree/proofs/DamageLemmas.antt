@@ -52,19 +52,13 @@ comes_at dims m page n f either damaged = comes_here dims m page n (damaged_read
 pub damaged_is : (page n : ℕ) → fault.Damaged page ≡ fault.Damaged n → n ≡ page
 damaged_is page n is = cc
 
--- a leaf that a search has found
-pub found_at : {X : Type 0} (dims : ℕ) (m : PageMap) (page : ℕ) (found : Option X) (leaf : X → ℕ)
-    → IfSome found (λ x. leaf x ≡ page) → IfSome found (λ x. ComesInTree dims m page (leaf x))
-found_at dims m page None leaf is = tt
-found_at dims m page (Some x) leaf is = comes_here dims m page (leaf x) is
-
-pub found_under : {X : Type 0} (dims : ℕ) (old mid : PageMap) (page child : ℕ) → ((n : ℕ) → mid n ≡ old n)
-    → NamesChild dims old page child → (found : Option X) (leaf : X → ℕ)
-    → IfSome found (λ x. ComesInTree dims mid child (leaf x))
-    → IfSome found (λ x. ComesInTree dims old page (leaf x))
-found_under dims old mid page p same names None leaf comes = tt
-found_under dims old mid page p same names (Some x) leaf comes =
-    comes_down dims old page p (leaf x) names (comes_so dims old mid p (leaf x) same comes)
+-- a leaf to which a way leads from a child
+pub comes_under : (dims : ℕ) (old mid : PageMap) (page child : ℕ) → ((n : ℕ) → mid n ≡ old n)
+    → NamesChild dims old page child → (leaf : Option ℕ) → IfSome leaf (ComesInTree dims mid child)
+    → IfSome leaf (ComesInTree dims old page)
+comes_under dims old mid page p same names None comes = tt
+comes_under dims old mid page p same names (Some leaf) comes =
+    comes_down dims old page p leaf names (comes_so dims old mid p leaf same comes)
 
 -- ---- what is said where no page is touched
 

@@ -11,7 +11,7 @@ use Rattle.id_tree.specs.Steps.{Becomes, Step, Turns}
 use Rattle.id_tree.specs.Tree.{IsLarge, Row, leaf_in, least_objects, objects_in}
 use Rattle.id_tree.proofs.NodeLemmas.{leaf_links, leaf_pages, objects_of_row, row_of, row_of_filled}
 use Rattle.id_tree.proofs.NodeLemmas.{row_of_parted, row_of_stands, there_of_leaf}
-use Rattle.id_tree.proofs.WayLemmas.{by_child, child_large, child_stands}
+use Rattle.id_tree.proofs.WayLemmas.{TurnsChild, by_child, child_large, child_stands, child_turned}
 
 -- a leaf whose page was written with other objects
 pub leaf_becomes : (dims : ℕ) (old new : PageMap) (page : ℕ) (edge : Bool) (row : Row) (id : ℕ) (step : Step)
@@ -67,3 +67,19 @@ reached dims old new id step level page row leaf last edge (down _ _ below _ _ _
     (reached dims old new id step (level - 1) below way.below leaf last _ rest
     (child_stands dims old page level edge id below row high s way)
     (child_large dims old page level edge id below row high s way) becomes)
+
+-- a fork has the same children then
+pub reached_above : (dims : ℕ) (old new : PageMap) (id : ℕ) (step : Step) (level page : ℕ) (row : Row)
+    (leaf : ℕ) (last : Row) (edge : Bool) → 0 < level → Reaches id level page row leaf last
+    → NodeStands dims old page level edge row → (edge ≡ false → IsLarge dims level row)
+    → ((edge : Bool) → NodeStands dims old leaf 0 edge last → (edge ≡ false → IsLarge dims 0 last)
+    → Becomes dims old new leaf 0 edge last id step)
+    → TurnsChild dims old new page level edge row id step
+reached_above dims old new id step level page row leaf last edge high (here p r) s large becomes =
+    absurd (omega (arith, high))
+reached_above dims old new id step level page row leaf last edge high (down _ _ below _ _ _ up way rest) s
+    large becomes =
+    child_turned dims old page level edge id below row up s way new step large
+    (reached dims old new id step (level - 1) below way.below leaf last _ rest
+    (child_stands dims old page level edge id below row up s way)
+    (child_large dims old page level edge id below row up s way) becomes)

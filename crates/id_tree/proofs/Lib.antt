@@ -26,6 +26,7 @@ pub mod MeetLemmas
 pub mod PairLemmas
 pub mod JoinLemmas
 pub mod RemoveLemmas
+pub mod PlaceLemmas
 pub mod ShareLemmas
 pub mod CheckLemmas
 pub mod CheckedLemmas

@@ -19,7 +19,7 @@ use Rattle.id_tree.proofs.LeafLemmas.{leaf_becomes, reached}
 use Rattle.id_tree.proofs.ObjectLemmas.{is_other, turns_within}
 use Rattle.id_tree.proofs.RootLemmas.{becomes_root, has, root_stands, sets_of}
 use Rattle.id_tree.proofs.SeekLemmas.{some_times}
-use Rattle.id_tree.proofs.WayLemmas.{child_stands, times_below}
+use Rattle.id_tree.proofs.WayLemmas.{child_stands, same_below, times_below}
 
 -- one that is there, in the first place
 puts_first : (id : ℕ) (kept : Object) (x : Entry) (xs : List Entry) → x.0 ≡ id
@@ -67,34 +67,28 @@ puts_at id kept none (x ∷ xs) (suc place) lt is single =
 
 -- ---- in a table
 
--- the leaf that a way leads to stands, and has no identifier more often than the node
-pub record IsLast (dims : ℕ) (pages : PageMap) (row : Row) (leaf : ℕ) (last : Row) : Type 0 where
+-- the leaf that a way leads to stands, has of the identifier what the node has, and no other more often
+pub record IsLast (dims : ℕ) (pages : PageMap) (id : ℕ) (row : Row) (leaf : ℕ) (last : Row) : Type 0 where
   pub edge : Bool
   pub stands : NodeStands dims pages leaf 0 edge last
+  pub same : kept_in id (objects_in row) ≡ kept_in id (objects_in last)
   pub few : (q : ℕ) → times_in q (objects_in last) ≤ times_in q (objects_in row)
 
 pub last_stands : (dims : ℕ) (pages : PageMap) (id level page : ℕ) (row : Row) (leaf : ℕ) (last : Row)
     (edge : Bool) → Reaches id level page row leaf last → NodeStands dims pages page level edge row
-    → IsLast dims pages row leaf last
+    → IsLast dims pages id row leaf last
 last_stands dims pages id level page row leaf last edge (here p r) s =
-    record { edge = edge; stands = s; few = λ q. omega arith }
+    record { edge = edge; stands = s; same = refl; few = λ q. omega arith }
 last_stands dims pages id level page row leaf last edge (down _ _ below _ _ _ high way rest) s =
     let later = last_stands dims pages id (level - 1) below way.below leaf last _ rest
     (child_stands dims pages page level edge id below row high s way) in
     record {
       edge = later.edge;
       stands = later.stands;
+      same = same_below dims pages page level edge id below row high s way ∙ later.same;
       few =
           λ q. omega (arith, later.few q, times_below dims pages page level edge id below row high s way q);
     }
-
--- the leaf of a table
-pub last_of : (dims : ℕ) (pages : PageMap) (t : IdTree) (root id leaf place : ℕ) (kept : Object)
-    → t.page ≡ root → TreeStands dims pages t → (b : IsBelow root t.level id t.row leaf place kept)
-    → IsLast dims pages t.row leaf b.last
-last_of dims pages t root id leaf place kept at s b =
-    last_stands dims pages id t.level root t.row leaf b.last true b.way
-    (subst (λ p. NodeStands dims pages p t.level true t.row) at (root_stands dims pages t s))
 
 -- an identifier that the table has is found
 pub not_missing : (t : IdTree) (id : ℕ) → map.contains_key (objects_of t) id ≡ true
@@ -106,31 +100,22 @@ not_missing t id there none = let no : is_some (map.get (objects_of t) id) ≡ f
     differ true a d = cc
     differ false a d = cc
 
-same_kept : (a b : Object) → ◌≡◌ {A = Option Object} (Some a) (Some b) → a ≡ b
-same_kept a b e = cc
-
-pub kept_is : (t : IdTree) (root id leaf place : ℕ) (kept was : Object)
-    → map.get (objects_of t) id ≡ Some kept → (b : IsBelow root t.level id t.row leaf place was) → was ≡ kept
-kept_is t root id leaf place kept was is b = same_kept was kept (sym b.is ∙ sym (has t id) ∙ is)
-
 -- a table of which an object was put in its leaf
-pub sets_put : (dims : ℕ) (old new : PageMap) (t : IdTree) (root id leaf place : ℕ) (was kept : Object)
-    → t.page ≡ root → TreeStands dims old t → (b : IsBelow root t.level id t.row leaf place was)
+pub sets_put : (dims : ℕ) (old new : PageMap) (t : IdTree) (id leaf place : ℕ) (was kept : Object)
+    → TreeStands dims old t → (b : IsBelow t.page t.level id t.row leaf place was)
     → SameBut leaf old new → leaf_in dims (new leaf) ≡ Some (set (objects_in b.last) place (id, kept))
     → times_in id (objects_in b.last) ≤ 1 → Sets dims old new t id kept
-sets_put dims old new t root id leaf place was kept at s b others there single =
+sets_put dims old new t id leaf place was kept s b others there single =
     let objects = objects_in b.last in
     let put = set objects place (id, kept) in
     let long : length put ≡ length objects = length-set objects place (id, kept) in
     let turns = puts_at id kept (id, was) objects place b.has.within
     (ap (λ (o : Entry). o.0) (b.has.is (id, was))) single in
-    let becomes : Becomes dims old new root t.level true t.row id (puts kept) =
-    reached dims old new id (puts kept) t.level root t.row leaf b.last true b.way
-    (subst (λ p. NodeStands dims old p t.level true t.row) at (root_stands dims old t s))
+    let becomes : Becomes dims old new t.page t.level true t.row id (puts kept) =
+    reached dims old new id (puts kept) t.level t.page t.row leaf b.last true b.way (root_stands dims old t s)
     (λ (never : true ≡ false). absurd (cc))
     (λ edge stands large. leaf_becomes dims old new leaf edge b.last id (puts kept) put stands others there
     turns (omega (arith, long, b.has.within))
     (λ off. let enough = (large off).leaf refl in omega (arith, enough, long))) in
-    let here = subst (λ p. Becomes dims old new p t.level true t.row id (puts kept)) (sym at) becomes in
-    sets_of dims old new t t.level id (puts kept) kept here.now refl s (inl refl)
-    (becomes_root dims old new t id (puts kept) refl s here)
+    sets_of dims old new t t.level id (puts kept) kept becomes.now refl s (inl refl)
+    (becomes_root dims old new t id (puts kept) refl s becomes)

@@ -1,13 +1,13 @@
 -- A search in a tree.
 use Rattle.std.proofs.Common.{◌≡◌, ◌∙◌, ℕ, zero, suc, ◌-◌, ◌<◌, ◌≤◌, Bool, true, cond, eqb, Option, Some}
-use Rattle.std.proofs.Common.{None, List, [], ◌∷◌, length, get_or, refl, ap, subst, ⊎_elim, arith}
+use Rattle.std.proofs.Common.{None, List, [], ◌∷◌, length, get_or, refl, sym, ap, subst, ⊎_elim, arith}
 use Rattle.std.proofs.lemmas.Bool.{cases_eq}
 use Rattle.box_math.specs.Objects.{Object}
 use Rattle.bucket_page.specs.Layout.{Entry}
 use Rattle.id_page.specs.Fork.{AreAscending, Link, route}
 use Rattle.node_page.specs.Standing.{PageMap}
 use Rattle.id_words.specs.Objects.{kept_in, times_in}
-use Rattle.id_tree.specs.Rows.{At, HasAt, IsBelow, IsFoundBelow, MaySeek, NodeStands, here, down}
+use Rattle.id_tree.specs.Rows.{At, HasAt, LeadsBelow, MaySeek, NodeStands, here, down}
 use Rattle.id_tree.specs.Tree.{IdTree, Row, end, more, object, child, RowStands, TreeStands, at_edge}
 use Rattle.id_tree.specs.Tree.{links_of, objects_in}
 use Rattle.id_tree.proofs.NodeLemmas.{stands_same}
@@ -45,31 +45,18 @@ pub kept_of : (id place : ℕ) (kept : Object) (xs : List Entry) → HasAt id xs
 kept_of id place kept xs has single = kept_there id place kept xs (id, kept) has.within (has.is (id, kept))
     single
 
--- in a leaf
-pub found_here : (page id : ℕ) (row : Row) (place : ℕ) (kept : Object)
-    → ((q : ℕ) → times_in q (objects_in row) ≤ 1) → HasAt id (objects_in row) place kept
-    → IsBelow page 0 id row page place kept
-found_here page id row place kept single has =
-    record {
-      last = row;
-      way = here page row;
-      has = has;
-      is =
-          kept_of id place kept (objects_in row) has (single id);
-    }
+-- a leaf leads to itself
+pub leads_here : (page level id : ℕ) (row : Row) → level ≡ 0 → LeadsBelow page level id row (Some page)
+leads_here page level id row low =
+    subst (λ (l : ℕ). LeadsBelow page l id row (Some page)) (sym low) (row, here page row)
 
 -- below a node
 module _ (dims : ℕ) (pages : PageMap) (page level : ℕ) (edge : Bool) (id p : ℕ) (row : Row) (high : 0 < level)
     (s : NodeStands dims pages page level edge row) (way : At id p row) where
-  pub found_below : (found : Option (ℕ × ℕ × Object)) → IsFoundBelow p (level - 1) id way.below found
-      → IsFoundBelow page level id row found
-  found_below None none = same_below dims pages page level edge id p row high s way ∙ none
-  found_below (Some found) b = record {
-    last = b.last;
-    way = down level page p found.0 row b.last high way b.way;
-    has = b.has;
-    is = same_below dims pages page level edge id p row high s way ∙ b.is;
-  }
+  pub leads_below : (leaf : Option ℕ) → LeadsBelow p (level - 1) id way.below leaf
+      → LeadsBelow page level id row leaf
+  leads_below None none = same_below dims pages page level edge id p row high s way ∙ none
+  leads_below (Some leaf) leads = (leads.0, down level page p leaf row leads.0 high way leads.1)
 
   pub may_seek_below : ((q : ℕ) → times_in q (objects_in row) ≤ 1)
       → MaySeek dims pages p (level - 1) (at_edge edge way.rest) way.below

@@ -1,6 +1,6 @@
 -- What a check of an identifier tree finds.
-use Rattle.std.specs.Prelude.{◌≡◌, ◌⊎◌, ◌&&◌, ◌==◌, ℕ, Bool, false, ◌+◌, ◌<◌, ◌≤◌, List, [], ◌∷◌, ◌++◌, All, Some}
-use Rattle.std.specs.Prelude.{length, slice_index_or, take}
+use Rattle.std.specs.Prelude.{◌≡◌, ◌⊎◌, ◌&&◌, ◌==◌, ℕ, Bool, false, ◌+◌, ◌<◌, ◌≤◌, List, [], ◌∷◌, ◌++◌}
+use Rattle.std.specs.Prelude.{All, Some, length, slice_index_or, take}
 use Rattle.std.specs.BTreeSet.{BTreeSet}
 use Rattle.bucket_page.specs.Layout.{Entry}
 use Rattle.id_page.specs.Fork.{ForkContent, Link, fork_at}

@@ -84,23 +84,23 @@ abbrev pub IsFoundAt : ℕ → List Entry → Option (ℕ × Object) → Type 0
 IsFoundAt id objects None = kept_in id objects ≡ None
 IsFoundAt id objects (Some found) = HasAt id objects found.0 found.1
 
+-- what a search in a leaf answers: what is kept of the object in a place, or that none has the identifier
+abbrev pub IsSoughtIn : ℕ → List Entry → ℕ → Option Object → Type 0
+IsSoughtIn id objects place None = kept_in id objects ≡ None
+IsSoughtIn id objects place (Some kept) = HasAt id objects place kept
+
 -- the way from a node down to the leaf where an identifier is
 pub data Reaches (id : ℕ) : ℕ → ℕ → Row → ℕ → Row → Type 0 where
   here : (page : ℕ) (row : Row) → Reaches id 0 page row page row
   down : (level page below leaf : ℕ) (row last : Row) → 0 < level → (way : At id below row)
       → Reaches id (level - 1) below way.below leaf last → Reaches id level page row leaf last
 
--- where an identifier is below a node: its leaf, its place there and what is kept of its object, if it is
--- there
+-- where an identifier is below a node: its leaf, its place there and what is kept of its object
 pub record IsBelow (page level id : ℕ) (row : Row) (leaf place : ℕ) (kept : Object) : Type 0 where
   pub last : Row
   pub way : Reaches id level page row leaf last
   pub has : HasAt id (objects_in last) place kept
   pub is : kept_in id (objects_in row) ≡ Some kept
-
-abbrev pub IsFoundBelow : ℕ → ℕ → ℕ → Row → Option (ℕ × ℕ × Object) → Type 0
-IsFoundBelow page level id row None = kept_in id (objects_in row) ≡ None
-IsFoundBelow page level id row (Some found) = IsBelow page level id row found.0 found.1 found.2
 
 -- the leaf to which the way from a node leads, if the node has one
 abbrev pub LeadsBelow : ℕ → ℕ → ℕ → Row → Option ℕ → Type 0

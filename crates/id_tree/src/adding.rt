@@ -43,9 +43,9 @@ pub(crate) const MOST_LEVELS: u8 = 6;
 /// Pages with zeros in all bytes that they do not name stay so, and so are new ones.
 ///
 /// With a sound map, where the pages stand for a table at that root, a refusal is `Memory` or `Device`, or
-/// `NoPages` where each page number is live. On other pages it may be `Damaged` too. On an honest device, where
-/// no page is touched, that comes with the number of a page that a walk down the forks comes to, or, where the
-/// map is not sound, of a page given out that is not live.
+/// `NoPages` where each page number is live. On other pages it may be `Damaged` too. On an honest device,
+/// where no page is touched, that comes with the number of a page that a walk down the forks comes to, or,
+/// where the map is not sound, of a page given out that is not live.
 pub fn add<const D: usize, B: BlockDevice, A: Allocator + Copy>(
     cache: &mut PageCache<B, A>,
     root: u32,
@@ -68,13 +68,17 @@ pub fn add<const D: usize, B: BlockDevice, A: Allocator + Copy>(
     ensures grows { Grows most_added_pages cache.old cache.new }
     ensures faults { IsPageMap cache.old → (t : IdTree) → t.page ≡ root → TreeStands D (pages cache.old) t
         → IsLeafPlace t id at.leaf at.place → IfErr result (IsNoDamage cache.new) }
-    ensures damage { IsHonest cache.old → IsMet D (given cache.old) root at.leaf → touched_of cache.new ≡ false
+    ensures damage { IsHonest cache.old → IsMet D (given cache.old) root at.leaf
+        → touched_of cache.new ≡ false
         → IfErr result (λ f. (n : ℕ) → f ≡ fault.Damaged n
         → ComesInTree D (given cache.old) root n ⊎ MayBreakAt cache.old n) }
     ensures other_faults { IfErr result (λ f. IsNoDamage cache.new f ⊎ IsDamage f) }
 {
     let object = (id, (*bounds, tag));
-    if at.leaf != 0 && has_room::<D, B, A>(cache, at.leaf, 0)? {
+    if at.leaf == 0 {
+        return add_object(cache, root, &object);
+    }
+    if has_room::<D, B, A>(cache, at.leaf, 0)? {
         return push(cache, at.leaf, &object);
     }
     add_object(cache, root, &object)

@@ -1,7 +1,8 @@
 //! The identifier table of a layer as a tree of pages: the box and the tag of each identifier, in leaves that
 //! are found by the keys of forks (docs/FORMAT.md, "Identifier trees"; how it changes: docs/RULES.md).
 //!
-//! A refusal after which the cache is not touched (`PageCache::is_touched`) leaves the map of pages as it was.
+//! A place that a search found serves the change after it. A refusal after which the cache is not touched
+//! (`PageCache::is_touched`) leaves the map of pages as it was.
 #![tactic(auto)]
 
 mod adding;

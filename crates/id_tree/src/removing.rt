@@ -30,13 +30,13 @@ use page_cache::PageCache;
 use page_file::Fault;
 use std::alloc::Allocator;
 
-/// Removes the object with that identifier, where [`find`](crate::find) found it in the table: the last object of
-/// its leaf fills the place. The gate has to be open.
+/// Removes the object with that identifier, where [`find`](crate::find) found it in the table: the last
+/// object of its leaf fills the place. The gate has to be open.
 ///
-/// A leaf with two fifths of what fits, or more, is all that it looks at, which no clause says. Where the leaf has
-/// less, it walks down from the root: each child with less than two fifths of what fits is joined with the one
-/// next to it, and what does not fit into one page then is cut in two in the middle. A root that keeps one child
-/// above others takes its place.
+/// A leaf with two fifths of what fits, or more, is all that it looks at, which no clause says. Where the
+/// leaf has less, it walks down from the root: each child with less than two fifths of what fits is joined
+/// with the one next to it, and what does not fit into one page then is cut in two in the middle. A root that
+/// keeps one child above others takes its place.
 ///
 /// Pages with zeros in all bytes that they do not name stay so.
 ///
@@ -64,11 +64,15 @@ pub fn remove<const D: usize, B: BlockDevice, A: Allocator + Copy>(
     ensures faults { IsPageMap cache.old → (t : IdTree) → t.page ≡ root → TreeStands D (pages cache.old) t
         → IsLeafPlace t id at.leaf at.place
         → map.contains_key (objects_of t) id ≡ true → IfErr result IsOfDevice }
-    ensures damage { IsHonest cache.old → IsMet D (given cache.old) root at.leaf → touched_of cache.new ≡ false
+    ensures damage { IsHonest cache.old → IsMet D (given cache.old) root at.leaf
+        → touched_of cache.new ≡ false
         → IfErr result (λ f. (n : ℕ) → f ≡ fault.Damaged n → ComesInTree D (given cache.old) root n) }
     ensures other_faults { IfErr result (λ f. IsOfDevice f ⊎ IsDamage f) }
 {
-    if at.leaf != 0 && is_ample::<D, B, A>(cache, at.leaf, 0)? {
+    if at.leaf == 0 {
+        return remove_from_root::<D, B, A>(cache, root, id);
+    }
+    if is_ample::<D, B, A>(cache, at.leaf, 0)? {
         return take_at::<D, B, A>(cache, at.leaf, at.place);
     }
     remove_from_root::<D, B, A>(cache, root, id)

@@ -1,15 +1,16 @@
 //! The search for an identifier.
 
-ghost use Rattle.std.specs.Prelude.{◌≡◌, ◌⊎◌, ℕ, Bool, IfOk, IfErr, IfSome};
+ghost use Rattle.std.specs.Prelude.{◌≡◌, ◌⊎◌, ℕ, Bool, List, Some, IfOk, IfErr, IfSome};
 ghost use Rattle.std.specs.FinMap as map;
 ghost use Rattle.box_math.specs.Bounds.{IsDims};
+ghost use Rattle.bucket_page.specs.Layout.{Entry};
 ghost use Rattle.page_file.specs.Fault.{IsDamage, IsOfDevice};
 ghost use Rattle.page_file.specs.declared.fault.Fault.TheVariants as fault;
 ghost use Rattle.page_cache.specs.Cache.{IsHonest, given, pages};
 ghost use Rattle.page_cache.specs.Calls.{Asks};
 ghost use Rattle.id_tree.specs.Checked.{ComesInTree, IsMet};
-ghost use Rattle.id_tree.specs.Rows.{IsLeafPlace, LeadsBelow, MaySeek};
-ghost use Rattle.id_tree.specs.Tree.{IdTree, Row, TreeStands, objects_of};
+ghost use Rattle.id_tree.specs.Rows.{IsLeafPlace, IsSoughtIn, LeadsBelow, MaySeek};
+ghost use Rattle.id_tree.specs.Tree.{IdTree, Row, TreeStands, leaf_in, objects_of};
 
 use crate::looks::{look, step};
 use block_device::BlockDevice;
@@ -18,8 +19,8 @@ use page_cache::PageCache;
 use page_file::Fault;
 use std::alloc::Allocator;
 
-/// Where a table has an identifier, or would get it. It stays so as long as the table does, whatever becomes of
-/// other pages.
+/// Where a table has an identifier, or would get it. It stays so as long as the table does, whatever becomes
+/// of other pages.
 #[derive(Clone, Copy, Debug, PartialEq, Eq)]
 pub struct LeafPlace {
     /// The page of the leaf to which the way leads; 0 where the root has no child.
@@ -37,8 +38,8 @@ pub struct Sought<const D: usize> {
     pub kept: Option<(BBox<D>, u32)>,
 }
 
-/// The box and the tag of an object, if the table has its identifier, and where it is or would come. It looks at
-/// one page of each level, which no clause says.
+/// The box and the tag of an object, if the table has its identifier, and where it is or would come. It looks
+/// at one page of each level, which no clause says.
 ///
 /// On an honest device, where the pages stand for a table at that root, a refusal is `Memory` or `Device`. On
 /// other pages it may be `Damaged` too, with the number of a page that a walk down the forks comes to. Map
@@ -62,7 +63,7 @@ pub fn find<const D: usize, B: BlockDevice, A: Allocator + Copy>(
         → ComesInTree D (given cache.old) root n) }
     ensures other_faults { IfErr result (λ f. IsOfDevice f ⊎ IsDamage f) }
 {
-    match leaf_of::<D, B, A>(cache, root, id)? {
+    match leaf_below::<D, B, A>(cache, root, id)? {
         Some(leaf) => seek_in(cache, leaf, id),
         None => Ok(Sought {
             at: LeafPlace { leaf: 0, place: 0 },
@@ -72,7 +73,7 @@ pub fn find<const D: usize, B: BlockDevice, A: Allocator + Copy>(
 }
 
 // The leaf to which the way to an identifier leads from the root of a table, if the root has a child.
-fn leaf_of<const D: usize, B: BlockDevice, A: Allocator + Copy>(
+fn leaf_below<const D: usize, B: BlockDevice, A: Allocator + Copy>(
     cache: &mut PageCache<B, A>,
     root: u32,
     id: u64,
@@ -82,7 +83,8 @@ fn leaf_of<const D: usize, B: BlockDevice, A: Allocator + Copy>(
         → IfOk result (LeadsBelow root t.level id t.row) }
     ensures stands { IsHonest cache.old → (t : IdTree) → t.page ≡ root → TreeStands D (pages cache.old) t
         → IfErr result IsOfDevice }
-    ensures comes { IsHonest cache.old → IfOk result (λ leaf. IfSome leaf (ComesInTree D (given cache.old) root)) }
+    ensures comes { IsHonest cache.old
+        → IfOk result (λ leaf. IfSome leaf (ComesInTree D (given cache.old) root)) }
     ensures damage { IsHonest cache.old → IfErr result (λ f. (n : ℕ) → f ≡ fault.Damaged n
         → ComesInTree D (given cache.old) root n) }
     ensures other_faults { IfErr result (λ f. IsOfDevice f ⊎ IsDamage f) }
@@ -111,7 +113,8 @@ fn descend<const D: usize, B: BlockDevice, A: Allocator + Copy>(
     ensures stands { IsHonest cache.old → (edge : Bool) (row : Row)
         → MaySeek D (pages cache.old) page level edge row
         → IfErr result IsOfDevice }
-    ensures comes { IsHonest cache.old → IfOk result (λ leaf. IfSome leaf (ComesInTree D (given cache.old) page)) }
+    ensures comes { IsHonest cache.old
+        → IfOk result (λ leaf. IfSome leaf (ComesInTree D (given cache.old) page)) }
     ensures damage { IsHonest cache.old → IfErr result (λ f. (n : ℕ) → f ≡ fault.Damaged n
         → ComesInTree D (given cache.old) page n) }
     ensures other_faults { IfErr result (λ f. IsOfDevice f ⊎ IsDamage f) }
@@ -126,5 +129,37 @@ fn descend<const D: usize, B: BlockDevice, A: Allocator + Copy>(
     match way.child {
         Some(child) => descend::<D, B, A>(cache, child, level - 1, id),
         None => Ok(None),
+    }
+}
+
+// What a search for an identifier finds in the leaf at a page.
+#[tactic(auto, using(page_cache::specs::Calls::ends_so))]
+fn seek_in<const D: usize, B: BlockDevice, A: Allocator + Copy>(
+    cache: &mut PageCache<B, A>,
+    leaf: u32,
+    id: u64,
+) -> Result<Sought<D>, Fault>
+    requires dims { IsDims D }
+    ensures asks { Asks cache.old cache.new result }
+    ensures found { IsHonest cache.old → (objects : List Entry)
+        → leaf_in D (pages cache.old leaf) ≡ Some objects
+        → IfOk result (λ sought. IsSoughtIn id objects sought.at.place sought.kept) }
+    ensures there { IsHonest cache.old → (objects : List Entry)
+        → leaf_in D (pages cache.old leaf) ≡ Some objects
+        → IfErr result IsOfDevice }
+    ensures here { IfOk result (λ sought. sought.at.leaf ≡ leaf) }
+    ensures damage { IsHonest cache.old → IfErr result (λ f. IsOfDevice f ⊎ (f ≡ fault.Damaged leaf)) }
+    ensures other_faults { IfErr result (λ f. IsOfDevice f ⊎ IsDamage f) }
+{
+    match look::<D, B, A>(cache, leaf, id) {
+        Ok(Some((place, kept))) => Ok(Sought {
+            at: LeafPlace { leaf, place },
+            kept: Some(kept),
+        }),
+        Ok(None) => Ok(Sought {
+            at: LeafPlace { leaf, place: 0 },
+            kept: None,
+        }),
+        Err(fault) => Err(fault),
     }
 }

@@ -24,8 +24,9 @@ use page_cache::PageCache;
 use page_file::Fault;
 use std::alloc::Allocator;
 
-/// Gives the object with that identifier another box, where [`find`](crate::find) found it in the table. Its tag
-/// is `tag`, as before. The gate has to be open. It writes one page, and looks at no other, which no clause says.
+/// Gives the object with that identifier another box, where [`find`](crate::find) found it in the table. Its
+/// tag is `tag`, as before. The gate has to be open. It writes one page, and looks at no other, which no
+/// clause says.
 ///
 /// Pages with zeros in all bytes that they do not name stay so.
 ///

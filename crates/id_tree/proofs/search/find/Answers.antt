@@ -1,125 +1,106 @@
--- A search begins at the root.
-use Rattle.std.proofs.Common.{◌≡◌, ◌∙◌, ◌-◌, ℕ, true, ap, subst, sym}
-use Rattle.std.specs.Prelude.{IfOk, IfSome}
+-- The leaf to which the way leads, and what a search finds there.
+use Rattle.std.proofs.Common.{◌≡◌, ◌⊎◌, ℕ, refl, sym, subst, inr}
+use Rattle.std.specs.FinMap as map
+use Rattle.page_file.specs.Fault.{IsOfDevice}
+use Rattle.page_file.specs.declared.fault.Fault.TheVariants as fault
 use Rattle.page_cache.specs.Cache.{pages, given}
 use Rattle.page_cache.specs.Calls.{asks_in_turn, fault_in}
-use Rattle.id_tree.specs.Rows.{IsFoundBelow, MaySeek}
-use Rattle.id_tree.specs.Tree.{at_edge, links_of}
+use Rattle.node_page.proofs.DamageLemmas.{damaged_read}
+use Rattle.id_words.proofs.Results.{if_both}
+use Rattle.id_tree.specs.Checked.{ComesInTree, IsMet}
+use Rattle.id_tree.specs.Rows.{IsLeafPlace, IsSoughtIn, LeadsBelow}
+use Rattle.id_tree.specs.Tree.{objects_in, objects_of}
+use Rattle.id_tree.proofs.DamageLemmas.{named_some}
+use Rattle.id_tree.proofs.PlaceLemmas.{is_last, nowhere_at, nowhere_is, sought_at, sought_is}
 use Rattle.id_tree.proofs.ResultLemmas.{if_ok, if_err}
-use Rattle.id_tree.proofs.RootLemmas.{root_fork}
-use Rattle.id_tree.proofs.SeekLemmas.{found_below, keys_ascend, may_seek_below, may_seek_root, nowhere}
-use Rattle.id_tree.proofs.SeekLemmas.{seek_same}
-use Rattle.id_tree.proofs.WayLemmas.{way_of}
-use Rattle.page_file.specs.declared.fault.Fault.TheVariants as fault
-use Rattle.node_page.proofs.NodeLemmas.{at_error}
-use Rattle.id_tree.proofs.DamageLemmas.{comes_at, comes_down, damaged_is, found_under, named_some}
-use Rattle.id_tree.specs.Checked.{ComesInTree, NamesChild}
-use Rattle.id_tree.proofs.GivenLemmas.{comes_here, comes_so}
+use Rattle.id_tree.proofs.RootLemmas.{tree_same}
 use Rattle.id_tree.proofs.search.find.Goals as goal
 
 pub returns-in-Some-clause-asks : goal.returns-in-Some-clause-asks
-returns-in-Some-clause-asks g c = asks_in_turn c.args.cache.now c.step.new.cache c.seek.new.cache
-    (fault_in c.seek.result) c.in_ok-way.ensures.asks c.seek.ensures.asks
+returns-in-Some-clause-asks g c = asks_in_turn c.args.cache.now c.leaf_below.new.cache c.seek_in.new.cache
+    (fault_in c.seek_in.result) c.in_ok-leaf.ensures.asks c.seek_in.ensures.asks
 
 pub returns-in-Some-clause-found : goal.returns-in-Some-clause-found
-returns-in-Some-clause-found g c = λ h table at stands.
+returns-in-Some-clause-found g c = λ h t at stands.
     let D = g.row.D in
     let root = c.args.root in
-    let old = pages c.args.cache.now in
-    let mid = pages c.step.new.cache in
-    let asks = c.in_ok-way.ensures.asks in
-    let may = may_seek_root D old root table at stands in
-    let fork = root_fork D old root table at stands in
-    let route = c.in_ok-way.ensures.child h (record { level = table.level; links = links_of table.row }) fork
-    (keys_ascend D old root table.level _ table.row stands.high may.stands) in
-    let down : table.level - 1 ≡ c.in_ok-way.way.level - 1 =
-    ap (λ (l : ℕ). l - 1)
-    (sym (c.in_ok-way.ensures.level h (record { level = table.level; links = links_of table.row }) fork))
-    in
-    let way = way_of D old root table.level _ table.row c.args.id c.in-Some.child stands.high may.stands
-    (sym c.in-Some.is ∙ route) in
-    let below = seek_same D old mid c.in-Some.child (table.level - 1) (at_edge true way.rest) way.below
-    (asks.map.pages_stay h)
-    (may_seek_below D old root table.level _ c.args.id c.in-Some.child table.row stands.high may.stands
-    way may.single) in
-    if_ok c.seek.result (IsFoundBelow c.in-Some.child (table.level - 1) c.args.id way.below)
-    (IsFoundBelow root table.level c.args.id table.row)
-    (found_below D old root table.level _ c.args.id c.in-Some.child table.row stands.high may.stands way)
-    (subst (λ (l : ℕ). IfOk c.seek.result (IsFoundBelow c.in-Some.child l c.args.id way.below)) (sym down)
-    (c.seek.ensures.found (asks.gate.honest.0 h) (at_edge true way.rest) way.below
-    (subst (λ (l : ℕ). MaySeek D mid c.in-Some.child l (at_edge true way.rest) way.below) down below)))
+    let id = c.args.id in
+    let leaf = c.in-Some.leaf in
+    let mid = pages c.leaf_below.new.cache in
+    let asks = c.in_ok-leaf.ensures.asks in
+    let tree = tree_same D (pages c.args.cache.now) mid t (asks.map.pages_stay h) stands in
+    let leads = subst (LeadsBelow root t.level id t.row) c.in-Some.is
+    (c.in_ok-leaf.ensures.found h t at stands) in
+    let last = is_last D mid t root id leaf leads.0 at tree leads.1 in
+    if_ok c.seek_in.result (λ sought. IsSoughtIn id (objects_in leads.0) sought.at.place sought.kept)
+    (λ sought. sought.kept ≡ map.get (objects_of t) id)
+    (λ sought is. sought_is D mid t root id leaf leads.0 at tree leads.1 sought.at.place sought.kept is)
+    (c.seek_in.ensures.found (asks.gate.honest.0 h) (objects_in leads.0) (last.stands.node.leaf refl))
+
+pub returns-in-Some-clause-place : goal.returns-in-Some-clause-place
+returns-in-Some-clause-place g c = λ h t at stands.
+    let D = g.row.D in
+    let root = c.args.root in
+    let id = c.args.id in
+    let leaf = c.in-Some.leaf in
+    let mid = pages c.leaf_below.new.cache in
+    let asks = c.in_ok-leaf.ensures.asks in
+    let tree = tree_same D (pages c.args.cache.now) mid t (asks.map.pages_stay h) stands in
+    let leads = subst (LeadsBelow root t.level id t.row) c.in-Some.is
+    (c.in_ok-leaf.ensures.found h t at stands) in
+    let last = is_last D mid t root id leaf leads.0 at tree leads.1 in
+    if_both c.seek_in.result (λ sought. IsSoughtIn id (objects_in leads.0) sought.at.place sought.kept)
+    (λ sought. sought.at.leaf ≡ leaf) (λ sought. IsLeafPlace t id sought.at.leaf sought.at.place)
+    (c.seek_in.ensures.found (asks.gate.honest.0 h) (objects_in leads.0) (last.stands.node.leaf refl))
+    c.seek_in.ensures.here
+    (λ sought is here. subst (λ (n : ℕ). IsLeafPlace t id n sought.at.place) (sym here)
+    (sought_at D mid t root id leaf leads.0 at tree leads.1 sought.at.place sought.kept is))
 
 pub returns-in-Some-clause-stands : goal.returns-in-Some-clause-stands
-returns-in-Some-clause-stands g c = λ h table at stands.
+returns-in-Some-clause-stands g c = λ h t at stands.
     let D = g.row.D in
     let root = c.args.root in
-    let old = pages c.args.cache.now in
-    let mid = pages c.step.new.cache in
-    let asks = c.in_ok-way.ensures.asks in
-    let may = may_seek_root D old root table at stands in
-    let fork = root_fork D old root table at stands in
-    let route = c.in_ok-way.ensures.child h (record { level = table.level; links = links_of table.row }) fork
-    (keys_ascend D old root table.level _ table.row stands.high may.stands) in
-    let down : table.level - 1 ≡ c.in_ok-way.way.level - 1 =
-    ap (λ (l : ℕ). l - 1)
-    (sym (c.in_ok-way.ensures.level h (record { level = table.level; links = links_of table.row }) fork))
-    in
-    let way = way_of D old root table.level _ table.row c.args.id c.in-Some.child stands.high may.stands
-    (sym c.in-Some.is ∙ route) in
-    let below = seek_same D old mid c.in-Some.child (table.level - 1) (at_edge true way.rest) way.below
-    (asks.map.pages_stay h)
-    (may_seek_below D old root table.level _ c.args.id c.in-Some.child table.row stands.high may.stands
-    way may.single) in
-    c.seek.ensures.stands (asks.gate.honest.0 h) (at_edge true way.rest) way.below
-    (subst (λ (l : ℕ). MaySeek D mid c.in-Some.child l (at_edge true way.rest) way.below) down below)
-
-pub returns-in-None-clause-found : goal.returns-in-None-clause-found
-returns-in-None-clause-found g c = λ h table at stands.
-    let D = g.row.D in
-    let old = pages c.args.cache.now in
-    let may = may_seek_root D old c.args.root table at stands in
-    let route = c.in_ok-way.ensures.child h (record { level = table.level; links = links_of table.row })
-    (root_fork D old c.args.root table at stands)
-    (keys_ascend D old c.args.root table.level _ table.row stands.high may.stands) in
-    nowhere D old table.level c.args.id table.row stands.high stands.below (sym c.in-None.is ∙ route)
-
-pub returns-in_err-way-clause-damage : goal.returns-in_err-way-clause-damage
-returns-in_err-way-clause-damage g c = λ h.
-    at_error c.from_residual.result c.in_err-way.field-0.0
-    (λ f. (n : ℕ) → f ≡ fault.Damaged n → ComesInTree g.row.D (given c.args.cache.now) c.args.root n)
-    c.from_residual.ensures.1 (λ n damaged.
-    comes_at g.row.D (given c.args.cache.now) c.args.root n c.in_err-way.field-0.0
-    (c.in_err-way.ensures.damage h) damaged)
-
-pub returns-then-way-eq0-clause-damage : goal.returns-then-way-eq0-clause-damage
-returns-then-way-eq0-clause-damage g c = λ h n (damaged : fault.Damaged c.args.root ≡ fault.Damaged n).
-    comes_here g.row.D (given c.args.cache.now) c.args.root n (damaged_is c.args.root n damaged)
+    let id = c.args.id in
+    let mid = pages c.leaf_below.new.cache in
+    let asks = c.in_ok-leaf.ensures.asks in
+    let tree = tree_same D (pages c.args.cache.now) mid t (asks.map.pages_stay h) stands in
+    let leads = subst (LeadsBelow root t.level id t.row) c.in-Some.is
+    (c.in_ok-leaf.ensures.found h t at stands) in
+    let last = is_last D mid t root id c.in-Some.leaf leads.0 at tree leads.1 in
+    c.seek_in.ensures.there (asks.gate.honest.0 h) (objects_in leads.0) (last.stands.node.leaf refl)
 
 pub returns-in-Some-clause-comes : goal.returns-in-Some-clause-comes
 returns-in-Some-clause-comes g c = λ h.
-    let names = named_some (NamesChild g.row.D (given c.args.cache.now) c.args.root) c.in_ok-way.way.child
-    c.in-Some.child c.in-Some.is
-    (c.in_ok-way.ensures.names h) in
-    let same = c.in_ok-way.ensures.asks.map.given_stay h in
-    let honest = c.in_ok-way.ensures.asks.gate.honest.0 h in
-    if_ok c.seek.result
-    (λ found. IfSome found (λ x. ComesInTree g.row.D (given c.step.new.cache) c.in-Some.child x.0))
-    (λ found. IfSome found (λ x. ComesInTree g.row.D (given c.args.cache.now) c.args.root x.0))
-    (λ found comes. found_under g.row.D (given c.args.cache.now) (given c.step.new.cache) c.args.root
-    c.in-Some.child same names
-    found (λ x. x.0) comes) (c.seek.ensures.comes honest)
+    let D = g.row.D in
+    let m = given c.args.cache.now in
+    let root = c.args.root in
+    let leaf = c.in-Some.leaf in
+    let comes = named_some (ComesInTree D m root) c.in_ok-leaf.field-0 leaf c.in-Some.is
+    (c.in_ok-leaf.ensures.comes h) in
+    if_ok c.seek_in.result (λ sought. sought.at.leaf ≡ leaf) (λ sought. IsMet D m root sought.at.leaf)
+    (λ sought is. inr (subst (ComesInTree D m root) (sym is) comes)) c.seek_in.ensures.here
 
 pub returns-in-Some-clause-damage : goal.returns-in-Some-clause-damage
 returns-in-Some-clause-damage g c = λ h.
-    let names = named_some (NamesChild g.row.D (given c.args.cache.now) c.args.root) c.in_ok-way.way.child
-    c.in-Some.child c.in-Some.is
-    (c.in_ok-way.ensures.names h) in
-    let same = c.in_ok-way.ensures.asks.map.given_stay h in
-    let honest = c.in_ok-way.ensures.asks.gate.honest.0 h in
-    if_err c.seek.result
-    (λ f. (n : ℕ) → f ≡ fault.Damaged n → ComesInTree g.row.D (given c.step.new.cache) c.in-Some.child n)
-    (λ f. (n : ℕ) → f ≡ fault.Damaged n → ComesInTree g.row.D (given c.args.cache.now) c.args.root n)
-    (λ f comes n damaged. comes_down g.row.D (given c.args.cache.now) c.args.root c.in-Some.child n names
-    (comes_so g.row.D (given c.args.cache.now) (given c.step.new.cache) c.in-Some.child n same
-    (comes n damaged)))
-    (c.seek.ensures.damage honest)
+    let D = g.row.D in
+    let m = given c.args.cache.now in
+    let root = c.args.root in
+    let leaf = c.in-Some.leaf in
+    let comes = named_some (ComesInTree D m root) c.in_ok-leaf.field-0 leaf c.in-Some.is
+    (c.in_ok-leaf.ensures.comes h) in
+    if_err c.seek_in.result (λ f. IsOfDevice f ⊎ (f ≡ fault.Damaged leaf))
+    (λ f. (n : ℕ) → f ≡ fault.Damaged n → ComesInTree D m root n)
+    (λ f either n damaged. subst (ComesInTree D m root) (sym (damaged_read f leaf n either damaged)) comes)
+    (c.seek_in.ensures.damage (c.in_ok-leaf.ensures.asks.gate.honest.0 h))
+
+pub returns-in-None-clause-found : goal.returns-in-None-clause-found
+returns-in-None-clause-found g c = λ h t at stands.
+    nowhere_is t c.args.id
+    (subst (LeadsBelow c.args.root t.level c.args.id t.row) c.in-None.is
+    (c.in_ok-leaf.ensures.found h t at stands))
+
+pub returns-in-None-clause-place : goal.returns-in-None-clause-place
+returns-in-None-clause-place g c = λ h t at stands.
+    nowhere_at t c.args.id 0
+    (subst (LeadsBelow c.args.root t.level c.args.id t.row) c.in-None.is
+    (c.in_ok-leaf.ensures.found h t at stands))

@@ -1,37 +1,27 @@
--- A search goes on in the child where the identifier is.
-use Rattle.std.proofs.Common.{◌∙◌, ◌-◌, ◌<◌, ℕ, subst, sym, arith, ◌≡◌, ◌⊎◌}
-use Rattle.std.specs.Prelude.{IfOk, IfSome}
+-- A way goes on in the child where the identifier is.
+use Rattle.std.proofs.Common.{◌∙◌, ◌-◌, ◌<◌, ℕ, refl, sym, arith, ◌≡◌}
+use Rattle.std.specs.Prelude.{IfSome}
 use Rattle.page_cache.specs.Cache.{pages, given}
 use Rattle.page_cache.specs.Calls.{asks_in_turn, fault_in}
-use Rattle.id_tree.specs.Rows.{IsFoundBelow, MaySeek}
+use Rattle.id_tree.specs.Rows.{LeadsBelow}
 use Rattle.id_tree.specs.Tree.{links_of}
 use Rattle.id_tree.proofs.ResultLemmas.{if_ok, if_err}
-use Rattle.id_tree.proofs.SeekLemmas.{found_below, keys_ascend, may_seek_below, nowhere, seek_same}
+use Rattle.id_tree.proofs.SeekLemmas.{keys_ascend, leads_below, leads_here, may_seek_below, nowhere, seek_same}
 use Rattle.id_tree.proofs.WayLemmas.{way_of}
-use Rattle.page_file.specs.Fault.{IsOfDevice}
 use Rattle.page_file.specs.declared.fault.Fault.TheVariants as fault
 use Rattle.node_page.proofs.NodeLemmas.{at_error}
-use Rattle.id_tree.proofs.DamageLemmas.{comes_at, comes_down, found_at, found_under, named_some}
+use Rattle.id_tree.proofs.DamageLemmas.{comes_at, comes_down, comes_under, named_some}
 use Rattle.id_tree.specs.Checked.{ComesInTree, NamesChild}
-use Rattle.id_tree.proofs.GivenLemmas.{comes_so}
-use Rattle.id_tree.proofs.search.+seek.Goals as goal
+use Rattle.id_tree.proofs.GivenLemmas.{comes_here, comes_so}
+use Rattle.id_tree.proofs.search.+descend.Goals as goal
 
 pub returns-then-level-eq0-clause-found : goal.returns-then-level-eq0-clause-found
 returns-then-level-eq0-clause-found g t c = λ h edge row may.
-    let low = c.if-level-eq0.true in
-    subst (λ (l : ℕ). IfOk c.seek_leaf.result (IsFoundBelow c.args.page l c.args.id row)) (sym low)
-    (c.seek_leaf.ensures.found h edge row
-    (subst (λ (l : ℕ). MaySeek g.row.D (pages c.args.cache.now) c.args.page l edge row) low may))
-
-pub returns-then-level-eq0-clause-stands : goal.returns-then-level-eq0-clause-stands
-returns-then-level-eq0-clause-stands g t c = λ h edge row may.
-    c.seek_leaf.ensures.stands h edge row
-    (subst (λ (l : ℕ). MaySeek g.row.D (pages c.args.cache.now) c.args.page l edge row)
-    c.if-level-eq0.true may)
+    leads_here c.args.page c.args.level c.args.id row c.if-level-eq0.true
 
 pub returns-in-Some-clause-asks : goal.returns-in-Some-clause-asks
-returns-in-Some-clause-asks g t c = asks_in_turn c.args.cache.now c.step.new.cache c.seek.new.cache
-    (fault_in c.seek.result) c.in_ok-way.ensures.asks c.seek.ensures.asks
+returns-in-Some-clause-asks g t c = asks_in_turn c.args.cache.now c.step.new.cache c.descend.new.cache
+    (fault_in c.descend.result) c.in_ok-way.ensures.asks c.descend.ensures.asks
 
 pub returns-in-Some-clause-found : goal.returns-in-Some-clause-found
 returns-in-Some-clause-found g t c = λ h edge row may.
@@ -45,10 +35,10 @@ returns-in-Some-clause-found g t c = λ h edge row may.
     (sym c.in-Some.is ∙ route) in
     let below = may_seek_below D old c.args.page c.args.level edge c.args.id c.in-Some.child row high
     may.stands way may.single in
-    if_ok c.seek.result (IsFoundBelow c.in-Some.child (c.args.level - 1) c.args.id way.below)
-    (IsFoundBelow c.args.page c.args.level c.args.id row)
-    (found_below D old c.args.page c.args.level edge c.args.id c.in-Some.child row high may.stands way)
-    (c.seek.ensures.found (asks.gate.honest.0 h) _ way.below
+    if_ok c.descend.result (LeadsBelow c.in-Some.child (c.args.level - 1) c.args.id way.below)
+    (LeadsBelow c.args.page c.args.level c.args.id row)
+    (leads_below D old c.args.page c.args.level edge c.args.id c.in-Some.child row high may.stands way)
+    (c.descend.ensures.found (asks.gate.honest.0 h) _ way.below
     (seek_same D old (pages c.step.new.cache) c.in-Some.child (c.args.level - 1) _ way.below
     (asks.map.pages_stay h) below))
 
@@ -64,7 +54,7 @@ returns-in-Some-clause-stands g t c = λ h edge row may.
     (sym c.in-Some.is ∙ route) in
     let below = may_seek_below D old c.args.page c.args.level edge c.args.id c.in-Some.child row high
     may.stands way may.single in
-    c.seek.ensures.stands (asks.gate.honest.0 h) _ way.below
+    c.descend.ensures.stands (asks.gate.honest.0 h) _ way.below
     (seek_same D old (pages c.step.new.cache) c.in-Some.child (c.args.level - 1) _ way.below
     (asks.map.pages_stay h) below)
 
@@ -79,17 +69,7 @@ returns-in-None-clause-found g t c = λ h edge row may.
 
 pub returns-then-level-eq0-clause-comes : goal.returns-then-level-eq0-clause-comes
 returns-then-level-eq0-clause-comes g t c = λ h.
-    if_ok c.seek_leaf.result (λ found. IfSome found (λ x. x.0 ≡ c.args.page))
-    (λ found. IfSome found (λ x. ComesInTree g.row.D (given c.args.cache.now) c.args.page x.0))
-    (λ found is. found_at g.row.D (given c.args.cache.now) c.args.page found (λ x. x.0) is)
-    c.seek_leaf.ensures.here
-
-pub returns-then-level-eq0-clause-damage : goal.returns-then-level-eq0-clause-damage
-returns-then-level-eq0-clause-damage g t c = λ h.
-    if_err c.seek_leaf.result (λ f. IsOfDevice f ⊎ (f ≡ fault.Damaged c.args.page))
-    (λ f. (n : ℕ) → f ≡ fault.Damaged n → ComesInTree g.row.D (given c.args.cache.now) c.args.page n)
-    (λ f either n damaged. comes_at g.row.D (given c.args.cache.now) c.args.page n f either damaged)
-    (c.seek_leaf.ensures.damage h)
+    comes_here g.row.D (given c.args.cache.now) c.args.page c.args.page refl
 
 pub returns-in_err-way-clause-damage : goal.returns-in_err-way-clause-damage
 returns-in_err-way-clause-damage g t c = λ h.
@@ -106,12 +86,11 @@ returns-in-Some-clause-comes g t c = λ h.
     (c.in_ok-way.ensures.names h) in
     let same = c.in_ok-way.ensures.asks.map.given_stay h in
     let honest = c.in_ok-way.ensures.asks.gate.honest.0 h in
-    if_ok c.seek.result
-    (λ found. IfSome found (λ x. ComesInTree g.row.D (given c.step.new.cache) c.in-Some.child x.0))
-    (λ found. IfSome found (λ x. ComesInTree g.row.D (given c.args.cache.now) c.args.page x.0))
-    (λ found comes. found_under g.row.D (given c.args.cache.now) (given c.step.new.cache) c.args.page
-    c.in-Some.child same names
-    found (λ x. x.0) comes) (c.seek.ensures.comes honest)
+    if_ok c.descend.result
+    (λ leaf. IfSome leaf (ComesInTree g.row.D (given c.step.new.cache) c.in-Some.child))
+    (λ leaf. IfSome leaf (ComesInTree g.row.D (given c.args.cache.now) c.args.page))
+    (comes_under g.row.D (given c.args.cache.now) (given c.step.new.cache) c.args.page c.in-Some.child same
+    names) (c.descend.ensures.comes honest)
 
 pub returns-in-Some-clause-damage : goal.returns-in-Some-clause-damage
 returns-in-Some-clause-damage g t c = λ h.
@@ -120,10 +99,10 @@ returns-in-Some-clause-damage g t c = λ h.
     (c.in_ok-way.ensures.names h) in
     let same = c.in_ok-way.ensures.asks.map.given_stay h in
     let honest = c.in_ok-way.ensures.asks.gate.honest.0 h in
-    if_err c.seek.result
+    if_err c.descend.result
     (λ f. (n : ℕ) → f ≡ fault.Damaged n → ComesInTree g.row.D (given c.step.new.cache) c.in-Some.child n)
     (λ f. (n : ℕ) → f ≡ fault.Damaged n → ComesInTree g.row.D (given c.args.cache.now) c.args.page n)
     (λ f comes n damaged. comes_down g.row.D (given c.args.cache.now) c.args.page c.in-Some.child n names
     (comes_so g.row.D (given c.args.cache.now) (given c.step.new.cache) c.in-Some.child n same
     (comes n damaged)))
-    (c.seek.ensures.damage honest)
+    (c.descend.ensures.damage honest)
