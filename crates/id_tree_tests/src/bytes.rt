@@ -1,7 +1,8 @@
 //! The bytes of a small tree are those of the format.
 
+use crate::changes::put;
 use box_math::BBox;
-use id_tree::{add, check_table, make};
+use id_tree::{check_table, make};
 use page_file::Fault;
 use std::test::Fail;
 use test_caches::bare;
@@ -33,9 +34,9 @@ const LEAF: [u8; 100] = [
 fn a_small_tree_has_the_bytes_of_the_format(rt: HostRuntime) -> Result<(), Fail> {
     let mut cache = bare(rt.alloc())?;
     let root = make::<2, _, _>(&mut cache)?;
-    add(&mut cache, root, 10, &corners([1, 2], [1, 2])?, 5)?;
-    add(&mut cache, root, 11, &corners([-1, 0], [3, 4])?, 6)?;
-    add(&mut cache, root, 7, &corners([0, 0], [0, 0])?, 7)?;
+    put(&mut cache, root, 10, &corners([1, 2], [1, 2])?, 5)?;
+    put(&mut cache, root, 11, &corners([-1, 0], [3, 4])?, 6)?;
+    put(&mut cache, root, 7, &corners([0, 0], [0, 0])?, 7)?;
     assert_eq!(rt; root, 3);
     let page = cache.page(3)?;
     assert_eq!(rt; &page[..28], ROOT.as_slice());

@@ -7,7 +7,7 @@ ghost use Rattle.page_cache.specs.Cache.{gate_of};
 use block_bytes::{write_head, write_i32, write_u8, write_u32, write_u64};
 use block_device::MemoryDevice;
 use box_math::BBox;
-use id_tree::{add, check_table, fill, free_all, get, remove, update};
+use id_tree::{LeafPlace, add, check_table, fill, find, free_all, remove, update};
 use page_file::Fault;
 use std::alloc::Global;
 use std::test::Fail;
@@ -190,20 +190,36 @@ fn ends<T>(answer: &Result<T, Fault>) -> bool {
     }
 }
 
-// Whether each call ends so where a page has these bytes, each on a file of its own.
+// Whether each change in a place ends so where a page has these bytes, each on a file of its own.
+fn survives_at(
+    alloc: Global,
+    page: u32,
+    bytes: &[u8; 4096],
+    id: u64,
+    at: LeafPlace,
+) -> Result<bool, Fault> {
+    let mut cache = damaged(alloc, page, bytes)?;
+    let moved = ends(&update(&mut cache, 3, at, id, &one()?, 25));
+    let mut cache = damaged(alloc, page, bytes)?;
+    let added = ends(&add(&mut cache, 3, at, id, &one()?, 1));
+    let mut cache = damaged(alloc, page, bytes)?;
+    let removed = ends(&remove::<2, _, _>(&mut cache, 3, at, id));
+    Ok(moved && added && removed)
+}
+
+// Whether each call ends so: changes in the place that a search finds before the page gets these bytes, and in
+// none, from where they walk down from the root.
 fn survives(alloc: Global, page: u32, bytes: &[u8; 4096], id: u64) -> Result<bool, Fault> {
+    let at = find::<2, _, _>(&mut scene(alloc)?, 3, id)?.at;
+    let in_place = survives_at(alloc, page, bytes, id, at)?;
+    let nowhere = LeafPlace { leaf: 0, place: 0 };
+    let from_root = survives_at(alloc, page, bytes, id, nowhere)?;
     let mut cache = damaged(alloc, page, bytes)?;
-    let got = ends(&get::<2, _, _>(&mut cache, 3, id));
-    let moved = ends(&update(&mut cache, 3, id, &one()?));
-    let mut cache = damaged(alloc, page, bytes)?;
-    let added = ends(&add(&mut cache, 3, id, &one()?, 1));
-    let mut cache = damaged(alloc, page, bytes)?;
-    let removed = ends(&remove::<2, _, _>(&mut cache, 3, id));
-    let mut cache = damaged(alloc, page, bytes)?;
+    let found = ends(&find::<2, _, _>(&mut cache, 3, id));
     let filled = ends(&fill(&mut cache, 3, &[(id, (one()?, 1)), (7, (one()?, 2))]));
     let mut cache = damaged(alloc, page, bytes)?;
     let freed = ends(&free_all::<2, _, _>(&mut cache, 3));
-    Ok(got && moved && added && removed && filled && freed)
+    Ok(in_place && from_root && found && filled && freed)
 }
 
 #[test]

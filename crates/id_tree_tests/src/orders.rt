@@ -5,9 +5,10 @@ ghost use Rattle.box_math.specs.Bounds.{IsDims};
 ghost use Rattle.page_file.specs.declared.gate.Gate.TheVariants.{Open};
 ghost use Rattle.page_cache.specs.Cache.{gate_of};
 
+use crate::changes::{put, shift, take};
 use block_device::MemoryDevice;
 use box_math::BBox;
-use id_tree::{add, check_table, fill, free_all, get, make, remove, update};
+use id_tree::{check_table, fill, find, free_all, make};
 use page_file::Fault;
 use std::alloc::Global;
 use std::collections::BTreeMap;
@@ -60,28 +61,6 @@ fn new_table<const D: usize>(cache: &mut Cache) -> Result<u32, Fault>
     make::<D, _, _>(cache)
 }
 
-fn put<const D: usize>(
-    cache: &mut Cache,
-    table: u32,
-    id: u64,
-    at: i32,
-    tag: u32,
-) -> Result<(), Fault>
-    requires dims { IsDims D }
-    requires open { gate_of cache.old ≡ Open }
-    ensures open { gate_of cache.new ≡ Open }
-{
-    add(cache, table, id, &point::<D>(at)?, tag)
-}
-
-fn shift<const D: usize>(cache: &mut Cache, table: u32, id: u64, at: i32) -> Result<(), Fault>
-    requires dims { IsDims D }
-    requires open { gate_of cache.old ≡ Open }
-    ensures open { gate_of cache.new ≡ Open }
-{
-    update(cache, table, id, &point::<D>(at)?)
-}
-
 // Adds so many objects, and notes them in a plain map.
 fn add_all<const D: usize>(
     cache: &mut Cache,
@@ -96,7 +75,7 @@ fn add_all<const D: usize>(
 {
     for number in 0..count {
         let id = id_of(order, number);
-        put::<D>(cache, table, id, 7, tag_of(number))?;
+        put(cache, table, id, &point::<D>(7)?, tag_of(number))?;
         let _ = plain
             .insert(id, (7, tag_of(number)))
             .map_err(|_| Fault::Memory)?;
@@ -139,7 +118,7 @@ fn move_all<const D: usize>(
     for number in 0..count {
         if number % 3 == 0 {
             let id = id_of(order, number);
-            shift::<D>(cache, table, id, -9)?;
+            shift(cache, table, id, &point::<D>(-9)?)?;
             let _ = plain
                 .insert(id, (-9, tag_of(number)))
                 .map_err(|_| Fault::Memory)?;
@@ -164,7 +143,7 @@ fn remove_all_but<const D: usize>(
     for number in 0..count {
         if every == 0 || number % every != 0 {
             let id = id_of(order, number);
-            remove::<D, _, _>(cache, table, id)?;
+            take::<D, _, _>(cache, table, id)?;
             let _ = plain.remove(&id);
         }
     }
@@ -185,7 +164,7 @@ fn count_alike<const D: usize>(
     let mut alike = 0u32;
     for number in 0..count {
         let id = id_of(order, number);
-        let found = get::<D, _, _>(cache, table, id)?;
+        let found = find::<D, _, _>(cache, table, id)?.kept;
         let wanted = match plain.get(&id) {
             Some(kept) => Some((point::<D>(kept.0)?, kept.1)),
             None => None,

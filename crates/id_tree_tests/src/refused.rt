@@ -5,9 +5,10 @@ ghost use Rattle.std.specs.Prelude.{◌≡◌, IfOk};
 ghost use Rattle.page_cache.specs.Cache.{gate_of};
 ghost use Rattle.page_file.specs.declared.gate.Gate.TheVariants.{Open};
 
+use crate::changes::{put, take};
 use block_device::{BlockDevice, FuseDevice, FuseMode, MemoryDevice};
 use box_math::BBox;
-use id_tree::{add, check_table, fill, free_all, make, remove};
+use id_tree::{check_table, fill, free_all, make};
 use page_cache::PageCache;
 use page_file::{Fault, open_pages};
 use refusing::Refusing;
@@ -39,17 +40,10 @@ enum Change {
 fn count_before(change: Change) -> u32 {
     match change {
         Change::Cut => 145,
-        // cut in the middle into 73 and 73 once, of which the first lost all but 58
-        Change::Join => 131,
+        // cut in the middle into 73 and 73 once, of which the first lost all but 57
+        Change::Join => 130,
         Change::Fill | Change::FreeAll => 300,
     }
-}
-
-fn put(cache: &mut Cache, id: u64) -> Result<(), Fault>
-    requires { gate_of cache.old ≡ Open }
-    ensures { gate_of cache.new ≡ Open }
-{
-    add(cache, TABLE, id, &BBox::<2>::default(), 5)
 }
 
 // Objects with every second identifier of so many from the first on.
@@ -78,20 +72,20 @@ fn remove_range(cache: &mut Cache, first: u32, count: u32) -> Result<(), Fault>
 {
     for number in 0..count {
         let id = 2 * u64::from(first.wrapping_add(number));
-        remove::<2, _, _>(cache, TABLE, id)?;
+        take::<2, _, _>(cache, TABLE, id)?;
     }
     Ok(())
 }
 
-// A table of two leaves, of 58 and 73 objects.
+// A table of two leaves, of 57 and 73 objects.
 fn two_leaves(alloc: Global, cache: &mut Cache) -> Result<(), Fault>
     requires { gate_of cache.old ≡ Open }
     ensures { gate_of cache.new ≡ Open }
 {
     fill_with(alloc, cache, 145)?;
-    put(cache, 1)?;
-    remove::<2, _, _>(cache, TABLE, 1)?;
-    remove_range(cache, 0, 14)
+    put(cache, TABLE, 1, &BBox::<2>::default(), 5)?;
+    take::<2, _, _>(cache, TABLE, 1)?;
+    remove_range(cache, 0, 15)
 }
 
 // The device of a file with the table before the change.
@@ -127,8 +121,8 @@ fn make_change<B: BlockDevice, A: Allocator + Copy>(
     requires { gate_of cache.old ≡ Open }
 {
     match change {
-        Change::Cut => add(cache, TABLE, 7, &BBox::<2>::default(), 5),
-        Change::Join => remove::<2, _, _>(cache, TABLE, 100),
+        Change::Cut => put(cache, TABLE, 7, &BBox::<2>::default(), 5),
+        Change::Join => take::<2, _, _>(cache, TABLE, 100),
         Change::Fill => fill(cache, TABLE, objects.as_slice()),
         Change::FreeAll => free_all::<2, _, _>(cache, TABLE),
     }
