@@ -283,10 +283,11 @@ for made in "$program" "$program.by-rattle"; do
     "$made" script <<<'dump' >replies
     cmp -s replies before || wrong "a strict run that stopped left: $(cat replies)"
     ends 0 '' "$made" script <asked >replies
-    ends 3 'rstore: line 3: x: fail 24 BadLine' "$made" --strict script <<<$'drop b\nreopen\nx\ndrop a' >replies
+    line='rstore: line 3: x: fail 24 BadLine: no command begins so'
+    ends 3 "$line" "$made" --strict script <<<$'drop b\nreopen\nx\ndrop a' >replies
     "$made" script <<<'layers' >replies
     [ "$(cat replies)" = "$(printf 'ok 0')" ] || wrong "a strict run that had reopened left: $(cat replies)"
-    ends 3 'rstore: line 1: load?b 2: fail 24 BadLine' "$made" --strict <<<$'load\tb 2\nx\ny' >replies
+    ends 3 'rstore: line 1: load?b 2: fail 24 BadLine: line 2 is no entry' "$made" --strict <<<$'load\tb 2\nx\ny' >replies
     ends 1 "$failed" "$made" --strict <<<'x' >/dev/full
     ends 1 "$failed" "$made" --strict script <<<'create c 2 4' >/dev/full
     ends 0 '' "$made" --strict --read-only script <<<'layers' >replies

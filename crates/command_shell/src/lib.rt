@@ -19,6 +19,7 @@ mod reply_line;
 mod rows;
 mod session;
 mod strict;
+mod usage;
 mod words;
 
 pub use counted::{CountedRead, CountedReader};
