@@ -227,8 +227,10 @@ fn a_file_that_is_only_read(rt: HostRuntime) -> Result<(), Fail> {
 #[test]
 fn words_that_do_not_go_together(rt: HostRuntime) -> Result<(), Fail> {
     let shows = ["rstore", "--strict", "--stats", "none"];
-    assert_eq!(rt; says(&rt, &shows, crate::shows::MISUSED)?, Some(2));
+    let said = "rstore: --draw and --stats read no line: leave out --strict\n";
+    assert_eq!(rt; says(&rt, &shows, said)?, Some(2));
     let imports = ["rstore", "--strict", "--import", "a", "none"];
-    assert_eq!(rt; says(&rt, &imports, crate::imports::MISUSED)?, Some(2));
+    let said = "rstore: --import puts in all objects or none: leave out --strict\n";
+    assert_eq!(rt; says(&rt, &imports, said)?, Some(2));
     Ok(())
 }
