@@ -110,9 +110,11 @@ END
 }
 
 unopened='rstore: cannot open FILE'
-missing="$unopened: no such file"
+missing="$unopened: no such file: --create makes one"
+no_folder="$unopened: no such file: make its folder first"
+not_empty='rstore: FILE is not empty: without --create it is opened as it is'
 failed='rstore: input or output failed'
-in_use='rstore: FILE is in use'
+in_use='rstore: FILE is in use: wait until the program that has it open ends'
 unended='rstore: the last run did not end; what changed after its last closing is lost'
 closed_stream='rstore: a standard stream is closed'
 readers='1 2 3 4 5 6 7 8 9 10'
@@ -153,19 +155,20 @@ for made in "$program" "$program.by-rattle"; do
         *) line=$unopened ;;
         esac
         unopens _ _ "$path" "$made" "$path"
-        unopens _ _ "$path" "$made" --create "$path"
         unopens _ _ "$path" "$made" --read-only "$path"
+        [ "$line" != "$missing" ] || line=$no_folder
+        unopens _ _ "$path" "$made" --create "$path"
     done
     line=$missing
     unopens _ _ store "$made" --read-only store
-    line='rstore: the file is not empty'
+    line=$not_empty
     refused _ _ bytes "$made" --create bytes
     line='rstore: fail 21 NotAStore'
     refused _ _ bytes "$made" bytes
 
     # a store in a file
     ends 0 '' "$made" --create store <<<'create a 2 4' >/dev/null
-    line='rstore: the file is not empty'
+    line=$not_empty
     refused _ _ store "$made" --create store
     ends 1 "$failed" "$made" store <<<'insert a 1 0 0 1 1' >/dev/full
     ends 0 '' "$made" store <<<'window a 0 0 1 1' >replies
@@ -203,7 +206,8 @@ for made in "$program" "$program.by-rattle"; do
     unopens _ _ new "$made" --create new
     unopens _ _ new "$made" --read-only new
     kills maker
-    line='rstore: FILE-journal is missing, or is no journal'
+    line='rstore: FILE-journal is missing, or is no journal: put back the FILE-journal of the run that was cut short'
+    line+=' (docs/COMMANDS.md, "A journal that is lost", has the last resort)'
     mv new-journal aside
     unopens _ _ new "$made" new
     mv aside new-journal
@@ -217,7 +221,7 @@ for made in "$program" "$program.by-rattle"; do
     [ ! -e new-journal ] || wrong "a run that ended left its journal"
     # a journal of another file is not taken, and an end that was cut short is finished
     before=$(cksum new)
-    line='rstore: FILE-journal is the journal of another file'
+    line='rstore: FILE-journal is the journal of another file: move it beside its own file'
     for kind in foreign idle; do
         journal new $kind
         unopens _ _ new "$made" new
@@ -283,10 +287,11 @@ for made in "$program" "$program.by-rattle"; do
     "$made" script <<<'dump' >replies
     cmp -s replies before || wrong "a strict run that stopped left: $(cat replies)"
     ends 0 '' "$made" script <asked >replies
-    ends 3 'rstore: line 3: x: fail 24 BadLine' "$made" --strict script <<<$'drop b\nreopen\nx\ndrop a' >replies
+    line='rstore: line 3: x: fail 24 BadLine: no command begins so'
+    ends 3 "$line" "$made" --strict script <<<$'drop b\nreopen\nx\ndrop a' >replies
     "$made" script <<<'layers' >replies
     [ "$(cat replies)" = "$(printf 'ok 0')" ] || wrong "a strict run that had reopened left: $(cat replies)"
-    ends 3 'rstore: line 1: load?b 2: fail 24 BadLine' "$made" --strict <<<$'load\tb 2\nx\ny' >replies
+    ends 3 'rstore: line 1: load?b 2: fail 24 BadLine: line 2 is no entry' "$made" --strict <<<$'load\tb 2\nx\ny' >replies
     ends 1 "$failed" "$made" --strict <<<'x' >/dev/full
     ends 1 "$failed" "$made" --strict script <<<'create c 2 4' >/dev/full
     ends 0 '' "$made" --strict --read-only script <<<'layers' >replies
@@ -311,6 +316,9 @@ for made in "$program" "$program.by-rattle"; do
     [ ! -e boxes ] || wrong "a file was made for rows of which one is bad"
     ends 0 '' "$made" --create --import b:8 --scale 10 boxes <rows >replies
     ends 0 '' "$made" --import b --geojson --columns id,kind boxes <lines >>replies
+    ends 3 'rstore: line 2, column minx: "-1.26" is no whole number: --scale N multiplies coordinates,'\
+' --scale 1 widens them to whole numbers' "$made" --import b boxes <rows >>replies
+    ends 3 'rstore: no column y: --columns LIST names the columns' "$made" --import b boxes <<<'id,x' >>replies
     "$made" boxes <<<'dump' >before
     ends 3 'rstore: line 3, column y: "x" is no number' "$made" --import b boxes <bad >>replies
     ends 3 'rstore: column x is given twice' "$made" --import b --columns id,x,x boxes <bad >>replies
@@ -318,7 +326,7 @@ for made in "$program" "$program.by-rattle"; do
     grep -q '^rstore: the input could not be read: ' errors || wrong "an import of a folder said: $(cat errors)"
     ends 1 'rstore: object 8: fail 9 Duplicate' "$made" --import b boxes <twice >>replies
     ends 1 'rstore: object 1: fail 8 WrongDims' "$made" --import b --columns ,1,2,3 boxes <<<'1,2,3' >>replies
-    ends 2 '*' "$made" --import b --read-only boxes <rows >>replies
+    ends 2 'rstore: --import writes FILE: leave out --read-only' "$made" --import b --read-only boxes <rows >>replies
     [ ! -s replies ] || wrong "an import wrote: $(cat replies)"
     [ ! -e boxes-journal ] || wrong "an import that gave up left its journal"
     printf '%s\n' 'ok 4' 'create b 2 8' 'insert b 7 -13 20 31 40 tag 5' 'insert b 8 0 0 10 10' \
@@ -327,7 +335,8 @@ for made in "$program" "$program.by-rattle"; do
     "$made" boxes <<<'dump' >replies
     cmp -s replies wanted || wrong "an import that gave up left: $(cat replies)"
     printf '\0' | dd of=store bs=1 seek=8 conv=notrunc status=none
-    line='rstore: fail 20 NotClosed'
+    line='rstore: fail 20 NotClosed: the run that made FILE was cut short before it closed anything:'
+    line+=' put back FILE-journal if there was one, else remove FILE and make it anew'
     refused _ _ store "$made" store
     line='rstore: fail 20 NotClosed: open FILE once for writing'
     refused _ _ store "$made" --read-only store

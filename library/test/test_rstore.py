@@ -393,9 +393,9 @@ def exchange(folder: str, program: str) -> None:
         b = db.create_layer("b", dims=3)
         b.load((k, (k, 0, 0, k + 1, 1, 1), 9) for k in range(1000))
         status, _, said = run([path], "layers\n")
-        assert status == 1 and said == f"rstore: FILE is in use (FILE is {path})\n", said
+        assert status == 1 and said.startswith("rstore: FILE is in use") and f"(FILE is {path})" in said, said
         status, _, said = run(["--read-only", path], "layers\n")
-        assert status == 1 and said == f"rstore: FILE is in use (FILE is {path})\n", said
+        assert status == 1 and said.startswith("rstore: FILE is in use") and f"(FILE is {path})" in said, said
         rows = list(a.all_rows())
     status, said, _ = run(["--read-only", path], "check\nwindow a -9 -9 999 999\ncount b\nwindow b 5 0 0 5 0 0 tag 9\n")
     assert status == 0, said

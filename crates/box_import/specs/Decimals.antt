@@ -52,6 +52,13 @@ pub record IsRoundedOutward (low high : ℤ) (text : List ℕ) (scale : ℕ) : T
   pub down : IsRoundedDown low (numerator text scale) (denominator text)
   pub up : IsRoundedUp high (numerator text scale) (denominator text)
 
+-- a decimal times a scale is no whole number: the nearest below it and the nearest above are two
+pub record IsFraction (text : List ℕ) (scale : ℕ) : Type 0 where
+  pub low : ℤ
+  pub high : ℤ
+  pub beside : IsRoundedOutward low high text scale
+  pub apart : low <ℤ high
+
 -- a decimal times a scale is less than any coordinate, or more than any
 abbrev pub IsOutOfRange : List ℕ → ℕ → Type 0
 IsOutOfRange text scale =

@@ -14,6 +14,8 @@ pub enum Why {
     NoNumber,
     /// Times the scale it is beyond a whole number of 32 bits.
     OutOfRange,
+    /// It is no whole number, and only those are taken.
+    NoWhole,
     /// It is no whole number below 2^64.
     NoIdentifier,
     /// It is no whole number below 2^32.
@@ -43,6 +45,7 @@ impl Why {
         match self {
             Why::NoNumber => "is no number",
             Why::OutOfRange => "is out of range",
+            Why::NoWhole => "is no whole number",
             Why::NoIdentifier => "is no identifier",
             Why::NoTag => "is no tag",
             Why::AboveHigh => "is above its high",
@@ -63,6 +66,7 @@ impl From<NumberError> for Why {
         match error {
             NumberError::NoDecimal => Why::NoNumber,
             NumberError::OutOfRange => Why::OutOfRange,
+            NumberError::NoWhole => Why::NoWhole,
         }
     }
 }

@@ -1,12 +1,12 @@
 //! Decimal numbers times a scale, rounded outward to whole numbers.
 
 ghost use Rattle.std.specs.Prelude.{◌≡◌, ◌+◌, ◌-◌, ◌*◌, ◌^◌, ◌<◌, ◌≤◌, ◌==◌, ◌++◌, length};
-ghost use Rattle.std.specs.Prelude.{MatchOption, IfOk, IfErr, IsTrue, false, slice_index, pos, neg_ℤ, ◌≤ℤ◌};
+ghost use Rattle.std.specs.Prelude.{MatchOption, IfOk, IfErr, IsTrue, false, true, slice_index, pos, neg_ℤ, ◌≤ℤ◌};
 ghost use Rattle.std.specs.Str.Parse.{AllDigits, digits_value};
 ghost use Rattle.fast_float.specs.Text.{minus, digits_of, tens_up, tens_down};
 ghost use Rattle.box_import.specs.Decimals.{is_decimal, is_negative, unsigned};
 ghost use Rattle.box_import.specs.NumberErrors.{MatchError};
-ghost use Rattle.box_import.specs.Decimals.{IsRoundedOutward, IsOutOfRange, IsNear};
+ghost use Rattle.box_import.specs.Decimals.{IsRoundedOutward, IsOutOfRange, IsFraction, IsNear};
 
 use crate::between::{Between, first_digits, other_digits, with_zeros};
 use crate::scale::Scale;
@@ -19,19 +19,38 @@ pub enum NumberError {
     NoDecimal,
     /// Times the scale it is beyond a whole number of 32 bits.
     OutOfRange,
+    /// It is no whole number, and only those are taken.
+    NoWhole,
 }
 
 // How many digits an exponent has at most.
 const MOST_EXPONENT_DIGITS: usize = 3;
 
 /// A decimal number, as `-12.5` or `1e-3`, times a scale, rounded down and rounded up to whole numbers
-/// of 32 bits (docs/COMMANDS.md, "Import").
+/// of 32 bits (docs/COMMANDS.md, "Import"). Where only whole numbers are taken, the two are one.
 pub fn scaled(text: &[u8], scale: Scale) -> Result<(i32, i32), NumberError>
     ensures rounded { IfOk result (λ p. IsTrue (is_decimal text.now)
         × IsRoundedOutward p.0 p.1 text.now scale.value) }
     ensures ordered { IfOk result (λ p. p.0 ≤ℤ p.1) }
+    ensures whole { IfOk result (λ p. scale.whole_alone ≡ true → p.0 ≡ p.1) }
     ensures refused { IfErr result (λ e. MatchError e (is_decimal text.now ≡ false)
-        (IsTrue (is_decimal text.now) × IsOutOfRange text.now scale.value)) }
+        (IsTrue (is_decimal text.now) × IsOutOfRange text.now scale.value)
+        ((scale.whole_alone ≡ true) × IsTrue (is_decimal text.now) × IsFraction text.now scale.value)) }
+{
+    let (low, high) = rounded(text, scale)?;
+    if scale.is_whole_alone() && low != high {
+        return Err(NumberError::NoWhole);
+    }
+    Ok((low, high))
+}
+
+// A decimal number times a scale, rounded down and rounded up.
+fn rounded(text: &[u8], scale: Scale) -> Result<(i32, i32), NumberError>
+    ensures rounded { IfOk result (λ p. IsTrue (is_decimal text.now)
+        × IsRoundedOutward p.0 p.1 text.now scale.value) }
+    ensures ordered { IfOk result (λ p. p.0 ≤ℤ p.1) }
+    ensures refused { IfErr result (λ e. MatchError e (is_decimal text.now ≡ false)
+        (IsTrue (is_decimal text.now) × IsOutOfRange text.now scale.value) ⊥) }
 {
     let (negative, digits) = signed(text);
     let numeral = Numeral::scan(digits);

@@ -1,6 +1,6 @@
 -- What a run of the program over a device leaves.
 use Rattle.std.specs.Prelude.{ℕ, ◌≡◌, ◌<◌, ◌≤◌, ◌⊎◌, ◌==◌, Bool, true, false, List, length, Option, Result, Ok}
-use Rattle.std.specs.Prelude.{Err, ⊤}
+use Rattle.std.specs.Prelude.{Err, ⊤, codes}
 use Rattle.std.specs.FinMap.{empty}
 use Rattle.block_device.specs.Device.{Blocks, LeavesOnly, Only, Recovery}
 use Rattle.block_device.specs.declared.device.BlockDevice as device
@@ -15,9 +15,10 @@ use Rattle.layer_store.specs.declared.store.Store.{Store}
 use Rattle.store_law.specs.Sessions.{SessionState}
 use Rattle.store_law.specs.States.StoreState.{Alive}
 use Rattle.plain_table.specs.Table.{Table}
+use Rattle.plain_table.specs.declared.refusal.Refusal.{Refusal}
 use Rattle.plain_table.specs.declared.refusal.Refusal.TheVariants as refusal
 use Rattle.command_shell.specs.Runs.{ChecksToClose, FoundSince, LeavesTablesOf, Runs, RunsOnceChecked}
-use Rattle.command_shell.specs.Runs.{RunsToClose, with_last}
+use Rattle.command_shell.specs.Runs.{RunsToClose, TellsEnd, with_last}
 use Rattle.command_shell.specs.Serving.{run_state}
 use Rattle.command_shell.specs.Texts.{told_refusal}
 use Rattle.command_shell.specs.Writing.{AppendsSome}
@@ -84,6 +85,17 @@ pub record HasNotBegun {R W : Type 0} (r r' : R) (w w' : W) (status : ℕ) : Typ
   pub failed : status ≡ 1
   pub unread : r' ≡ r
   pub unwritten : w' ≡ w
+
+-- What is said where the store could not be made or opened: the refusal; and of a file that was not closed
+-- what to do.
+abbrev pub told_start : Refusal → List ℕ
+told_start refusal.NotClosed = codes "rstore: fail 20 NotClosed: the run that made FILE was cut short before it closed anything: put back FILE-journal if there was one, else remove FILE and make it anew\n"
+told_start r = told_refusal r
+
+-- What the program says of a run over a store, or of a start that was refused: nothing where it went well, else
+-- a line that says why, or a front of it.
+abbrev pub TellsRun : Bool → Option (List ℕ) → Option (List ℕ) → Type 0
+TellsRun well old new = TellsEnd well old new ⊎ ((well ≡ false) × (r : Refusal) × AppendsSome old new (told_start r))
 
 -- There was no memory for the words: nothing has begun, and it was said so, or a front of the line that says
 -- it.

@@ -16,14 +16,13 @@ ghost use Rattle.command_line.specs.Targets.{IsTarget, IsTargetOf, colon_in};
 ghost use Rattle.command_line.specs.declared.program.Served.{Served};
 ghost use Rattle.file_device.specs.declared.open.OpenError.{OpenError};
 
-use crate::program::{
-    FAILED, MISUSED, Served, WENT_WELL, tell_no_store, tell_not_empty, tell_unopened,
-};
+use crate::misuse::{ImportMisuse, tell_misuse};
+use crate::program::{FAILED, Served, WENT_WELL, tell_no_store, tell_not_empty, tell_unopened};
 use crate::words::Options;
 use block_device::BlockDevice;
 use box_import::{
-    Axes, Columns, CsvRows, FeatureLines, ImportError, ImportedObject, Properties, Scale,
-    whole_number,
+    Axes, ColumnFault, Columns, CsvRows, FeatureLines, ImportError, ImportedObject, Properties,
+    Scale, Why, whole_number,
 };
 use command_shell::{CountedRead, FlushedWrite, Reply, tell_refusal, write_reply};
 use file_device::OpenError;
@@ -101,11 +100,12 @@ pub(crate) fn import_asked<
         (option_map (λ w. w.now) options.now.import.layer)
         input.old input.new output.old output.new (E.contents errors.old) (E.contents errors.new) result) }
 {
-    let Some(path) = options.file else {
-        return tell_misuse(errors);
+    let task = match task_of(options) {
+        Ok(task) => task,
+        Err(misuse) => return tell_misuse(misuse.text(), errors),
     };
-    let Some(task) = task_of(options) else {
-        return tell_misuse(errors);
+    let Some(path) = options.file else {
+        return tell_misuse(ImportMisuse::NoFile.text(), errors);
     };
     if output.flush_out().is_err() {
         let _ = errors.write_all(b"rstore: input or output failed\n");
@@ -137,35 +137,48 @@ fn tell_error<I: CountedRead, E: Write>(error: &ImportError, input: &I, errors: 
         let _ = tell_refusal(Refusal::Memory, errors);
         return FAILED;
     }
-    let _ = write!(errors, "rstore: {error}\n");
+    let cure = cure_of(error);
+    let _ = write!(errors, "rstore: {error}{cure}\n");
     if input.has_failed() { FAILED } else { REFUSED }
 }
 
-// Says that the words do not go together.
-fn tell_misuse<E: Write>(errors: &mut E) -> u8
-    ensures { result ≡ 2 }
-{
-    let _ = errors.write_all(
-        b"rstore: --import LAYER[:FANOUT], FANOUT a number, is for a FILE and not for --strict or --read-only, \
---columns LIST (of GeoJSON at most ID,TAG) and --scale N (1 to 1000000000) are for --import, and --axes N \
-(2 or 3) is for --geojson\n",
-    );
-    MISUSED
+// What the program's words do about a refusal, of which `box_import` knows none.
+fn cure_of(error: &ImportError) -> &'static str {
+    match error {
+        ImportError::Columns {
+            why: ColumnFault::Missing,
+            ..
+        } => ": --columns LIST names the columns",
+        ImportError::Row {
+            why: Why::NoWhole,
+            ..
+        }
+        | ImportError::Feature {
+            why: Why::NoWhole,
+            ..
+        } => ": --scale N multiplies coordinates, --scale 1 widens them to whole numbers",
+        _ => "",
+    }
 }
 
-// What is to be imported, where the words go together.
-fn task_of<'a>(options: &Options<'a>) -> Option<Task<'a>>
-    ensures { IfSome result (λ task.
+// What is to be imported, or why the words do not go together.
+fn task_of<'a>(options: &Options<'a>) -> Result<Task<'a>, ImportMisuse>
+    ensures { IfOk result (λ task.
         IsTargetOf (option_map (λ w. w.now) options.now.import.layer) task.layer.now task.fanout) }
 {
     if options.read_only {
-        return None;
+        return Err(ImportMisuse::ReadOnly);
     }
     if options.strict {
-        return None;
+        return Err(ImportMisuse::Strict);
     }
-    let (layer, fanout) = target_of(options.import.layer?)?;
-    Some(Task {
+    let Some(word) = options.import.layer else {
+        return Err(ImportMisuse::NoImport);
+    };
+    let Some((layer, fanout)) = target_of(word) else {
+        return Err(ImportMisuse::Fanout);
+    };
+    Ok(Task {
         layer,
         fanout,
         form: form_of(options)?,
@@ -192,37 +205,43 @@ fn colon_in(word: &[u8]) -> Option<usize>
 }
 
 // In which form objects are to be read.
-fn form_of<'a>(options: &Options<'a>) -> Option<Form<'a>> {
+fn form_of<'a>(options: &Options<'a>) -> Result<Form<'a>, ImportMisuse> {
     let import = options.import;
     if import.geojson {
-        return Some(Form::GeoJson(properties_of(import.columns)?, axes_of(import.axes)?));
+        return Ok(Form::GeoJson(properties_of(import.columns)?, axes_of(import.axes)?));
     }
     match (import.axes, import.columns) {
-        (Some(_), _) => None,
-        (None, None) => Some(Form::Csv(Columns::Header)),
-        (None, Some(list)) => Some(Form::Csv(Columns::Listed(list.as_bytes()))),
+        (Some(_), _) => Err(ImportMisuse::AxesOfCsv),
+        (None, None) => Ok(Form::Csv(Columns::Header)),
+        (None, Some(list)) => Ok(Form::Csv(Columns::Listed(list.as_bytes()))),
     }
 }
 
 // How many axes of features are to be read.
-fn axes_of(word: Option<&str>) -> Option<Axes> {
+fn axes_of(word: Option<&str>) -> Result<Axes, ImportMisuse> {
     match word {
-        None | Some("2") => Some(Axes::Two),
-        Some("3") => Some(Axes::Three),
-        Some(_) => None,
+        None | Some("2") => Ok(Axes::Two),
+        Some("3") => Ok(Axes::Three),
+        Some(_) => Err(ImportMisuse::Axes),
     }
 }
 
-// What coordinates are to be multiplied by.
-fn scale_of(word: Option<&str>) -> Option<Scale> {
+// What coordinates are to be multiplied by. Where nothing is said they are whole numbers: degrees would else
+// become boxes of a whole degree, and nobody would notice.
+fn scale_of(word: Option<&str>) -> Result<Scale, ImportMisuse> {
     match word {
-        None => Some(Scale::ONE),
-        Some(text) => Scale::new(u32::try_from(whole_number(text.as_bytes())?).ok()?),
+        None => Ok(Scale::WHOLE),
+        Some(text) => scale_in(text).ok_or(ImportMisuse::Scale),
     }
+}
+
+// The scale that a word is.
+fn scale_in(text: &str) -> Option<Scale> {
+    Scale::new(u32::try_from(whole_number(text.as_bytes())?).ok()?)
 }
 
 // Which properties of features hold identifiers and tags.
-fn properties_of(list: Option<&str>) -> Option<Properties<'_>> {
+fn properties_of(list: Option<&str>) -> Result<Properties<'_>, ImportMisuse> {
     let list = list.unwrap_or("").as_bytes();
     let at = list
         .iter()
@@ -230,9 +249,9 @@ fn properties_of(list: Option<&str>) -> Option<Properties<'_>> {
         .unwrap_or(list.len());
     let tag = list.get(at + 1..).unwrap_or(b"");
     if tag.contains(&b',') {
-        return None;
+        return Err(ImportMisuse::Properties);
     }
-    Some(Properties {
+    Ok(Properties {
         id: name_of(&list[..at]),
         tag: name_of(tag),
     })
@@ -336,7 +355,7 @@ fn import_path<
             status
         }
         Err(error) => {
-            tell_unopened(error, path, errors);
+            tell_unopened(error, path, options.create, errors);
             FAILED
         }
     }

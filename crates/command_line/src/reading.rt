@@ -43,7 +43,7 @@ pub(crate) fn read_path<
     match read_at(path) {
         Ok(blocks) => serve_blocks(alloc, &blocks, options, input, output, errors),
         Err(error) => {
-            tell_unopened(error, path, errors);
+            tell_unopened(error, path, false, errors);
             FAILED
         }
     }

@@ -4,7 +4,8 @@ ghost use Rattle.std.specs.Io.KnownBytes.{Keeps};
 ghost use Rattle.std.specs.Prelude.{◌≡◌, ◌≤◌, IfNone, IfSome};
 ghost use Rattle.command_line.specs.Serving.{OpensAndShows};
 
-use crate::program::{FAILED, MISUSED, WENT_WELL, tell_unopened};
+use crate::misuse::{ShowMisuse, tell_misuse};
+use crate::program::{FAILED, WENT_WELL, tell_unopened};
 use crate::reading::tell_unread;
 use crate::words::Options;
 use block_device::BlockDevice;
@@ -69,30 +70,39 @@ pub(crate) fn show_asked<
     ensures shown { IfSome options.now.file (λ path.
         OpensAndShows (P.post read_at path) output.old output.new result) }
 {
-    let Some(path) = options.file else {
-        return tell_misuse(errors);
-    };
-    if !options.show_one() {
-        return tell_misuse(errors);
+    if let Some(misuse) = misuse_of(options) {
+        return tell_misuse(misuse.text(), errors);
     }
+    let Some(path) = options.file else {
+        return tell_misuse(ShowMisuse::NoFile.text(), errors);
+    };
     match read_at(path) {
         Ok(blocks) => show_reader(alloc, &blocks, options, output, errors),
         Err(error) => {
-            tell_unopened(error, path, errors);
+            tell_unopened(error, path, false, errors);
             FAILED
         }
     }
 }
 
-// Says that the words do not go together.
-fn tell_misuse<E: Write>(errors: &mut E) -> u8
-    ensures { result ≡ 2 }
-{
-    let _ = errors.write_all(
-        b"rstore: --draw LAYER or --stats is for a FILE that is there, --json for --stats, and --strict for \
-neither\n",
-    );
-    MISUSED
+// Why the words do not ask for one thing of a file that is there, if they do not.
+fn misuse_of(options: &Options<'_>) -> Option<ShowMisuse> {
+    if options.json && !options.stats {
+        return Some(ShowMisuse::JsonAlone);
+    }
+    if options.stats && options.draw.is_some() {
+        return Some(ShowMisuse::Both);
+    }
+    if options.create {
+        return Some(ShowMisuse::Create);
+    }
+    if options.strict {
+        return Some(ShowMisuse::Strict);
+    }
+    if options.import.any() {
+        return Some(ShowMisuse::Import);
+    }
+    None
 }
 
 // Shows what is asked for of the store that a reader has. No block is written: the reader is borrowed, and

@@ -14,7 +14,7 @@ use Rattle.plain_table.specs.declared.boxes.RawBox.TheVariants.{Two, Three}
 use Rattle.plain_table.specs.declared.boxes.RawPoint.TheVariants as point
 use Rattle.plain_table.specs.declared.queries.RawQuery.TheVariants.{Window, Inside, Around, Point}
 use Rattle.plain_table.specs.declared.refusal.Refusal.TheVariants as refusal
-use Rattle.command_shell.specs.Entries.{entry_in, objects_in}
+use Rattle.command_shell.specs.Entries.{entry_in, first_bad, objects_in}
 use Rattle.command_shell.specs.TextCommands.{AreCommands, AsksAlone, load_request}
 use Rattle.command_shell.specs.TextCommands.AreCommands.{load, none, one, short}
 use Rattle.command_shell.specs.Lines.{lines_of, words_of, IsWhole}
@@ -22,7 +22,9 @@ use Rattle.command_shell.specs.Lines.IsWhole.{none as nothing, ends}
 use Rattle.command_shell.specs.Meanings.{Meaning, meaning_of, words_mean}
 use Rattle.command_shell.specs.Meanings.Meaning.{Blank, Bad, Loads, Means}
 use Rattle.command_shell.specs.Numbers.{number_in, coordinate_of}
+use Rattle.command_shell.specs.Strict.{entry_fault}
 use Rattle.command_shell.specs.Texts.{answer_text, texts_of}
+use Rattle.command_shell.specs.Usages.{usage_in}
 
 abbrev a : List ℕ
 a = codes "a"
@@ -381,3 +383,22 @@ three_refusals_have_a_number_more = refl
 answers_follow_each_other : texts_of (Done ∷ Boxes [] ∷ Done ∷ []) ≡ codes "ok\nok 0\nok\n"
 unfolding digits
 answers_follow_each_other = refl
+
+-- ---- what is wrong with bad lines
+
+bad_lines_begin_as_commands : map (λ line. usage_in (words_of line)) (codes " insert\ta +3" ∷ codes "insert" ∷ codes "load a 3" ∷ codes "check b" ∷ []) ≡ codes "usage: insert LAYER ID BOX [tag N]" ∷ codes "usage: insert LAYER ID BOX [tag N]" ∷ codes "usage: load LAYER N, and N lines ID BOX [tag N]" ∷ codes "usage: check" ∷ []
+bad_lines_begin_as_commands = refl
+
+no_command_begins_so : map (λ line. usage_in (words_of line)) (codes "Insert a" ∷ codes "inserts a" ∷ codes "1 0 0 1 1" ∷ [])
+    ≡ replicate 3 (codes "no command begins so")
+no_command_begins_so = refl
+
+the_first_bad_entry_line : first_bad (codes "1 0 0 1 1" ∷ codes "2 0 0" ∷ [] ∷ codes "3 0 0 1 1" ∷ []) ≡ Some 2
+the_first_bad_entry_line = refl
+
+no_bad_entry_line : first_bad (codes "1 0 0 1 1" ∷ codes "1 0 0 1 1 tag 7" ∷ []) ≡ None
+no_bad_entry_line = refl
+
+a_bad_entry_line_is_told_by_its_number : entry_fault 3 (Some 2) [] ≡ codes "line 5 is no entry"
+unfolding digits
+a_bad_entry_line_is_told_by_its_number = refl

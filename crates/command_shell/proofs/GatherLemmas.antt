@@ -1,12 +1,12 @@
 -- The objects of entry lines, one line more.
 use Rattle.std.proofs.Common.{◌≡◌, ◌∙◌, ℕ, ◌<◌, ltb, Bool, true, false, List, [], ◌∷◌, ◌++◌, length, Option}
 use Rattle.std.proofs.Common.{Some, None, IsSome, Result, Ok, Err, cond, is_ok, is_err, refl, sym, ap, subst}
-use Rattle.std.proofs.Common.{arith}
+use Rattle.std.proofs.Common.{arith, ◌+◌, ap₂, suc}
 use Rattle.std.proofs.lemmas.Bool.Decides.{nat_tests}
-use Rattle.std.specs.Prelude.{option_and_then, option_map}
+use Rattle.std.specs.Prelude.{option_and_then, option_map, is_none, is_some, unwrap_or}
 use Rattle.plain_table.specs.Loads.{GivenObjects}
 use Rattle.plain_table.specs.declared.boxes.RawBox.{RawBox}
-use Rattle.command_shell.specs.Entries.{entry_in, objects_in}
+use Rattle.command_shell.specs.Entries.{entry_in, first_bad, objects_in}
 use Rattle.command_shell.specs.Gathering.{Tells}
 
 abbrev Object : Type 0
@@ -52,6 +52,43 @@ some_follows : (all : Option GivenObjects) (object : Object) → IsSome all
     → IsSome (followed all (Some object))
 some_follows None object h = h
 some_follows (Some all) object h = refl
+
+-- the first bad entry line, where a bad line follows
+bad_behind : (first : Option Object) (bad : Option ℕ) (n : ℕ)
+    → cond (is_some first) (option_map (λ p. p + 1) (Some (unwrap_or bad (n + 1)))) (Some 1)
+    ≡ Some (unwrap_or (cond (is_some first) (option_map (λ p. p + 1) bad) (Some 1)) (suc n + 1))
+bad_behind None bad n = refl
+bad_behind (Some f) None n = ap Some (omega arith)
+bad_behind (Some f) (Some b) n = refl
+
+bad_follows : (lines : List (List ℕ)) (line : List ℕ) → entry_in line ≡ None
+    → first_bad (lines ++ line ∷ []) ≡ Some (unwrap_or (first_bad lines) (length lines + 1))
+bad_follows [] line bad = rw bad refl
+bad_follows (l ∷ lines) line bad =
+    ap (λ (b : Option ℕ). cond (is_some (entry_in l)) (option_map (λ p. p + 1) b) (Some 1))
+    (bad_follows lines line bad)
+    ∙ bad_behind (entry_in l) (first_bad lines) (length lines)
+
+-- and where a good one does
+pub good_follows : (lines : List (List ℕ)) (line : List ℕ) (object : Object) → entry_in line ≡ Some object
+    → first_bad (lines ++ line ∷ []) ≡ first_bad lines
+good_follows [] line object good = rw good refl
+good_follows (l ∷ lines) line object good =
+    ap (λ (b : Option ℕ). cond (is_some (entry_in l)) (option_map (λ p. p + 1) b) (Some 1))
+    (good_follows lines line object good)
+
+-- a bad line was gathered
+pub spoiled : (old new : Option ℕ) (place : ℕ) (room : Bool) (name layer : List ℕ) (objects : GivenObjects)
+    (lines : List (List ℕ)) (line : List ℕ)
+    → new ≡ Some (unwrap_or old place) → old ≡ first_bad lines → place ≡ length lines + 1
+    → entry_in line ≡ None
+    → (new ≡ first_bad (lines ++ line ∷ []))
+    × Tells (is_none new) room name objects layer (objects_in (lines ++ line ∷ []))
+spoiled old new place room name layer objects lines line is was at bad = (
+  is ∙ ap Some (ap₂ unwrap_or was at) ∙ sym (bad_follows lines line bad),
+  subst (λ (b : Option ℕ). Tells (is_none b) room name objects layer (objects_in (lines ++ line ∷ [])))
+      (sym is) (bad_more lines line bad),
+)
 
 -- an object was gathered, or there was no room for it
 told_more : (good room now : Bool) (name layer : List ℕ) (old new : GivenObjects) (all : Option GivenObjects)

@@ -65,18 +65,18 @@ drop_span s e n xs h = let m : e - s ≡ n + (e - (s + n)) = omega arith in
 
 -- how a line begins that has more than is told, and one that has not
 pub front_cut : (line : List ℕ) (front : LineFront) → length line ≤ longest_line → 60 < length line
-    → front.bytes.items ≡ take 60 line → front.is_cut ≡ true → IsFrontOf front line
-front_cut line front short long bytes cut =
+    → front.bytes.items ≡ take 60 line → front.is_cut ≡ true → front.bad_entry ≡ None → IsFrontOf front line []
+front_cut line front short long bytes cut none =
     let no_more : ltb longest_line (length line) ≡ false = grind (arith, nat_tests) in
     let more : ltb told_bytes (length line) ≡ true = grind (arith, nat_tests) in
-    (bytes ∙ (rw no_more refl), cut ∙ sym more)
+    (bytes ∙ (rw no_more refl), cut ∙ sym more, none)
 
 pub front_whole : (line : List ℕ) (front : LineFront) → length line ≤ 60
-    → front.bytes.items ≡ line → front.is_cut ≡ false → IsFrontOf front line
-front_whole line front short bytes cut =
+    → front.bytes.items ≡ line → front.is_cut ≡ false → front.bad_entry ≡ None → IsFrontOf front line []
+front_whole line front short bytes cut no_entry =
     let no_more : ltb longest_line (length line) ≡ false = grind (arith, nat_tests) in
     let none : ltb told_bytes (length line) ≡ false = grind (arith, nat_tests) in
-    (bytes ∙ (rw no_more (sym (take_all told_bytes line short))), cut ∙ sym none)
+    (bytes ∙ (rw no_more (sym (take_all told_bytes line short))), cut ∙ sym none, no_entry)
 
 -- what was read stands after what was there
 pub filled : (buffer new post : List ℕ) (s e n : ℕ) → s ≡ 0 → e ≤ length buffer → n ≤ length new

@@ -78,7 +78,7 @@ writes_after a b c (Err e) text k h = (h.0, h.1, appends_after a b c (take h.0 t
 
 -- a load that was refused is a refused command, and its first line is told
 load_refused : (front : LineFront) (first text layer : List ℕ) (count : ℕ) (request : Request)
-    (answer : Answer) → IsOneLine first → meaning_of first ≡ Loads layer count → IsFrontOf front first
+    (answer : Answer) → IsOneLine first → meaning_of first ≡ Loads layer count → IsFrontOf front first (lines_of text)
     → IsOneWhereRefused front ((first ++ newline ∷ []) ++ text) (request ∷ []) (answer ∷ [])
 load_refused front first text layer count request answer one means is refusal refused = record {
   line = first;
@@ -106,7 +106,7 @@ pub loads_full : {A E : Type 0} (So : List Request → List Answer → Type 0)
     (front : LineFront) (ended : Bool) (step : Stepped) (result : Result (Option Refusal) E) (reply : Reply A)
     → MatchResult result (λ o. step ≡ step_of ended lines front o) (λ _. step ≡ End WriteFault)
     → lines ≡ min (count + 1) most_lines
-    → IsOneLine first → IsFrontOf front first → meaning_of first ≡ Loads layer count
+    → IsOneLine first → IsFrontOf front first (lines_of text) → meaning_of first ≡ Loads layer count
     → Reads false r0 r1 unread mid (first ++ newline ∷ []) → Reads ended r1 r2 mid left text
     → length (lines_of text) ≡ count → Keeps w w1 → Writes w1 w2 result (answer_text (reply_answer reply))
     → TellsRefusal result (reply_answer reply ∷ [])
@@ -129,7 +129,7 @@ pub loads_short : {A E : Type 0} (So : List Request → List Answer → Type 0)
     (r0 r1 r2 w w1 w2 : Option (List ℕ)) (unread mid left first text layer : List ℕ) (count lines : ℕ)
     (front : LineFront) (step : Stepped) (result : Result (Option Refusal) E) (reply : Reply A)
     → MatchResult result (λ o. step ≡ step_of true lines front o) (λ _. step ≡ End WriteFault)
-    → IsOneLine first → IsFrontOf front first → meaning_of first ≡ Loads layer count
+    → IsOneLine first → IsFrontOf front first (lines_of text) → meaning_of first ≡ Loads layer count
     → Reads false r0 r1 unread mid (first ++ newline ∷ []) → Reads true r1 r2 mid left text
     → length (lines_of text) < count → Keeps w w1 → Writes w1 w2 result (answer_text (reply_answer reply))
     → TellsRefusal result (reply_answer reply ∷ []) → So (BadCommand ∷ []) (reply_answer reply ∷ [])

@@ -356,7 +356,7 @@ asks_some line _ request (short layer count means few at_end) blank some = absur
 -- a line that asks something by itself and was refused is a refused command
 line_refused : (So : List Request → List Answer → Type 0) → HasOneRequest So → (front : LineFront)
     (text line : List ℕ) (m : Meaning) (requests : List Request) (answers : List Answer)
-    → lines_of text ≡ line ∷ [] → m ≡ meaning_of line → IsFrontOf front line → AsksAlone m requests
+    → lines_of text ≡ line ∷ [] → m ≡ meaning_of line → IsFrontOf front line [] → AsksAlone m requests
     → So requests answers → IsOneWhereRefused front text requests answers
 line_refused So pairs front text line m requests answers e is front_is asks lawful refusal refused =
     let it = pairs requests (Refused refusal) (subst (λ xs. So requests xs) refused lawful) in
@@ -378,7 +378,7 @@ line_refused So pairs front text line m requests answers e is front_is asks lawf
 -- so is the last line of a text that was refused
 pub last_refused : (So : List Request → List Answer → Type 0) → HasOneRequest So → (front : LineFront)
     (line : List ℕ) (requests : List Request) (answers : List Answer)
-    → lines_of line ≡ line ∷ [] → IsFrontOf front line → AreCommands true (line ∷ []) requests
+    → lines_of line ≡ line ∷ [] → IsFrontOf front line [] → AreCommands true (line ∷ []) requests
     → So requests answers → IsOneWhereRefused front line requests answers
 last_refused So pairs front line requests answers e front_is asked lawful refusal refused =
     let it = pairs requests (Refused refusal) (subst (λ xs. So requests xs) refused lawful) in
@@ -403,7 +403,7 @@ pub steps_line : {E : Type 0} (So : List Request → List Answer → Type 0) →
     (ended : Bool) (step : Stepped) (result : Result (Option Refusal) E)
     → MatchResult result (λ o. step ≡ step_of ended 1 front o) (λ _. step ≡ End WriteFault)
     → Reads ended r r' pending left text → lines_of text ≡ line ∷ [] → m ≡ meaning_of line
-    → IsFrontOf front line → AnswersLine m (TellsCalls result So) w w' result
+    → IsFrontOf front line [] → AnswersLine m (TellsCalls result So) w w' result
     → StepsTo (MakesStep So step) step r r' w w' pending left
 steps_line So pairs r r' w w' pending left text line m front ended step result e h l k front_is a =
     steps_after So r r' w w' pending left text a.requests a.answers front 1 ended step result e h

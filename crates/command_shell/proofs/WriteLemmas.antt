@@ -2,14 +2,14 @@
 use Rattle.std.proofs.Common.{◌≡◌, ℕ, ◌+◌, ◌<◌, List, ◌∷◌, ◌++◌, length, take, drop, suc, get_or, flat_map}
 use Rattle.std.proofs.Common.{map, Option, Some, None, Result, Ok, Err, sym, ap, ap₂, ◌∙◌, append_assoc}
 use Rattle.std.proofs.Common.{codes, length-append, arith}
-use Rattle.std.specs.Prelude.{decimal}
+use Rattle.std.specs.Prelude.{decimal, min}
 use Rattle.std.specs.Io.KnownBytes.{Appends}
 use Rattle.std.proofs.lemmas.List.{length-map, take-append-le, take-append-drop, take_all}
 use Rattle.std.proofs.lemmas.List.Concat.{flat_map-append}
 use Rattle.std.proofs.lemmas.List.Folds.{flat_map-map}
 use Rattle.std.proofs.Math.Seq.{take-append-add, take-add, drop-cons}
-use Rattle.command_shell.specs.Strict.{told_front, told_stop}
-use Rattle.command_shell.specs.Texts.{count_text, refusal_text}
+use Rattle.command_shell.specs.Strict.{entry_fault, most_lines, reason_of, told_front, told_stop}
+use Rattle.command_shell.specs.Texts.{count_text}
 use Rattle.command_shell.specs.Writing.{AppendsFront, AppendsSome, Writes}
 use Rattle.command_shell.specs.declared.refused.Stop.{Stop}
 
@@ -49,16 +49,30 @@ some_written a b (Err e) text h = (h.0, h.2)
 -- the line of a stop, put together
 pub stop_text : (it : Stop) (word number colon front all : List ℕ)
     → word ≡ codes "rstore: line " → number ≡ word ++ decimal it.line → colon ≡ number ++ codes ": " → front ≡ colon ++ told_front it.refused.front
-    → all ≡ front ++ codes ": " → all ++ refusal_text it.refused.refusal ≡ told_stop it
+    → all ≡ front ++ codes ": " → all ++ reason_of it.refused.refusal it.line it.refused.front ≡ told_stop it
 stop_text it word number colon front all a b c d e =
     let n = decimal it.line in
     let f = told_front it.refused.front in
-    let r = refusal_text it.refused.refusal in
+    let r = reason_of it.refused.refusal it.line it.refused.front in
     let w = codes "rstore: line " in
     let s = codes ": " in
     let all_is : all ≡ (((w ++ n) ++ s) ++ f) ++ s =
     e ∙ ap (λ t. t ++ s) (d ∙ ap (λ t. t ++ f) (c ∙ ap (λ t. t ++ s) (b ∙ ap (λ t. t ++ n) a))) in
     ap (λ t. t ++ r) all_is
+
+-- what is said of an entry line, put together
+pub entry_text : (old word shown all other : List ℕ) (number place sum : ℕ) (bad : Option ℕ)
+    → bad ≡ Some place → sum ≡ min (number + place) most_lines → word ≡ old ++ codes "line "
+    → shown ≡ word ++ decimal sum → all ≡ shown ++ codes " is no entry" → all ≡ old ++ entry_fault number bad other
+entry_text old word shown all other number place sum bad is sum_is a b c =
+    let w = codes "line " in
+    let n = decimal sum in
+    let e = codes " is no entry" in
+    let all_is : all ≡ ((old ++ w) ++ n) ++ e = c ∙ ap (λ t. t ++ e) (b ∙ ap (λ t. t ++ n) a) in
+    let fault : entry_fault number (Some place) other ≡ w ++ (n ++ e) =
+    ap (λ k. w ++ (decimal k ++ e)) (sym sum_is) in
+    all_is ∙ append_assoc (old ++ w) n e ∙ append_assoc old w (n ++ e)
+    ∙ ap (λ t. old ++ t) (sym fault ∙ ap (λ o. entry_fault number o other) (sym is))
 
 -- a piece of what is left
 pub taken_more : (xs : List ℕ) (i n : ℕ) → take i xs ++ take n (drop i xs) ≡ take (i + n) xs

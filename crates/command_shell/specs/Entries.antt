@@ -1,5 +1,5 @@
 -- The entry lines of a load. Our rule, docs/COMMANDS.md.
-use Rattle.std.specs.Prelude.{ℕ, nat_lt, List, [], ◌∷◌, length, if◌then◌else◌, Option, Some, None, option_map}
+use Rattle.std.specs.Prelude.{ℕ, ◌+◌, is_some, nat_lt, List, [], ◌∷◌, length, if◌then◌else◌, Option, Some, None, option_map}
 use Rattle.std.specs.Prelude.{option_and_then, unwrap_or}
 use Rattle.plain_table.specs.Loads.{GivenObjects}
 use Rattle.plain_table.specs.declared.boxes.RawBox.{RawBox}
@@ -16,6 +16,12 @@ entry_of ws = None
 -- the object that an entry line gives, given without its newline
 abbrev pub entry_in : List ℕ → Option (ℕ × RawBox × ℕ)
 entry_in line = if nat_lt longest_line (length line) then None else entry_of (words_of line)
+
+-- the place of the first entry line that gives none, counted from 1, if there is one
+abbrev pub first_bad : List (List ℕ) → Option ℕ
+first_bad [] = None
+first_bad (line ∷ lines) =
+    if is_some (entry_in line) then option_map (λ place. place + 1) (first_bad lines) else Some 1
 
 -- the objects of entry lines, if each of them gives one
 abbrev pub objects_in : List (List ℕ) → Option GivenObjects

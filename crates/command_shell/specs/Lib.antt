@@ -14,4 +14,5 @@ pub mod TextCommands
 pub mod Serving
 pub mod TextAnswers
 pub mod Runs
+pub mod Usages
 pub mod Strict

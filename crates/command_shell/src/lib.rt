@@ -19,6 +19,7 @@ mod reply_line;
 mod rows;
 mod session;
 mod strict;
+mod usage;
 mod words;
 
 pub use counted::{CountedRead, CountedReader};
@@ -28,5 +29,6 @@ pub use parse::{Line, MAX_LINE, parse_entry, parse_line};
 pub use program::{Ended, run_and_close, tell_refusal};
 pub use refused::{LineFront, RefusedLine, Stop};
 pub use replies::{Reply, write_reply};
+pub use reply_line::put;
 pub use session::{LinesEnd, RunEnd, run, run_strictly};
 pub use strict::{Outcome, Settled, run_strictly_and_close};

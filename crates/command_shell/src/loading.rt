@@ -1,6 +1,7 @@
 //! The entry lines of a load, read and gathered one after the other.
 
-ghost use Rattle.std.specs.Prelude.{◌≡◌, ℕ, ◌<◌, ◌≤◌, ◌++◌, ◌∷◌, [], false, List, OnOk, OnErr, IfErr};
+ghost use Rattle.std.specs.Prelude.{◌≡◌, ℕ, ◌+◌, ◌<◌, ◌≤◌, ◌++◌, ◌∷◌, [], false, List, OnOk, OnErr, IfErr};
+ghost use Rattle.std.specs.Prelude.{Some, length, unwrap_or};
 ghost use Rattle.std.specs.Io.KnownBytes.{Keeps};
 ghost use Rattle.command_shell.specs.Gathering.{GathersTo, IsGathered, TakesEntry};
 ghost use Rattle.command_shell.specs.Pending.{AreCounted, pending, work_left};
@@ -22,8 +23,8 @@ pub struct Gathered<A: Allocator> {
     pub layer: Vec<u8, A>,
     /// The objects of the entry lines.
     pub objects: Vec<(u64, RawBox, u32), A>,
-    /// Whether each entry line gave an object.
-    pub good: bool,
+    /// The place of the first entry line that gave no object, counted from 1, if there is one.
+    pub bad_entry: Option<u64>,
     /// Whether there was room for the name and each object.
     pub room: bool,
 }
@@ -59,25 +60,25 @@ impl<A: Allocator + Copy> Gathered<A> {
             Ok(layer) => Gathered {
                 layer,
                 objects: Vec::new(alloc),
-                good: true,
+                bad_entry: None,
                 room: true,
             },
             Err(_) => Gathered {
                 layer: Vec::new(alloc),
                 objects: Vec::new(alloc),
-                good: true,
+                bad_entry: None,
                 room: false,
             },
         }
     }
 
-    // An entry line more.
-    fn add(&mut self, line: &[u8])
+    // An entry line more, at this place.
+    fn add(&mut self, line: &[u8], place: u64)
         ensures { (layer : List ℕ) (lines : List (List ℕ)) → IsGathered self.old layer lines →
-            IsGathered self.new layer (lines ++ line.now ∷ []) }
+            place ≡ length lines + 1 → IsGathered self.new layer (lines ++ line.now ∷ []) }
     {
         match parse_entry(line) {
-            None => self.good = false,
+            None => self.spoil(place),
             Some(object) => {
                 if self.objects.push(object).is_err() {
                     self.room = false;
@@ -86,22 +87,24 @@ impl<A: Allocator + Copy> Gathered<A> {
         }
     }
 
-    // An entry line more that is too long.
-    fn spoil(&mut self)
-        ensures { self.new.good ≡ false }
+    // An entry line more that gives no object, at this place.
+    fn spoil(&mut self, place: u64)
+        ensures { self.new.bad_entry ≡ Some (unwrap_or self.old.bad_entry place) }
     {
-        self.good = false;
+        self.bad_entry = Some(self.bad_entry.unwrap_or(place));
     }
 }
 
-// Takes the next entry line, and gathers what it gives. The replies so far are flushed where more is read.
+// Takes the next entry line, at this place, and gathers what it gives. The replies so far are flushed where
+// more is read.
 fn take_entry<A: Allocator + Copy, R: CountedRead, W: Write>(
     gathered: &mut Gathered<A>,
+    place: u64,
     lines: &mut LineReader,
     input: &mut R,
     output: &mut W,
 ) -> Result<Taken, RunEnd>
-    ensures takes { TakesEntry result gathered.old gathered.new (R.remaining input.old)
+    ensures takes { TakesEntry result place gathered.old gathered.new (R.remaining input.old)
         (R.remaining input.new)
         (pending lines.old) (pending lines.new) }
     ensures kept { Keeps (W.contents output.old) (W.contents output.new) }
@@ -117,21 +120,21 @@ fn take_entry<A: Allocator + Copy, R: CountedRead, W: Write>(
     }
     match lines.find(line, input) {
         Ok(Found::Line(len)) => {
-            gathered.add(lines.front(len));
+            gathered.add(lines.front(len), place);
             lines.take(len + 1);
             Ok(Taken::Line)
         }
         Ok(Found::Last(len)) => {
-            gathered.add(lines.front(len));
+            gathered.add(lines.front(len), place);
             lines.take(len);
             Ok(Taken::Last)
         }
         Ok(Found::TooLong) => {
-            gathered.spoil();
+            gathered.spoil(place);
             Ok(Taken::Line)
         }
         Ok(Found::LastTooLong) => {
-            gathered.spoil();
+            gathered.spoil(place);
             Ok(Taken::Last)
         }
         Ok(Found::End) => Ok(Taken::End),
@@ -157,7 +160,7 @@ pub fn gather<A: Allocator + Copy, R: CountedRead, W: Write>(
         → IsReadersFault (R.is_failing input.new) (R.calls input.new) }
 {
     for taken in 0..count {
-        match take_entry(gathered, lines, input, output) {
+        match take_entry(gathered, taken + 1, lines, input, output) {
             Err(end) => return Gathering::Broken(end),
             Ok(Taken::Line) => {}
             Ok(Taken::Last) => {

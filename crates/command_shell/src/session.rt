@@ -285,7 +285,7 @@ fn load<D: BlockDevice, A: Allocator + Copy, R: CountedRead, W: Write>(
     output: &mut W,
 ) -> Stepped
     ensures steps { (before : Option (List ℕ)) (unread first layer : List ℕ) → IsOneLine first →
-        IsFrontOf front first → meaning_of first ≡ Loads layer count → IsGathered gathered layer [] →
+        IsFrontOf front first [] → meaning_of first ≡ Loads layer count → IsGathered gathered layer [] →
         Reads false before (R.remaining input.old) unread (pending lines.old) (first ++ newline ∷ []) →
         StepsTo (MakesStep (Calls store.old store.new) result) result
         before (R.remaining input.new) (W.contents output.old) (W.contents output.new)
@@ -299,9 +299,13 @@ fn load<D: BlockDevice, A: Allocator + Copy, R: CountedRead, W: Write>(
     match gather(&mut gathered, count, lines, input, output) {
         Gathering::Full(ended) => {
             let written = give(&load_reply(store, &gathered), output);
+            let front = front.with_bad_entry(gathered.bad_entry);
             step_of(written, front, count.saturating_add(1), ended)
         }
-        Gathering::Short => step_of(give(&bad_reply::<A>(), output), front, count, true),
+        Gathering::Short => {
+            let front = front.with_bad_entry(gathered.bad_entry);
+            step_of(give(&bad_reply::<A>(), output), front, count, true)
+        }
         Gathering::Broken(end) => Stepped::End(end),
     }
 }
@@ -314,7 +318,7 @@ fn load_reply<D: BlockDevice, A: Allocator + Copy>(
     ensures { (layer : List ℕ) (entries : List (List ℕ)) → IsGathered gathered.now layer entries →
         IsAsked store.old (load_request layer (objects_in entries)) (reply_answer result) store.new }
 {
-    if !gathered.good {
+    if gathered.bad_entry.is_some() {
         return bad_reply();
     }
     if !gathered.room {

@@ -147,6 +147,18 @@ fn a_bad_row_is_told_by_its_line_and_column(rt: HostRuntime) -> Result<(), Fail>
     );
     let found = told(rt.alloc(), b"1,2,3\n1,a,3\n", &Columns::Listed(b"1,2,3"), 1)?;
     assert_eq!(rt; found.as_str(), "line 2, column 2: \"a\" is no number");
+    let degrees = b"id,lon,lat\n1,-3,55.00\n2,-0.1276,51.5\n".as_slice();
+    let columns = Columns::Listed(b"id,lon,lat");
+    match read_csv(rt.alloc(), degrees, &columns, Scale::WHOLE) {
+        Ok(_) => assert!(rt; false, "degrees are no whole numbers"),
+        Err(error) => {
+            let told = format!(in rt.alloc(); "{error}")?;
+            assert_eq!(rt;
+                told.as_str(),
+                "line 3, column lon: \"-0.1276\" is no whole number"
+            );
+        }
+    }
     Ok(())
 }
 

@@ -215,5 +215,22 @@ fn what_is_no_feature_is_told(rt: HostRuntime) -> Result<(), Fail> {
         let found = told(rt.alloc(), line.as_bytes(), properties, Axes::Two, 1)?;
         assert_eq!(rt; found.as_str(), wanted);
     }
+    let degrees = br#"{"type":"Feature","geometry":{"type":"Point","coordinates":[-3.0,55.95]}}"#;
+    match read_features(
+        rt.alloc(),
+        degrees.as_slice(),
+        NONE,
+        Axes::Two,
+        Scale::WHOLE,
+    ) {
+        Ok(_) => assert!(rt; false, "degrees are no whole numbers"),
+        Err(error) => {
+            let told = format!(in rt.alloc(); "{error}")?;
+            assert_eq!(rt;
+                told.as_str(),
+                "line 1, member coordinates: \"55.95\" is no whole number"
+            );
+        }
+    }
     Ok(())
 }

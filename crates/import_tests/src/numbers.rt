@@ -84,8 +84,39 @@ fn what_is_no_decimal_is_refused(rt: HostRuntime) -> Result<(), Fail> {
 }
 
 #[test]
+fn whole_numbers_alone_are_taken_where_that_is_asked(rt: HostRuntime) -> Result<(), Fail> {
+    let taken = [
+        ("7", 7),
+        ("-7", -7),
+        ("5.", 5),
+        ("-0.00", 0),
+        ("1.5e1", 15),
+        ("1500e-2", 15),
+        ("-2147483648", -2147483648),
+    ];
+    for (text, whole) in taken {
+        let found = scaled(text.as_bytes(), Scale::WHOLE);
+        assert_eq!(rt; found, Ok((whole, whole)), "{text}");
+    }
+    let refused = [
+        ("-0.1276", NumberError::NoWhole),
+        ("12.5", NumberError::NoWhole),
+        ("1e-3", NumberError::NoWhole),
+        ("-2147483647.5", NumberError::NoWhole),
+        ("2147483647.5", NumberError::OutOfRange),
+        ("12,5", NumberError::NoDecimal),
+    ];
+    for (text, why) in refused {
+        let found = scaled(text.as_bytes(), Scale::WHOLE);
+        assert_eq!(rt; found, Err(why), "{text}");
+    }
+    Ok(())
+}
+
+#[test]
 fn a_scale_is_from_one_to_a_billion(rt: HostRuntime) {
     assert!(rt; Scale::new(0).is_none());
     assert!(rt; Scale::new(1_000_000_001).is_none());
     assert!(rt; Scale::new(1) == Some(Scale::ONE));
+    assert!(rt; !Scale::ONE.is_whole_alone() && Scale::WHOLE.is_whole_alone());
 }

@@ -20,11 +20,6 @@ const FEATURES: &str = "{\"type\":\"Feature\",\"id\":9,\"properties\":{\"kind\":
 const DUMPED: &str = "ok 5\ncreate a 2 8\ninsert a 2 7 8 7 8 tag 4\ninsert a 7 -13 20 31 40 tag 5\n\
 insert a 8 0 0 10 10\ninsert a 9 0 -2 2 1 tag 3\nok\n";
 
-pub(crate) const MISUSED: &str =
-    "rstore: --import LAYER[:FANOUT], FANOUT a number, is for a FILE and not for --strict or --read-only, \
---columns LIST (of GeoJSON at most ID,TAG) and --scale N (1 to 1000000000) are for --import, and --axes N \
-(2 or 3) is for --geojson\n";
-
 #[test]
 fn rows_and_features_are_put_into_a_layer(rt: HostRuntime) -> Result<(), Fail> {
     let file = "command_line_imported";
@@ -38,6 +33,8 @@ fn rows_and_features_are_put_into_a_layer(rt: HostRuntime) -> Result<(), Fail> {
         "--import",
         "a",
         "--geojson",
+        "--scale",
+        "1",
         "--columns",
         ",kind",
         file,
@@ -82,7 +79,7 @@ fn three_axes_and_a_layer_without_objects(rt: HostRuntime) -> Result<(), Fail> {
 }
 
 // Each text that is refused, with what is said of it.
-const REFUSED: [(&str, &str); 6] = [
+const REFUSED: [(&str, &str); 7] = [
     (
         "id,minx,miny,maxx,maxy\n1,0,0,1,1\n2,0,0,1x,1\n",
         "rstore: line 3, column maxx: \"1x\" is no number\n",
@@ -99,7 +96,15 @@ const REFUSED: [(&str, &str); 6] = [
         "id,minx,miny,maxx,maxy\n1,0,0,3e10,1\n",
         "rstore: line 2, column maxx: \"3e10\" is out of range\n",
     ),
-    ("id,minx,miny,maxx\n", "rstore: no column maxy\n"),
+    (
+        "id,minx,miny,maxx\n",
+        "rstore: no column maxy: --columns LIST names the columns\n",
+    ),
+    (
+        "id,x,y\n1,3,55.00\n2,-0.1276,51.5\n",
+        "rstore: line 3, column x: \"-0.1276\" is no whole number: --scale N multiplies coordinates, \
+--scale 1 widens them to whole numbers\n",
+    ),
     ("id,x,y,_X\n", "rstore: column _X is given twice\n"),
 ];
 
@@ -127,7 +132,7 @@ fn a_bad_row_changes_nothing(rt: HostRuntime) -> Result<(), Fail> {
         ("B", BOXES, "rstore: fail 1 BadName\n"),
         ("c:3", BOXES, "rstore: fail 5 BadFanout\n"),
     ] {
-        let words = ["rstore", "--import", layer, file];
+        let words = ["rstore", "--import", layer, "--scale", "1", file];
         assert_eq!(rt; runs(&rt, &words, rows, "", said)?, Some(1));
         assert!(rt; fs::read(&rt, file)? == before);
     }
@@ -222,16 +227,36 @@ fn an_object_that_is_there_undoes_the_others(rt: HostRuntime) -> Result<(), Fail
     Ok(())
 }
 
-#[test]
-fn words_of_an_import_that_do_not_go_together(rt: HostRuntime) -> Result<(), Fail> {
-    for words in [
-        ["rstore", "--import", "a"].as_slice(),
-        ["rstore", "--import", "a:", "x.rst"].as_slice(),
-        ["rstore", "--import", "a:x", "x.rst"].as_slice(),
-        ["rstore", "--import", "a", "--read-only", "x.rst"].as_slice(),
-        ["rstore", "--import", "a", "--scale", "0", "x.rst"].as_slice(),
-        ["rstore", "--import", "a", "--axes", "3", "x.rst"].as_slice(),
-        [
+const FANOUT: &str = "--import LAYER:FANOUT: FANOUT is a number from 4 to 100";
+
+const SCALE: &str = "--scale N: N is a number from 1 to 1000000000";
+
+const NO_IMPORT: &str =
+    "--columns, --scale, --axes and --geojson are for --import LAYER: say it too";
+
+// Words that do not go together, and what is said of them.
+const MISUSES: [(&[&str], &str); 13] = [
+    (
+        &["rstore", "--import", "a"],
+        "no FILE is named: --import LAYER FILE puts objects into it",
+    ),
+    (&["rstore", "--import", "a:", "x.rst"], FANOUT),
+    (&["rstore", "--import", "a:x", "x.rst"], FANOUT),
+    (
+        &["rstore", "--import", "a", "--read-only", "x.rst"],
+        "--import writes FILE: leave out --read-only",
+    ),
+    (&["rstore", "--import", "a", "--scale", "0", "x.rst"], SCALE),
+    (
+        &["rstore", "--import", "a", "--scale", "4294967297", "x.rst"],
+        SCALE,
+    ),
+    (
+        &["rstore", "--import", "a", "--axes", "3", "x.rst"],
+        "--axes N is for --geojson: the columns of CSV say how many axes there are",
+    ),
+    (
+        &[
             "rstore",
             "--import",
             "a",
@@ -239,9 +264,11 @@ fn words_of_an_import_that_do_not_go_together(rt: HostRuntime) -> Result<(), Fai
             "--axes",
             "4",
             "x.rst",
-        ]
-        .as_slice(),
-        [
+        ],
+        "--axes N: N is 2 or 3",
+    ),
+    (
+        &[
             "rstore",
             "--import",
             "a",
@@ -249,13 +276,20 @@ fn words_of_an_import_that_do_not_go_together(rt: HostRuntime) -> Result<(), Fai
             "--columns",
             "a,b,c",
             "x.rst",
-        ]
-        .as_slice(),
-        ["rstore", "--columns", "1,2,3", "x.rst"].as_slice(),
-        ["rstore", "--scale", "10", "x.rst"].as_slice(),
-        ["rstore", "--geojson", "x.rst"].as_slice(),
-    ] {
-        assert_eq!(rt; says(&rt, words, MISUSED)?, Some(2));
+        ],
+        "--columns LIST: of GeoJSON LIST is ID,TAG and no more",
+    ),
+    (&["rstore", "--columns", "1,2,3", "x.rst"], NO_IMPORT),
+    (&["rstore", "--scale", "10", "x.rst"], NO_IMPORT),
+    (&["rstore", "--axes", "2", "x.rst"], NO_IMPORT),
+    (&["rstore", "--geojson"], NO_IMPORT),
+];
+
+#[test]
+fn words_of_an_import_that_do_not_go_together(rt: HostRuntime) -> Result<(), Fail> {
+    for (words, why) in MISUSES {
+        let said = format!(in rt.alloc(); "rstore: {why}\n")?;
+        assert_eq!(rt; says(&rt, words, said.as_str())?, Some(2));
     }
     let mut input = b"id,x,y\n".as_slice();
     let mut output = Vec::new(rt.alloc());

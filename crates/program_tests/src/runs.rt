@@ -82,23 +82,30 @@ fn refuses(rt: &HostRuntime, words: &[&str], why: &str) -> Result<Option<u8>, Fa
     says(rt, words, said.as_str())
 }
 
-const MISSING: &str = "cannot open FILE: no such file";
+const MISSING: &str = "cannot open FILE: no such file: --create makes one";
+
+// The same with --create.
+const NO_FOLDER: &str = "cannot open FILE: no such file: make its folder first";
 
 const A_FOLDER: &str = "cannot open FILE: is a directory";
 
 const UNOPENED: &str = "cannot open FILE";
 
-// What is no file that can be opened, and why it is not.
-const NO_FILES: [(&str, &str); 3] = [
-    (".", A_FOLDER),
-    ("/dev/null", UNOPENED),
-    ("command_line_none/a", MISSING),
+// What is no file that can be opened, and why it is not, and why it can't be made.
+const NO_FILES: [(&str, &str, &str); 3] = [
+    (".", A_FOLDER, A_FOLDER),
+    ("/dev/null", UNOPENED, UNOPENED),
+    ("command_line_none/a", MISSING, NO_FOLDER),
 ];
 
 // Where the gate says that the file was closed (docs/FORMAT.md).
 const GATE_BYTE: usize = 8;
 
-const NOT_EMPTY: &str = "rstore: the file is not empty\n";
+const NOT_EMPTY: &str = "rstore: FILE is not empty: without --create it is opened as it is\n";
+
+const NOT_CLOSED: &str =
+    "rstore: fail 20 NotClosed: the run that made FILE was cut short before it closed anything: put back \
+FILE-journal if there was one, else remove FILE and make it anew\n";
 
 #[test]
 fn in_memory(rt: HostRuntime) -> Result<(), Fail> {
@@ -153,7 +160,7 @@ fn files_that_are_refused(rt: HostRuntime) -> Result<(), Fail> {
             false,
             "rstore: fail 21 NotAStore\n",
         ),
-        (open.as_slice(), false, "rstore: fail 20 NotClosed\n"),
+        (open.as_slice(), false, NOT_CLOSED),
         (b"some bytes".as_slice(), true, NOT_EMPTY),
         (store.as_slice(), true, NOT_EMPTY),
         (open.as_slice(), true, NOT_EMPTY),
@@ -201,9 +208,12 @@ fn a_file_that_is_cut_short(rt: HostRuntime) -> Result<(), Fail> {
 
 #[test]
 fn paths_of_no_file(rt: HostRuntime) -> Result<(), Fail> {
-    for (path, why) in NO_FILES {
+    for (path, why, why_unmade) in NO_FILES {
         assert_eq!(rt; refuses(&rt, &["rstore", path], why)?, Some(1));
-        assert_eq!(rt; refuses(&rt, &["rstore", "--create", path], why)?, Some(1));
+        assert_eq!(rt;
+            refuses(&rt, &["rstore", "--create", path], why_unmade)?,
+            Some(1)
+        );
         assert_eq!(rt;
             refuses(&rt, &["rstore", "--read-only", path], why)?,
             Some(1)
@@ -271,7 +281,7 @@ fn a_file_that_is_only_read_and_refused(rt: HostRuntime) -> Result<(), Fail> {
     Ok(())
 }
 
-const IN_USE: &str = "FILE is in use";
+const IN_USE: &str = "FILE is in use: wait until the program that has it open ends";
 
 // One writer or many readers: another open of the file holds its lock meanwhile.
 #[test]
@@ -336,11 +346,12 @@ const REFUSALS: [(OpenError, &str); 9] = [
     (OpenError::ClosedStream, "a standard stream is closed"),
     (
         OpenError::NoJournal,
-        "FILE-journal is missing, or is no journal",
+        "FILE-journal is missing, or is no journal: put back the FILE-journal of the run that was cut short \
+(docs/COMMANDS.md, \"A journal that is lost\", has the last resort)",
     ),
     (
         OpenError::OtherJournal,
-        "FILE-journal is the journal of another file",
+        "FILE-journal is the journal of another file: move it beside its own file",
     ),
 ];
 
@@ -377,10 +388,14 @@ fn each_refusal_of_a_file_is_told(rt: HostRuntime) -> Result<(), Fail> {
         let said = format!(in rt.alloc(); "rstore: {why} (FILE is a)\n")?;
         for words in [
             ["rstore", "a"].as_slice(),
-            ["rstore", "--create", "a"].as_slice(),
             ["rstore", "--read-only", "a"].as_slice(),
+            ["rstore", "--stats", "a"].as_slice(),
         ] {
             assert!(rt; tells(&rt, words, error, said.as_str()));
+        }
+        if error != OpenError::NotFound {
+            let words = ["rstore", "--create", "a"];
+            assert!(rt; tells(&rt, &words, error, said.as_str()));
         }
     }
     Ok(())

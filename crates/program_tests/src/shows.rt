@@ -50,10 +50,6 @@ const JSON: &str =
 \"overlap\":0}]}]}
 ";
 
-pub(crate) const MISUSED: &str =
-    "rstore: --draw LAYER or --stats is for a FILE that is there, --json for --stats, and --strict for \
-neither\n";
-
 #[test]
 fn a_file_is_shown_and_stays(rt: HostRuntime) -> Result<(), Fail> {
     let file = "command_line_shown";
@@ -102,15 +98,31 @@ fn no_line_is_read(rt: HostRuntime) -> Result<(), Fail> {
 
 #[test]
 fn words_that_do_not_go_together(rt: HostRuntime) -> Result<(), Fail> {
-    for words in [
-        ["rstore", "--stats"].as_slice(),
-        ["rstore", "--draw", "a"].as_slice(),
-        ["rstore", "--json", "x.rst"].as_slice(),
-        ["rstore", "--create", "--stats", "x.rst"].as_slice(),
-        ["rstore", "--stats", "--draw", "a", "x.rst"].as_slice(),
-        ["rstore", "--json", "--draw", "a", "x.rst"].as_slice(),
+    let nameless = "no FILE is named: --draw LAYER FILE and --stats FILE show one that is there";
+    let alone = "--json is for --stats: say it too";
+    for (words, why) in [
+        (["rstore", "--stats"].as_slice(), nameless),
+        (["rstore", "--draw", "a"].as_slice(), nameless),
+        (["rstore", "--json", "x.rst"].as_slice(), alone),
+        (
+            ["rstore", "--json", "--draw", "a", "x.rst"].as_slice(),
+            alone,
+        ),
+        (
+            ["rstore", "--create", "--stats", "x.rst"].as_slice(),
+            "--draw and --stats show a FILE that is there: leave out --create",
+        ),
+        (
+            ["rstore", "--stats", "--draw", "a", "x.rst"].as_slice(),
+            "--draw LAYER and --stats are two runs: leave out one of them",
+        ),
+        (
+            ["rstore", "--stats", "--import", "a", "x.rst"].as_slice(),
+            "--draw and --stats put nothing in: leave out the words of an import",
+        ),
     ] {
-        assert_eq!(rt; says(&rt, words, MISUSED)?, Some(2));
+        let said = format!(in rt.alloc(); "rstore: {why}\n")?;
+        assert_eq!(rt; says(&rt, words, said.as_str())?, Some(2));
     }
     Ok(())
 }

@@ -110,8 +110,12 @@ fn what_a_reopen_closed_before_a_refused_line_stands(rt: HostRuntime) -> Result<
 }
 
 // Each text, the replies to it, and what is said of it.
-const REFUSED: [(&str, &str, &str); 7] = [
-    ("x", "fail 24 BadLine\n", "1: x: fail 24 BadLine\n"),
+const REFUSED: [(&str, &str, &str); 9] = [
+    (
+        "x",
+        "fail 24 BadLine\n",
+        "1: x: fail 24 BadLine: no command begins so\n",
+    ),
     (
         "  get\ta 1\r\n",
         "fail 3 NoLayer\n",
@@ -120,27 +124,38 @@ const REFUSED: [(&str, &str, &str); 7] = [
     (
         "\u{1b}[0m caf\u{e9}\n",
         "fail 24 BadLine\n",
-        "1: ?[0m caf??: fail 24 BadLine\n",
+        "1: ?[0m caf??: fail 24 BadLine: no command begins so\n",
     ),
     (
         "create a 2 4\nload a 3\n1 0 0 1 1\n2 0 0\n3 0 0 1 1\ncount a\n",
         "ok\nfail 24 BadLine\n",
-        "2: load a 3: fail 24 BadLine\n",
+        "2: load a 3: fail 24 BadLine: line 4 is no entry\n",
     ),
     (
         "create a 2 4\nload a 2\n1 0 0 1 1\n2 0 0 1 1\n# four lines so far\n\nx\ncount a\n",
         "ok\nok\nfail 24 BadLine\n",
-        "7: x: fail 24 BadLine\n",
+        "7: x: fail 24 BadLine: no command begins so\n",
     ),
     (
         "create a 2 4\nload a 2\n1 0 0 1 1",
         "ok\nfail 24 BadLine\n",
-        "2: load a 2: fail 24 BadLine\n",
+        "2: load a 2: fail 24 BadLine: usage: load LAYER N, and N lines ID BOX [tag N]\n",
     ),
     (
         "layers\ncount a123456789 123456789 123456789 123456789 123456789 123456789\n",
         "ok 0\nfail 24 BadLine\n",
-        "2: count a123456789 123456789 123456789 123456789 123456789 123..: fail 24 BadLine\n",
+        "2: count a123456789 123456789 123456789 123456789 123456789 123..: fail 24 BadLine: \
+usage: count LAYER\n",
+    ),
+    (
+        "create a 2 4\n\tinsert a +3 7 7 8 8\ncount a\n",
+        "ok\nfail 24 BadLine\n",
+        "2: ?insert a +3 7 7 8 8: fail 24 BadLine: usage: insert LAYER ID BOX [tag N]\n",
+    ),
+    (
+        "create a 2 4\nload a 4\n1 0 0 1 1\n2 0 0 1 1\n\ncount a",
+        "ok\nfail 24 BadLine\n",
+        "2: load a 4: fail 24 BadLine: line 5 is no entry\n",
     ),
 ];
 
@@ -164,7 +179,7 @@ fn the_line_is_told_by_its_number(rt: HostRuntime) -> Result<(), Fail> {
             &["rstore", "--strict"],
             text.as_str(),
             "fail 24 BadLine\n",
-            "rstore: line 1: ..: fail 24 BadLine\n",
+            "rstore: line 1: ..: fail 24 BadLine: a line has at most 4096 bytes\n",
         )?,
         Some(3)
     );
@@ -212,8 +227,10 @@ fn a_file_that_is_only_read(rt: HostRuntime) -> Result<(), Fail> {
 #[test]
 fn words_that_do_not_go_together(rt: HostRuntime) -> Result<(), Fail> {
     let shows = ["rstore", "--strict", "--stats", "none"];
-    assert_eq!(rt; says(&rt, &shows, crate::shows::MISUSED)?, Some(2));
+    let said = "rstore: --draw and --stats read no line: leave out --strict\n";
+    assert_eq!(rt; says(&rt, &shows, said)?, Some(2));
     let imports = ["rstore", "--strict", "--import", "a", "none"];
-    assert_eq!(rt; says(&rt, &imports, crate::imports::MISUSED)?, Some(2));
+    let said = "rstore: --import puts in all objects or none: leave out --strict\n";
+    assert_eq!(rt; says(&rt, &imports, said)?, Some(2));
     Ok(())
 }

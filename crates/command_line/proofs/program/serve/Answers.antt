@@ -129,7 +129,7 @@ returns-then-options-3-clause-in_file g c = λ path taken named.
     c.if-show.false c.in-Ok.ensures.imports c.any.ensures c.if-any.false in
     let read = subst (AsksToRead (texts c.args.words.now)) c.if-options-2.true asked.read_is in
     let make = subst (AsksToMake (texts c.args.words.now)) c.if-options-3.true asked.create_is in
-    inr (inl (lines, make, read, misused_so _ _ _ c.misused-then-options-3.ensures))
+    inr (inl (lines, make, read, misused_so _ _ _ c.tell_misuse-then-options-3.ensures))
 
 pub returns-then-options-2-clause-in_file : goal.returns-then-options-2-clause-in_file
 returns-then-options-2-clause-in_file g c = λ path taken named.

@@ -20,6 +20,10 @@ one_more : (count : ℕ) (text more line : List ℕ) → IsWhole text → lines_
 one_more count text more line whole is before = ap length (lines_more text more line whole is)
     ∙ (let both = length-append (lines_of text) (line ∷ []) in omega (arith, both, before))
 
+-- the place of the next line
+place_of : (lines : List (List ℕ)) (taken : ℕ) → length lines ≡ taken → taken + 1 ≡ length lines + 1
+place_of lines taken is = omega (arith, is)
+
 pub loop-taken-init : goal.loop-taken-init
 loop-taken-init g c = record {
   takes = record {
@@ -62,6 +66,10 @@ returns-then-taken-count-clause-gathers g c =
       few = let count =
           one_more c.loop-taken.taken t.text l.text l.line t.reads.stops l.is_line t.count_is in
           omega (arith, count);
+      gathers =
+          λ layer h. subst (IsGathered c.take_entry.new.gathered layer)
+          (sym (lines_more t.text l.text l.line t.reads.stops l.is_line))
+          (l.gathers layer (lines_of t.text) (t.gathers layer h) (place_of _ _ t.count_is));
     }
 
 pub returns-in-Ok-Last-clause-gathers : goal.returns-in-Ok-Last-clause-gathers
@@ -80,7 +88,7 @@ returns-in-Ok-Last-clause-gathers g c =
       gathers =
           λ layer h. subst (IsGathered c.take_entry.new.gathered layer)
           (sym (lines_more t.text l.text l.line t.reads.stops l.is_line))
-          (l.gathers layer (lines_of t.text) (t.gathers layer h));
+          (l.gathers layer (lines_of t.text) (t.gathers layer h) (place_of _ _ t.count_is));
     }
 
 pub returns-in-Ok-End-clause-gathers : goal.returns-in-Ok-End-clause-gathers
@@ -93,8 +101,10 @@ returns-in-Ok-End-clause-gathers g c =
     let e = rw c.in-Ok-End.field-0-is at c.in-Ok-End.ensures.takes in record {
       text = t.text;
       reads = subst (Reads true r0 r2 p0 _) (append_none t.text)
-          (reads_more true r0 r1 r2 p0 (pending c.loop-taken.lines) _ t.text [] t.reads e);
+          (reads_more true r0 r1 r2 p0 (pending c.loop-taken.lines) _ t.text [] t.reads e.1);
       few = omega (arith, t.count_is, c.loop-taken-test.true);
+      gathers =
+          λ layer h. subst (λ x. IsGathered x layer (lines_of t.text)) (sym e.0) (t.gathers layer h);
     }
 
 pub loop-taken-preserved : goal.loop-taken-preserved
@@ -112,7 +122,7 @@ loop-taken-preserved g c =
         gathers =
             λ layer h. subst (IsGathered c.take_entry.new.gathered layer)
             (sym (lines_more t.text l.text l.line t.reads.stops l.is_line))
-            (l.gathers layer (lines_of t.text) (t.gathers layer h));
+            (l.gathers layer (lines_of t.text) (t.gathers layer h) (place_of _ _ t.count_is));
       };
       kept = Keeps-trans _ _ _ c.loop-taken.invariant.kept c.in-Ok-Line.ensures.kept;
       fewer = omega (arith, c.loop-taken.invariant.fewer, c.in-Ok-Line.ensures.fewer);

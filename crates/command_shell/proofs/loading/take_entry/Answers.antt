@@ -1,13 +1,11 @@
 -- The goals of `take_entry` that are proved by hand.
-use Rattle.std.proofs.Common.{◌≡◌, ◌∙◌, ℕ, List, [], ◌∷◌, ◌++◌, Bool, None, take, false, subst, sym}
+use Rattle.std.proofs.Common.{◌∙◌, ℕ, List, [], ◌∷◌, ◌++◌, take, subst}
 use Rattle.std.specs.Io.KnownBytes.{IsAtEnd}
-use Rattle.plain_table.specs.Loads.{GivenObjects}
-use Rattle.command_shell.specs.Entries.{objects_in}
-use Rattle.command_shell.specs.Gathering.{IsGathered, Tells}
+use Rattle.command_shell.specs.Gathering.{IsGathered}
 use Rattle.command_shell.specs.Lines.{newline}
 use Rattle.command_shell.specs.Pending.{pending}
 use Rattle.command_shell.proofs.CommandLemmas.{lines_of-line}
-use Rattle.command_shell.proofs.GatherLemmas.{bad_more, long_entry}
+use Rattle.command_shell.proofs.GatherLemmas.{long_entry, spoiled}
 use Rattle.command_shell.proofs.LineLemmas.{none_found, of_err}
 use Rattle.command_shell.proofs.ReadLemmas.{begun_read, last_front, last_left, last_line, last_read}
 use Rattle.command_shell.proofs.ReadLemmas.{line_read, long_last_line, long_last_read, long_read, one_line}
@@ -38,8 +36,8 @@ returns-in-Ok-Line-clause-takes g c =
       reads = line_read r r' bytes mid (pending c.take.new.self) n at_end found c.take.ensures.pending;
       is_line = lines_of-line (take n mid) (one_line r r' bytes mid (pending c.take.new.self) n at_end found);
       gathers =
-          λ layer lines h. subst (λ (l : List ℕ). IsGathered c.add.new.self layer (lines ++ l ∷ []))
-          c.front.ensures (c.add.ensures layer lines h);
+          λ layer lines h at. subst (λ (l : List ℕ). IsGathered c.add.new.self layer (lines ++ l ∷ []))
+          c.front.ensures (c.add.ensures layer lines h at);
     }
 
 pub returns-in-Ok-Last-clause-takes : goal.returns-in-Ok-Last-clause-takes
@@ -58,18 +56,11 @@ returns-in-Ok-Last-clause-takes g c =
           (c.take-in-Ok-Last.ensures.pending ∙ last_left r r' bytes mid n at_end found);
       is_line = last_line r r' bytes mid n at_end found;
       gathers =
-          λ layer lines h. subst
+          λ layer lines h at. subst
           (λ (l : List ℕ). IsGathered c.add-in-Ok-Last.new.self layer (lines ++ l ∷ []))
           (c.front-in-Ok-Last.ensures ∙ last_front r r' bytes mid n at_end found)
-          (c.add-in-Ok-Last.ensures layer lines h);
+          (c.add-in-Ok-Last.ensures layer lines h at);
     }
-
--- a line that is too long was gathered
-spoiled : (good room : Bool) (name : List ℕ) (objects : GivenObjects) (layer : List ℕ)
-    (lines : List (List ℕ)) (line : List ℕ) → good ≡ false → objects_in (lines ++ line ∷ []) ≡ None
-    → Tells good room name objects layer (objects_in (lines ++ line ∷ []))
-spoiled good room name objects layer lines line is bad =
-    subst (λ (b : Bool). Tells b room name objects layer (objects_in (lines ++ line ∷ []))) (sym is) bad
 
 pub returns-in-Ok-TooLong-clause-takes : goal.returns-in-Ok-TooLong-clause-takes
 returns-in-Ok-TooLong-clause-takes g c =
@@ -83,9 +74,9 @@ returns-in-Ok-TooLong-clause-takes g c =
       reads = long_read r r' bytes left (IsAtEnd r') found;
       is_line = lines_of-line found.so.0 found.so.2;
       gathers =
-          λ layer lines h. spoiled c.spoil.new.self.good c.spoil.new.self.room c.spoil.new.self.layer.items
-          c.spoil.new.self.objects.items layer lines found.so.0 c.spoil.ensures
-          (bad_more lines found.so.0 (long_entry found.so.0 found.so.1));
+          λ layer lines h at. spoiled c.args.gathered.now.bad_entry c.spoil.new.self.bad_entry c.args.place
+          c.spoil.new.self.room c.spoil.new.self.layer.items layer c.spoil.new.self.objects.items lines
+          found.so.0 c.spoil.ensures h.0 at (long_entry found.so.0 found.so.1);
     }
 
 pub returns-in-Ok-LastTooLong-clause-takes : goal.returns-in-Ok-LastTooLong-clause-takes
@@ -101,10 +92,11 @@ returns-in-Ok-LastTooLong-clause-takes g c =
       reads = long_last_read r r' bytes left found;
       is_line = long_last_line line found.so.0 found.so.1;
       gathers =
-          λ layer lines h. spoiled c.spoil-in-Ok-LastTooLong.new.self.good
-          c.spoil-in-Ok-LastTooLong.new.self.room c.spoil-in-Ok-LastTooLong.new.self.layer.items
-          c.spoil-in-Ok-LastTooLong.new.self.objects.items layer lines line c.spoil-in-Ok-LastTooLong.ensures
-          (bad_more lines line (long_entry line found.so.0));
+          λ layer lines h at. spoiled c.args.gathered.now.bad_entry
+          c.spoil-in-Ok-LastTooLong.new.self.bad_entry c.args.place c.spoil-in-Ok-LastTooLong.new.self.room
+          c.spoil-in-Ok-LastTooLong.new.self.layer.items layer
+          c.spoil-in-Ok-LastTooLong.new.self.objects.items lines line c.spoil-in-Ok-LastTooLong.ensures h.0 at
+          (long_entry line found.so.0);
     }
 
 pub returns-in-Err-clause-takes : goal.returns-in-Err-clause-takes

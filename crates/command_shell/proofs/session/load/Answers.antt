@@ -15,8 +15,10 @@ returns-in-Full-clause-steps g c = λ before unread first layer one front means 
     (g.W.Write.contents c.args.output.now) (g.W.Write.contents c.gather.new.output)
     (g.W.Write.contents c.give-written.new.output)
     unread (pending c.args.lines.now) (pending c.gather.new.lines) first t.text layer c.args.count
-    c.saturating_add.result c.args.front c.in-Full.ended c.step_of.result c.give-written.result
-    c.load_reply.result c.step_of.ensures c.saturating_add.ensures one front means reads t.reads t.count_is
+    c.saturating_add.result c.with_bad_entry-front.result c.in-Full.ended c.step_of.result
+    c.give-written.result c.load_reply.result c.step_of.ensures c.saturating_add.ensures one
+    (c.with_bad_entry-front.ensures first (lines_of t.text) front (t.gathers layer gathered).0) means reads
+    t.reads t.count_is
     c.in-Full.ensures.kept c.give-written.ensures.written c.give-written.ensures.tells
     (_, c.load_reply.ensures layer (lines_of t.text) (t.gathers layer gathered), refl)
 
@@ -27,8 +29,10 @@ returns-in-Short-clause-steps g c = λ before unread first layer one front means
     (g.W.Write.contents c.args.output.now) (g.W.Write.contents c.gather.new.output)
     (g.W.Write.contents c.give.new.output)
     unread (pending c.args.lines.now) (pending c.gather.new.lines) first t.text layer c.args.count
-    c.args.count c.args.front c.step_of-in-Short.result c.give.result c.bad_reply.result
-    c.step_of-in-Short.ensures one front means reads t.reads t.few c.in-Short.ensures.kept
+    c.args.count c.with_bad_entry-front-in-Short.result c.step_of-in-Short.result c.give.result
+    c.bad_reply.result c.step_of-in-Short.ensures one
+    (c.with_bad_entry-front-in-Short.ensures first (lines_of t.text) front (t.gathers layer gathered).0) means
+    reads t.reads t.few c.in-Short.ensures.kept
     c.give.ensures.written c.give.ensures.tells (
       _,
       asked_badly c.args.store.now _

@@ -1,5 +1,6 @@
 -- The goals of `load_reply` that are proved by hand.
-use Rattle.std.proofs.Common.{◌∙◌, ℕ, List, Option, subst, sym}
+use Rattle.std.proofs.Common.{◌≡◌, ◌∙◌, ℕ, List, Option, None, Some, false, refl, subst, sym, true}
+use Rattle.std.specs.Prelude.{is_none, is_some}
 use Rattle.plain_table.specs.Commands.Command.{Load}
 use Rattle.plain_table.specs.Loads.{GivenObjects}
 use Rattle.plain_table.specs.Step.{Answer}
@@ -16,27 +17,35 @@ use Rattle.command_shell.proofs.AnswerLemmas.{out_of_room}
 use Rattle.command_shell.proofs.GatherLemmas.{told_all, told_bad, told_room}
 use Rattle.command_shell.proofs.session.load_reply.Goals as goal
 
-pub returns-then-not-gathered : goal.returns-then-not-gathered
-returns-then-not-gathered g c = λ layer entries h.
+some_bad : (o : Option ℕ) → true ≡ is_some o → is_none o ≡ false
+some_bad None e = absurd (cc)
+some_bad (Some place) e = refl
+
+none_bad : (o : Option ℕ) → false ≡ is_some o → is_none o ≡ true
+none_bad None e = refl
+none_bad (Some place) e = absurd (cc)
+
+pub returns-then-is_some : goal.returns-then-is_some
+returns-then-is_some g c = λ layer entries h.
     let gathered = c.args.gathered.now in
     let bad =
-    told_bad gathered.good gathered.room gathered.layer.items layer gathered.objects.items
-    (objects_in entries) h c.if-not-gathered.true in
+    told_bad (is_none gathered.bad_entry) gathered.room gathered.layer.items layer gathered.objects.items
+    (objects_in entries) h.1 (some_bad gathered.bad_entry c.if-is_some.ensures) in
     subst (λ (all : Option GivenObjects). IsAsked c.args.store.now (load_request layer all)
     (reply_answer c.bad_reply.result) c.args.store.now) (sym bad)
     (asked_badly c.args.store.now (reply_answer c.bad_reply.result)
     (λ honest b left. g.met.D.BlockDevice.only_now (device_in c.args.store.now) b honest left)
     c.bad_reply.ensures)
 
-pub returns-then-not-gathered-2 : goal.returns-then-not-gathered-2
-returns-then-not-gathered-2 g c = λ layer entries h.
+pub returns-then-not-gathered : goal.returns-then-not-gathered
+returns-then-not-gathered g c = λ layer entries h.
     let gathered = c.args.gathered.now in
     let wanting = c.out_of_memory.ensures in
     out_of_room
     (λ (r : Request). IsAsked c.args.store.now r (Refused c.out_of_memory.result)
     c.out_of_memory.new.self) layer (objects_in entries)
-    (told_room gathered.good gathered.room gathered.layer.items layer gathered.objects.items
-    (objects_in entries) h c.if-not-gathered.false c.if-not-gathered-2.true)
+    (told_room (is_none gathered.bad_entry) gathered.room gathered.layer.items layer gathered.objects.items
+    (objects_in entries) h.1 (none_bad gathered.bad_entry c.if-is_some.ensures) c.if-not-gathered.true)
     (λ command may. asked_in_want command c.out_of_memory.result
     (λ honest b left. g.met.D.BlockDevice.only_now (device_in c.args.store.now) b honest left)
     wanting.same (wanting.step command may) (wanting.reply command may))
@@ -48,8 +57,9 @@ returns g c = λ layer entries h.
     let new = c.load.new.self in
     let answer = reply_answer c.change_reply.result in
     let all =
-    told_all gathered.good gathered.room gathered.layer.items layer gathered.objects.items
-    (objects_in entries) h c.if-not-gathered.false c.if-not-gathered-2.false in
+    told_all (is_none gathered.bad_entry) gathered.room gathered.layer.items layer gathered.objects.items
+    (objects_in entries) h.1 (none_bad gathered.bad_entry c.if-is_some.ensures)
+    c.if-not-gathered.false in
     let asked =
     asked_by_change (λ honest b left. g.met.D.BlockDevice.only_now (device_in old) b honest left)
     (λ e. absurd (cc)) c.load.ensures.changes in

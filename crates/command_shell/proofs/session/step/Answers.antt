@@ -57,7 +57,7 @@ returns-in-Ok-Last-clause-steps g c =
     (c.take.ensures.pending ∙ last_left r r' bytes mid n at_end found) in
     let means = c.parse_line.ensures ∙ ap meaning_of (c.front-in-Ok-Last.ensures ∙ whole) in
     let a = c.answer_last-written.ensures mid means in
-    let begins = subst (IsFrontOf c.of-front.result) (c.front.ensures ∙ whole) c.of-front.ensures in
+    let begins = subst (λ l. IsFrontOf c.of-front.result l []) (c.front.ensures ∙ whole) c.of-front.ensures in
     let So = Calls c.args.store.now c.answer_last-written.new.store in
     steps_after So r r' w w' bytes left mid a.requests a.answers c.of-front.result 1 true c.step_of.result
     c.answer_last-written.result c.step_of.ensures reads

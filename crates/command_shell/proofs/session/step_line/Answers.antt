@@ -33,7 +33,7 @@ returns-in-Load-clause-steps g c = λ before unread reads.
     let found = found_line before r (IsAtEnd r) unread mid n reads c.requires in
     c.load.ensures.steps before unread (take n mid) c.in-Load.layer.now
     (one_line before r unread mid (pending c.take.new.self) n (IsAtEnd r) found)
-    (subst (IsFrontOf c.of-front.result) c.front.ensures c.of-front.ensures)
+    (subst (λ l. IsFrontOf c.of-front.result l []) c.front.ensures c.of-front.ensures)
     (sym (c.parse_line-line.ensures ∙ ap meaning_of c.front-2.ensures) ∙ ap said c.in-Load.is)
     c.new-gathered.ensures
     (line_read before r unread mid (pending c.take.new.self) n (IsAtEnd r) found c.take.ensures.pending)
@@ -52,4 +52,4 @@ returns-clause-steps g c = λ before unread reads.
     (line_read before r unread mid left n (IsAtEnd r) found c.take-2.ensures.pending)
     (lines_of-line (take n mid) (one_line before r unread mid left n (IsAtEnd r) found))
     (c.parse_line-line.ensures ∙ ap meaning_of c.front-2.ensures)
-    (subst (IsFrontOf c.of-front.result) c.front.ensures c.of-front.ensures) c.answer-written.ensures
+    (subst (λ l. IsFrontOf c.of-front.result l []) c.front.ensures c.of-front.ensures) c.answer-written.ensures

@@ -14,9 +14,9 @@ with-requires c =
 pub returns-then-line-gt-TOLD : goal.returns-then-line-gt-TOLD
 returns-then-line-gt-TOLD c =
     front_cut c.args.line.now c.with.result c.if-line-gt-MAX_LINE.false c.if-line-gt-TOLD.true
-    c.with.ensures.bytes c.with.ensures.is_cut
+    c.with.ensures.bytes c.with.ensures.is_cut c.with.ensures.bad_entry
 
 pub returns : goal.returns
 returns c =
     front_whole c.args.line.now c.with-2.result c.if-line-gt-TOLD.false c.with-2.ensures.bytes
-    c.with-2.ensures.is_cut
+    c.with-2.ensures.is_cut c.with-2.ensures.bad_entry

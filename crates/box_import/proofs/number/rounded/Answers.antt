@@ -2,7 +2,7 @@ use Rattle.std.proofs.Common.{◌≡◌, rules, ap, ◌∙◌, sym}
 use Rattle.fast_float.specs.Text.{scan}
 use Rattle.box_import.specs.Decimals.{numeral}
 use Rattle.box_import.proofs.ScaledLemmas.{rounded_negative, refused_negative, refused_positive}
-use Rattle.box_import.proofs.number.scaled.Goals as goal
+use Rattle.box_import.proofs.number.rounded.Goals as goal
 
 pub returns-in-Some-clause-rounded : goal.returns-in-Some-clause-rounded
 returns-in-Some-clause-rounded c =
