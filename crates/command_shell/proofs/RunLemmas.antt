@@ -1,5 +1,5 @@
 -- A run that made calls of its store in turn is a lawful session from each state that the store was in.
-use Rattle.std.proofs.Common.{◌≡◌, ℕ, List, Option, [], true, false, refl}
+use Rattle.std.proofs.Common.{ℕ, List, Option, [], true, false, refl}
 use Rattle.std.specs.Io.KnownBytes.{Keeps}
 use Rattle.live_layers.specs.Image.{IsRefusedOrImageOf}
 use Rattle.plain_table.specs.Step.{Answer}

@@ -12,10 +12,9 @@ use Rattle.command_shell.specs.Serving.{ServesBy}
 use Rattle.command_shell.specs.Strict.{AreTaken, AreTakenAt, AreTakenBefore, Follows, IsStop}
 use Rattle.command_shell.specs.Strict.{MakesStep, RunsAs, line_count, most_lines}
 use Rattle.command_shell.specs.Strict.{stop_at}
-use Rattle.command_shell.specs.TextCommands.{AreCommands}
 use Rattle.command_shell.specs.declared.refused.RefusedLine.{RefusedLine}
 use Rattle.command_shell.specs.declared.session.LinesEnd.{LinesEnd}
-use Rattle.command_shell.specs.declared.session.LinesEnd.TheVariants.{Ran, Stopped}
+use Rattle.command_shell.specs.declared.session.LinesEnd.TheVariants.{Ran}
 use Rattle.command_shell.specs.declared.session.RunEnd.{RunEnd}
 use Rattle.command_shell.specs.declared.session.RunEnd.TheVariants.{Finished, ReadFault, WriteFault}
 use Rattle.command_shell.specs.declared.session.Stepped.{Stepped}

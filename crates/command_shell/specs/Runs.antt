@@ -1,5 +1,5 @@
 -- What each end of a run says.
-use Rattle.std.specs.Prelude.{ℕ, ◌≡◌, ◌≤◌, ◌⊎◌, Bool, true, false, List, [], ◌∷◌, Option, Some, None}
+use Rattle.std.specs.Prelude.{ℕ, ◌≡◌, ◌≤◌, ◌⊎◌, Bool, true, false, List, [], ◌∷◌, Option}
 use Rattle.std.specs.Io.KnownBytes.{Keeps}
 use Rattle.block_device.specs.Device.{Blocks, LeavesOnly, Recovery}
 use Rattle.live_layers.specs.Image.{CommitsWhatOpens, IsImage, IsImageOfOne, IsRefusedOrImageOf}

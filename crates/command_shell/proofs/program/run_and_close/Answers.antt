@@ -1,5 +1,5 @@
 -- A closing that is finished leaves an image of the session's table.
-use Rattle.std.proofs.Common.{◌≡◌, ℕ, Bool, true, false, List, Option, Result, Ok, Err, inl}
+use Rattle.std.proofs.Common.{◌≡◌, ℕ, Bool, true, false, List, Option, Result, Err, inl}
 use Rattle.std.proofs.Common.{inr, refl, sym, subst, arith}
 use Rattle.std.proofs.KnownBytes.{Keeps-refl}
 use Rattle.store_law.specs.States.{StoreState}

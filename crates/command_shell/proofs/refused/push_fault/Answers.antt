@@ -1,5 +1,4 @@
 -- What is said of an entry line.
-use Rattle.std.proofs.Common.{sym}
 use Rattle.command_shell.specs.Strict.{line_fault}
 use Rattle.command_shell.proofs.WriteLemmas.{entry_text}
 use Rattle.command_shell.proofs.refused.push_fault.Goals as goal

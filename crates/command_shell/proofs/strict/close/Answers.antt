@@ -1,5 +1,5 @@
 -- What is left of a store that is closed after a strict run.
-use Rattle.std.proofs.Common.{◌≡◌, ◌∙◌, ap, List, ◌∷◌, Result, Ok, Err, refl, sym, subst, arith}
+use Rattle.std.proofs.Common.{Err, refl, sym, subst, arith}
 use Rattle.store_law.specs.States.{StoreState}
 use Rattle.layer_store.specs.Representation.{device_in}
 use Rattle.layer_store.proofs.StopLemmas.{found_by_closing, left_by_closing, session_state_is}

@@ -1,5 +1,5 @@
 -- The goals of `LineFront::of` that are proved by hand.
-use Rattle.std.proofs.Common.{◌∙◌, sym, arith}
+use Rattle.std.proofs.Common.{sym, arith}
 use Rattle.std.proofs.lemmas.List.{length-take-le}
 use Rattle.command_shell.proofs.LineLemmas.{front_cut, front_whole}
 use Rattle.command_shell.proofs.refused.LineFront.of.Goals as goal
