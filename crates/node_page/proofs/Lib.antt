@@ -9,6 +9,10 @@ pub mod Named
 pub mod OnePage
 pub mod TidyLemmas
 pub mod BoxedLemmas
+pub mod ClosedLemmas
+pub mod ClosedEntries
+pub mod TakenLemmas
+pub mod BesideLemmas
 pub mod ColumnLemmas
 pub mod Examples
 pub mod StandingLemmas
