@@ -175,10 +175,18 @@ module _ (dims : ℕ) (tagged : Bool) (place count : ℕ) (old mid next new : Li
       (λ p lt from upto. unnamed (inr (p, lt, inr (inr (inl (from, upto)))))))
       ∙ axes.others 1 k (λ column lt. outside_four (16 + 400 * column) place count k (λ p there from upto.
       let axis = axis_of column in
-      ⊎_elim (λ (low : column ≡ 2 * axis.0). unnamed (inr (p, there, inl
-      (axis.0, omega (arith, lt, low), omega (arith, low, from), omega (arith, low, upto)))))
-      (λ (high : column ≡ 2 * axis.0 + 1). unnamed (inr (p, there, inr (inl
-      (axis.0, omega (arith, lt, high), omega (arith, high, from), omega (arith, high, upto)))))) axis.1))
+      ⊎_elim (λ (low : column ≡ 2 * axis.0). unnamed (inr (
+        p,
+        there,
+        inl
+            (axis.0, omega (arith, lt, low), omega (arith, low, from), omega (arith, low, upto)),
+      )))
+      (λ (high : column ≡ 2 * axis.0 + 1). unnamed (inr (
+        p,
+        there,
+        inr (inl
+            (axis.0, omega (arith, lt, high), omega (arith, high, from), omega (arith, high, upto))),
+      ))) axis.1))
     where
       tags_stay : number_at 1 k new ≡ number_at 1 k next
       tags_stay = elim (cases_Bool tagged) [

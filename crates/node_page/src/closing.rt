@@ -22,7 +22,12 @@ pub(crate) fn close_entry<const D: usize>(
     close_columns::<D>(page, place, count);
     close_row(page, 16 + 800 * D + 8 * place, 16 + 800 * D + 8 * count, 8);
     if tagged {
-        close_row(page, 816 + 800 * D + 4 * place, 816 + 800 * D + 4 * count, 4);
+        close_row(
+            page,
+            816 + 800 * D + 4 * place,
+            816 + 800 * D + 4 * count,
+            4,
+        );
     }
 }
 
@@ -34,7 +39,12 @@ fn close_columns<const D: usize>(page: &mut [u8; 4096], place: usize, count: usi
     ensures { AreClosed (2 * D) place count page.old page.new }
 {
     for column in 0..2 * D {
-        close_row(page, 16 + 400 * column + 4 * place, 16 + 400 * column + 4 * count, 4);
+        close_row(
+            page,
+            16 + 400 * column + 4 * place,
+            16 + 400 * column + 4 * count,
+            4,
+        );
     }
 }
 
