@@ -1,10 +1,10 @@
 -- The entries of a page on which the places are closed up behind one that is taken.
-use Rattle.std.proofs.Common.{◌≡◌, ◌∙◌, ◌⊎◌, ℕ, ◌+◌, ◌-◌, ◌*◌, ◌/◌, ◌<◌, ◌≤◌, Bool, true, false, ℤ, List, ap, arith}
+use Rattle.std.proofs.Common.{◌≡◌, ◌∙◌, ◌⊎◌, ℕ, ◌+◌, ◌-◌, ◌*◌, ◌/◌, ◌<◌, ◌≤◌, Bool, true, false, List, ap, arith}
 use Rattle.std.proofs.Common.{inl, inr, sym, ⊎_elim}
 use Rattle.std.proofs.lemmas.Bool.{cases_Bool, cases_lt}
 use Rattle.std.specs.Int.{w32, cast_signed}
 use Rattle.block_bytes.specs.Numbers.{number_at, signed_at}
-use Rattle.box_bytes.specs.Corners.{corner_at}
+use Rattle.box_bytes.specs.Corners.{IsOfCorner, corner_at}
 use Rattle.box_bytes.specs.Laws.{corner_is, length-corner_at, on_axis-corner_at}
 use Rattle.node_page.specs.Layout.{IsNamed, IsOfEntry, has_tags, high_place, item_at, low_place, reference_place}
 use Rattle.node_page.specs.Layout.{tag_at, tag_place}
@@ -154,7 +154,7 @@ module _ (dims : ℕ) (tagged : Bool) (place count : ℕ) (old mid next new : Li
       ∙ references.others 4 (tag_place dims (k + 1)) (inr (omega (arith, few)))
       ∙ behind_columns 4 (tag_place dims (k + 1)) (omega arith))
 
-  -- the bytes of the last place are zeros
+  -- the bytes of the last place become zeros
   last_cleared : (last k : ℕ) → last + 1 ≡ count → IsOfEntry dims tagged last k → number_at 1 k new ≡ 0
   last_cleared last k is (inl of) = let axis = of.0 in let lt = of.1 in let from = of.2 in let upto = of.3 in
       in_columns 1 k (omega (arith, is, few, lt, upto))
@@ -168,25 +168,28 @@ module _ (dims : ℕ) (tagged : Bool) (place count : ℕ) (old mid next new : Li
   last_cleared last k is (inr (inr (inr of))) = let from = of.1 in let upto = of.2 in
       (with_tags of.0).cleared k (omega (arith, is, from)) (omega (arith, is, upto))
 
-  -- and a byte that no place has stays
-  rest_kept : (k : ℕ) → (IsNamed dims tagged count k → ⊥) → number_at 1 k new ≡ number_at 1 k old
-  rest_kept k unnamed = tags_stay ∙ references.others 1 k
-      (outside_eight (16 + 800 * dims) place count k
-      (λ p lt from upto. unnamed (inr (p, lt, inr (inr (inl (from, upto)))))))
-      ∙ axes.others 1 k (λ column lt. outside_four (16 + 400 * column) place count k (λ p there from upto.
+  -- a byte of no entry is in no column
+  in_no_column : (column k p : ℕ) → column < 2 * dims → (IsNamed dims tagged count k → ⊥) → p < count
+      → 16 + 400 * column + 4 * p ≤ k → k < 16 + 400 * column + 4 * p + 4 → ⊥
+  in_no_column column k p lt unnamed there from upto =
       let axis = axis_of column in
-      ⊎_elim (λ (low : column ≡ 2 * axis.0). unnamed (inr (
-        p,
-        there,
-        inl
-            (axis.0, omega (arith, lt, low), omega (arith, low, from), omega (arith, low, upto)),
-      )))
-      (λ (high : column ≡ 2 * axis.0 + 1). unnamed (inr (
-        p,
-        there,
-        inr (inl
-            (axis.0, omega (arith, lt, high), omega (arith, high, from), omega (arith, high, upto))),
-      ))) axis.1))
+      let a : ℕ = axis.0 in
+      ⊎_elim (λ (low : column ≡ 2 * a).
+      let of : IsOfCorner dims (low_place p) 800 k =
+      (a, omega (arith, lt, low), omega (arith, low, from), omega (arith, low, upto)) in
+      unnamed (inr (p, there, inl of)))
+      (λ (high : column ≡ 2 * a + 1).
+      let of : IsOfCorner dims (high_place p) 800 k =
+      (a, omega (arith, lt, high), omega (arith, high, from), omega (arith, high, upto)) in
+      unnamed (inr (p, there, inr (inl of)))) axis.1
+
+  -- and it stays
+  rest_kept : (k : ℕ) → (IsNamed dims tagged count k → ⊥) → number_at 1 k new ≡ number_at 1 k old
+  rest_kept k unnamed = tags_stay
+      ∙ references.others 1 k (outside_eight (16 + 800 * dims) place count k
+      (λ p lt from upto. unnamed (inr (p, lt, inr (inr (inl (from, upto)))))))
+      ∙ axes.others 1 k (λ column lt. outside_four (16 + 400 * column) place count k
+      (λ p there from upto. in_no_column column k p lt unnamed there from upto))
     where
       tags_stay : number_at 1 k new ≡ number_at 1 k next
       tags_stay = elim (cases_Bool tagged) [
@@ -195,6 +198,7 @@ module _ (dims : ℕ) (tagged : Bool) (place count : ℕ) (old mid next new : Li
         | inr none ↦ ap (number_at 1 k) (without none)
       ]
 
+  -- the entry is taken out
   pub taken_out : tagged ≡ has_tags old → IsTakenOut dims tagged place count old new
   taken_out tags = record {
     before = λ k lt. item_before k tags lt;

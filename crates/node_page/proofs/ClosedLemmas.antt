@@ -1,8 +1,7 @@
--- The places of a page closed up behind an entry that is taken: one row of bytes, the columns, and the entries.
-use Rattle.std.proofs.Common.{◌≡◌, ◌∙◌, ◌⊎◌, ℕ, ◌+◌, ◌-◌, ◌*◌, ◌/◌, ◌<◌, ◌≤◌, Bool, true, false, List, ◌++◌, length}
+-- Rows of bytes closed up behind those that are taken: one row, and the columns one after the other.
+use Rattle.std.proofs.Common.{◌≡◌, ◌∙◌, ◌⊎◌, ℕ, ◌+◌, ◌-◌, ◌*◌, ◌<◌, ◌≤◌, List, ◌++◌, length}
 use Rattle.std.proofs.Common.{take, drop, replicate, get_or, ap, arith, below_more, inl, inr, refl, sym, ⊎_elim}
 use Rattle.std.proofs.Common.{length-drop}
-use Rattle.std.proofs.lemmas.Bool.{cases_Bool, cases_lt}
 use Rattle.std.proofs.lemmas.List.{get_or_append_left, get_or-append-add, get_or-drop, get_or-replicate, get_or-take}
 use Rattle.std.proofs.lemmas.List.{length-replicate, length-take-le}
 use borrow.Rule.Slice.PartMut.{mid_of, put_mid}

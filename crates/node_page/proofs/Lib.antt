@@ -22,6 +22,7 @@ pub mod PartLemmas
 pub mod ChangeLemmas
 pub mod StandingExamples
 pub mod NodeLemmas
+pub mod BoxedPages
 pub mod LeafLemmas
 pub mod MaskLemmas
 pub mod LeastLemmas

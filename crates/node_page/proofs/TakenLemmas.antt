@@ -1,6 +1,6 @@
 -- A node page from which an entry is taken.
-use Rattle.std.proofs.Common.{◌≡◌, ◌∙◌, ◌⊎◌, ℕ, suc, ◌+◌, ◌-◌, ◌<◌, ◌≤◌, ◌++◌, Bool, List, Some, ap, arith, drop, get_or}
-use Rattle.std.proofs.Common.{inl, inr, length, remove, subst, sym, take, ⊎_elim}
+use Rattle.std.proofs.Common.{◌≡◌, ◌∙◌, ◌⊎◌, ℕ, suc, ◌+◌, ◌-◌, ◌<◌, ◌≤◌, ◌++◌, Bool, List, Some, ap, arith, drop}
+use Rattle.std.proofs.Common.{get_or, inl, inr, length, remove, subst, sym, take, ⊎_elim}
 use Rattle.std.proofs.lemmas.Bool.{cases_eq, cases_lt}
 use Rattle.std.proofs.lemmas.List.Edits.{get_or-remove_above, get_or-remove_below, length-remove}
 use Rattle.block_bytes.specs.Laws.{number_at-put, number_at-put_other}

@@ -5,7 +5,7 @@ ghost use Rattle.block_bytes.specs.Numbers.{number_at};
 ghost use Rattle.block_bytes.specs.Kinds.{node_kind};
 ghost use Rattle.box_math.specs.Bounds.{IsDims};
 ghost use Rattle.tree_node.specs.Nodes.{NodeContent, item_of};
-ghost use Rattle.node_page.specs.Enlarged.{with_box_at};
+ghost use Rattle.node_page.specs.Enlarged.{IsBoxed};
 ghost use Rattle.node_page.specs.Layout.{IsOfLevel, IsPageOfNode, IsTidy, node_at, pushed};
 ghost use Rattle.node_page.specs.Taken.{without_entry};
 
@@ -42,10 +42,7 @@ pub(crate) fn push_entry<const D: usize>(page: &mut [u8; 4096], entry: &Entry<D>
 pub(crate) fn write_box_at<const D: usize>(page: &mut [u8; 4096], place: usize, bounds: &BBox<D>)
     requires dims { IsDims D }
     requires within { place < 100 }
-    ensures boxed { (c : NodeContent) → node_at D page.old ≡ Some c → place < length c.entries
-        → node_at D page.new ≡ Some (with_box_at c place bounds.now) }
-    ensures is_page { IsTidy D page.old → (c : NodeContent) → node_at D page.old ≡ Some c
-        → place < length c.entries → IsPageOfNode D page.new (with_box_at c place bounds.now) }
+    ensures { IsBoxed D place bounds.now page.old page.new }
 {
     add_tags::<D>(page);
     write_box(page, 16 + 4 * place, 416 + 4 * place, 800, bounds);

@@ -10,10 +10,10 @@ ghost use Rattle.page_file.specs.declared.gate.Gate.TheVariants.{Open};
 ghost use Rattle.page_cache.specs.Cache.{Grows, IsHeld, IsHonest, IsLive, IsPageMap, gate_of, given, next_of};
 ghost use Rattle.page_cache.specs.Cache.{pages};
 ghost use Rattle.page_cache.specs.Calls.{Asks, AsksUntil, Changes};
+ghost use Rattle.page_cache.specs.PageSteps.{Edits};
 ghost use Rattle.tree_node.specs.Boxes.{least_box};
 ghost use Rattle.tree_node.specs.Nodes.{NodeContent};
-ghost use Rattle.node_page.specs.Enlarged.{CanEnlarge, set_box, with_box_at};
-ghost use Rattle.node_page.specs.Layout.{IsPageOfNode, IsTidy, node_at};
+ghost use Rattle.node_page.specs.Enlarged.{CanEnlarge, IsBoxed, set_box, with_box_at};
 ghost use Rattle.node_page.specs.Standing.{HasPageOf, IsTidyAt, node_in};
 
 use crate::edits::write_box_at;
@@ -70,18 +70,29 @@ pub fn enlarge_entry<const D: usize, B: BlockDevice, A: Allocator + Copy>(
     let Some(least) = least_enlarged(cache, page, level, place, bounds, most)? else {
         return Ok(None);
     };
+    edit_box(cache, page, place, bounds)?;
+    Ok(Some(least))
+}
+
+// Gives the entry in a place of the node at a live page that box, where the page lies in memory.
+fn edit_box<const D: usize, B: BlockDevice, A: Allocator + Copy>(
+    cache: &mut PageCache<B, A>,
+    page: u32,
+    place: usize,
+    bounds: &BBox<D>,
+) -> Result<(), Fault>
+    requires dims { IsDims D }
+    requires open { gate_of cache.old ≡ Open }
+    requires within { place < 100 }
+    ensures { Edits page (λ was answer now. IsBoxed D place bounds.now was now) cache.old cache.new result }
+{
     cache.edit(
         page,
         |bytes: &mut [u8; 4096]|
             requires { IsDims D × place < 100 }
-            ensures boxed { (c : NodeContent) → node_at D bytes.old ≡ Some c → place < length c.entries
-                → node_at D bytes.new ≡ Some (with_box_at c place bounds.entry.now) }
-            ensures is_page { IsTidy D bytes.old → (c : NodeContent) → node_at D bytes.old ≡ Some c
-                → place < length c.entries
-                → IsPageOfNode D bytes.new (with_box_at c place bounds.entry.now) }
+            ensures { IsBoxed D place bounds.entry.now bytes.old bytes.new }
         { write_box_at(bytes, place, bounds) },
-    )?;
-    Ok(Some(least))
+    )
 }
 
 // The least box round the entries of a node where the one in a place gets a box that holds its own, where the
@@ -124,8 +135,9 @@ fn least_enlarged<const D: usize, B: BlockDevice, A: Allocator + Copy>(
 }
 
 /// Gives the entry in a place of the node of that level at a live page that box, where the node has such an
-/// entry, and answers the least box round all of them then; else it answers `None`, and has only asked for the
-/// page. The box is written where the page lies in memory, as `enlarge_entry` does. The gate has to be open.
+/// entry, and answers the least box round all of them then; else it answers `None`, and has only asked for
+/// the page. The box is written where the page lies in memory, as `enlarge_entry` does. The gate has to be
+/// open.
 ///
 /// It is refused as `read_node` is, and has then touched no page.
 #[tactic(auto, using(page_cache::specs::Calls::changing))]
@@ -166,17 +178,7 @@ pub fn set_entry_box<const D: usize, B: BlockDevice, A: Allocator + Copy>(
     let Some(least) = least_with_box(cache, page, level, place, bounds)? else {
         return Ok(None);
     };
-    cache.edit(
-        page,
-        |bytes: &mut [u8; 4096]|
-            requires { IsDims D × place < 100 }
-            ensures boxed { (c : NodeContent) → node_at D bytes.old ≡ Some c → place < length c.entries
-                → node_at D bytes.new ≡ Some (with_box_at c place bounds.entry.now) }
-            ensures is_page { IsTidy D bytes.old → (c : NodeContent) → node_at D bytes.old ≡ Some c
-                → place < length c.entries
-                → IsPageOfNode D bytes.new (with_box_at c place bounds.entry.now) }
-        { write_box_at(bytes, place, bounds) },
-    )?;
+    edit_box(cache, page, place, bounds)?;
     Ok(Some(least))
 }
 

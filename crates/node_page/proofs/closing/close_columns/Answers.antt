@@ -1,5 +1,5 @@
 -- Each column is closed after those before it.
-use Rattle.std.proofs.Common.{arith, rules}
+use Rattle.std.proofs.Common.{rules}
 use Rattle.node_page.proofs.ClosedLemmas.{columns_more, columns_none}
 use Rattle.node_page.proofs.closing.close_columns.Goals as goal
 

@@ -1,6 +1,5 @@
 -- The page is that without the entry.
-use Rattle.std.proofs.Common.{◌≡◌, ◌∙◌, ◌+◌, ◌-◌, ◌<◌, ◌≤◌, ap, arith}
-use Rattle.block_bytes.specs.Numbers.{number_at}
+use Rattle.std.proofs.Common.{◌∙◌, ◌-◌, arith}
 use Rattle.node_page.proofs.TakenLemmas.{kind_stays, spells_taken, tidy_taken}
 use Rattle.node_page.proofs.edits.drop_entry.Goals as goal
 

@@ -1,5 +1,5 @@
 -- The node that is viewed is that of the page.
-use Rattle.std.proofs.Common.{◌≡◌, ◌<◌, ap, arith, length, refl}
+use Rattle.std.proofs.Common.{ap, arith, length, refl}
 use Rattle.page_cache.specs.Cache.{pages}
 use Rattle.tree_node.specs.Nodes.{NodeContent}
 use Rattle.node_page.specs.Standing.{PageMap}

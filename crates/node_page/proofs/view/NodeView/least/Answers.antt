@@ -1,5 +1,5 @@
 -- The view has an entry in each of its places.
-use Rattle.std.proofs.Common.{◌≡◌, ◌∙◌, ℕ, ◌+◌, ap, arith, rules}
+use Rattle.std.proofs.Common.{◌≡◌, ◌∙◌, ◌+◌, ap, arith, rules}
 use Rattle.block_bytes.specs.PlaceLaws.{first_places-same, length-first_places}
 use Rattle.tree_node.specs.Boxes.{least_box}
 use Rattle.node_page.specs.Layout.{item_at}

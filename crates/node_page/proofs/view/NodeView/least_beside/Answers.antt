@@ -1,5 +1,5 @@
 -- The entries before the place, those behind it, or both.
-use Rattle.std.proofs.Common.{◌≡◌, ◌∙◌, ℕ, ◌+◌, ◌-◌, ◌<◌, ap, arith, rules}
+use Rattle.std.proofs.Common.{◌∙◌, ◌-◌, ap, arith, rules}
 use Rattle.block_bytes.specs.PlaceLaws.{length-first_places}
 use Rattle.box_math.specs.Bounds.{Bounds, join_of}
 use Rattle.tree_node.specs.Boxes.{least_box}
