@@ -1,5 +1,5 @@
 -- Lists, rows and nodes without the entry at a position.
-use Rattle.std.proofs.Common.{◌≡◌, ◌∙◌, ℕ, ℤ, set, zero, suc, ◌+◌, ◌<◌, Some, All, List, [], ◌∷◌, ◌++◌}
+use Rattle.std.proofs.Common.{◌≡◌, ◌∙◌, ℕ, ℤ, set, zero, suc, ◌+◌, ◌<◌, ◌≤◌, Some, All, List, [], ◌∷◌, ◌++◌}
 use Rattle.std.proofs.Common.{length, map, take, drop, get_or, refl, sym, ap, subst, arith}
 use Rattle.std.specs.Prelude.{remove}
 use Rattle.std.specs.List.{refill}
@@ -11,6 +11,7 @@ use Rattle.tree_node.specs.declared.node.Entry.{Entry}
 use Rattle.tree_node.specs.Nodes.{Item, item_of}
 use Rattle.tree_node.specs.Positions.{total}
 use Rattle.tree_node.specs.Rows.{branches_of, occurs_on, row_of}
+use Rattle.tree_node.specs.Shape.{least_entries}
 use Rattle.tree_node.specs.Trees.{Row, end, more, Branch, object, child, occurs, row_items, row_length}
 use Rattle.tree_node.proofs.RowLemmas.{occurs-branches_of}
 use Rattle.node_page.specs.Layout.{IsOfLevel, IsSpellable}
@@ -168,3 +169,7 @@ cut_boxed level entries new at b spells are =
           subst (λ (xs : List Item). All P xs) (sym are)
           (set_box-refers level (map item_of entries) at b spells.refers);
     }
+
+-- the least count is 40 at most
+pub fewest_is_low : (most : ℕ) → most ≤ 100 → least_entries most ≤ 40
+fewest_is_low most few = omega arith

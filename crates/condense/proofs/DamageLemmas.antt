@@ -1,6 +1,6 @@
 -- The page that is damaged is one that a walk comes to, also where nodes went meanwhile.
 use Rattle.std.proofs.Common.{true, false, Result, Ok, Err, IfErr, IfOk, OnOk, Some, None, List, []}
-use Rattle.std.proofs.Common.{◌∷◌, length, get_or, ◌≡◌, ◌∙◌, ◌⊎◌, ⊎_elim, inl, inr, ℕ, ◌<◌, ◌≤◌, refl}
+use Rattle.std.proofs.Common.{◌∷◌, length, get_or, ◌≡◌, ◌∙◌, ◌⊎◌, ⊎_elim, inl, inr, ℕ, ◌+◌, ◌<◌, ◌≤◌, refl}
 use Rattle.std.proofs.Common.{sym, ap, subst, arith, rules}
 use Rattle.std.proofs.lemmas.Bool.{cases_eq, cases_lt}
 use Rattle.page_file.specs.Fault.{IsOfDevice}
@@ -18,7 +18,10 @@ use Rattle.node_page.proofs.GivenLemmas.{given_node_is_live, live_node_is_given}
 use Rattle.node_page.proofs.NodeLemmas.{if_error}
 use Rattle.node_page.proofs.StandingLemmas.{same_content}
 use Rattle.reinsert.proofs.FaultLemmas.{none_before}
+use Rattle.tree_node.specs.declared.node.Root.{Root}
+use Rattle.condense.specs.Becoming.{IsNext, LeadsDown}
 use Rattle.condense.specs.Spelled.{AddsNoNode, KeepsNodes}
+use Rattle.condense.specs.declared.hand.Next.{Next}
 
 -- ---- walks
 
@@ -73,6 +76,25 @@ module _ (dims : ℕ) where
         let no = sym (ap (node_in dims) none) ∙ is in absurd (cc))
         (λ (other : page ≡ n → ⊥). ap (node_in dims) (sym (others n (λ is. other (sym is)))) ∙ is)
         (cases_eq page n)
+
+-- ---- a child's page that goes or changes, and then the page of the node above it
+
+module _ (dims : ℕ) (m mid : PageMap) (at : Root) (next : Next) (is_next : IsNext at next)
+    (above : LeadsDown dims m at next) (own : NodeContent)
+    (there : node_in dims (m next.below.page) ≡ Some own) (low : own.level ≡ next.below.level)
+    (apart : SameBut next.below.page m mid) where
+  pub parent_stays : node_in dims (mid at.page) ≡ Some above.node
+  parent_stays =
+      others_keep dims m mid next.below.page apart at.level own there
+      (omega (arith, low, is_next.level, is_next.above)) at.page above.node above.there
+      (omega (arith, above.level_is))
+
+  pub above_stay : (m' : PageMap) → SameBut at.page mid m' → KeepsNodes dims (at.level + 1) m m'
+  above_stay m' others n c is high =
+      others_keep dims mid m' at.page others (at.level + 1) above.node parent_stays
+      (omega (arith, above.level_is)) n c
+      (others_keep dims m mid next.below.page apart (at.level + 1) own there
+      (omega (arith, low, is_next.level)) n c is high) high
 
 -- ---- the pages given out, before a call that is refused
 

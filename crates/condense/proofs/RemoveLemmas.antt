@@ -1,6 +1,6 @@
 -- What a removal answers, from what its steps ensure.
 use Rattle.std.proofs.Common.{Result, Ok, Err, IfOk, IfErr, OnErr, IsErrAnd, List, [], ◌≡◌, ◌∙◌, ℕ, ◌≤◌}
-use Rattle.std.proofs.Common.{◌∷◌, None, sym, subst}
+use Rattle.std.proofs.Common.{◌∷◌, IfSome, IsSome, None, Option, Some, refl, sym, subst}
 use Rattle.std.specs.List.Sorted.{IsPermutation}
 use Rattle.box_math.specs.Objects.{Object}
 use Rattle.page_file.specs.Fault.{IsOfDevice}
@@ -80,3 +80,18 @@ pub map_err : {A E : Type 0} (r : Result A E) (P Q : E → Type 0) → IfErr r P
     → IfErr r Q
 map_err (Ok a) P Q h f = tt
 map_err (Err e) P Q h f = f e h
+
+-- what is none is not some
+pub never_some : {A : Type 0} (o : Option A) → ((x : A) → o ≡ Some x → ⊥) → IsSome o → ⊥
+never_some None never is = absurd (cc)
+never_some (Some x) never is = never x refl
+
+pub some_weaker : {A : Type 0} (o : Option A) (P Q : A → Type 0) → ((x : A) → P x → Q x) → IfSome o P
+    → IfSome o Q
+some_weaker None P Q f h = tt
+some_weaker (Some x) P Q f h = f x h
+
+pub some_both : {A : Type 0} (o : Option A) (P Q R : A → Type 0) → IfSome o P → IfSome o Q
+    → ((x : A) → P x → Q x → R x) → IfSome o R
+some_both None P Q R p q both = tt
+some_both (Some x) P Q R p q both = both x p q

@@ -84,8 +84,3 @@ pub record TookBelow (dims most : ℕ) (m m1 : PageMap) (page level id : ℕ) (r
   pub from : Child
   pub there : child_at row at ≡ Some from
   pub taken : HasTaken dims most m m1 (level - 1) id removed from.row held held1 lower
-
--- Where it is told to be settled, the page of the child in a place has the child that is in hand.
-abbrev pub IsSettledBelow : ℕ → PageMap → List Item → ℕ → NodeContent → Bool → Type 0
-IsSettledBelow dims m entries place lower settled =
-    settled ≡ true → (d : Item) → node_in dims (m (slice_index_or entries place d).reference) ≡ Some lower
