@@ -1,5 +1,5 @@
 -- The child that an object is looked for in, while the ones before it lacked it.
-use Rattle.std.proofs.Common.{Bool, false, true, ◌≡◌, ◌∙◌, ⊎_elim, ℕ, zero, suc, ◌+◌, ◌-◌, ◌<◌, ◌≤◌}
+use Rattle.std.proofs.Common.{◌≡◌, ◌∙◌, ⊎_elim, ℕ, zero, suc, ◌+◌, ◌-◌, ◌<◌, ◌≤◌}
 use Rattle.std.proofs.Common.{List, length, get_or, refl, sym, ap, subst, arith}
 use Rattle.std.specs.List.{Contains}
 use Rattle.std.proofs.lemmas.Bool.{cases_lt}
@@ -115,17 +115,16 @@ taken_here {D} most m m' at id removed row held items low stands same taken =
     subst (λ l. HasTaken D most m m' l id removed row held held items) (sym low)
     (leaf_taken D most id removed m m' row held held (row_items row) items below same refl refl taken)
 
-pub found_leaf : {D : ℕ} (most : ℕ) (m : PageMap) (at : Root) (id : ℕ) (removed : Object) (row : Row)
+-- it is not in one without such an entry
+pub none_here : {D : ℕ} (most : ℕ) (m : PageMap) (at : Root) (id : ℕ) (removed : Object) (row : Row)
     → at.level ≡ 0 → Stands D m (tree_at at row)
-    → (found : Bool)
-    → (found ≡ false → (k : ℕ) (d : Item) → k < length (row_items row)
+    → ((k : ℕ) (d : Item) → k < length (row_items row)
     → ¬ (get_or (row_items row) k
     d ≡ record { bounds = bounds_of removed; reference = id; tag = tag_of removed }))
-    → LeadsTo D id removed row → found ≡ true
-found_leaf most m at id removed row low stands true none leads = refl
-found_leaf {D} most m at id removed row low stands false none leads =
+    → ¬ LeadsTo D id removed row
+none_here {D} most m at id removed row low stands none leads =
     let below : RowStands D m 0 row = subst (λ l. RowStands D m l row) low stands.below in
-    absurd (leaf_lacks D most id removed m row below (none refl) leads)
+    leaf_lacks D most id removed m row below none leads
 
 -- ---- children whose boxes do not enclose the object's
 

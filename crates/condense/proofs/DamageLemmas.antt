@@ -96,6 +96,17 @@ module _ (dims : ℕ) (m mid : PageMap) (at : Root) (next : Next) (is_next : IsN
       (others_keep dims m mid next.below.page apart (at.level + 1) own there
       (omega (arith, low, is_next.level)) n c is high) high
 
+-- a node leads to its child in pages that stayed
+abbrev pub leads_same : (dims : ℕ) (m m' : PageMap) (at : Root) (next : Next) → ((n : ℕ) → m' n ≡ m n)
+    → LeadsDown dims m at next → LeadsDown dims m' at next
+leads_same dims m m' at next same above = record {
+  node = above.node;
+  there = ap (node_in dims) (same at.page) ∙ above.there;
+  level_is = above.level_is;
+  within = above.within;
+  names = above.names;
+}
+
 -- ---- the pages given out, before a call that is refused
 
 -- where the map is sound, and nodes only went, or no page is touched

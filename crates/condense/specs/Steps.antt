@@ -119,7 +119,7 @@ pub record PutsChild {D : ℕ} {B A : Type 0} {m : _} (most : ℕ) (at : Root) (
       → KeepsNodes D (at.level + 1) (pages old) (pages new)
   pub faults : IsPageMap old → LeadsDown D (pages old) at next
       → IsStill most next.below.page next.below.level (pages old) became → IfErr result IsOfDevice
-  pub touched : IsLive old next.below.page
+  pub touched : IsPageMap old → IsLive old next.below.page
       → OnOk result ((kept'.orphans.items ≡ kept.orphans.items) ⊎ (touched_of new ≡ true))
   pub other_faults : IfErr result (λ f. IsOfDevice f ⊎ IsDamage f)
 

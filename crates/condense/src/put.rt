@@ -29,7 +29,7 @@ pub(crate) fn put_child<const D: usize, B: BlockDevice, A: Allocator + Copy>(
     cache: &mut PageCache<B, A>,
     at: Root,
     next: Next,
-    child: Became<D>,
+    child: &Became<D>,
     fanout: usize,
     kept: &mut Kept<D>,
     hand: &mut Node<D>,
@@ -38,12 +38,13 @@ pub(crate) fn put_child<const D: usize, B: BlockDevice, A: Allocator + Copy>(
     requires open { gate_of cache.old ≡ Open }
     requires most { (4 ≤ fanout) × (fanout ≤ 100) }
     requires is_next { IsNext at next }
-    requires cut { IsFewInHand fanout next.below.level hand.old child }
+    requires cut { IsFewInHand fanout next.below.level hand.old child.now }
     requires room { array_vec_len kept.old.orphans + 39 ≤ 1560 }
-    ensures { PutsChild fanout at next child cache.old cache.new hand.old hand.new kept.old kept.new result }
+    ensures { PutsChild fanout at next child.now cache.old cache.new hand.old hand.new kept.old kept.new
+        result }
 {
     match child {
-        Became::Settled(least) => set_least(cache, at, next.place, &least, fanout),
+        Became::Settled(least) => set_least(cache, at, next.place, least, fanout),
         Became::Few => leave_read(cache, at, next, fanout, kept, hand),
         Became::Unwritten => leave_out(cache, at, next, fanout, kept, hand),
     }

@@ -50,7 +50,7 @@ pub(crate) fn take_out<const D: usize, B: BlockDevice, A: Allocator + Copy>(
             from = next.place + 1;
             continue;
         };
-        let now = put_child(cache, at, next, became, fanout, kept, hand)?;
+        let now = put_child(cache, at, next, &became, fanout, kept, hand)?;
         return Ok(Some(now));
     }
 }

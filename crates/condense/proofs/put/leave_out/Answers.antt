@@ -53,7 +53,7 @@ returns-in_err-free g c = record {
       page_of_node g.row.D (pages c.args.cache.now c.args.next.below.page) child.node child.there in
       at_error c.from_residual.result c.in_err-free.field-0.0 IsOfDevice c.from_residual.ensures.1
       (c.in_err-free.ensures.faults h live (λ two. omega (arith, two, c.requires.is_next.page)));
-  touched = λ live. no_success c.from_residual.result c.in_err-free.field-0.0 _ c.from_residual.ensures.1;
+  touched = λ h live. no_success c.from_residual.result c.in_err-free.field-0.0 _ c.from_residual.ensures.1;
   other_faults = at_error c.from_residual.result c.in_err-free.field-0.0 (λ f. IsOfDevice f ⊎ IsDamage f)
       c.from_residual.ensures.1 c.in_err-free.ensures.other_faults;
 }
@@ -124,7 +124,7 @@ returns g c =
           parent_stays D m mf at c.args.next c.requires.is_next above child.node child.there child.level_is
           (c.free.ensures.others h.honest live) in
           take.faults (c.free.ensures.sound h live).honest above.node there above.level_is above.within;
-      touched = λ live. with_ok c.take_at.result _
+      touched = λ h live. with_ok c.take_at.result _
           (inr (take.changes.touched (c.free.ensures.touched c.requires.is_next.page
           (a_live_page_was_given_out old page live).1)));
       other_faults = take.other_faults;
