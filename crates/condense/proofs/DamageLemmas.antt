@@ -107,6 +107,29 @@ leads_same dims m m' at next same above = record {
   names = above.names;
 }
 
+-- in those of a sound map
+abbrev pub leads_live : {D A : Type 0} {m : _} (dims : ℕ) (cache : PageCache D A m) (at : Root) (next : Next)
+    → IsPageMap cache → LeadsDown dims (given cache) at next → LeadsDown dims (pages cache) at next
+leads_live dims cache at next map above = record {
+  node = above.node;
+  there = given_node_is_live dims cache at.page above.node map above.there;
+  level_is = above.level_is;
+  within = above.within;
+  names = above.names;
+}
+
+-- and where only nodes of lower levels changed
+abbrev pub leads_kept : (dims : ℕ) (m m' : PageMap) (at : Root) (next : Next) → IsNext at next
+    → KeepsNodes dims (next.below.level + 1) m m' → LeadsDown dims m at next → LeadsDown dims m' at next
+leads_kept dims m m' at next is_next keeps above = record {
+  node = above.node;
+  there = keeps at.page above.node above.there
+      (omega (arith, above.level_is, is_next.level, is_next.above));
+  level_is = above.level_is;
+  within = above.within;
+  names = above.names;
+}
+
 -- ---- the pages given out, before a call that is refused
 
 -- where the map is sound, and nodes only went, or no page is touched
