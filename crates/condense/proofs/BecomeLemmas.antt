@@ -1,15 +1,18 @@
 -- What a node has become: in its page, with enough entries or too few, or in hand.
-use Rattle.std.proofs.Common.{◌≡◌, ◌∙◌, ℕ, zero, suc, ◌<◌, ◌≤◌, false, true, List, [], ◌∷◌, Option, Some, length}
+use Rattle.std.proofs.Common.{◌≡◌, ◌∙◌, ℕ, zero, suc, ◌<◌, ◌≤◌, Bool, false, true, List, [], ◌∷◌, Option, Some, length}
 use Rattle.std.proofs.Common.{map, refl, sym, ap, arith}
 use Rattle.box_math.specs.Bounds.{Bounds}
 use Rattle.tree_node.specs.Boxes.{box_at, least_box}
-use Rattle.tree_node.specs.Nodes.{Item, NodeContent, item_of}
+use Rattle.tree_node.specs.Nodes.{Item, NodeContent, content_of, item_of}
 use Rattle.tree_node.specs.Shape.{least_entries}
 use Rattle.tree_node.specs.declared.node.Node.{Node}
+use Rattle.tree_node.specs.declared.node.Root.{Root}
 use Rattle.node_page.specs.Enlarged.{set_box}
 use Rattle.node_page.specs.Standing.{PageMap, node_in}
-use Rattle.condense.specs.Becoming.{IfFew, IsFewInHand, IsNow, IsStill, IsWrittenWith, is_written}
+use Rattle.condense.specs.Becoming.{IfFew, IsFewInHand, IsNow, IsSettledAs, IsWrittenWith, is_written}
+use Rattle.condense.specs.Taken.{IsCut}
 use Rattle.condense.specs.declared.hand.Became.{Became}
+use Rattle.condense.specs.declared.hand.InHand.{InHand}
 use Rattle.condense.specs.declared.hand.Became.TheVariants.{Few, Settled, Unwritten}
 
 -- an entry that gets the box that it has stays
@@ -58,3 +61,26 @@ pub in_hand : {D : ℕ} (most : ℕ) (page : Option (List ℕ)) (level : ℕ) (i
 in_hand most page level items hand (Settled box) now is = absurd (cc)
 in_hand most page level items hand Few now is = absurd (cc)
 in_hand most page level items hand Unwritten now is = now.0
+
+-- and once it is written where it is not settled, its page has it
+pub root_written : {D : ℕ} (root : Root) (m m' : PageMap) (items : List Item) (hand : InHand D)
+    → IsSettledAs D root m items hand → (hand.settled ≡ true → m' root.page ≡ m root.page)
+    → (hand.settled ≡ false → hand.node.level ≡ root.level)
+    → (hand.settled ≡ false → node_in D (m' root.page) ≡ Some (content_of hand.node))
+    → node_in D (m' root.page) ≡ Some (record { level = root.level; entries = items })
+root_written {D} root m m' items hand is stays level written = case hand.settled refl
+  where
+    case : (b : Bool) → hand.settled ≡ b
+        → node_in D (m' root.page) ≡ Some (record { level = root.level; entries = items })
+    case true settled = ap (node_in D) (stays settled) ∙ is.0 settled
+    case false unwritten = written unwritten
+        ∙ ap (λ (l : ℕ). Some
+        (let c : NodeContent = record { level = l; entries = map item_of hand.node.entries.items } in c)) (level unwritten)
+        ∙ ap (λ (xs : List Item). Some (let c : NodeContent = record { level = root.level; entries = xs } in c))
+        (sym (is.1 unwritten))
+
+pub cut_in_hand : {D : ℕ} (most level : ℕ) (hand : Node D) (became : Became D)
+    → IsFewInHand most level hand became → is_written became ≡ false → IsCut level (content_of hand)
+cut_in_hand most level hand (Settled box) cut is = absurd (cc)
+cut_in_hand most level hand Few cut is = absurd (cc)
+cut_in_hand most level hand Unwritten cut is = cut.0

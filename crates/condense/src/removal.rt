@@ -121,17 +121,17 @@ fn put_root<const D: usize, B: BlockDevice, A: Allocator + Copy>(
     ensures changes { Changes cache.old cache.new result }
     ensures grows { Grows (most_new_pages * array_vec_len kept.old.orphans) cache.old cache.new }
     ensures root { IfOk result IsRoot }
-    ensures removed { IsPageMap cache.old → (m m1 : PageMap) (t : Tree) (elsewhere : ℕ → ℕ) (id : ℕ)
-        (removed : Object) (items : List Item)
+    ensures removed { IsPageMap cache.old → IsLive cache.old root.page → (m m1 : PageMap) (t : Tree)
+        (elsewhere : ℕ → ℕ) (id : ℕ) (removed : Object) (items : List Item)
         → TookOut D fanout m m1 root t elsewhere id removed (held_now kept.old) items
         → SameBut root.page m1 (pages cache.old) → IsSettledAs D root (pages cache.old) items hand.now
         → IfOk result (λ after. IsPageMap cache.new
         × RemovesTo D fanout m (pages cache.new) elsewhere id removed t after) }
-    ensures faults { IsPageMap cache.old → (m m1 : PageMap) (t : Tree) (elsewhere : ℕ → ℕ) (id : ℕ)
-        (removed : Object) (items : List Item)
+    ensures faults { IsPageMap cache.old → IsLive cache.old root.page → (m m1 : PageMap) (t : Tree)
+        (elsewhere : ℕ → ℕ) (id : ℕ) (removed : Object) (items : List Item)
         → TookOut D fanout m m1 root t elsewhere id removed (held_now kept.old) items
         → SameBut root.page m1 (pages cache.old) → IsSettledAs D root (pages cache.old) items hand.now
-        → IsLive cache.old root.page → HasShape D fanout t → RowHasBoxes D t.row
+        → HasShape D fanout t → RowHasBoxes D t.row
         → IfErr result (IsNoDamage cache.new) }
     ensures damage { IsPageMap cache.old → IsLive cache.old root.page
         → (kept.old.orphans.items ≡ []) ⊎ (touched_of cache.old ≡ true) → touched_of cache.new ≡ false
