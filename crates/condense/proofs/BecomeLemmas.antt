@@ -1,5 +1,5 @@
 -- What a node has become: in its page, with enough entries or too few, or in hand.
-use Rattle.std.proofs.Common.{◌≡◌, ◌∙◌, ℕ, zero, suc, ◌<◌, ◌≤◌, Bool, false, true, List, [], ◌∷◌, Option, Some, length}
+use Rattle.std.proofs.Common.{◌≡◌, ◌∙◌, ℕ, zero, suc, ◌<◌, Bool, false, true, List, [], ◌∷◌, Option, Some, length}
 use Rattle.std.proofs.Common.{map, refl, sym, ap, arith}
 use Rattle.box_math.specs.Bounds.{Bounds}
 use Rattle.tree_node.specs.Boxes.{box_at, least_box}
@@ -75,7 +75,8 @@ root_written {D} root m m' items hand is stays level written = case hand.settled
     case true settled = ap (node_in D) (stays settled) ∙ is.0 settled
     case false unwritten = written unwritten
         ∙ ap (λ (l : ℕ). Some
-        (let c : NodeContent = record { level = l; entries = map item_of hand.node.entries.items } in c)) (level unwritten)
+        (let c : NodeContent = record { level = l; entries = map item_of hand.node.entries.items } in c))
+        (level unwritten)
         ∙ ap (λ (xs : List Item). Some (let c : NodeContent = record { level = root.level; entries = xs } in c))
         (sym (is.1 unwritten))
 

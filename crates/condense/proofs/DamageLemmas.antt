@@ -1,5 +1,5 @@
 -- The page that is damaged is one that a walk comes to, also where nodes went meanwhile.
-use Rattle.std.proofs.Common.{true, false, Result, Ok, Err, IfErr, IfOk, OnOk, Some, None, List, []}
+use Rattle.std.proofs.Common.{true, false, Result, Ok, Err, IfErr, OnOk, Some, None, List, []}
 use Rattle.std.proofs.Common.{◌∷◌, length, get_or, ◌≡◌, ◌∙◌, ◌⊎◌, ⊎_elim, inl, inr, ℕ, ◌+◌, ◌<◌, ◌≤◌, refl}
 use Rattle.std.proofs.Common.{sym, ap, subst, arith, rules}
 use Rattle.std.proofs.lemmas.Bool.{cases_eq, cases_lt}
@@ -148,10 +148,6 @@ given_before dims old mid new honest keeps stays sound either = ⊎_elim
 -- ---- answers
 
 -- what is so anyway
-pub all_ok : {T E : Type 0} (r : Result T E) (P : T → Type 0) → ((x : T) → P x) → IfOk r P
-all_ok (Ok x) P so = so x
-all_ok (Err e) P so = tt
-
 pub with_ok : {T E : Type 0} (r : Result T E) (X : Type 0) → X → OnOk r X
 with_ok (Ok x) X so = so
 with_ok (Err e) X so = tt

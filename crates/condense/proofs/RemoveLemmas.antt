@@ -5,8 +5,6 @@ use Rattle.std.specs.List.Sorted.{IsPermutation}
 use Rattle.box_math.specs.Objects.{Object}
 use Rattle.page_file.specs.Fault.{IsOfDevice}
 use Rattle.page_file.specs.declared.fault.Fault.{Fault}
-use Rattle.page_cache.specs.Calls.{Asks, AsksUntil}
-use Rattle.page_cache.specs.declared.cache.PageCache.{PageCache}
 use Rattle.tree_node.specs.declared.node.Root.{Root}
 use Rattle.tree_node.specs.Nodes.{Item}
 use Rattle.tree_node.specs.Boxes.{RowHasBoxes}
@@ -54,12 +52,6 @@ took_out dims most m m1 root t elsewhere id removed held0 held items can none do
   taken = subst (λ (hs : List Held). HasTaken dims most m m1 t.level id removed t.row hs held items) none
       (subst (λ l. HasTaken dims most m m1 l id removed t.row held0 held items) (sym can.at.level) done);
 }
-
--- pages that were only asked for, where something is told of an answer
-pub none_asked : {D A : Type 0} {m : _} {T : Type 0} (r : Result T Fault) (old new : PageCache D A m)
-    (Q : T → Type 0) (X : Type 0) → Asks old new r → X → IfOk r (λ x. Q x → AsksUntil old new None × X)
-none_asked (Ok x) old new Q X asks so = λ q. (asks, so)
-none_asked (Err e) old new Q X asks so = tt
 
 -- a refusal is handed on
 pub on_err : {T E : Type 0} (r : Result T E) (X : Type 0) → X → OnErr r X

@@ -10,8 +10,7 @@ use Rattle.box_math.specs.Objects.{Object}
 use Rattle.page_file.specs.Pages.{SameBut}
 use Rattle.tree_node.specs.declared.node.Entry.{Entry}
 use Rattle.tree_node.specs.Boxes.{least_box, no_item}
-use Rattle.tree_node.specs.declared.node.Node.{Node}
-use Rattle.tree_node.specs.Nodes.{Item, NodeContent, content_of, item_of}
+use Rattle.tree_node.specs.Nodes.{Item, NodeContent, item_of}
 use Rattle.tree_node.specs.Positions.{total}
 use Rattle.tree_node.specs.Rows.{Waiter, branches_of, item_in, occurs_on, occurs_waiting, row_of}
 use Rattle.tree_node.specs.Shape.{least_entries}

@@ -43,7 +43,8 @@ pub(crate) fn take_at<const D: usize, B: BlockDevice, A: Allocator + Copy>(
     requires dims { IsDims D }
     requires open { gate_of cache.old ≡ Open }
     requires most { (4 ≤ fanout) × (fanout ≤ 100) }
-    ensures { Alters fanout place (λ items. items_without items place) at cache.old cache.new hand.new result }
+    ensures { Alters fanout place (λ items. items_without items place) at
+        cache.old cache.new hand.new result }
 {
     let fewest = least_entries(fanout);
     if let Some(least) = take_entry(cache, at.page, at.level, place, fewest)? {

@@ -1,5 +1,5 @@
 -- The goals of `has_box` that are proved by hand.
-use Rattle.std.proofs.Common.{◌≡◌, ◌∙◌, ◌<◌, length, ap, sym, arith}
+use Rattle.std.proofs.Common.{◌∙◌, ◌<◌, length, ap, sym, arith}
 use Rattle.std.specs.Cmp.Rules.{signed_items}
 use Rattle.std.proofs.lemmas.Bool.Decides.{Decides-and}
 use Rattle.std.proofs.lemmas.List.{get_or_default}

@@ -1,15 +1,15 @@
 -- The goals of `set_least` that are proved by hand.
-use Rattle.std.proofs.Common.{rules, ◌≡◌, ◌∙◌, ◌<◌, ℕ, List, None, Some, IfSome, length, refl, sym, ap, subst, arith, inr}
+use Rattle.std.proofs.Common.{rules, ◌≡◌, ◌∙◌, ℕ, List, None, Some, IfSome, length, refl, sym, ap, subst, inr}
 use Rattle.std.specs.Prelude.{◌⊎◌, IsSome}
 use Rattle.page_file.specs.Fault.{IsDamage, IsOfDevice}
 use Rattle.page_file.specs.declared.fault.Fault.TheVariants as fault
 use Rattle.page_cache.specs.Cache.{IsHonest, IsLive, pages}
-use Rattle.page_cache.specs.Calls.{AsksUntil, asks_and_gives_up, asks_changes, asks_in_turn, changes_and_refuses}
+use Rattle.page_cache.specs.Calls.{AsksUntil, asks_and_gives_up, asks_changes, asks_in_turn}
 use Rattle.page_cache.specs.Calls.{changes_in_turn, fault_in, no_call_asks}
 use Rattle.tree_node.specs.Boxes.{least_box}
 use Rattle.tree_node.specs.Nodes.{Item, NodeContent}
 use Rattle.node_page.specs.Enlarged.{set_box, with_box_at}
-use Rattle.node_page.specs.Standing.{PageMap, node_in}
+use Rattle.node_page.specs.Standing.{node_in}
 use Rattle.node_page.specs.Views.{content_in}
 use Rattle.node_page.proofs.BoxedLemmas.{length-set_box}
 use Rattle.node_page.proofs.NodeLemmas.{at_error}

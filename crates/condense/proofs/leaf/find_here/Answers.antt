@@ -1,9 +1,9 @@
 -- The leaf that is viewed is the one in the page.
-use Rattle.std.proofs.Common.{rules, IfNone, IfSome, Some, ◌≡◌, ◌∙◌, ◌<◌, ℕ, get_or, length, ap, subst, sym, arith, refl}
+use Rattle.std.proofs.Common.{rules, IfNone, IfSome, ◌≡◌, ◌<◌, ℕ, get_or, length, subst}
 use Rattle.std.specs.Prelude.{◌⊎◌}
 use Rattle.page_file.specs.Fault.{IsDamage, IsOfDevice}
 use Rattle.page_file.specs.declared.fault.Fault.TheVariants as fault
-use Rattle.page_cache.specs.Cache.{given, pages}
+use Rattle.page_cache.specs.Cache.{pages}
 use Rattle.page_cache.specs.Calls.{AsksUntil, fault_in}
 use Rattle.tree_node.specs.Nodes.{Item, NodeContent}
 use Rattle.node_page.specs.Standing.{PageMap}
@@ -11,7 +11,6 @@ use Rattle.node_page.specs.Views.{content_in}
 use Rattle.node_page.proofs.NodeLemmas.{at_error}
 use Rattle.node_page.proofs.StandingLemmas.{page_of_node, same_content}
 use Rattle.reinsert.proofs.FaultLemmas.{asks_refused, no_answer}
-use Rattle.condense.specs.Spelled.{HasPlace}
 use Rattle.condense.proofs.RemoveLemmas.{some_both, some_weaker}
 use Rattle.condense.proofs.leaf.find_here.Goals as goal
 

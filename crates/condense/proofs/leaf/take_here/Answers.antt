@@ -1,17 +1,17 @@
 -- The goals of `take_here` that are proved by hand.
-use Rattle.std.proofs.Common.{rules, ◌≡◌, ◌∙◌, ◌+◌, ◌*◌, ◌<◌, ℕ, None, Some, IfSome, List, [], length, refl, sym, ap}
+use Rattle.std.proofs.Common.{rules, ◌≡◌, ◌∙◌, ◌+◌, ◌<◌, ℕ, None, Some, IfSome, [], length, refl, sym, ap}
 use Rattle.std.proofs.Common.{subst, arith, inl}
 use Rattle.std.specs.Prelude.{◌⊎◌, slice_index_or}
 use Rattle.page_file.specs.Fault.{IsDamage, IsOfDevice}
 use Rattle.page_file.specs.declared.fault.Fault.TheVariants.{Damaged}
-use Rattle.page_cache.specs.Cache.{IsHonest, IsPageMap, given, pages}
+use Rattle.page_cache.specs.Cache.{IsPageMap, given, pages}
 use Rattle.page_cache.specs.Calls.{AsksUntil, asks_and_gives_up, asks_changes, changes_and_refuses}
 use Rattle.page_cache.specs.Calls.{changes_in_turn, no_call_asks}
 use Rattle.tree_node.specs.Boxes.{no_item}
 use Rattle.tree_node.specs.Nodes.{Item, NodeContent}
 use Rattle.tree_node.specs.Trees.{row_items}
 use Rattle.node_page.specs.Checked.{ComesTo}
-use Rattle.node_page.specs.Standing.{PageMap, node_in}
+use Rattle.node_page.specs.Standing.{node_in}
 use Rattle.node_page.proofs.DamageLemmas.{damaged_read}
 use Rattle.node_page.proofs.GivenLemmas.{given_node_is_live}
 use Rattle.node_page.proofs.NodeLemmas.{at_error}

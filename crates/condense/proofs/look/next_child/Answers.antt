@@ -1,5 +1,5 @@
 -- The page that is viewed is that of the node.
-use Rattle.std.proofs.Common.{rules, Some, ◌≡◌, ◌∙◌, ◌<◌, ◌≤◌, ℕ, length, ap, subst, sym, arith, refl}
+use Rattle.std.proofs.Common.{rules, ◌≡◌, ◌∙◌, ◌<◌, ◌≤◌, ℕ, length, ap, subst, arith, refl}
 use Rattle.page_file.specs.declared.fault.Fault.TheVariants as fault
 use Rattle.page_cache.specs.Cache.{pages}
 use Rattle.page_cache.specs.Calls.{AsksUntil, fault_in}

@@ -1,5 +1,5 @@
 -- The goals of `leave_out` that are proved by hand.
-use Rattle.std.proofs.Common.{rules, ◌≡◌, ◌∙◌, ◌-◌, ◌+◌, ◌<◌, All, List, Some, arith, inr, map, ap, ℕ, ◌++◌, reverse}
+use Rattle.std.proofs.Common.{rules, ◌∙◌, ◌+◌, All, arith, inr, map, ap, ℕ, ◌++◌, reverse}
 use Rattle.std.proofs.lemmas.Result.{IfOk-weaker}
 use Rattle.std.specs.Prelude.{◌⊎◌}
 use Rattle.page_file.specs.Fault.{IsDamage, IsOfDevice}
@@ -27,7 +27,8 @@ keep-requires g c =
     let es = c.args.hand.now.entries.items in
     let refers : All (λ (e : Entry g.row.D). IsOfLevel level e.reference e.tag) es =
     All-mapped level es c.requires.cut.refers in
-    (search rules, (search rules, (search rules, (omega (arith, c.requires.room, c.requires.few, fewest_is_low c.args.fanout c.requires.most.1), refers))))
+    let low = fewest_is_low c.args.fanout c.requires.most.1 in
+    (search rules, (search rules, (search rules, (omega (arith, c.requires.room, c.requires.few, low), refers))))
 
 pub returns-in_err-free : goal.returns-in_err-free
 returns-in_err-free g c = record {
@@ -80,7 +81,8 @@ returns g c =
           let live = page_of_node D (m page) child.node child.there in
           let honest = (c.free.ensures.sound h live).honest in
           let apart = c.free.ensures.others h.honest live in
-          let there = parent_stays D m mf at c.args.next c.requires.is_next above child.node child.there child.level_is apart in
+          let there =
+          parent_stays D m mf at c.args.next c.requires.is_next above child.node child.there child.level_is apart in
           let taken =
           child_left c.args.fanout m0 m1 mf at.page at.level id removed row c.args.next.place held
           (held_now c.args.kept.now) above.node.entries page c.requires.is_next.above above.within above.names
@@ -115,7 +117,8 @@ returns g c =
       stay = λ h above child.
           let live = page_of_node D (m page) child.node child.there in
           let apart = c.free.ensures.others h.honest live in
-          let there = parent_stays D m mf at c.args.next c.requires.is_next above child.node child.there child.level_is apart in
+          let there =
+          parent_stays D m mf at c.args.next c.requires.is_next above child.node child.there child.level_is apart in
           above_stay D m mf at c.args.next c.requires.is_next above child.node child.there child.level_is apart mn
           (take.others (c.free.ensures.sound h live).honest (page_of_node D (mf at.page) above.node there));
       faults = λ h above child.

@@ -1,15 +1,15 @@
 -- The goals of `leave_read` that are proved by hand.
-use Rattle.std.proofs.Common.{rules, ◌≡◌, ◌∙◌, ◌+◌, ◌<◌, All, List, None, Some, arith, ap, subst, sym, map, length}
+use Rattle.std.proofs.Common.{rules, ◌∙◌, ◌+◌, ◌<◌, All, None, Some, arith, ap, subst, sym, map, length}
 use Rattle.std.proofs.lemmas.List.{length-map}
 use Rattle.std.specs.Prelude.{◌⊎◌, IsSome}
 use Rattle.page_file.specs.Fault.{IsDamage, IsOfDevice}
 use Rattle.page_file.specs.declared.fault.Fault.TheVariants.{Damaged}
-use Rattle.page_cache.specs.Cache.{IsHonest, IsLive, IsPageMap, pages}
+use Rattle.page_cache.specs.Cache.{IsPageMap, pages}
 use Rattle.page_cache.specs.Calls.{AsksUntil, asks_and_changes, asks_and_gives_up, asks_changes, no_call_asks}
 use Rattle.tree_node.specs.Nodes.{Item, NodeContent, content_of, item_of}
 use Rattle.tree_node.specs.Shape.{least_entries}
 use Rattle.node_page.specs.Layout.{IsOfLevel}
-use Rattle.node_page.specs.Standing.{PageMap, node_in}
+use Rattle.node_page.specs.Standing.{node_in}
 use Rattle.node_page.proofs.NodeLemmas.{at_error}
 use Rattle.node_page.proofs.StandingLemmas.{page_of_node, same_content}
 use Rattle.reinsert.proofs.FaultLemmas.{damaged_asks, no_answer, no_success}

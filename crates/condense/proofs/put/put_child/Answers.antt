@@ -1,13 +1,12 @@
 -- The goals of `put_child` that are proved by hand.
-use Rattle.std.proofs.Common.{rules, ◌≡◌, ◌∙◌, ◌+◌, ◌-◌, ◌<◌, ℕ, Some, arith, inl, refl, ap, subst, sym}
+use Rattle.std.proofs.Common.{◌∙◌, ◌+◌, ℕ, Some, arith, inl, refl, ap, subst, sym}
 use Rattle.std.proofs.lemmas.Result.{IfOk-weaker}
 use Rattle.page_cache.specs.Cache.{pages}
 use Rattle.box_math.specs.Bounds.{Bounds}
-use Rattle.tree_node.specs.Nodes.{Item, NodeContent}
+use Rattle.tree_node.specs.Nodes.{NodeContent}
 use Rattle.node_page.specs.Enlarged.{set_box}
-use Rattle.node_page.specs.Standing.{PageMap}
 use Rattle.node_page.proofs.StandingLemmas.{page_of_node}
-use Rattle.condense.specs.Becoming.{IsFewInHand, IsNow}
+use Rattle.condense.specs.Becoming.{IsNow}
 use Rattle.condense.specs.Steps.{PutsChild}
 use Rattle.condense.specs.Taken.{HasTaken, held_now}
 use Rattle.condense.specs.declared.hand.Became.TheVariants as became

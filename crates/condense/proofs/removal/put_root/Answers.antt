@@ -1,5 +1,5 @@
 -- The goals of `put_root` that are proved by hand.
-use Rattle.std.proofs.Common.{rules, None, Some, length, map, inl, sym, ap, subst, arith, ◌<◌, ◌≤◌}
+use Rattle.std.proofs.Common.{None, length, inl, sym, ap, subst, arith, ◌<◌, ◌≤◌}
 use Rattle.std.proofs.Common.{◌≡◌, ◌∙◌, [], ⊎_elim, IfErr, false, refl, true}
 use Rattle.std.proofs.lemmas.Bool.{true≢false}
 use Rattle.std.specs.Prelude.{◌⊎◌}

@@ -1,5 +1,5 @@
 -- The goals of `remove_with` that are proved by hand.
-use Rattle.std.proofs.Common.{rules, ◌≡◌, ◌∙◌, ◌≤◌, ◌*◌, ◌+◌, length, Some, IfSome, map, inl}
+use Rattle.std.proofs.Common.{rules, ◌≡◌, ◌∙◌, Some, IfSome, map, inl}
 use Rattle.std.proofs.Common.{inr, refl, sym, ap, arith, ℕ, [], ⊎_elim, false, subst, true}
 use Rattle.std.specs.Prelude.{◌⊎◌}
 use Rattle.page_file.specs.Fault.{IsOfDevice}
@@ -17,8 +17,7 @@ use Rattle.node_page.proofs.NodeLemmas.{at_error, if_error}
 use Rattle.node_page.proofs.StandingLemmas.{page_of_node}
 use Rattle.reinsert.proofs.FaultLemmas.{at_none, no_answer}
 use Rattle.reinsert.proofs.FaultLemmas.{damaged_asks, one_more}
-use Rattle.condense.specs.Becoming.{HasBecome, IsFewInHand, IsSettledAs, StaysAbove}
-use Rattle.condense.specs.Removed.{CanRemove, TookOut}
+use Rattle.condense.specs.Becoming.{HasBecome, IsFewInHand, StaysAbove}
 use Rattle.condense.specs.Taken.{IsCut, held_now, orphan_held, tree_at}
 use Rattle.condense.proofs.BecomeLemmas.{cut_in_hand, in_hand, in_page}
 use Rattle.condense.proofs.FreeLemmas.{stands_there}
@@ -139,8 +138,7 @@ returns g c =
           (held_now c.take_out.new.kept) d.items can (ap (map (orphan_held {D = D})) c.begin.ensures) d.taken
           in
           put.removed (sound h) (live h) (pages old) d.between t elsewhere c.args.object.now.reference
-          (c.args.object.now.bounds, c.args.object.now.tag) d.items took d.others
-          (
+          (c.args.object.now.bounds, c.args.object.now.tag) d.items took d.others (
             λ settled. in_page most (pages low page) root.level d.items hand became d.now
                 (sym c.is_written.ensures ∙ settled),
             λ unwritten. in_hand most (pages low page) root.level d.items hand became d.now
@@ -157,8 +155,7 @@ returns g c =
           c.args.object.now.reference (c.args.object.now.bounds, c.args.object.now.tag) t
           (omega (arith, c.requires.most)) shape boxes
           (put.removed (sound h) (live h) (pages old) d.between t elsewhere c.args.object.now.reference
-          (c.args.object.now.bounds, c.args.object.now.tag) d.items took d.others
-          (
+          (c.args.object.now.bounds, c.args.object.now.tag) d.items took d.others (
             λ settled. in_page most (pages low page) root.level d.items hand became d.now
                 (sym c.is_written.ensures ∙ settled),
             λ unwritten. in_hand most (pages low page) root.level d.items hand became d.now
@@ -177,8 +174,7 @@ returns g c =
           (held_now c.take_out.new.kept) d.items can (ap (map (orphan_held {D = D})) c.begin.ensures) d.taken
           in
           put.faults (sound h) (live h) (pages old) d.between t elsewhere c.args.object.now.reference
-          (c.args.object.now.bounds, c.args.object.now.tag) d.items took d.others
-          (
+          (c.args.object.now.bounds, c.args.object.now.tag) d.items took d.others (
             λ settled. in_page most (pages low page) root.level d.items hand became d.now
                 (sym c.is_written.ensures ∙ settled),
             λ unwritten. in_hand most (pages low page) root.level d.items hand became d.now

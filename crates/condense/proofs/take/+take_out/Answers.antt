@@ -1,18 +1,17 @@
 -- The goals of `take_out` that are proved by hand.
-use Rattle.std.proofs.Common.{rules, ◌≡◌, ◌∙◌, ◌+◌, ◌*◌, ◌-◌, ◌<◌, ◌≤◌, ℕ, None, Some, IfSome, List, [], length, map}
+use Rattle.std.proofs.Common.{rules, ◌≡◌, ◌∙◌, ◌-◌, ◌<◌, ◌≤◌, ℕ, None, Some, IfSome, [], length, map}
 use Rattle.std.proofs.Common.{refl, sym, ap, subst, arith, ⊎_elim, inl, inr, true}
 use Rattle.std.specs.Prelude.{◌⊎◌}
 use Rattle.page_file.specs.Fault.{IsDamage, IsOfDevice}
 use Rattle.page_file.specs.declared.fault.Fault.TheVariants.{Damaged}
-use Rattle.page_cache.specs.Cache.{IsHonest, IsPageMap, given, pages, touched_of}
+use Rattle.page_cache.specs.Cache.{IsPageMap, given, pages, touched_of}
 use Rattle.page_cache.specs.Calls.{AsksUntil, asks_and_gives_up, asks_changes, asks_in_turn}
 use Rattle.page_cache.specs.Calls.{changes_and_refuses, changes_in_turn, no_call_asks}
 use Rattle.box_math.specs.Bounds.{Within}
 use Rattle.tree_node.specs.Boxes.{box_at}
-use Rattle.tree_node.specs.Nodes.{NodeContent}
 use Rattle.tree_node.specs.Trees.{row_items}
 use Rattle.node_page.specs.Checked.{ComesTo}
-use Rattle.node_page.specs.Standing.{PageMap, node_in}
+use Rattle.node_page.specs.Standing.{node_in}
 use Rattle.node_page.proofs.DamageLemmas.{damaged_read}
 use Rattle.node_page.proofs.NodeLemmas.{at_error}
 use Rattle.node_page.proofs.StandingLemmas.{page_of_node}
