@@ -1,25 +1,23 @@
 -- The child that an object is looked for in, while the ones before it lacked it.
-use Rattle.std.proofs.Common.{Bool, false, true, ◌≡◌, ◌∙◌, ⊎_elim, ℕ, zero, suc, ◌+◌, ◌-◌, ◌<◌, ◌≤◌, IsSome}
-use Rattle.std.proofs.Common.{Some, List, length, map, get_or, refl, sym, ap, subst, arith}
+use Rattle.std.proofs.Common.{◌≡◌, ◌∙◌, ⊎_elim, ℕ, zero, suc, ◌+◌, ◌-◌, ◌<◌, ◌≤◌}
+use Rattle.std.proofs.Common.{List, length, get_or, refl, sym, ap, subst, arith}
 use Rattle.std.specs.List.{Contains}
 use Rattle.std.proofs.lemmas.Bool.{cases_lt}
-use Rattle.std.proofs.lemmas.List.{get_or-map, length-map}
 use Rattle.box_math.specs.Bounds.{Within}
 use Rattle.box_math.specs.Objects.{Object, bounds_of, tag_of}
 use Rattle.tree_node.specs.Boxes.{box_at, no_item}
-use Rattle.tree_node.specs.declared.node.Entry.{Entry}
-use Rattle.tree_node.specs.declared.node.Node.{Node}
 use Rattle.tree_node.specs.declared.node.Root.{Root}
-use Rattle.tree_node.specs.Nodes.{Item, content_of, item_of}
+use Rattle.tree_node.specs.Nodes.{Item, NodeContent}
 use Rattle.tree_node.specs.Trees.{Row, objects_in, row_items}
 use Rattle.tree_node.proofs.RowLemmas.{all_dropped, row_drop}
-use Rattle.node_page.specs.Standing.{PageMap, RowStands, Stands, node_in}
+use Rattle.node_page.specs.Standing.{PageMap, RowStands, Stands}
 use Rattle.node_page.proofs.PartLemmas.{moves_from}
-use Rattle.node_page.proofs.StandingLemmas.{node_stays, page_of_node, row_stays}
+use Rattle.node_page.proofs.StandingLemmas.{node_stays, row_stays, same_content}
 use Rattle.reinsert.specs.Placed.{Held}
 use Rattle.reinsert.proofs.ChildLemmas.{HasChild, has_child}
-use Rattle.reinsert.proofs.PlaceLemmas.{items_read}
-use Rattle.condense.specs.Taken.{HasTaken, IsSettledBelow, IsTakenFrom, LeadsTo, TookBelow, tree_at}
+use Rattle.condense.specs.Becoming.{IsNext, LeadsDown}
+use Rattle.condense.specs.Taken.{HasTaken, IsTakenFrom, LeadsTo, TookBelow, tree_at}
+use Rattle.condense.specs.declared.hand.Next.{Next}
 use Rattle.condense.proofs.LeadLemmas.{child_contains, leads_later, leaf_lacks, leaf_taken}
 
 -- the child in a place stands, in pages that are as they were
@@ -30,23 +28,19 @@ pub record IsBelow (dims : ℕ) (m m0 : PageMap) (at : Root) (row : Row) (entrie
   pub level : below.level ≡ at.level - 1
   pub stands : Stands dims m0 (tree_at below h.from.row)
 
-pub is_below : {dims : ℕ} (m m0 : PageMap) (at : Root) (row : Row) (level : ℕ) (entries : List (Entry dims))
-    (place : ℕ) (below : Root) → Stands dims m (tree_at at row) → ((n : ℕ) → m0 n ≡ m n)
-    → (IsSome (m at.page)
-    → node_in dims (m at.page) ≡ Some (record { level = level; entries = map item_of entries }))
-    → level ≡ at.level → ¬ (at.level ≡ 0) → place < length entries
-    → ((d : Item) → below.page ≡ (get_or (map item_of entries) place d).reference) → below.level ≡ level - 1
-    → IsBelow dims m m0 at row (map item_of entries) place below
-is_below {dims} m m0 at row level entries place below stands same read is high within refers low =
-    let are =
-    items_read dims m at.page at.level level row (map item_of entries) stands.root
-    (read (page_of_node dims (m at.page) _ stands.root)) in
-    let h = has_child dims m at.level row place (omega (arith, high))
-    (omega (arith, within, length-map entries (item_of {D = dims}), ap length are)) stands.below in
-    let d = no_item in
-    let page : below.page ≡ h.from.page = refers d
-    ∙ ap (λ (xs : List Item). (get_or xs place d).reference) (sym are) ∙ h.reference d in
-    let down : at.level - 1 ≡ below.level = omega (arith, low, is) in
+pub is_below : {dims : ℕ} (m m0 : PageMap) (at : Root) (row : Row) (next : Next)
+    → Stands dims m (tree_at at row) → ((n : ℕ) → m0 n ≡ m n) → (above : LeadsDown dims m0 at next)
+    → IsNext at next → IsBelow dims m m0 at row above.node.entries next.place next.below
+is_below {dims} m m0 at row next stands same above is_next =
+    let are : row_items row ≡ above.node.entries =
+    ap (λ (x : NodeContent). x.entries)
+    (same_content dims m0 at.page (record { level = at.level; entries = row_items row }) above.node
+    (node_stays dims m m0 at.page at.level row (same at.page) stands.root) above.there) in
+    let h = has_child dims m at.level row next.place is_next.above
+    (omega (arith, above.within, ap length are)) stands.below in
+    let page : next.below.page ≡ h.from.page = above.names
+    ∙ ap (λ (xs : List Item). (get_or xs next.place no_item).reference) (sym are) ∙ h.reference no_item in
+    let down : at.level - 1 ≡ next.below.level = sym is_next.level in
     let whole : Stands dims m0 (record { page = h.from.page; level = at.level - 1; row = h.from.row }) =
     record {
       root = node_stays dims m m0 h.from.page (at.level - 1) h.from.row (same h.from.page) h.node;
@@ -57,7 +51,8 @@ is_below {dims} m m0 at row level entries place below stands same read is high w
       are = are;
       h = h;
       level = sym down;
-      stands = subst (λ l. Stands dims m0 (record { page = below.page; level = l; row = h.from.row })) down
+      stands = subst
+          (λ l. Stands dims m0 (record { page = next.below.page; level = l; row = h.from.row })) down
           (subst (λ n. Stands dims m0 (record { page = n; level = at.level - 1; row = h.from.row }))
           (sym page) whole);
     }
@@ -110,15 +105,6 @@ module _ (dims most : ℕ) (m m0 : PageMap) (at : Root) (row : Row) (entries : L
 
 -- ---- a leaf
 
-leaf_read : {dims : ℕ} (m : PageMap) (at : Root) (row : Row) (level : ℕ) (entries : List (Entry dims))
-    → Stands dims m (tree_at at row)
-    → (IsSome (m at.page)
-    → node_in dims (m at.page) ≡ Some (record { level = level; entries = map item_of entries }))
-    → row_items row ≡ map item_of entries
-leaf_read {dims} m at row level entries stands read =
-    items_read dims m at.page at.level level row (map item_of entries) stands.root
-    (read (page_of_node dims (m at.page) _ stands.root))
-
 pub taken_here : {D : ℕ} (most : ℕ) (m m' : PageMap) (at : Root) (id : ℕ) (removed : Object) (row : Row)
     (held : List Held) (items : List Item) → at.level ≡ 0 → Stands D m (tree_at at row)
     → ((n : ℕ) → m' n ≡ m n)
@@ -129,92 +115,52 @@ taken_here {D} most m m' at id removed row held items low stands same taken =
     subst (λ l. HasTaken D most m m' l id removed row held held items) (sym low)
     (leaf_taken D most id removed m m' row held held (row_items row) items below same refl refl taken)
 
-pub found_leaf : {D : ℕ} (most : ℕ) (m : PageMap) (at : Root) (id : ℕ) (removed : Object) (row : Row)
+-- it is not in one without such an entry
+pub none_here : {D : ℕ} (most : ℕ) (m : PageMap) (at : Root) (id : ℕ) (removed : Object) (row : Row)
     → at.level ≡ 0 → Stands D m (tree_at at row)
-    → (found : Bool)
-    → (found ≡ false → (k : ℕ) (d : Item) → k < length (row_items row)
+    → ((k : ℕ) (d : Item) → k < length (row_items row)
     → ¬ (get_or (row_items row) k
     d ≡ record { bounds = bounds_of removed; reference = id; tag = tag_of removed }))
-    → LeadsTo D id removed row → found ≡ true
-found_leaf most m at id removed row low stands true none leads = refl
-found_leaf {D} most m at id removed row low stands false none leads =
+    → ¬ LeadsTo D id removed row
+none_here {D} most m at id removed row low stands none leads =
     let below : RowStands D m 0 row = subst (λ l. RowStands D m l row) low stands.below in
-    absurd (leaf_lacks D most id removed m row below (none refl) leads)
+    leaf_lacks D most id removed m row below none leads
 
 -- ---- children whose boxes do not enclose the object's
 
--- all before one
-pub passed_to : {dims : ℕ} (most : ℕ) (m : PageMap) (at : Root) (row : Row) (first id : ℕ) (removed : Object)
-    → Stands dims m (tree_at at row) → ¬ (at.level ≡ 0)
-    → ((k : ℕ) → k < first → k < length (row_items row)
-    → ¬ Within dims (bounds_of removed) (box_at (row_items row) k)) → LeadsTo dims id removed row
-    → LeadsTo dims id removed (row_drop first row)
-passed_to most m at row zero id removed stands high before leads = leads
-passed_to {dims} most m at row (suc first) id removed stands high before leads =
+-- all from one place to another
+pub passed_to : {dims : ℕ} (most : ℕ) (m : PageMap) (at : Root) (row : Row) (first count last id : ℕ)
+    (removed : Object) → Stands dims m (tree_at at row) → 0 < at.level → last ≡ first + count
+    → ((k : ℕ) → first ≤ k → k < last → k < length (row_items row)
+    → ¬ Within dims (bounds_of removed) (box_at (row_items row) k))
+    → LeadsTo dims id removed (row_drop first row) → LeadsTo dims id removed (row_drop last row)
+passed_to {dims} most m at row first zero last id removed stands high is passed leads =
+    let same : first ≡ last = omega (arith, is) in
+    subst (λ k. LeadsTo dims id removed (row_drop k row)) same leads
+passed_to {dims} most m at row first (suc count) last id removed stands high is passed leads =
+    let place : ℕ = first + count in
     let so_far =
-    passed_to most m at row first id removed stands high
-    (λ k below lt. before k (omega (arith, below)) lt) leads in
-    ⊎_elim
-    (λ (within : first < length (row_items row)).
-    let h = has_child dims m at.level row first (omega (arith, high)) within stands.below in
-    leads_later dims most id removed row first h.from no_item h.there
-    (λ both. before first (omega arith) within both.0) so_far)
-    (λ past. absurd (subst (LeadsTo dims id removed) (all_dropped first row past) so_far))
-    (cases_lt first (length (row_items row)))
-
--- and where these are all, the object is nowhere
-pub none_leads : {dims : ℕ} (most : ℕ) (m : PageMap) (at : Root) (row : Row) (id : ℕ) (removed : Object)
-    → Stands dims m (tree_at at row) → ¬ (at.level ≡ 0)
-    → ((k : ℕ) → k < length (row_items row) → ¬ Within dims (bounds_of removed) (box_at (row_items row) k))
-    → ¬ LeadsTo dims id removed row
-none_leads {dims} most m at row id removed stands high none leads =
-    let n = length (row_items row) in
-    subst (LeadsTo dims id removed) (all_dropped n row (omega arith))
-    (passed_to most m at row n id removed stands high (λ k below lt. none k lt) leads)
-
--- and one
-pub passed_by : {dims : ℕ} (most : ℕ) (m : PageMap) (at : Root) (row : Row) (level : ℕ)
-    (entries now : List (Entry dims)) (place : ℕ) (e : Entry dims) (id : ℕ) (removed : Object)
-    → Stands dims m (tree_at at row)
-    → (IsSome (m at.page)
-    → node_in dims (m at.page) ≡ Some (record { level = level; entries = map item_of entries }))
-    → ¬ (at.level ≡ 0) → place < length entries → now ≡ entries → e ≡ get_or now place e
-    → ¬ Within dims (bounds_of removed) e.bounds
-    → LeadsTo dims id removed (row_drop place row) → LeadsTo dims id removed (row_drop (place + 1) row)
-passed_by {dims} most m at row level entries now place e id removed stands read high within is here out
-    leads =
-    let are = leaf_read m at row level entries stands read in
-    let count : length (row_items row) ≡ length entries = ap length are
-    ∙ length-map entries (item_of {D = dims}) in
-    let h = has_child dims m at.level row place (omega (arith, high)) (omega (arith, within, count))
-    stands.below in
-    let d = no_item in
-    let this : get_or entries place e ≡ e = sym (here ∙ ap (λ xs. get_or xs place e) is) in
-    let item : get_or (row_items row) place d ≡ item_of e = ap (λ (xs : List Item). get_or xs place d) are
-    ∙ get_or-map item_of entries place e d within ∙ ap item_of this in
-    let step : suc place ≡ place + 1 = omega arith in
+    passed_to most m at row first count place id removed stands high refl
+    (λ k low below lt. passed k low (omega (arith, below, is)) lt) leads in
+    let step : suc place ≡ last = omega (arith, is) in
     subst (λ k. LeadsTo dims id removed (row_drop k row)) step
-    (leads_later dims most id removed row place h.from d h.there
-    (λ both. out (subst (λ (x : Item). Within dims (bounds_of removed) x.bounds) item both.0)) leads)
+    (⊎_elim
+    (λ (within : place < length (row_items row)).
+    let h = has_child dims m at.level row place high within stands.below in
+    leads_later dims most id removed row place h.from no_item h.there
+    (λ both. passed place (omega arith) (omega (arith, step)) within both.0) so_far)
+    (λ past. absurd (subst (LeadsTo dims id removed) (all_dropped place row past) so_far))
+    (cases_lt place (length (row_items row))))
 
--- after the last entry there is nothing
-pub nothing_later : {dims : ℕ} (m : PageMap) (at : Root) (row : Row) (level : ℕ)
-    (entries : List (Entry dims)) (place id : ℕ) (removed : Object) → Stands dims m (tree_at at row)
-    → (IsSome (m at.page)
-    → node_in dims (m at.page) ≡ Some (record { level = level; entries = map item_of entries }))
-    → length entries ≤ place → ¬ LeadsTo dims id removed (row_drop place row)
-nothing_later {dims} m at row level entries place id removed stands read over leads =
-    let are = leaf_read m at row level entries stands read in
-    subst (LeadsTo dims id removed)
-    (all_dropped place row (omega (arith, over, ap length are, length-map entries (item_of {D = dims}))))
-    leads
-
--- ---- answers
-
--- the page of a child has it where it is settled
-pub settled_child : {D : ℕ} (lower : Node D) (m : PageMap) (entries : List Item) (place page : ℕ)
-    (settled : Bool) → ((d : Item) → page ≡ (get_or entries place d).reference)
-    → (settled ≡ true → node_in D (m page) ≡ Some (content_of lower))
-    → IsSettledBelow D m entries place (content_of lower) settled
-settled_child {D} lower m entries place page settled refers has so d =
-    subst (λ k. node_in D (m k) ≡ Some (content_of lower)) (refers d) (has so)
+-- and where these are all that are left, the object is not there
+pub none_leads : {dims : ℕ} (most : ℕ) (m : PageMap) (at : Root) (row : Row) (first id : ℕ)
+    (removed : Object) → Stands dims m (tree_at at row) → 0 < at.level
+    → ((k : ℕ) → first ≤ k → k < length (row_items row)
+    → ¬ Within dims (bounds_of removed) (box_at (row_items row) k))
+    → ¬ LeadsTo dims id removed (row_drop first row)
+none_leads {dims} most m at row first id removed stands high none leads =
+    let n = length (row_items row) in
+    let last : ℕ = first + n in
+    subst (LeadsTo dims id removed) (all_dropped last row (omega arith))
+    (passed_to most m at row first n last id removed stands high refl
+    (λ k low below lt. none k low lt) leads)

@@ -1,24 +1,20 @@
 -- Lists, rows and nodes without the entry at a position.
-use Rattle.std.proofs.Common.{◌≡◌, ◌∙◌, ℕ, ℤ, set, zero, suc, ◌+◌, ◌<◌, Some, All, List, [], ◌∷◌, ◌++◌}
-use Rattle.std.proofs.Common.{length, map, take, drop, get_or, refl, sym, ap, subst, arith}
+use Rattle.std.proofs.Common.{◌≡◌, ◌∙◌, ℕ, ℤ, zero, suc, ◌+◌, ◌<◌, ◌≤◌, Some, All, List, [], ◌∷◌, ◌++◌}
+use Rattle.std.proofs.Common.{length, map, take, drop, refl, sym, ap, subst, arith}
 use Rattle.std.specs.Prelude.{remove}
-use Rattle.std.specs.List.{refill}
-use Rattle.std.proofs.Math.ListN.{drop_of_length-le}
-use Rattle.std.proofs.lemmas.List.{append-nil, get_or_default, length-map, set-get_or, take_all}
+use Rattle.std.proofs.lemmas.List.{length-map}
 use Rattle.std.proofs.lemmas.List.Elements.{All-append, All-take, All-drop}
 use Rattle.box_math.specs.Bounds.{Bounds}
 use Rattle.tree_node.specs.declared.node.Entry.{Entry}
 use Rattle.tree_node.specs.Nodes.{Item, item_of}
 use Rattle.tree_node.specs.Positions.{total}
 use Rattle.tree_node.specs.Rows.{branches_of, occurs_on, row_of}
+use Rattle.tree_node.specs.Shape.{least_entries}
 use Rattle.tree_node.specs.Trees.{Row, end, more, Branch, object, child, occurs, row_items, row_length}
 use Rattle.tree_node.proofs.RowLemmas.{occurs-branches_of}
 use Rattle.node_page.specs.Layout.{IsOfLevel, IsSpellable}
 use Rattle.node_page.specs.Standing.{PageMap, RowStands}
 use Rattle.reinsert.specs.Children.{Child, child_at, occurs_at}
-use Rattle.node_page.specs.Enlarged.{set_box}
-use Rattle.node_page.proofs.BoxedLemmas.{length-set_box}
-use Rattle.reinsert.proofs.AboveLemmas.{set_box-refers}
 use Rattle.condense.specs.Taken.{IsCut, items_without}
 
 abbrev pub cut : {A : Type 0} → List A → ℕ → List A
@@ -108,30 +104,6 @@ pub same_box : (a b : Bounds) → a.low ≡ b.low → a.high ≡ b.high → a �
 same_box a b low high = ap (λ (xs : List ℤ). record { low = xs; high = a.high }) low
     ∙ ap (λ (xs : List ℤ). record { low = b.low; high = xs }) high
 
--- an entry that gets the box that it has stays
-pub set_same : {D : ℕ} (entries seen now : List (Entry D)) (at : ℕ) (e f : Entry D) (b : Bounds)
-    → at < length entries → seen ≡ entries → now ≡ entries → (get_or seen at e).bounds ≡ b
-    → set now at
-    (record { bounds = b; reference = (get_or now at f).reference; tag = (get_or now at f).tag }) ≡ entries
-set_same {D} entries seen now at e f b within same is box =
-    let bounds : b ≡ (get_or entries at f).bounds = sym box
-    ∙ ap (λ (xs : List (Entry D)). (get_or xs at e).bounds) same
-    ∙ ap (λ (x : Entry D). x.bounds) (get_or_default entries at e f within) in
-    ap (λ xs. set xs at
-    (record { bounds = b; reference = (get_or xs at f).reference; tag = (get_or xs at f).tag })) is
-    ∙ ap (λ (x : Bounds). set entries at
-    (record {
-      bounds = x;
-      reference = (get_or entries at f).reference;
-      tag = (get_or entries at f).tag;
-    })) bounds
-    ∙ set-get_or entries at f
-
--- what is written over itself stays
-pub refilled : {A : Type 0} (xs : List A) → refill (length xs) xs xs ≡ xs
-refilled xs = ap (λ ys. take (length xs) (xs ++ ys)) (drop_of_length-le xs (omega arith))
-    ∙ ap (take (length xs)) (append-nil xs) ∙ take_all (length xs) xs (omega arith)
-
 -- ---- nodes in hand
 
 pub cut_removed : {D : ℕ} (level : ℕ) (entries new : List (Entry D)) (at : ℕ)
@@ -154,17 +126,6 @@ cut_removed level entries new at spells within is =
           (All-without P (map item_of entries) at spells.refers);
     }
 
-pub cut_boxed : {D : ℕ} (level : ℕ) (entries new : List (Entry D)) (at : ℕ) (b : Bounds)
-    → IsSpellable (record { level = level; entries = map item_of entries })
-    → map item_of new ≡ set_box (map item_of entries) at b
-    → IsCut level (record { level = level; entries = map item_of new })
-cut_boxed level entries new at b spells are =
-    let P : Item → Type 0 = λ item. IsOfLevel level item.reference item.tag in
-    let count = length-set_box (map item_of entries) at b in
-    record {
-      level_is = refl;
-      few = omega (arith, ap length are, count, spells.few);
-      refers =
-          subst (λ (xs : List Item). All P xs) (sym are)
-          (set_box-refers level (map item_of entries) at b spells.refers);
-    }
+-- the least count is 40 at most
+pub fewest_is_low : (most : ℕ) → most ≤ 100 → least_entries most ≤ 40
+fewest_is_low most few = omega arith

@@ -1,6 +1,6 @@
 -- The page that is damaged is one that a walk comes to, also where nodes went meanwhile.
-use Rattle.std.proofs.Common.{true, false, Result, Ok, Err, IfErr, IfOk, OnOk, Some, None, List, []}
-use Rattle.std.proofs.Common.{◌∷◌, length, get_or, ◌≡◌, ◌∙◌, ◌⊎◌, ⊎_elim, inl, inr, ℕ, ◌<◌, ◌≤◌, refl}
+use Rattle.std.proofs.Common.{true, false, Result, Ok, Err, IfErr, OnOk, Some, None, List, []}
+use Rattle.std.proofs.Common.{◌∷◌, length, get_or, ◌≡◌, ◌∙◌, ◌⊎◌, ⊎_elim, inl, inr, ℕ, ◌+◌, ◌<◌, ◌≤◌, refl}
 use Rattle.std.proofs.Common.{sym, ap, subst, arith, rules}
 use Rattle.std.proofs.lemmas.Bool.{cases_eq, cases_lt}
 use Rattle.page_file.specs.Fault.{IsOfDevice}
@@ -18,7 +18,10 @@ use Rattle.node_page.proofs.GivenLemmas.{given_node_is_live, live_node_is_given}
 use Rattle.node_page.proofs.NodeLemmas.{if_error}
 use Rattle.node_page.proofs.StandingLemmas.{same_content}
 use Rattle.reinsert.proofs.FaultLemmas.{none_before}
+use Rattle.tree_node.specs.declared.node.Root.{Root}
+use Rattle.condense.specs.Becoming.{IsNext, LeadsDown}
 use Rattle.condense.specs.Spelled.{AddsNoNode, KeepsNodes}
+use Rattle.condense.specs.declared.hand.Next.{Next}
 
 -- ---- walks
 
@@ -74,6 +77,59 @@ module _ (dims : ℕ) where
         (λ (other : page ≡ n → ⊥). ap (node_in dims) (sym (others n (λ is. other (sym is)))) ∙ is)
         (cases_eq page n)
 
+-- ---- a child's page that goes or changes, and then the page of the node above it
+
+module _ (dims : ℕ) (m mid : PageMap) (at : Root) (next : Next) (is_next : IsNext at next)
+    (above : LeadsDown dims m at next) (own : NodeContent)
+    (there : node_in dims (m next.below.page) ≡ Some own) (low : own.level ≡ next.below.level)
+    (apart : SameBut next.below.page m mid) where
+  pub parent_stays : node_in dims (mid at.page) ≡ Some above.node
+  parent_stays =
+      others_keep dims m mid next.below.page apart at.level own there
+      (omega (arith, low, is_next.level, is_next.above)) at.page above.node above.there
+      (omega (arith, above.level_is))
+
+  pub above_stay : (m' : PageMap) → SameBut at.page mid m' → KeepsNodes dims (at.level + 1) m m'
+  above_stay m' others n c is high =
+      others_keep dims mid m' at.page others (at.level + 1) above.node parent_stays
+      (omega (arith, above.level_is)) n c
+      (others_keep dims m mid next.below.page apart (at.level + 1) own there
+      (omega (arith, low, is_next.level)) n c is high) high
+
+-- a node leads to its child in pages that stayed
+abbrev pub leads_same : (dims : ℕ) (m m' : PageMap) (at : Root) (next : Next) → ((n : ℕ) → m' n ≡ m n)
+    → LeadsDown dims m at next → LeadsDown dims m' at next
+leads_same dims m m' at next same above = record {
+  node = above.node;
+  there = ap (node_in dims) (same at.page) ∙ above.there;
+  level_is = above.level_is;
+  within = above.within;
+  names = above.names;
+}
+
+-- in those of a sound map
+abbrev pub leads_live : {D A : Type 0} {m : _} (dims : ℕ) (cache : PageCache D A m) (at : Root) (next : Next)
+    → IsPageMap cache → LeadsDown dims (given cache) at next → LeadsDown dims (pages cache) at next
+leads_live dims cache at next map above = record {
+  node = above.node;
+  there = given_node_is_live dims cache at.page above.node map above.there;
+  level_is = above.level_is;
+  within = above.within;
+  names = above.names;
+}
+
+-- and where only nodes of lower levels changed
+abbrev pub leads_kept : (dims : ℕ) (m m' : PageMap) (at : Root) (next : Next) → IsNext at next
+    → KeepsNodes dims (next.below.level + 1) m m' → LeadsDown dims m at next → LeadsDown dims m' at next
+leads_kept dims m m' at next is_next keeps above = record {
+  node = above.node;
+  there = keeps at.page above.node above.there
+      (omega (arith, above.level_is, is_next.level, is_next.above));
+  level_is = above.level_is;
+  within = above.within;
+  names = above.names;
+}
+
 -- ---- the pages given out, before a call that is refused
 
 -- where the map is sound, and nodes only went, or no page is touched
@@ -92,10 +148,6 @@ given_before dims old mid new honest keeps stays sound either = ⊎_elim
 -- ---- answers
 
 -- what is so anyway
-pub all_ok : {T E : Type 0} (r : Result T E) (P : T → Type 0) → ((x : T) → P x) → IfOk r P
-all_ok (Ok x) P so = so x
-all_ok (Err e) P so = tt
-
 pub with_ok : {T E : Type 0} (r : Result T E) (X : Type 0) → X → OnOk r X
 with_ok (Ok x) X so = so
 with_ok (Err e) X so = tt

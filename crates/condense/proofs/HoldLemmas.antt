@@ -1,14 +1,16 @@
 -- Entries of a viewed node, passed over by the mask of an object's box or looked at.
-use Rattle.std.proofs.Common.{◌≡◌, ◌∙◌, ℕ, ◌+◌, ◌<◌, ◌≤◌, Some, false, List, length, get_or, sym, ap, subst}
+use Rattle.std.proofs.Common.{◌≡◌, ◌∙◌, ℕ, ◌+◌, ◌^◌, ◌<◌, ◌≤◌, Some, false, List, length, get_or, sym, ap, subst}
 use Rattle.std.proofs.Common.{inl, inr, arith}
 use Rattle.std.specs.Prelude.{slice_get}
 use Rattle.std.proofs.lemmas.Bool.{cases_eq, cases_lt}
 use Rattle.std.proofs.lemmas.List.{get_or_default}
+use Rattle.std.proofs.lemmas.List.Elements.{All-get_or}
 use Rattle.box_math.specs.Bounds.{Bounds, IsBox, Within, meets_test}
 use Rattle.box_math.specs.Masks.{has_bit}
 use Rattle.box_math.proofs.BoxLaws.{Within-refl}
 use Rattle.tree_node.specs.Boxes.{no_item}
-use Rattle.tree_node.specs.Nodes.{Item}
+use Rattle.tree_node.specs.Nodes.{Item, NodeContent}
+use Rattle.node_page.specs.Layout.{IsOfLevel, IsSpellable}
 use Rattle.choose_subtree.proofs.MaskLaws.{unset_holds_not}
 
 -- an entry whose bit is not set is not the object's
@@ -53,3 +55,15 @@ up_to P place next before here after k below = elim (cases_lt k place) [
     | inr differs ↦ after k (omega (arith, late, differs)) below
   ]
 ]
+
+-- the page of a child is one that a node can refer to
+pub refers_down : (c : NodeContent) (place : ℕ) (x : Item) → IsSpellable c → place < length c.entries
+    → 0 < c.level → x ≡ get_or c.entries place x → (3 ≤ x.reference) × (x.reference < 2 ^ 31)
+refers_down c place x spells within above is =
+    let at =
+    All-get_or (λ (item : Item). IsOfLevel c.level item.reference item.tag) c.entries place x within
+    spells.refers in
+    let here =
+    subst (λ (item : Item). IsOfLevel c.level item.reference item.tag) (sym is) at in
+    let found = here above in
+    (found.0, found.1)

@@ -1,4 +1,5 @@
 -- The files of lemmas.
+pub mod BecomeLemmas
 pub mod BelowLemmas
 pub mod CutLemmas
 pub mod DamageLemmas

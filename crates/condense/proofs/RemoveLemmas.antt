@@ -1,12 +1,10 @@
 -- What a removal answers, from what its steps ensure.
 use Rattle.std.proofs.Common.{Result, Ok, Err, IfOk, IfErr, OnErr, IsErrAnd, List, [], ◌≡◌, ◌∙◌, ℕ, ◌≤◌}
-use Rattle.std.proofs.Common.{◌∷◌, None, sym, subst}
+use Rattle.std.proofs.Common.{◌∷◌, IfSome, IsSome, None, Option, Some, refl, sym, subst}
 use Rattle.std.specs.List.Sorted.{IsPermutation}
 use Rattle.box_math.specs.Objects.{Object}
 use Rattle.page_file.specs.Fault.{IsOfDevice}
 use Rattle.page_file.specs.declared.fault.Fault.{Fault}
-use Rattle.page_cache.specs.Calls.{Asks, AsksUntil}
-use Rattle.page_cache.specs.declared.cache.PageCache.{PageCache}
 use Rattle.tree_node.specs.declared.node.Root.{Root}
 use Rattle.tree_node.specs.Nodes.{Item}
 use Rattle.tree_node.specs.Boxes.{RowHasBoxes}
@@ -55,12 +53,6 @@ took_out dims most m m1 root t elsewhere id removed held0 held items can none do
       (subst (λ l. HasTaken dims most m m1 l id removed t.row held0 held items) (sym can.at.level) done);
 }
 
--- pages that were only asked for, where something is told of an answer
-pub none_asked : {D A : Type 0} {m : _} {T : Type 0} (r : Result T Fault) (old new : PageCache D A m)
-    (Q : T → Type 0) (X : Type 0) → Asks old new r → X → IfOk r (λ x. Q x → AsksUntil old new None × X)
-none_asked (Ok x) old new Q X asks so = λ q. (asks, so)
-none_asked (Err e) old new Q X asks so = tt
-
 -- a refusal is handed on
 pub on_err : {T E : Type 0} (r : Result T E) (X : Type 0) → X → OnErr r X
 on_err (Ok x) X h = tt
@@ -80,3 +72,18 @@ pub map_err : {A E : Type 0} (r : Result A E) (P Q : E → Type 0) → IfErr r P
     → IfErr r Q
 map_err (Ok a) P Q h f = tt
 map_err (Err e) P Q h f = f e h
+
+-- what is none is not some
+pub never_some : {A : Type 0} (o : Option A) → ((x : A) → o ≡ Some x → ⊥) → IsSome o → ⊥
+never_some None never is = absurd (cc)
+never_some (Some x) never is = never x refl
+
+pub some_weaker : {A : Type 0} (o : Option A) (P Q : A → Type 0) → ((x : A) → P x → Q x) → IfSome o P
+    → IfSome o Q
+some_weaker None P Q f h = tt
+some_weaker (Some x) P Q f h = f x h
+
+pub some_both : {A : Type 0} (o : Option A) (P Q R : A → Type 0) → IfSome o P → IfSome o Q
+    → ((x : A) → P x → Q x → R x) → IfSome o R
+some_both None P Q R p q both = tt
+some_both (Some x) P Q R p q both = both x p q

@@ -49,15 +49,6 @@ module _ (dims most : ℕ) (m m1 : PageMap) (root : Root) (t : Tree) (elsewhere 
   framed : Moves m m1 (λ n. occurs n t.row + rest n) (λ n. new n + rest n)
   framed = moves_with m m1 (λ n. occurs n t.row) new rest took.taken.moves apart live
 
-  -- the root's page is still live
-  root_there : IsSome (m1 t.page)
-  root_there =
-      subst IsSome (sym (same t.page (omega (arith, occurs_here t.page))))
-      (page_of_node dims (m t.page) _ took.can.stands.root)
-
-  pub root_stays_live : IsSome (m1 root.page)
-  root_stays_live = subst (λ n. IsSome (m1 n)) took.can.at.page root_there
-
   module _ (m2 : PageMap) (level : ℕ) (is : level ≡ root.level)
       (there : node_in dims (m2 root.page) ≡ Some (record { level = level; entries = items }))
       (others : SameBut root.page m1 m2) where

@@ -1,17 +1,16 @@
 -- A child of which the object was taken, and the node above it condensed.
-use Rattle.std.proofs.Common.{Result, Ok, Err, None, OnOk, ◌≡◌, ◌∙◌, ℕ, suc, ◌+◌, ◌-◌, ◌<◌, ◌≤◌, IsSome, Some}
+use Rattle.std.proofs.Common.{None, ◌≡◌, ◌∙◌, ℕ, suc, ◌+◌, ◌-◌, ◌<◌, ◌≤◌, IsSome, Some}
 use Rattle.std.proofs.Common.{true, false, cond, eqb, List, [], ◌∷◌, ◌++◌, length, map, get_or, reverse, refl}
 use Rattle.std.proofs.Common.{sym, ap, subst, ⊎_elim, arith, append_assoc}
 use Rattle.std.specs.Prelude.{nat_lt}
 use Rattle.std.proofs.lemmas.Bool.{cases_eq}
 use Rattle.std.proofs.lemmas.Bool.Decides.{nat_tests}
-use Rattle.std.proofs.lemmas.List.{length-map, map-append, reverse-append}
+use Rattle.std.proofs.lemmas.List.{get_or_default, length-map, map-append, reverse-append}
 use Rattle.box_math.specs.Objects.{Object}
 use Rattle.page_file.specs.Pages.{SameBut}
 use Rattle.tree_node.specs.declared.node.Entry.{Entry}
 use Rattle.tree_node.specs.Boxes.{least_box, no_item}
-use Rattle.tree_node.specs.declared.node.Node.{Node}
-use Rattle.tree_node.specs.Nodes.{Item, NodeContent, content_of, item_of}
+use Rattle.tree_node.specs.Nodes.{Item, NodeContent, item_of}
 use Rattle.tree_node.specs.Positions.{total}
 use Rattle.tree_node.specs.Rows.{Waiter, branches_of, item_in, occurs_on, occurs_waiting, row_of}
 use Rattle.tree_node.specs.Shape.{least_entries}
@@ -34,6 +33,7 @@ use Rattle.reinsert.proofs.PlaceLemmas.{AllWait-append}
 use Rattle.reinsert.proofs.SettledLemmas.{AllWait-map, AllWait_frame}
 use Rattle.reinsert.proofs.StandLemmas.{moves_with, rest_once, rest_same, zero_there}
 use Rattle.condense.specs.Removal.{Condensed, TakesOut, condensed, without}
+use Rattle.condense.specs.Spelled.{page_at}
 use Rattle.condense.specs.Taken.{HasTaken, TookBelow, items_without}
 use Rattle.condense.proofs.CutLemmas.{RowStands-cut, cut, cut-is, length-items, map-cut, occurs-cut}
 
@@ -91,33 +91,6 @@ stays_is dims most level row at below some =
 abbrev once_at : ℕ → ℕ → ℕ
 once_at page n = cond (eqb page n) 1 0
 
--- ---- the node's own page
-
--- what is taken out below a node leaves its page
-pub page_stays : (dims most : ℕ) (m m' : PageMap) (page level id : ℕ) (removed : Object) (row : Row)
-    (held held' : List Held) (items : List Item)
-    → Stands dims m (record { page = page; level = level; row = row })
-    → HasTaken dims most m m' level id removed row held held' items → m' page ≡ m page
-page_stays dims most m m' page level id removed row held held' items stands done =
-    rest_same m m' (λ n. occurs n row) (λ n. occurs n done.out.row + occurs_waiting n done.out.kept)
-    (once_at page) done.moves
-    (λ n. omega (arith, stands.distinct n))
-    (λ n there. ⊎_elim (λ same. subst (λ k. IsSome (m k)) same (page_of_node dims (m page) _ stands.root))
-    (λ differs. absurd (omega (arith, there, zero_there page n differs))) (cases_eq page n))
-    page (omega (arith, occurs_here page))
-
--- and so it has the node where that is as it was
-pub settled_still : {D : ℕ} (most : ℕ) (m m' : PageMap) (page level id : ℕ) (removed : Object) (row : Row)
-    (held held' : List Held) (was : NodeContent) (n : Node D)
-    → Stands D m (record { page = page; level = level; row = row }) → node_in D (m page) ≡ Some was
-    → content_of n ≡ was
-    → HasTaken D most m m' level id removed row held held' (map item_of n.entries.items)
-    → node_in D (m' page) ≡ Some (content_of n)
-settled_still {D} most m m' page level id removed row held held' was n stands read same taken =
-    ap (node_in D)
-    (page_stays D most m m' page level id removed row held held' (map item_of n.entries.items) stands
-    taken) ∙ read ∙ ap (λ (x : NodeContent). Some x) (sym same)
-
 -- ---- the node above
 
 module _ {D : ℕ} (most level lower at reference id : ℕ) (removed : Object) (row : Row) (m m1 : PageMap)
@@ -155,13 +128,6 @@ module _ {D : ℕ} (most level lower at reference id : ℕ) (removed : Object) (
   framed =
       moves_same m m1 _ _ _ _ (λ n. omega (arith, fewer n)) (λ n. refl)
       (moves_with m m1 (λ n. occurs n h.from.row) new rest done.moves apart live)
-
-  at_child : 0 < rest reference
-  at_child = omega (arith, fewer reference, occurs_here reference)
-
-  -- the child's page is still live
-  pub child_lives : IsSome (m1 reference)
-  child_lives = subst IsSome (sym (keeps reference at_child)) (live reference at_child)
 
   -- the child's page is none of the new ones
   not_new : (n : ℕ) → 0 < new n → ¬ (n ≡ reference)
@@ -339,42 +305,53 @@ lower {D} most m m1 page level id removed row at held held1 entries es reference
           took.taken;
     }
 
-pub lives : {D : ℕ} (most : ℕ) (m m1 : PageMap) (page level id : ℕ) (removed : Object) (row : Row) (at : ℕ)
-    (held held1 : List Held) (entries : List Item) (es : List (Entry D)) (reference : ℕ)
-    → Lower most m m1 page level id removed row at held held1 entries es reference → IsSome (m1 reference)
-lives most m m1 page level id removed row at held held1 entries es reference l =
-    child_lives most level (level - 1) at reference id removed row m m1 page held held1 es entries l.stands
-    l.h l.is l.up refl l.are l.done
+-- items as the code holds them
+abbrev entry_of : {D : ℕ} → Item → Entry D
+entry_of item = record { bounds = item.bounds; reference = item.reference; tag = item.tag }
+
+entries_of : (D : ℕ) (items : List Item) → map (item_of {D = D}) (map (entry_of {D = D}) items) ≡ items
+entries_of D [] = refl
+entries_of D (item ∷ items) = ap (λ (xs : List Item). item ∷ xs) (entries_of D items)
+
+refers_there : (entries : List Item) (at reference : ℕ) → at < length entries
+    → reference ≡ page_at entries at → (d : Item) → reference ≡ (get_or entries at d).reference
+refers_there entries at reference within names d = names
+    ∙ ap (λ (x : Item). x.reference) (get_or_default entries at no_item d within)
 
 module _ {D : ℕ} (most : ℕ) (m m1 m2 : PageMap) (page level id : ℕ) (removed : Object) (row : Row) (at : ℕ)
-    (held held1 held2 : List Held) (entries : List Item) (es : List (Entry D)) (reference : ℕ)
-    (l : Lower most m m1 page level id removed row at held held1 entries es reference) where
-  pub left_ok : {A E : Type 0} (r : Result A E) (X : Type 0) (after : List Item) → X
-      → SameBut reference m1 m2 → length es < least_entries most → OnOk r (m2 reference ≡ None)
-      → OnOk r (after ≡ items_without entries at)
-      → OnOk r (held2 ≡ held1 ++ reverse (map (held_with (level - 1)) es))
-      → OnOk r (X × HasTaken D most m m2 level id removed row held held2 after)
-  left_ok (Ok a) X after x others few gone written holds = (
-    x,
-    child_leaves most level (level - 1) at reference id removed row m m1 page held held1 es entries
-        l.stands l.h l.is l.up refl l.are l.done m2 held2 after others few gone written holds,
-  )
-  left_ok (Err e) X after x others few gone written holds = tt
+    (held held1 : List Held) (entries : List Item) (reference : ℕ) (high : 0 < level)
+    (within : at < length entries) (names : reference ≡ page_at entries at)
+    (others : SameBut reference m1 m2) where
+  -- the child leaves, whose page has gone
+  pub child_left : (held2 : List Held) (es : List (Entry D)) (items : List Item) → items ≡ map item_of es
+      → TookBelow D most m m1 page level id removed row at held held1 entries items
+      → length es < least_entries most → m2 reference ≡ None
+      → held2 ≡ held1 ++ reverse (map (held_with (level - 1)) es)
+      → HasTaken D most m m2 level id removed row held held2 (items_without entries at)
+  child_left held2 es items is took few gone holds =
+      let l =
+      lower most m m1 page level id removed row at held held1 entries es reference
+      (subst (λ (xs : List Item). TookBelow D most m m1 page level id removed row at held held1 entries xs) is
+      took) high within (refers_there entries at reference within names) in
+      child_leaves most level (level - 1) at reference id removed row m m1 page held held1 es entries
+      l.stands l.h l.is l.up refl l.are l.done m2 held2 (items_without entries at) others few gone refl holds
 
-  pub stayed_ok : {A E : Type 0} (r : Result A E) (X : Type 0) (after : List Item) → X
-      → SameBut reference m1 m2 → least_entries most ≤ length es
-      → (of : ℕ) → of ≡ level - 1
-      → OnOk r (node_in D (m2 reference) ≡ Some (record { level = of; entries = map item_of es }))
-      → OnOk r (after ≡ set_box entries at (least_box D (map item_of es))) → held2 ≡ held1
-      → OnOk r (X × HasTaken D most m m2 level id removed row held held2 after)
-  stayed_ok (Ok a) X after x others some of low there written holds = (
-    x,
-    child_stays most level (level - 1) at reference id removed row m m1 page held held1 es entries l.stands
-        l.h l.is l.up refl l.are l.done m2 held2 after others some
-        (there ∙ ap
-        (λ (l : ℕ). Some (let c : NodeContent = record { level = l; entries = map item_of es } in c)) low
-        ∙ ap (λ (xs : List Item). Some
-        (let c : NodeContent = record { level = level - 1; entries = xs } in c)) l.done.entries) written
-        holds,
-  )
-  stayed_ok (Err e) X after x others some of low there written holds = tt
+  -- the child stays, whose page has what it has become
+  pub child_settled : (items : List Item)
+      → TookBelow D most m m1 page level id removed row at held held1 entries items
+      → least_entries most ≤ length items
+      → node_in D (m2 reference) ≡ Some (record { level = level - 1; entries = items })
+      → HasTaken D most m m2 level id removed row held held1 (set_box entries at (least_box D items))
+  child_settled items took some there =
+      let es : List (Entry D) = map entry_of items in
+      let same : map item_of es ≡ items = entries_of D items in
+      let l =
+      lower most m m1 page level id removed row at held held1 entries es reference
+      (subst (λ (xs : List Item). TookBelow D most m m1 page level id removed row at held held1 entries xs)
+      (sym same) took) high within (refers_there entries at reference within names) in
+      child_stays most level (level - 1) at reference id removed row m m1 page held held1 es entries l.stands
+      l.h l.is l.up refl l.are l.done m2 held1 (set_box entries at (least_box D items)) others
+      (omega (arith, some, length-map items (entry_of {D = D})))
+      (there ∙ ap (λ (xs : List Item). Some
+      (let c : NodeContent = record { level = level - 1; entries = xs } in c)) (sym same ∙ l.done.entries))
+      (ap (λ (xs : List Item). set_box entries at (least_box D xs)) (sym same)) refl

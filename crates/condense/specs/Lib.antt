@@ -4,4 +4,5 @@ pub mod Taken
 pub mod Filled
 pub mod Removed
 pub mod Spelled
+pub mod Becoming
 pub mod Steps

@@ -1,5 +1,5 @@
 -- The nodes that pages spell, of a tree or not, and what a change leaves of them.
-use Rattle.std.specs.Prelude.{◌≡◌, ℕ, ◌≤◌, List, Some, slice_index_or}
+use Rattle.std.specs.Prelude.{◌≡◌, ℕ, ◌<◌, ◌≤◌, List, Some, length, slice_index_or}
 use Rattle.tree_node.specs.Boxes.{no_item}
 use Rattle.tree_node.specs.Nodes.{Item, NodeContent}
 use Rattle.node_page.specs.Standing.{PageMap, node_in}
@@ -18,9 +18,15 @@ AddsNoNode dims m m' =
 abbrev pub page_at : List Item → ℕ → ℕ
 page_at items place = (slice_index_or items place no_item).reference
 
--- a node of this level was at the page, and nodes of its level and above stay
-pub record StaysAbove (dims page level : ℕ) (m m' : PageMap) : Type 0 where
+-- the page spells a node of this level
+pub record HasLevel (dims page level : ℕ) (m : PageMap) : Type 0 where
   pub node : NodeContent
   pub there : node_in dims (m page) ≡ Some node
   pub level_is : node.level ≡ level
-  pub stay : KeepsNodes dims level m m'
+
+-- and has an entry in the place
+pub record HasPlace (dims page level place : ℕ) (m : PageMap) : Type 0 where
+  pub node : NodeContent
+  pub there : node_in dims (m page) ≡ Some node
+  pub level_is : node.level ≡ level
+  pub within : place < length node.entries

@@ -1,12 +1,13 @@
 -- What each step of a removal does, one word a step: what it keeps of the cache, what it makes of the nodes
 -- of a sound map, and how it is refused.
-use Rattle.std.specs.Prelude.{◌≡◌, ◌⊎◌, ℕ, ◌+◌, ◌*◌, ◌<◌, ◌≤◌, Bool, true, false, List, ◌∷◌, length, map}
-use Rattle.std.specs.Prelude.{None, IfErr, IfNone, IfOk, IfSome, OnErr, OnOk, Option, Result, Some}
+use Rattle.std.specs.Prelude.{◌≡◌, ◌⊎◌, ℕ, ◌+◌, ◌*◌, ◌<◌, ◌≤◌, true, false, List, ◌∷◌, length}
+use Rattle.std.specs.Prelude.{None, IfErr, IfNone, IfOk, IfSome, IsSome, OnErr, OnOk, Option, Result, Some}
+use Rattle.std.specs.Prelude.{slice_index_or}
 use Rattle.std.specs.List.{Contains}
 use Rattle.std.specs.List.Sorted.{IsPermutation}
 use Rattle.arrayvec.specs.ArrayVec.{array_vec_len}
 use Rattle.box_math.specs.Bounds.{Bounds, Within}
-use Rattle.box_math.specs.Objects.{Object}
+use Rattle.box_math.specs.Objects.{Object, bounds_of, tag_of}
 use Rattle.page_file.specs.Fault.{IsDamage, IsOfDevice}
 use Rattle.page_file.specs.Pages.{SameBut}
 use Rattle.page_file.specs.declared.fault.Fault.{Fault}
@@ -15,116 +16,139 @@ use Rattle.page_cache.specs.Cache.{Grows, IsHonest, IsLive, IsPageMap, given, pa
 use Rattle.page_cache.specs.Calls.{Asks, AsksUntil, Changes}
 use Rattle.page_cache.specs.declared.cache.PageCache.{PageCache}
 use Rattle.tree_node.specs.Boxes.{RowHasBoxes, box_at}
-use Rattle.tree_node.specs.Nodes.{Item, NodeContent, content_of, item_of}
+use Rattle.tree_node.specs.Nodes.{Item, NodeContent}
 use Rattle.tree_node.specs.Shape.{HasShape}
 use Rattle.tree_node.specs.Trees.{Row, Tree, objects_in}
 use Rattle.tree_node.specs.declared.node.Node.{Node}
 use Rattle.tree_node.specs.declared.node.Root.{Root}
 use Rattle.node_page.specs.Checked.{ComesTo}
 use Rattle.node_page.specs.Faults.{IsChangeFault, IsNoDamage, NamesInRange}
-use Rattle.node_page.specs.Layout.{IsSpellable}
 use Rattle.node_page.specs.Standing.{PageMap, Stands, node_in}
 use Rattle.reinsert.specs.Inserted.{IsRootOf}
 use Rattle.reinsert.specs.Placed.{Held}
 use Rattle.condense.specs.Removed.{CanRemove, IsRefused, IsRoot, RemovesTo, most_removal_pages}
-use Rattle.condense.specs.Spelled.{KeepsNodes, StaysAbove, page_at}
-use Rattle.condense.specs.Taken.{HasTaken, IsCut, IsSettledBelow, LeadsTo, TookBelow, held_now, tree_at}
+use Rattle.condense.specs.Becoming.{HasBecome, IsFewInHand, IsNext, IsNow, IsStill, LeadsDown, StaysAbove}
+use Rattle.condense.specs.Spelled.{HasLevel, HasPlace, KeepsNodes}
+use Rattle.condense.specs.Taken.{LeadsTo, TookBelow, held_now, tree_at}
+use Rattle.condense.specs.declared.hand.Became.{Became}
+use Rattle.condense.specs.declared.hand.Next.{Next}
 use Rattle.condense.specs.declared.kept.Kept.{Kept}
 
 -- ---- a node
 
--- A node was viewed, and read where the box of some entry encloses the one that is sought, or this was
--- refused: the answer is the place of the first such entry.
-pub record ReadsEnclosing {D : ℕ} {B A : Type 0} {m : _} (at : Root) (sought : Bounds)
-    (old new : PageCache B A m) (read : Node D) (result : Result (Option ℕ) Fault) : Type 0 where
+-- The next child of a node was sought, from a place on, whose box encloses the one that is sought, or this
+-- was refused.
+pub record FindsNext {B A : Type 0} {m : _} (dims from : ℕ) (at : Root) (sought : Bounds)
+    (old new : PageCache B A m) (result : Result (Option Next) Fault) : Type 0 where
   pub asks : Asks old new result
-  pub node : IsHonest old → IsLive old at.page → IfOk result (λ first. IfSome first (λ _.
-      node_in D (pages old at.page) ≡ Some (content_of read)))
-  pub given_node : IsHonest old → IfOk result (λ first. IfSome first (λ _.
-      node_in D (given old at.page) ≡ Some (content_of read)))
-  pub level : IfOk result (λ first. IfSome first (λ _. read.level ≡ at.level))
-  pub spellable : IfOk result (λ first. IfSome first (λ _. IsSpellable (content_of read)))
-  pub before : IsHonest old → (c : NodeContent) → node_in D (pages old at.page) ≡ Some c
-      → IfOk result (λ first. IfSome first (λ first. (k : ℕ) → k < first → k < length c.entries
-      → ¬ Within D sought (box_at c.entries k)))
-  pub none : IsHonest old → (c : NodeContent) → node_in D (pages old at.page) ≡ Some c
-      → IfOk result (λ first. IfNone first ((k : ℕ) → k < length c.entries
-      → ¬ Within D sought (box_at c.entries k)))
-  pub there : IsHonest old → (c : NodeContent) → node_in D (pages old at.page) ≡ Some c
+  pub is_next : IfOk result (λ found. IfSome found (λ next. IsNext at next))
+  pub place : IfOk result (λ found. IfSome found (λ next. (from ≤ next.place) × (next.place < 100)))
+  pub given_node : IsHonest old → IfOk result (λ found. IfSome found (λ next.
+      LeadsDown dims (given old) at next))
+  pub before : IsHonest old → (c : NodeContent) → node_in dims (pages old at.page) ≡ Some c
+      → IfOk result (λ found. IfSome found (λ next. (k : ℕ) → from ≤ k → k < next.place
+      → k < length c.entries → ¬ Within dims sought (box_at c.entries k)))
+  pub none : IsHonest old → (c : NodeContent) → node_in dims (pages old at.page) ≡ Some c
+      → IfOk result (λ found. IfNone found ((k : ℕ) → from ≤ k → k < length c.entries
+      → ¬ Within dims sought (box_at c.entries k)))
+  pub there : IsHonest old → (c : NodeContent) → node_in dims (pages old at.page) ≡ Some c
       → c.level ≡ at.level → IfErr result IsOfDevice
   pub faults : IsHonest old → IfErr result (λ f. IsOfDevice f ⊎ (f ≡ fault.Damaged at.page))
   pub other_faults : IfErr result (λ f. IsOfDevice f ⊎ IsDamage f)
 
--- The page of a child was written or freed, and the entries of the node above it are these now, or this was
--- refused.
-pub record PutsBack {D : ℕ} {B A : Type 0} {m : _} (page : ℕ) (after : List Item) (old new : PageCache B A m)
-    (node node' : Node D) (result : Result (Unit {0}) Fault) : Type 0 where
-  pub changes : Changes old new result
-  pub grows : Grows 0 old new
-  pub cut : OnOk result (IsCut node.level (content_of node'))
-  pub entries : OnOk result (map item_of node'.entries.items ≡ after)
-  pub sound : IsPageMap old → IsLive old page → IsPageMap new
-  pub others : IsPageMap old → IsLive old page → SameBut page (pages old) (pages new)
-  pub faults : IsPageMap old → IsLive old page → IfErr result IsOfDevice
+-- The object's first place in a leaf was sought, or this was refused.
+pub record FindsHere {B A : Type 0} {m : _} (dims page id : ℕ) (object : Object) (old new : PageCache B A m)
+    (result : Result (Option ℕ) Fault) : Type 0 where
+  pub asks : Asks old new result
+  pub found : IsHonest old → (c : NodeContent) → node_in dims (pages old page) ≡ Some c
+      → IfOk result (λ found. IfSome found (λ at. (d : Item) → (at < length c.entries)
+      × (slice_index_or c.entries at d
+      ≡ record { bounds = bounds_of object; reference = id; tag = tag_of object })))
+  pub none : IsHonest old → (c : NodeContent) → node_in dims (pages old page) ≡ Some c
+      → IfOk result (λ found. IfNone found ((at : ℕ) (d : Item) → at < length c.entries
+      → ¬ (slice_index_or c.entries at d
+      ≡ record { bounds = bounds_of object; reference = id; tag = tag_of object })))
+  pub given_leaf : IsHonest old → IfOk result (λ found. IfSome found (λ at. HasPlace dims page 0 at (given old)))
+  pub there : IsHonest old → (c : NodeContent) → node_in dims (pages old page) ≡ Some c
+      → c.level ≡ 0 → IfErr result IsOfDevice
+  pub faults : IsHonest old → IfErr result (λ f. IsOfDevice f ⊎ (f ≡ fault.Damaged page))
   pub other_faults : IfErr result (λ f. IsOfDevice f ⊎ IsDamage f)
 
--- The child in a place, below which the object was taken, was put back, or this was refused.
-pub record PutsChild {D : ℕ} {B A : Type 0} {m : _} (most place : ℕ) (lower : Node D)
-    (old new : PageCache B A m) (node node' : Node D) (kept kept' : Kept D) (is_settled is_settled' : Bool)
-    (result : Result (Unit {0}) Fault) : Type 0 where
+-- A node that has an entry in the place got other entries, or this was refused, and nothing was changed.
+pub record Alters {D : ℕ} {B A : Type 0} {m : _} (most place : ℕ) (after : List Item → List Item) (at : Root)
+    (old new : PageCache B A m) (hand : Node D) (result : Result (Became D) Fault) : Type 0 where
   pub changes : Changes old new result
   pub grows : Grows 0 old new
-  pub cut : OnOk result (IsCut node.level (content_of node'))
+  pub cut : IfOk result (IsFewInHand most at.level hand)
+  pub now : IsHonest old → (c : NodeContent) → node_in D (pages old at.page) ≡ Some c → c.level ≡ at.level
+      → IfOk result (IsNow most (pages new at.page) at.level (after c.entries) hand)
+  pub still : IsHonest old → (c : NodeContent) → node_in D (pages old at.page) ≡ Some c → c.level ≡ at.level
+      → IfOk result (IsStill most at.page at.level (pages new))
+  pub others : IsHonest old → IsLive old at.page → SameBut at.page (pages old) (pages new)
+  pub sound : IsPageMap old → IsLive old at.page → IsPageMap new
+  pub refused : OnErr result (touched_of new ≡ touched_of old)
+  pub given_node : IsHonest old → OnOk result (HasLevel D at.page at.level (given old))
+  pub faults : IsHonest old → (c : NodeContent) → node_in D (pages old at.page) ≡ Some c → c.level ≡ at.level
+      → place < length c.entries → IfErr result IsOfDevice
+  pub named : IsHonest old → IfErr result (λ f. IsOfDevice f ⊎ (f ≡ fault.Damaged at.page))
+  pub other_faults : IfErr result (λ f. IsOfDevice f ⊎ IsDamage f)
+
+-- The child in a place, below which the object was taken out, leaves the node, or its box there is made
+-- least, or this was refused.
+pub record PutsChild {D : ℕ} {B A : Type 0} {m : _} (most : ℕ) (at : Root) (next : Next) (became : Became D)
+    (old new : PageCache B A m) (hand hand' : Node D) (kept kept' : Kept D)
+    (result : Result (Became D) Fault) : Type 0 where
+  pub changes : Changes old new result
+  pub grows : Grows 0 old new
+  pub cut : IfOk result (IsFewInHand most at.level hand')
   pub room : array_vec_len kept'.orphans ≤ array_vec_len kept.orphans + 39
-  pub taken : IsPageMap old → (m : PageMap) (page id : ℕ) (removed : Object) (row : Row) (held : List Held)
-      → TookBelow D most m (pages old) page node.level id removed row place held (held_now kept)
-      (map item_of node.entries.items) (map item_of lower.entries.items)
-      → IsSettledBelow D (pages old) (map item_of node.entries.items) place (content_of lower) is_settled
-      → OnOk result (IsPageMap new × HasTaken D most m (pages new) node.level id removed row held
-      (held_now kept') (map item_of node'.entries.items))
-  pub faults : IsPageMap old → (m : PageMap) (page id : ℕ) (removed : Object) (row : Row) (held : List Held)
-      → TookBelow D most m (pages old) page node.level id removed row place held (held_now kept)
-      (map item_of node.entries.items) (map item_of lower.entries.items)
-      → IsSettledBelow D (pages old) (map item_of node.entries.items) place (content_of lower) is_settled
-      → IfErr result IsOfDevice
-  pub settled : is_settled' ≡ true → OnOk result (content_of node' ≡ content_of node)
-  pub sound : IsPageMap old → (c : NodeContent)
-      → node_in D (pages old (page_at (map item_of node.entries.items) place)) ≡ Some c
-      → c.level < node.level → IsPageMap new × KeepsNodes D node.level (pages old) (pages new)
-  pub live_faults : IsPageMap old → IsLive old (page_at (map item_of node.entries.items) place)
-      → IfErr result IsOfDevice
-  pub touched : IsLive old (page_at (map item_of node.entries.items) place)
+  pub taken : IsPageMap old → (above : LeadsDown D (pages old) at next)
+      → IsStill most next.below.page next.below.level (pages old) became
+      → (m m1 : PageMap) (id : ℕ) (removed : Object) (row : Row) (held : List Held) (lower : List Item)
+      → TookBelow D most m m1 at.page at.level id removed row next.place held (held_now kept)
+      above.node.entries lower → SameBut next.below.page m1 (pages old)
+      → IsNow most (pages old next.below.page) next.below.level lower hand became
+      → IfOk result (HasBecome most m (pages new) at id removed row held (held_now kept') hand')
+  pub sound : IsPageMap old → LeadsDown D (pages old) at next
+      → IsStill most next.below.page next.below.level (pages old) became → IsPageMap new
+  pub still : IsPageMap old → LeadsDown D (pages old) at next
+      → IsStill most next.below.page next.below.level (pages old) became
+      → IfOk result (IsStill most at.page at.level (pages new))
+  pub stay : IsPageMap old → LeadsDown D (pages old) at next
+      → IsStill most next.below.page next.below.level (pages old) became
+      → KeepsNodes D (at.level + 1) (pages old) (pages new)
+  pub faults : IsPageMap old → LeadsDown D (pages old) at next
+      → IsStill most next.below.page next.below.level (pages old) became → IfErr result IsOfDevice
+  pub touched : IsPageMap old → IsLive old next.below.page
       → OnOk result ((kept'.orphans.items ≡ kept.orphans.items) ⊎ (touched_of new ≡ true))
   pub other_faults : IfErr result (λ f. IsOfDevice f ⊎ IsDamage f)
 
 -- ---- a tree
 
--- The object was taken out below a node, where a leaf there has it, or this was refused: the answer is
--- whether one has it.
+-- The object was taken out below a node, where a leaf there has it, or this was refused: the answer is what
+-- the node has become, where one has it.
 pub record TakesOutBelow {D : ℕ} {B A : Type 0} {m : _} (most : ℕ) (at : Root) (id : ℕ) (object : Object)
-    (old new : PageCache B A m) (kept kept' : Kept D) (node : Node D) (is_settled : Bool)
-    (result : Result Bool Fault) : Type 0 where
+    (old new : PageCache B A m) (kept kept' : Kept D) (hand : Node D)
+    (result : Result (Option (Became D)) Fault) : Type 0 where
   pub changes : Changes old new result
   pub grows : Grows 0 old new
-  pub cut : IfOk result (λ found. found ≡ true → IsCut at.level (content_of node))
+  pub cut : IfOk result (λ found. IfSome found (IsFewInHand most at.level hand))
   pub room : array_vec_len kept'.orphans ≤ array_vec_len kept.orphans + 39 * at.level
-  pub none : IfOk result (λ found. found ≡ false
-      → AsksUntil old new None × (kept'.orphans.items ≡ kept.orphans.items))
+  pub none : IfOk result (λ found. IfNone found
+      (AsksUntil old new None × (kept'.orphans.items ≡ kept.orphans.items)))
   pub taken : IsPageMap old → (row : Row) → Stands D (pages old) (tree_at at row)
-      → IfOk result (λ found. found ≡ true → IsPageMap new
-      × HasTaken D most (pages old) (pages new) at.level id object row (held_now kept) (held_now kept')
-      (map item_of node.entries.items))
-  pub settled : IsPageMap old → (row : Row) → Stands D (pages old) (tree_at at row) → is_settled ≡ true
-      → IfOk result (λ found. found ≡ true → node_in D (pages new at.page) ≡ Some (content_of node))
+      → IfOk result (λ found. IfSome found
+      (HasBecome most (pages old) (pages new) at id object row (held_now kept) (held_now kept') hand))
   pub found : IsPageMap old → (row : Row) → Stands D (pages old) (tree_at at row) → LeadsTo D id object row
-      → IfOk result (λ found. found ≡ true)
+      → IfOk result (λ found. IsSome found)
   pub absent : IsPageMap old → (row : Row) → Stands D (pages old) (tree_at at row)
       → ¬ Contains (objects_in row) (id, object) → OnErr result (touched_of new ≡ touched_of old)
   pub faults : IsPageMap old → (row : Row) → Stands D (pages old) (tree_at at row) → IfErr result IsOfDevice
-  pub sound : IsPageMap old → IfOk result (λ found. found ≡ true → IsPageMap new
-      × StaysAbove D at.page at.level (pages old) (pages new))
-  pub touched : IsPageMap old → IfOk result (λ found. found ≡ true
-      → (kept'.orphans.items ≡ kept.orphans.items) ⊎ (touched_of new ≡ true))
+  pub sound : IsPageMap old → IfOk result (λ found. IfSome found (λ _. IsPageMap new))
+  pub stays : IsPageMap old → IfOk result (λ found. IfSome found
+      (StaysAbove most at (pages old) (pages new)))
+  pub touched : IsPageMap old → IfOk result (λ found. IfSome found
+      (λ _. (kept'.orphans.items ≡ kept.orphans.items) ⊎ (touched_of new ≡ true)))
   pub damage : IsPageMap old
       → IfErr result (λ f. (n : ℕ) → f ≡ fault.Damaged n → ComesTo D (given old) at.page n)
   pub other_faults : IfErr result (λ f. IsOfDevice f ⊎ IsDamage f)

@@ -1,7 +1,7 @@
 -- What the code has done where an object is taken out below a node: the words of its inner contracts
 -- (docs/RULES.md, "Removal").
 use Rattle.std.specs.Prelude.{◌≡◌, ◌⊎◌, ℕ, ◌+◌, ◌-◌, ◌<◌, ◌≤◌, All, Some, List, ◌++◌, length, map, reverse}
-use Rattle.std.specs.Prelude.{take, drop, slice_index_or, Bool, true}
+use Rattle.std.specs.Prelude.{take, drop, slice_index_or}
 use Rattle.box_math.specs.Bounds.{Within}
 use Rattle.box_math.specs.Objects.{Object, bounds_of, tag_of}
 use Rattle.tree_node.specs.declared.node.Root.{Root}
@@ -11,7 +11,7 @@ use Rattle.tree_node.specs.Trees.{Row, end, more, object, child, Tree, occurs, r
 use Rattle.node_page.specs.Changes.{AllWait}
 use Rattle.node_page.specs.Layout.{IsOfLevel}
 use Rattle.node_page.specs.Parts.{Moves}
-use Rattle.node_page.specs.Standing.{PageMap, RowStands, Stands, node_in}
+use Rattle.node_page.specs.Standing.{PageMap, RowStands, Stands}
 use Rattle.reinsert.specs.Children.{Child, child_at}
 use Rattle.reinsert.specs.Placed.{Held, held_in}
 use Rattle.condense.specs.declared.kept.Kept.{Kept}
@@ -84,8 +84,3 @@ pub record TookBelow (dims most : ℕ) (m m1 : PageMap) (page level id : ℕ) (r
   pub from : Child
   pub there : child_at row at ≡ Some from
   pub taken : HasTaken dims most m m1 (level - 1) id removed from.row held held1 lower
-
--- Where it is told to be settled, the page of the child in a place has the child that is in hand.
-abbrev pub IsSettledBelow : ℕ → PageMap → List Item → ℕ → NodeContent → Bool → Type 0
-IsSettledBelow dims m entries place lower settled =
-    settled ≡ true → (d : Item) → node_in dims (m (slice_index_or entries place d).reference) ≡ Some lower

@@ -4,6 +4,7 @@
 #![tactic(auto)]
 
 mod children;
+mod cut;
 mod fill;
 mod free;
 mod hand;

@@ -1,166 +1,100 @@
-//! The child of which an object was taken: it leaves its parent where it has too few entries, else it is
-//! written.
+//! The child of which an object was taken: it leaves its parent where it has too few entries, else its box
+//! there is made least.
 
-ghost use Rattle.std.specs.Prelude.{◌≡◌, ◌⊎◌, ◌+◌, ◌-◌, ◌<◌, ◌≤◌, ◌++◌, IfErr, None, OnOk, Some, map};
-ghost use Rattle.std.specs.Prelude.{reverse, true};
+ghost use Rattle.std.specs.Prelude.{◌≡◌, ◌+◌, ◌<◌, ◌≤◌};
 ghost use Rattle.arrayvec.specs.ArrayVec.{array_vec_len};
 ghost use Rattle.box_math.specs.Bounds.{IsDims};
-ghost use Rattle.page_file.specs.Fault.{IsDamage, IsOfDevice};
-ghost use Rattle.page_file.specs.Pages.{SameBut};
 ghost use Rattle.page_file.specs.declared.gate.Gate.TheVariants.{Open};
-ghost use Rattle.page_cache.specs.Cache.{Grows, IsHonest, IsLive, IsPageMap, gate_of, pages};
-ghost use Rattle.page_cache.specs.Cache.{touched_of};
-ghost use Rattle.page_cache.specs.Calls.{Changes};
-ghost use Rattle.tree_node.specs.Boxes.{least_box};
-ghost use Rattle.tree_node.specs.Nodes.{content_of, item_of};
+ghost use Rattle.page_cache.specs.Cache.{gate_of};
+ghost use Rattle.tree_node.specs.Nodes.{content_of};
 ghost use Rattle.tree_node.specs.Shape;
-ghost use Rattle.node_page.specs.Enlarged.{set_box};
-ghost use Rattle.node_page.specs.Layout.{IsSpellable};
-ghost use Rattle.node_page.specs.Standing.{node_in};
-ghost use Rattle.reinsert.specs.Placed.{held_with};
-ghost use Rattle.condense.specs.Steps.{PutsBack, PutsChild};
-ghost use Rattle.condense.specs.Taken.{IsCut, held_now, items_without};
+ghost use Rattle.condense.specs.Becoming.{IsFewInHand, IsNext};
+ghost use Rattle.condense.specs.Steps.{PutsChild};
+ghost use Rattle.condense.specs.Taken.{IsCut};
+ghost use Rattle.condense.specs.declared.hand.Became.TheVariants as became;
 
-use crate::children::child_of;
-use crate::hand::InHand;
+use crate::cut::{least_entries, set_least, take_at};
+use crate::hand::{Became, Next};
 use crate::kept::Kept;
 use block_device::BlockDevice;
-use node_page::write_node;
+use node_page::read_into;
 use page_cache::PageCache;
 use page_file::Fault;
 use std::alloc::Allocator;
-use tree_node::{Node, least};
+use tree_node::{Node, Root};
 
-// The least count of entries of a node below the root: 40 in a hundred of the most (Beckmann et al. 1990).
-fn least_entries(fanout: usize) -> usize
-    requires { (4 ≤ fanout) × (fanout ≤ 100) }
-    ensures value { result ≡ Shape.least_entries fanout }
-    ensures few { (2 ≤ result) × (result ≤ 40) }
-{
-    (2 * fanout / 5).max(2)
-}
-
-// Puts a child of this node back, of which the object was taken: one of too few entries leaves, else it is
-// written where it is not settled. Then the node is settled where it is as it was.
+// Puts a child of a node back, of which the object was taken: what the node has become. Where the child is in
+// hand, it is the node in hand, and afterwards this one may be.
 pub(crate) fn put_child<const D: usize, B: BlockDevice, A: Allocator + Copy>(
     cache: &mut PageCache<B, A>,
-    hand: &mut InHand<D>,
-    place: usize,
-    lower: &InHand<D>,
+    at: Root,
+    next: Next,
+    child: &Became<D>,
     fanout: usize,
     kept: &mut Kept<D>,
-) -> Result<(), Fault>
+    hand: &mut Node<D>,
+) -> Result<Became<D>, Fault>
     requires dims { IsDims D }
     requires open { gate_of cache.old ≡ Open }
     requires most { (4 ≤ fanout) × (fanout ≤ 100) }
-    requires above { 0 < hand.old.node.level }
-    requires within { place < array_vec_len hand.old.node.entries }
-    requires spellable { IsSpellable (content_of hand.old.node) }
-    requires cut { IsCut (hand.old.node.level - 1) (content_of lower.now.node) }
+    requires is_next { IsNext at next }
+    requires cut { IsFewInHand fanout next.below.level hand.old child.now }
     requires room { array_vec_len kept.old.orphans + 39 ≤ 1560 }
-    ensures { PutsChild fanout place lower.now.node cache.old cache.new hand.old.node hand.new.node
-        kept.old kept.new lower.now.settled hand.new.settled result }
+    ensures { PutsChild fanout at next child.now cache.old cache.new hand.old hand.new kept.old kept.new
+        result }
 {
-    let page = child_of(&hand.node, place).page;
-    if lower.node.entries.len() < least_entries(fanout) {
-        hand.settled = false;
-        return leave_out(cache, &mut hand.node, place, page, &lower.node, kept);
+    match child {
+        Became::Settled(least) => set_least(cache, at, next.place, least, fanout),
+        Became::Few => leave_read(cache, at, next, fanout, kept, hand),
+        Became::Unwritten => leave_out(cache, at, next, fanout, kept, hand),
     }
-    hand.settled = lower.settled;
-    write_back(
-        cache,
-        &mut hand.node,
-        place,
-        page,
-        &lower.node,
-        &mut hand.settled,
-    )
 }
 
-// A child of too few entries leaves: its page is freed, and its entries are kept.
+// A child leaves whose page has too few entries.
+fn leave_read<const D: usize, B: BlockDevice, A: Allocator + Copy>(
+    cache: &mut PageCache<B, A>,
+    at: Root,
+    next: Next,
+    fanout: usize,
+    kept: &mut Kept<D>,
+    hand: &mut Node<D>,
+) -> Result<Became<D>, Fault>
+    requires dims { IsDims D }
+    requires open { gate_of cache.old ≡ Open }
+    requires most { (4 ≤ fanout) × (fanout ≤ 100) }
+    requires is_next { IsNext at next }
+    requires room { array_vec_len kept.old.orphans + 39 ≤ 1560 }
+    ensures { PutsChild fanout at next became.Few cache.old cache.new hand.old hand.new kept.old kept.new
+        result }
+{
+    read_into(cache, next.below.page, next.below.level, hand)?;
+    if hand.entries.len() >= least_entries(fanout) {
+        return Err(Fault::Damaged(next.below.page));
+    }
+    leave_out(cache, at, next, fanout, kept, hand)
+}
+
+// A child leaves that is in hand: its page is freed, its entries are kept, and its entry is taken out of the
+// node.
 fn leave_out<const D: usize, B: BlockDevice, A: Allocator + Copy>(
     cache: &mut PageCache<B, A>,
-    node: &mut Node<D>,
-    place: usize,
-    page: u32,
-    lower: &Node<D>,
+    at: Root,
+    next: Next,
+    fanout: usize,
     kept: &mut Kept<D>,
-) -> Result<(), Fault>
+    hand: &mut Node<D>,
+) -> Result<Became<D>, Fault>
+    requires dims { IsDims D }
     requires open { gate_of cache.old ≡ Open }
-    requires page { 3 ≤ page }
-    requires within { place < array_vec_len node.old.entries }
-    requires spellable { IsSpellable (content_of node.old) }
-    requires few { array_vec_len lower.now.entries ≤ 39 }
-    requires cut { IsCut (node.old.level - 1) (content_of lower.now) }
+    requires most { (4 ≤ fanout) × (fanout ≤ 100) }
+    requires is_next { IsNext at next }
+    requires cut { IsCut next.below.level (content_of hand.old) }
+    requires few { array_vec_len hand.old.entries < Shape.least_entries fanout }
     requires room { array_vec_len kept.old.orphans + 39 ≤ 1560 }
-    ensures back { PutsBack page (items_without (map item_of node.old.entries.items) place)
-        cache.old cache.new node.old node.new result }
-    ensures room { array_vec_len kept.new.orphans ≤ array_vec_len kept.old.orphans + 39 }
-    ensures gone { IsPageMap cache.old → IsLive cache.old page → OnOk result (pages cache.new page ≡ None) }
-    ensures held { OnOk result (held_now kept.new ≡ held_now kept.old
-        ++ reverse (map (held_with (node.old.level - 1)) lower.now.entries.items)) }
-    ensures touched { IsLive cache.old page → OnOk result (touched_of cache.new ≡ true) }
+    ensures { PutsChild fanout at next became.Unwritten cache.old cache.new hand.old hand.new
+        kept.old kept.new result }
 {
-    cache.free(page)?;
-    kept.keep(&lower.entries, lower.level);
-    node.entries.remove(place);
-    Ok(())
-}
-
-// A child is written where it is not settled, and the box above it is made least. The node is settled where
-// that box stays.
-fn write_back<const D: usize, B: BlockDevice, A: Allocator + Copy>(
-    cache: &mut PageCache<B, A>,
-    node: &mut Node<D>,
-    place: usize,
-    page: u32,
-    lower: &Node<D>,
-    settled: &mut bool,
-) -> Result<(), Fault>
-    requires dims { IsDims D }
-    requires open { gate_of cache.old ≡ Open }
-    requires within { place < array_vec_len node.old.entries }
-    requires spellable { IsSpellable (content_of node.old) }
-    requires some { 0 < array_vec_len lower.now.entries }
-    requires cut { IsCut (node.old.level - 1) (content_of lower.now) }
-    ensures back { PutsBack page (set_box (map item_of node.old.entries.items) place
-        (least_box D (map item_of lower.now.entries.items))) cache.old cache.new node.old node.new result }
-    ensures there { IsPageMap cache.old → IsLive cache.old page
-        → (settled.old ≡ true → node_in D (pages cache.old page) ≡ Some (content_of lower.now))
-        → OnOk result (node_in D (pages cache.new page) ≡ Some (content_of lower.now)) }
-    ensures settled { settled.new ≡ true → OnOk result (content_of node.new ≡ content_of node.old) }
-{
-    settle(cache, page, lower, *settled)?;
-    let bounds = least(lower.entries.as_slice());
-    *settled = node.entries[place].bounds == bounds;
-    node.entries[place].bounds = bounds;
-    Ok(())
-}
-
-// Writes a node where its page does not have it as it is.
-#[tactic(auto, using(page_cache::specs::Calls::turns))]
-pub(crate) fn settle<const D: usize, B: BlockDevice, A: Allocator + Copy>(
-    cache: &mut PageCache<B, A>,
-    page: u32,
-    node: &Node<D>,
-    settled: bool,
-) -> Result<(), Fault>
-    requires dims { IsDims D }
-    requires open { gate_of cache.old ≡ Open }
-    requires spellable { IsSpellable (content_of node.now) }
-    ensures changes { Changes cache.old cache.new result }
-    ensures grows { Grows 0 cache.old cache.new }
-    ensures written { IsHonest cache.old → IsLive cache.old page
-        → (settled ≡ true → node_in D (pages cache.old page) ≡ Some (content_of node.now))
-        → OnOk result (node_in D (pages cache.new page) ≡ Some (content_of node.now)) }
-    ensures others { IsHonest cache.old → IsLive cache.old page →
-        SameBut page (pages cache.old) (pages cache.new) }
-    ensures sound { IsPageMap cache.old → IsLive cache.old page → IsPageMap cache.new }
-    ensures faults { IsHonest cache.old → IsLive cache.old page → IfErr result IsOfDevice }
-    ensures other_faults { IfErr result (λ f. IsOfDevice f ⊎ IsDamage f) }
-{
-    if settled {
-        return Ok(());
-    }
-    write_node(cache, page, node)
+    cache.free(next.below.page)?;
+    kept.keep(&hand.entries, next.below.level);
+    take_at(cache, at, next.place, fanout, hand)
 }

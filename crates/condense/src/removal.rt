@@ -1,21 +1,24 @@
 //! A lawful removal: the object leaves, what is kept comes back, and the root gives way.
 
-ghost use Rattle.std.specs.Prelude.{◌≡◌, ◌⊎◌, ◌*◌, ◌<◌, ◌≤◌, [], ℕ, IfOk, IfErr, true, false, map};
+ghost use Rattle.std.specs.Prelude.{◌≡◌, ◌⊎◌, ◌*◌, ◌<◌, ◌≤◌, List, [], ℕ, IfOk, IfErr, OnOk, Some};
+ghost use Rattle.std.specs.Prelude.{true, false};
 ghost use Rattle.arrayvec.specs.ArrayVec.{array_vec_len};
 ghost use Rattle.box_math.specs.Bounds.{IsDims};
 ghost use Rattle.box_math.specs.Objects.{Object};
-ghost use Rattle.page_file.specs.Fault.{IsOfDevice};
+ghost use Rattle.page_file.specs.Fault.{IsDamage, IsOfDevice};
+ghost use Rattle.page_file.specs.Pages.{SameBut};
 ghost use Rattle.page_file.specs.declared.fault.Fault.TheVariants as fault;
 ghost use Rattle.page_file.specs.declared.gate.Gate.TheVariants.{Open};
-ghost use Rattle.page_cache.specs.Cache.{Grows, IsLive, IsPageMap, gate_of, pages, touched_of};
+ghost use Rattle.page_cache.specs.Cache.{Grows, IsHonest, IsLive, IsPageMap, gate_of, pages, touched_of};
 ghost use Rattle.page_cache.specs.Calls.{Changes};
 ghost use Rattle.tree_node.specs.Boxes.{RowHasBoxes};
-ghost use Rattle.tree_node.specs.Nodes.{content_of, item_of};
+ghost use Rattle.tree_node.specs.Nodes.{Item, content_of};
 ghost use Rattle.tree_node.specs.Shape.{HasShape};
 ghost use Rattle.tree_node.specs.Trees.{Tree};
 ghost use Rattle.node_page.specs.Standing.{PageMap, node_in};
 ghost use Rattle.node_page.specs.Faults.{IsChangeFault, IsNoDamage, NamesInRange};
 ghost use Rattle.reinsert.specs.Inserted.{most_new_pages};
+ghost use Rattle.condense.specs.Becoming.{IsSettledAs};
 ghost use Rattle.condense.specs.Removed.{IsRoot, RemovesTo, TookOut};
 ghost use Rattle.condense.specs.Steps.{Removes};
 ghost use Rattle.condense.specs.Taken.{IsCut, held_now};
@@ -24,10 +27,10 @@ use crate::fill::insert_kept;
 use crate::hand::InHand;
 use crate::kept::Kept;
 use crate::lower::give_way;
-use crate::put::settle;
 use crate::take::take_out;
 use arrayvec::ArrayVec;
 use block_device::BlockDevice;
+use node_page::write_node;
 use page_cache::PageCache;
 use page_file::Fault;
 use reinsert::Waiting;
@@ -94,10 +97,10 @@ pub fn remove_with<const D: usize, B: BlockDevice, A: Allocator + Copy>(
         },
         settled: false,
     };
-    let taken = take_out(cache, root, object, fanout, kept, &mut hand)?;
-    if !taken {
+    let Some(became) = take_out(cache, root, object, fanout, kept, &mut hand.node)? else {
         return Err(Fault::Damaged(root.page));
-    }
+    };
+    hand.settled = became.is_written();
     put_root(cache, root, &hand, fanout, waiting, kept)
 }
 
@@ -114,22 +117,20 @@ fn put_root<const D: usize, B: BlockDevice, A: Allocator + Copy>(
     requires open { gate_of cache.old ≡ Open }
     requires most { (4 ≤ fanout) × (fanout ≤ 100) }
     requires root { IsRoot root }
-    requires cut { IsCut root.level (content_of hand.now.node) }
+    requires cut { hand.now.settled ≡ false → IsCut root.level (content_of hand.now.node) }
     ensures changes { Changes cache.old cache.new result }
     ensures grows { Grows (most_new_pages * array_vec_len kept.old.orphans) cache.old cache.new }
     ensures root { IfOk result IsRoot }
-    ensures removed { IsPageMap cache.old → (m : PageMap) (t : Tree) (elsewhere : ℕ → ℕ) (id : ℕ)
-        (removed : Object)
-        → TookOut D fanout m (pages cache.old) root t elsewhere id removed (held_now kept.old)
-        (map item_of hand.now.node.entries.items)
-        → (hand.now.settled ≡ true → node_in D (pages cache.old root.page) ≡ Some (content_of hand.now.node))
+    ensures removed { IsPageMap cache.old → IsLive cache.old root.page → (m m1 : PageMap) (t : Tree)
+        (elsewhere : ℕ → ℕ) (id : ℕ) (removed : Object) (items : List Item)
+        → TookOut D fanout m m1 root t elsewhere id removed (held_now kept.old) items
+        → SameBut root.page m1 (pages cache.old) → IsSettledAs D root (pages cache.old) items hand.now
         → IfOk result (λ after. IsPageMap cache.new
         × RemovesTo D fanout m (pages cache.new) elsewhere id removed t after) }
-    ensures faults { IsPageMap cache.old → (m : PageMap) (t : Tree) (elsewhere : ℕ → ℕ) (id : ℕ)
-        (removed : Object)
-        → TookOut D fanout m (pages cache.old) root t elsewhere id removed (held_now kept.old)
-        (map item_of hand.now.node.entries.items)
-        → (hand.now.settled ≡ true → node_in D (pages cache.old root.page) ≡ Some (content_of hand.now.node))
+    ensures faults { IsPageMap cache.old → IsLive cache.old root.page → (m m1 : PageMap) (t : Tree)
+        (elsewhere : ℕ → ℕ) (id : ℕ) (removed : Object) (items : List Item)
+        → TookOut D fanout m m1 root t elsewhere id removed (held_now kept.old) items
+        → SameBut root.page m1 (pages cache.old) → IsSettledAs D root (pages cache.old) items hand.now
         → HasShape D fanout t → RowHasBoxes D t.row
         → IfErr result (IsNoDamage cache.new) }
     ensures damage { IsPageMap cache.old → IsLive cache.old root.page
@@ -138,12 +139,44 @@ fn put_root<const D: usize, B: BlockDevice, A: Allocator + Copy>(
     ensures number { IsPageMap cache.old → IsLive cache.old root.page → IfErr result NamesInRange }
     ensures other_faults { IfErr result IsChangeFault }
 {
+    write_root(cache, root, hand)?;
+    let filled = insert_kept(cache, root, fanout, waiting, kept)?;
+    give_way::<D, B, A>(cache, filled)
+}
+
+// Writes the root where its page does not have what it has become. One that no page can spell is refused.
+#[tactic(auto, using(page_cache::specs::Calls::turns))]
+fn write_root<const D: usize, B: BlockDevice, A: Allocator + Copy>(
+    cache: &mut PageCache<B, A>,
+    root: Root,
+    hand: &InHand<D>,
+) -> Result<(), Fault>
+    requires dims { IsDims D }
+    requires open { gate_of cache.old ≡ Open }
+    requires cut { hand.now.settled ≡ false → IsCut root.level (content_of hand.now.node) }
+    ensures changes { Changes cache.old cache.new result }
+    ensures grows { Grows 0 cache.old cache.new }
+    ensures written { IsPageMap cache.old → IsLive cache.old root.page → hand.now.settled ≡ false
+        → OnOk result (node_in D (pages cache.new root.page) ≡ Some (content_of hand.now.node)) }
+    ensures stays { IsHonest cache.old → hand.now.settled ≡ true
+        → pages cache.new root.page ≡ pages cache.old root.page }
+    ensures others { IsHonest cache.old → IsLive cache.old root.page →
+        SameBut root.page (pages cache.old) (pages cache.new) }
+    ensures sound { IsPageMap cache.old → IsLive cache.old root.page → IsPageMap cache.new }
+    ensures faults { IsHonest cache.old → IsLive cache.old root.page
+        → (hand.now.settled ≡ false → 0 < root.level → 1 ≤ array_vec_len hand.now.node.entries)
+        → IfErr result IsOfDevice }
+    ensures named { IsHonest cache.old → IsLive cache.old root.page
+        → IfErr result (λ f. IsOfDevice f ⊎ (f ≡ fault.Damaged root.page)) }
+    ensures other_faults { IfErr result (λ f. IsOfDevice f ⊎ IsDamage f) }
+{
+    if hand.settled {
+        return Ok(());
+    }
     if lacks_entries(&hand.node) {
         return Err(Fault::Damaged(root.page));
     }
-    settle(cache, root.page, &hand.node, hand.settled)?;
-    let filled = insert_kept(cache, root, fanout, waiting, kept)?;
-    give_way::<D, B, A>(cache, filled)
+    write_node(cache, root.page, &hand.node)
 }
 
 // Whether the node is none that a page can spell: above the leaves, and without an entry.

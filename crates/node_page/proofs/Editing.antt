@@ -19,7 +19,7 @@ use Rattle.node_page.proofs.Reading.{all_places, spells}
 use Rattle.node_page.proofs.Writing.{nothing, untagged_above}
 
 -- the bytes of entries come after the head
-behind_head : (dims : ℕ) (tagged : Bool) (place k : ℕ) → IsOfEntry dims tagged place k → 16 ≤ k
+pub behind_head : (dims : ℕ) (tagged : Bool) (place k : ℕ) → IsOfEntry dims tagged place k → 16 ≤ k
 behind_head dims tagged place k (inl low) = let le = low.2 in omega arith
 behind_head dims tagged place k (inr (inl high)) = let le = high.2 in omega arith
 behind_head dims tagged place k (inr (inr (inl reference))) = let le = reference.0 in omega arith

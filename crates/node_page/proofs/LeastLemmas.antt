@@ -1,10 +1,11 @@
 -- The least box round the entries of a page, by the least and the greatest numbers of its columns.
-use Rattle.std.proofs.Common.{◌≡◌, ◌∙◌, ℕ, zero, suc, ◌+◌, ◌*◌, ◌<◌, ℤ, ◌≤ℤ◌, List, [], ◌∷◌, length, get_or}
+use Rattle.std.proofs.Common.{◌≡◌, ◌∙◌, ℕ, zero, suc, ◌+◌, ◌*◌, ◌<◌, ℤ, ◌≤ℤ◌, List, [], ◌∷◌, length, get_or, ◌≤◌}
 use Rattle.std.proofs.Common.{FitsSigned, w32, refl, sym, ap, subst, inl, inr, arith, int_lt}
 use Rattle.std.proofs.lemmas.Bool.{cases_cond, cases_eq}
 use Rattle.std.proofs.lemmas.Int.{ints, clamps}
 use Rattle.std.specs.Int.{int_min, int_max}
 use Rattle.block_bytes.specs.Numbers.{AreBytes, signed_at}
+use Rattle.block_bytes.specs.Places.{first_places}
 use Rattle.block_bytes.specs.PlaceLaws.{get_or-first_places, length-first_places}
 use Rattle.box_bytes.specs.Laws.{box_at-is_box}
 use Rattle.box_math.specs.Bounds.{Bounds, IsBox, IsOrdered, Within, join_of, on_axis}
@@ -13,7 +14,7 @@ use Rattle.box_math.proofs.BoxLaws.{join_of-encloses, join_of-least}
 use Rattle.tree_node.specs.Boxes.{box_round, least_box, no_item}
 use Rattle.tree_node.specs.Nodes.{Item}
 use Rattle.node_page.specs.Columns.{IsGreatestOf, IsLeastOf}
-use Rattle.node_page.specs.Layout.{item_at, items_at}
+use Rattle.node_page.specs.Layout.{item_at}
 use Rattle.node_page.proofs.ColumnLemmas.{high_read, low_read}
 use Rattle.node_page.proofs.MaskLemmas.{signed_fits}
 
@@ -143,14 +144,29 @@ unfolding item_at
 item_is_box dims place page bytes ordered =
     box_at-is_box dims page (16 + 4 * place) (416 + 4 * place) 800 bytes ordered
 
-module _ (dims count : ℕ) (page : List ℕ) (low high : List ℤ) (some : 0 < count) (bytes : AreBytes page)
+module _ (dims from count : ℕ) (page : List ℕ) (low high : List ℤ) (some : 0 < count) (bytes : AreBytes page)
     (low_size : length low ≡ dims) (high_size : length high ≡ dims)
-    (ordered : (place : ℕ) → place < count
+    (ordered : (place : ℕ) → from ≤ place → place < from + count
     → IsOrdered dims (item_at dims page place).bounds.low (item_at dims page place).bounds.high)
     (lows : (axis : ℕ) → axis < dims
-    → IsLeastOf (λ k. signed_at (16 + 800 * axis + 4 * k) page) count (on_axis low axis))
+    → IsLeastOf (λ k. signed_at (16 + 800 * axis + 4 * from + 4 * k) page) count (on_axis low axis))
     (highs : (axis : ℕ) → axis < dims
-    → IsGreatestOf (λ k. signed_at (16 + 800 * axis + 400 + 4 * k) page) count (on_axis high axis)) where
+    → IsGreatestOf (λ k. signed_at (16 + 800 * axis + 400 + 4 * from + 4 * k) page) count (on_axis high axis)) where
+  abbrev there : ℕ → Item
+  there k = item_at dims page (from + k)
+
+  low_there : (axis k : ℕ) → axis < dims
+      → on_axis (there k).bounds.low axis ≡ signed_at (16 + 800 * axis + 4 * from + 4 * k) page
+  low_there axis k h =
+      let at : 16 + 800 * axis + 4 * (from + k) ≡ 16 + 800 * axis + 4 * from + 4 * k = omega arith in
+      low_read dims (from + k) page axis h ∙ ap (λ (p : ℕ). signed_at p page) at
+
+  high_there : (axis k : ℕ) → axis < dims
+      → on_axis (there k).bounds.high axis ≡ signed_at (16 + 800 * axis + 400 + 4 * from + 4 * k) page
+  high_there axis k h =
+      let at : 16 + 800 * axis + 400 + 4 * (from + k) ≡ 16 + 800 * axis + 400 + 4 * from + 4 * k = omega arith in
+      high_read dims (from + k) page axis h ∙ ap (λ (p : ℕ). signed_at p page) at
+
   abbrev made : Bounds
   made = record { low = low; high = high }
 
@@ -161,11 +177,11 @@ module _ (dims count : ℕ) (page : List ℕ) (low high : List ℤ) (some : 0 < 
     spans = λ axis h.
         let l = lows axis h in
         let g = highs axis h in
-        let first = ordered 0 some axis h in
+        let first = ordered (from + 0) (omega arith) (omega (arith, some)) axis h in
         let below = l.each 0 some in
         let above = g.each 0 some in
-        let low_is = low_read dims 0 page axis h in
-        let high_is = high_read dims 0 page axis h in
+        let low_is = low_there axis 0 h in
+        let high_is = high_there axis 0 h in
         record {
           low_fits = subst (FitsSigned w32) (sym l.is) (signed_fits _ page bytes);
           high_fits = subst (FitsSigned w32) (sym g.is) (signed_fits _ page bytes);
@@ -173,23 +189,23 @@ module _ (dims count : ℕ) (page : List ℕ) (low high : List ℤ) (some : 0 < 
         };
   }
 
-  many : length (items_at dims page count) ≡ count
-  many = length-first_places (item_at dims page) count
+  many : length (first_places there count) ≡ count
+  many = length-first_places there count
 
-  item_is : (k : ℕ) → k < count → get_or (items_at dims page count) k no_item ≡ item_at dims page k
-  item_is k lt = get_or-first_places (item_at dims page) count k no_item lt
+  item_is : (k : ℕ) → k < count → get_or (first_places there count) k no_item ≡ there k
+  item_is k lt = get_or-first_places there count k no_item lt
 
-  pub made_is_least : made ≡ least_box dims (items_at dims page count)
+  pub made_is_least : made ≡ least_box dims (first_places there count)
   made_is_least =
-      is_least_box dims (items_at dims page count) made (omega (arith, many, some)) made_is_box
+      is_least_box dims (first_places there count) made (omega (arith, many, some)) made_is_box
       (λ k lt. let within : k < count = omega (arith, many, lt) in
       subst (λ (x : Item). IsBox dims x.bounds) (sym (item_is k within))
-      (item_is_box dims k page bytes (ordered k within)))
+      (item_is_box dims (from + k) page bytes (ordered (from + k) (omega arith) (omega (arith, within)))))
       (λ axis h. let l = lows axis h in
       let read : (k : ℕ) → k < count
-      → signed_at (16 + 800 * axis + 4 * k) page ≡ on_axis
-      (get_or (items_at dims page count) k no_item).bounds.low axis =
-      λ k lt. sym (low_read dims k page axis h)
+      → signed_at (16 + 800 * axis + 4 * from + 4 * k) page ≡ on_axis
+      (get_or (first_places there count) k no_item).bounds.low axis =
+      λ k lt. sym (low_there axis k h)
       ∙ ap (λ (x : Item). on_axis x.bounds.low axis) (sym (item_is k lt)) in
       record {
         at = l.at;
@@ -200,9 +216,9 @@ module _ (dims count : ℕ) (page : List ℕ) (low high : List ℤ) (some : 0 < 
       })
       (λ axis h. let g = highs axis h in
       let read : (k : ℕ) → k < count
-      → signed_at (16 + 800 * axis + 400 + 4 * k) page ≡ on_axis
-      (get_or (items_at dims page count) k no_item).bounds.high axis =
-      λ k lt. sym (high_read dims k page axis h)
+      → signed_at (16 + 800 * axis + 400 + 4 * from + 4 * k) page ≡ on_axis
+      (get_or (first_places there count) k no_item).bounds.high axis =
+      λ k lt. sym (high_there axis k h)
       ∙ ap (λ (x : Item). on_axis x.bounds.high axis) (sym (item_is k lt)) in
       record {
         at = g.at;

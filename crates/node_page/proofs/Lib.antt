@@ -9,6 +9,10 @@ pub mod Named
 pub mod OnePage
 pub mod TidyLemmas
 pub mod BoxedLemmas
+pub mod ClosedLemmas
+pub mod ClosedEntries
+pub mod TakenLemmas
+pub mod BesideLemmas
 pub mod ColumnLemmas
 pub mod Examples
 pub mod StandingLemmas
@@ -18,6 +22,7 @@ pub mod PartLemmas
 pub mod ChangeLemmas
 pub mod StandingExamples
 pub mod NodeLemmas
+pub mod BoxedPages
 pub mod LeafLemmas
 pub mod MaskLemmas
 pub mod LeastLemmas

@@ -51,3 +51,37 @@ edit_refused old new n f edit = record {
   touched = edit.in_memory.touched ∙ or_not (touched_of old);
   faults = edit.changes.faults;
 }
+
+-- an edit that did the one did the other
+pub edits_as : {D A : Type 0} {m : _} {T : Type 0} (n : ℕ) (did does : List ℕ → T → List ℕ → Type 0)
+    (old new : PageCache D A m) (result : Result T Fault)
+    → ((was now : List ℕ) (answer : T) → did was answer now → does was answer now)
+    → Edits n did old new result → Edits n does old new result
+edits_as n did does old new (Ok x) so edit = record {
+  changes = edit.changes;
+  answered = let a = edit.answered in (a.0, a.1, so a.0 a.1 x a.2);
+  edited = λ h was there. let a = edit.edited h was there in (a.0, a.1, a.2, so was a.0 x a.3);
+  live = edit.live;
+  others = edit.others;
+  sound = edit.sound;
+  next = edit.next;
+  in_memory = edit.in_memory;
+  held = edit.held;
+  outside = edit.outside;
+  faults = edit.faults;
+  other_faults = edit.other_faults;
+}
+edits_as n did does old new (Err f) so edit = record {
+  changes = edit.changes;
+  answered = tt;
+  edited = λ h was there. tt;
+  live = edit.live;
+  others = edit.others;
+  sound = edit.sound;
+  next = edit.next;
+  in_memory = edit.in_memory;
+  held = edit.held;
+  outside = edit.outside;
+  faults = edit.faults;
+  other_faults = edit.other_faults;
+}

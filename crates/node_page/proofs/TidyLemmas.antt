@@ -47,7 +47,7 @@ named_as dims t u n m k tags count named =
     subst (λ b. IsNamed dims b m k) tags (subst (λ i. IsNamed dims t i k) count named)
 
 -- a page is tidy, if it is so by its tags and its count
-tidy_by : (dims : ℕ) (tagged : Bool) (count : ℕ) (page : List ℕ) → has_tags page ≡ tagged
+pub tidy_by : (dims : ℕ) (tagged : Bool) (count : ℕ) (page : List ℕ) → has_tags page ≡ tagged
     → number_at 2 2 page ≡ count
     → ((k : ℕ) → (IsNamed dims tagged count k → ⊥) → number_at 1 k page ≡ 0) → IsTidy dims page
 tidy_by dims tagged count page tags size rest k unnamed =

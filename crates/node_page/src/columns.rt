@@ -2,10 +2,11 @@
 
 ghost use Rattle.std.specs.Prelude.{◌≡◌, ℕ, ◌+◌, ◌*◌, ◌^◌, ◌<◌, ◌≤◌, ◌<ℤ◌, ◌≤ℤ◌, ◌↔◌, pos, IsTrue};
 ghost use Rattle.block_bytes.specs.Numbers.{number_at, signed_at};
+ghost use Rattle.block_bytes.specs.Places.{first_places};
 ghost use Rattle.box_math.specs.Bounds.{IsDims, IsOrdered, on_axis};
 ghost use Rattle.tree_node.specs.Boxes.{least_box};
 ghost use Rattle.node_page.specs.Columns.{IsGreatestOf, IsLeastOf, cell};
-ghost use Rattle.node_page.specs.Layout.{IsEntry, item_at, items_at};
+ghost use Rattle.node_page.specs.Layout.{IsEntry, item_at};
 
 use block_bytes::{read_i32, read_u64};
 use box_math::BBox;
@@ -126,26 +127,26 @@ fn are_below(page: &[u8; 4096], first: usize, count: usize) -> bool
     good
 }
 
-/// The least box round those in the first places, of which there is one.
-pub(crate) fn least_in<const D: usize>(page: &[u8; 4096], count: usize) -> BBox<D>
+/// The least box round those in so many places from one on, of which there is one.
+pub(crate) fn least_in<const D: usize>(page: &[u8; 4096], from: usize, count: usize) -> BBox<D>
     requires dims { IsDims D }
-    requires count { (0 < count) × (count ≤ 100) }
-    requires ordered { (place : ℕ) → place < count
+    requires count { (0 < count) × (from + count ≤ 100) }
+    requires ordered { (place : ℕ) → from ≤ place → place < from + count
         → IsOrdered D (item_at D page.now place).bounds.low (item_at D page.now place).bounds.high }
-    ensures { result ≡ least_box D (items_at D page.now count) }
+    ensures { result ≡ least_box D (first_places (λ k. item_at D page.now (from + k)) count) }
 {
     let mut low = [0i32; D];
     let mut high = [0i32; D];
     for axis in 0..D {
-        low[axis] = least_of(page, 16 + 800 * axis, count);
-        high[axis] = greatest_of(page, 16 + 800 * axis + 400, count);
+        low[axis] = least_of(page, 16 + 800 * axis + 4 * from, count);
+        high[axis] = greatest_of(page, 16 + 800 * axis + 400 + 4 * from, count);
     }
     BBox::new(low, high)
 }
 
 // The least of the first numbers of the column from the byte `first`.
 fn least_of(page: &[u8; 4096], first: usize, count: usize) -> i32
-    requires within { first ≤ 2016 }
+    requires within { first + 4 * count ≤ 4096 }
     requires count { (0 < count) × (count ≤ 100) }
     ensures { IsLeastOf (λ k. signed_at (first + 4 * k) page.now) count result }
 {
@@ -158,7 +159,7 @@ fn least_of(page: &[u8; 4096], first: usize, count: usize) -> i32
 
 // The greatest of them.
 fn greatest_of(page: &[u8; 4096], first: usize, count: usize) -> i32
-    requires within { first ≤ 2016 }
+    requires within { first + 4 * count ≤ 4096 }
     requires count { (0 < count) × (count ≤ 100) }
     ensures { IsGreatestOf (λ k. signed_at (first + 4 * k) page.now) count result }
 {

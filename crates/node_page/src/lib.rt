@@ -4,6 +4,7 @@
 
 mod adding;
 mod check;
+mod closing;
 mod columns;
 mod edits;
 mod enlarging;
@@ -16,17 +17,19 @@ mod masks;
 mod nodes;
 mod page;
 mod tags;
+mod taking;
 mod view;
 mod visits;
 
 pub use adding::add_entry;
 pub use check::{TreeFacts, check_tree};
-pub use enlarging::enlarge_entry;
+pub use enlarging::{enlarge_entry, set_entry_box};
 pub use leaves::leaf_lists;
 pub use lending::view_node;
 pub use masks::next_set;
 pub use nodes::{read_into, read_node, write_node};
 pub use page::{decode, decode_into, encode};
+pub use taking::take_entry;
 pub use tree_node::{Entry, Node, Root};
 pub use view::NodeView;
 pub use visits::Visits;

@@ -8,7 +8,9 @@ ghost use Rattle.box_math.specs.Masks.{has_bit};
 ghost use Rattle.node_page.specs.Columns.{AreColumns};
 ghost use Rattle.tree_node.specs.Boxes.{least_box};
 ghost use Rattle.tree_node.specs.Nodes.{Item, NodeContent, content_of, item_of};
+ghost use Rattle.node_page.specs.Enlarged.{with_box_at};
 ghost use Rattle.node_page.specs.Layout.{has_tags, node_at, IsLaidOut, IsSpellable};
+ghost use Rattle.node_page.specs.Taken.{without_entry};
 
 use crate::columns::{has_entries, least_in, none_is_flat, read_columns};
 use crate::entries::entry_at;
@@ -115,7 +117,35 @@ impl<'a, const D: usize> NodeView<'a, D> {
         requires { 0 < length (content_in self.now).entries }
         ensures { result ≡ least_box D (content_in self.now).entries }
     {
-        least_in(self.page, self.count)
+        least_in(self.page, 0, self.count)
+    }
+
+    /// The least box round the entries but the one in a place, of which there is another.
+    pub(crate) fn least_beside(&self, place: usize) -> BBox<D>
+        requires within { place < length (content_in self.now).entries }
+        requires others { 1 < length (content_in self.now).entries }
+        ensures { result ≡ least_box D (without_entry (content_in self.now) place).entries }
+    {
+        let behind = self.count - place - 1;
+        if place == 0 {
+            return least_in(self.page, 1, behind);
+        }
+        let before = least_in(self.page, 0, place);
+        if behind == 0 {
+            return before;
+        }
+        before.join(&least_in(self.page, place + 1, behind))
+    }
+
+    /// The least box round the entries where the one in a place has that box.
+    pub(crate) fn least_boxed(&self, place: usize, bounds: &BBox<D>) -> BBox<D>
+        requires { place < length (content_in self.now).entries }
+        ensures { result ≡ least_box D (with_box_at (content_in self.now) place bounds.now).entries }
+    {
+        if self.count == 1 {
+            return *bounds;
+        }
+        self.least_beside(place).join(bounds)
     }
 
     /// Makes the node the one in the page. Nothing is copied but the entries.

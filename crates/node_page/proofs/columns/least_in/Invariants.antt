@@ -10,7 +10,7 @@ invariant-loop-axis g l = record {
   low_size : length l.low ≡ g.row.D;
   high_size : length l.high ≡ g.row.D;
   lows : (axis : ℕ) → axis < l.axis
-      → IsLeastOf (λ k. signed_at (16 + 800 * axis + 4 * k) l.page) l.count (on_axis l.low axis);
+      → IsLeastOf (λ k. signed_at (16 + 800 * axis + 4 * l.from + 4 * k) l.page) l.count (on_axis l.low axis);
   highs : (axis : ℕ) → axis < l.axis
-      → IsGreatestOf (λ k. signed_at (16 + 800 * axis + 400 + 4 * k) l.page) l.count (on_axis l.high axis);
+      → IsGreatestOf (λ k. signed_at (16 + 800 * axis + 400 + 4 * l.from + 4 * k) l.page) l.count (on_axis l.high axis);
 }

@@ -1,17 +1,8 @@
 -- The node is that of the page, with the greater box in its place.
-use Rattle.std.proofs.Common.{◌≡◌, ◌∙◌, ℕ, ap, IfSome, is_some, true, List, Option, Some}
-use Rattle.std.proofs.Common.{subst, sym}
-use Rattle.std.specs.Prelude.{IsSomeAnd}
-use Rattle.page_cache.specs.Cache.{IsHonest, pages}
-use Rattle.page_cache.specs.Calls.{AsksUntil, asks_in_turn}
-use Rattle.page_cache.specs.Laws.{a_live_page_is_given}
+use Rattle.std.proofs.Common.{◌≡◌, ap, IfSome, is_some, subst, true}
 use Rattle.tree_node.specs.Boxes.{least_box}
-use Rattle.tree_node.specs.Nodes.{NodeContent}
-use Rattle.node_page.specs.Enlarged.{CanEnlarge, with_box_at}
-use Rattle.node_page.specs.Layout.{IsPageOfNode, IsTidy, node_at}
-use Rattle.node_page.proofs.NodeLemmas.{at_error, bytes_of_node, node_of_page}
-use Rattle.node_page.proofs.ReadLemmas.{edit_refused}
-use Rattle.node_page.proofs.TidyLemmas.{Left, at_page}
+use Rattle.node_page.specs.Enlarged.{CanEnlarge, set_box}
+use Rattle.node_page.proofs.BoxedPages.{node_boxed, page_boxed}
 use Rattle.node_page.proofs.enlarging.enlarge_entry.Goals as goal
 
 pub returns-clause-room : goal.returns-clause-room
@@ -20,63 +11,23 @@ returns-clause-room g c = λ h content there.
     × (CanEnlarge g.row.D c.args.most c.args.place c.args.bounds.now content → is_some o ≡ true)) c.in-Some.is
     (c.in_ok-least.ensures.room h content there)
 
--- the bytes that the edit left at the page
-left : (g : _) (c : goal.In_ok-edit g) → IsHonest c.args.cache.now → (content : NodeContent) (was : List ℕ)
-    → pages c.args.cache.now c.args.page ≡ Some was → node_at g.row.D was ≡ Some content
-    → Left g.row.D (pages c.edit.new.self c.args.page) was
-    (with_box_at content c.args.place c.args.bounds.now)
-left g c h content was at is =
-    let D = g.row.D in
-    let page = c.args.page in
-    let mid = c.least_enlarged.new.cache in
-    let after : NodeContent = with_box_at content c.args.place c.args.bounds.now in
-    let asks = c.in_ok-least.ensures.asks in
-    let there = node_of_page D (pages c.args.cache.now page) was (Some content) at is in
-    let live : pages mid page ≡ Some was = asks.map.pages_stay h page ∙ at in
-    let did =
-    c.in_ok-edit.ensures.edited (asks.gate.honest.0 h) was (a_live_page_is_given mid page was live) in
-    let ran = did.3 in
-    let spelled : node_at D ran.shown.now ≡ Some content = ap (node_at D) ran.shows ∙ is in
-    let can : CanEnlarge D c.args.most c.args.place c.args.bounds.now content =
-    (c.in_ok-least.ensures.room h content there).0 (ap is_some c.in-Some.is) in
-    record {
-      now = did.0;
-      there = did.2 (ap is_some live);
-      spelled = ap (node_at D) (sym ran.leaves) ∙ ran.met.0 content spelled can.there;
-      is_page =
-          λ tidy. subst (λ bytes. IsPageOfNode D bytes after) {y = did.0} ran.leaves
-          (ran.met.1 (subst (IsTidy D) (sym ran.shows) tidy) content spelled can.there);
-    }
-
 pub returns-clause-enlarged : goal.returns-clause-enlarged
 returns-clause-enlarged g c = λ h content there.
     let D = g.row.D in
-    let after = with_box_at content c.args.place c.args.bounds.now in
-    let was = bytes_of_node D (pages c.args.cache.now c.args.page) content there in
-    let l = left g c h content was.0 was.1 was.2 in (
-      node_of_page D (pages c.edit.new.self c.args.page) l.now (Some after) l.there l.spelled,
-      subst (λ o. IfSome o (λ least. least ≡ least_box D after.entries)) c.in-Some.is
+    let b = c.args.bounds.now in
+    let asks = c.in_ok-least.ensures.asks in
+    let can = (c.in_ok-least.ensures.room h content there).0 (ap is_some c.in-Some.is) in (
+      node_boxed D c.args.place c.args.page b c.args.cache.now c.least_enlarged.new.cache c.edit_box.new.cache
+          c.in_ok-edit_box.field-0 (asks.map.pages_stay h c.args.page) (asks.gate.honest.0 h)
+          c.in_ok-edit_box.ensures content there can.there,
+      subst (λ o. IfSome o (λ least. least ≡ least_box D (set_box content.entries c.args.place b))) c.in-Some.is
           (c.in_ok-least.ensures.least h content there),
     )
 
 pub returns-clause-is_page : goal.returns-clause-is_page
 returns-clause-is_page g c = λ h content there tidy.
-    let D = g.row.D in
-    let was = bytes_of_node D (pages c.args.cache.now c.args.page) content there in
-    let l = left g c h content was.0 was.1 was.2 in
-    at_page D (pages c.edit.new.self c.args.page) l.now
-    (with_box_at content c.args.place c.args.bounds.now) l.there
-    (l.is_page (subst (λ (o : Option (List ℕ)). IsSomeAnd o (IsTidy D)) was.1 tidy))
-
-pub returns-in_err-edit-clause-refused : goal.returns-in_err-edit-clause-refused
-returns-in_err-edit-clause-refused g c =
-    let mid = c.least_enlarged.new.cache in
-    let f = c.in_err-edit.field-0.0 in
-    at_error c.from_residual-in_err-edit.result f
-    (λ e. AsksUntil c.args.cache.now c.edit.new.self (Some e)) c.from_residual-in_err-edit.ensures.1
-    (asks_in_turn c.args.cache.now mid c.edit.new.self (Some f) c.in_ok-least.ensures.asks
-    (edit_refused mid c.edit.new.self c.args.page f c.in_err-edit.ensures))
-
-pub returns-in_err-edit-clause-held : goal.returns-in_err-edit-clause-held
-returns-in_err-edit-clause-held g c = λ held.
-    let no = c.in_err-edit.ensures.held c.in_ok-least.ensures.holds in absurd (cc)
+    let asks = c.in_ok-least.ensures.asks in
+    let can = (c.in_ok-least.ensures.room h content there).0 (ap is_some c.in-Some.is) in
+    page_boxed g.row.D c.args.place c.args.page c.args.bounds.now c.args.cache.now c.least_enlarged.new.cache
+    c.edit_box.new.cache c.in_ok-edit_box.field-0 (asks.map.pages_stay h c.args.page) (asks.gate.honest.0 h)
+    c.in_ok-edit_box.ensures content there can.there tidy

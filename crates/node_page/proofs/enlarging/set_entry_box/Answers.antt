@@ -1,0 +1,27 @@
+-- The node is that of the page, with the other box in its place.
+use Rattle.std.proofs.Common.{◌≡◌, ap, IfSome, is_some, subst}
+use Rattle.tree_node.specs.Boxes.{least_box}
+use Rattle.node_page.specs.Enlarged.{set_box}
+use Rattle.node_page.proofs.BoxedPages.{node_boxed, page_boxed}
+use Rattle.node_page.proofs.enlarging.set_entry_box.Goals as goal
+
+pub returns-clause-boxed : goal.returns-clause-boxed
+returns-clause-boxed g c = λ h content there.
+    let D = g.row.D in
+    let b = c.args.bounds.now in
+    let asks = c.in_ok-least.ensures.asks in
+    let within = (c.in_ok-least.ensures.room h content there).0 (ap is_some c.in-Some.is) in (
+      node_boxed D c.args.place c.args.page b c.args.cache.now c.least_with_box.new.cache c.edit_box.new.cache
+          c.in_ok-edit_box.field-0 (asks.map.pages_stay h c.args.page) (asks.gate.honest.0 h)
+          c.in_ok-edit_box.ensures content there within,
+      subst (λ o. IfSome o (λ least. least ≡ least_box D (set_box content.entries c.args.place b))) c.in-Some.is
+          (c.in_ok-least.ensures.least h content there),
+    )
+
+pub returns-clause-is_page : goal.returns-clause-is_page
+returns-clause-is_page g c = λ h content there tidy.
+    let asks = c.in_ok-least.ensures.asks in
+    let within = (c.in_ok-least.ensures.room h content there).0 (ap is_some c.in-Some.is) in
+    page_boxed g.row.D c.args.place c.args.page c.args.bounds.now c.args.cache.now c.least_with_box.new.cache
+    c.edit_box.new.cache c.in_ok-edit_box.field-0 (asks.map.pages_stay h c.args.page) (asks.gate.honest.0 h)
+    c.in_ok-edit_box.ensures content there within tidy
