@@ -21,6 +21,13 @@ pub(crate) struct Next {
     pub(crate) below: Root,
 }
 
+/// A step down: a node, and the child of it that is next.
+#[derive(Clone, Copy)]
+pub(crate) struct Descent {
+    pub(crate) at: Root,
+    pub(crate) next: Next,
+}
+
 /// What the root has become, unless it is settled: its page has it then.
 #[derive(Drop)]
 pub(crate) struct InHand<const D: usize> {

@@ -14,21 +14,20 @@ ghost use Rattle.condense.specs.Taken.{IsCut};
 ghost use Rattle.condense.specs.declared.hand.Became.TheVariants as became;
 
 use crate::cut::{least_entries, set_least, take_at};
-use crate::hand::{Became, Next};
+use crate::hand::{Became, Descent};
 use crate::kept::Kept;
 use block_device::BlockDevice;
 use node_page::read_into;
 use page_cache::PageCache;
 use page_file::Fault;
 use std::alloc::Allocator;
-use tree_node::{Node, Root};
+use tree_node::Node;
 
 // Puts a child of a node back, of which the object was taken: what the node has become. Where the child is in
 // hand, it is the node in hand, and afterwards this one may be.
 pub(crate) fn put_child<const D: usize, B: BlockDevice, A: Allocator + Copy>(
     cache: &mut PageCache<B, A>,
-    at: Root,
-    next: Next,
+    step: Descent,
     child: &Became<D>,
     fanout: usize,
     kept: &mut Kept<D>,
@@ -37,24 +36,23 @@ pub(crate) fn put_child<const D: usize, B: BlockDevice, A: Allocator + Copy>(
     requires dims { IsDims D }
     requires open { gate_of cache.old ≡ Open }
     requires most { (4 ≤ fanout) × (fanout ≤ 100) }
-    requires is_next { IsNext at next }
-    requires cut { IsFewInHand fanout next.below.level hand.old child.now }
+    requires is_next { IsNext step.at step.next }
+    requires cut { IsFewInHand fanout step.next.below.level hand.old child.now }
     requires room { array_vec_len kept.old.orphans + 39 ≤ 1560 }
-    ensures { PutsChild fanout at next child.now cache.old cache.new hand.old hand.new kept.old kept.new
+    ensures { PutsChild fanout step.at step.next child.now cache.old cache.new hand.old hand.new kept.old kept.new
         result }
 {
     match child {
-        Became::Settled(least) => set_least(cache, at, next.place, least, fanout),
-        Became::Few => leave_read(cache, at, next, fanout, kept, hand),
-        Became::Unwritten => leave_out(cache, at, next, fanout, kept, hand),
+        Became::Settled(least) => set_least(cache, step.at, step.next.place, least, fanout),
+        Became::Few => leave_read(cache, step, fanout, kept, hand),
+        Became::Unwritten => leave_out(cache, step, fanout, kept, hand),
     }
 }
 
 // A child leaves whose page has too few entries.
 fn leave_read<const D: usize, B: BlockDevice, A: Allocator + Copy>(
     cache: &mut PageCache<B, A>,
-    at: Root,
-    next: Next,
+    step: Descent,
     fanout: usize,
     kept: &mut Kept<D>,
     hand: &mut Node<D>,
@@ -62,24 +60,23 @@ fn leave_read<const D: usize, B: BlockDevice, A: Allocator + Copy>(
     requires dims { IsDims D }
     requires open { gate_of cache.old ≡ Open }
     requires most { (4 ≤ fanout) × (fanout ≤ 100) }
-    requires is_next { IsNext at next }
+    requires is_next { IsNext step.at step.next }
     requires room { array_vec_len kept.old.orphans + 39 ≤ 1560 }
-    ensures { PutsChild fanout at next became.Few cache.old cache.new hand.old hand.new kept.old kept.new
+    ensures { PutsChild fanout step.at step.next became.Few cache.old cache.new hand.old hand.new kept.old kept.new
         result }
 {
-    read_into(cache, next.below.page, next.below.level, hand)?;
+    read_into(cache, step.next.below.page, step.next.below.level, hand)?;
     if hand.entries.len() >= least_entries(fanout) {
-        return Err(Fault::Damaged(next.below.page));
+        return Err(Fault::Damaged(step.next.below.page));
     }
-    leave_out(cache, at, next, fanout, kept, hand)
+    leave_out(cache, step, fanout, kept, hand)
 }
 
 // A child leaves that is in hand: its page is freed, its entries are kept, and its entry is taken out of the
 // node.
 fn leave_out<const D: usize, B: BlockDevice, A: Allocator + Copy>(
     cache: &mut PageCache<B, A>,
-    at: Root,
-    next: Next,
+    step: Descent,
     fanout: usize,
     kept: &mut Kept<D>,
     hand: &mut Node<D>,
@@ -87,14 +84,14 @@ fn leave_out<const D: usize, B: BlockDevice, A: Allocator + Copy>(
     requires dims { IsDims D }
     requires open { gate_of cache.old ≡ Open }
     requires most { (4 ≤ fanout) × (fanout ≤ 100) }
-    requires is_next { IsNext at next }
-    requires cut { IsCut next.below.level (content_of hand.old) }
+    requires is_next { IsNext step.at step.next }
+    requires cut { IsCut step.next.below.level (content_of hand.old) }
     requires few { array_vec_len hand.old.entries < Shape.least_entries fanout }
     requires room { array_vec_len kept.old.orphans + 39 ≤ 1560 }
-    ensures { PutsChild fanout at next became.Unwritten cache.old cache.new hand.old hand.new
+    ensures { PutsChild fanout step.at step.next became.Unwritten cache.old cache.new hand.old hand.new
         kept.old kept.new result }
 {
-    cache.free(next.below.page)?;
-    kept.keep(&hand.entries, next.below.level);
-    take_at(cache, at, next.place, fanout, hand)
+    cache.free(step.next.below.page)?;
+    kept.keep(&hand.entries, step.next.below.level);
+    take_at(cache, step.at, step.next.place, fanout, hand)
 }

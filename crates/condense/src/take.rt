@@ -7,7 +7,7 @@ ghost use Rattle.page_file.specs.declared.gate.Gate.TheVariants.{Open};
 ghost use Rattle.page_cache.specs.Cache.{gate_of};
 ghost use Rattle.condense.specs.Steps.{TakesOutBelow};
 
-use crate::hand::Became;
+use crate::hand::{Became, Descent};
 use crate::kept::Kept;
 use crate::leaf::take_here;
 use crate::look::next_child;
@@ -50,7 +50,7 @@ pub(crate) fn take_out<const D: usize, B: BlockDevice, A: Allocator + Copy>(
             from = next.place + 1;
             continue;
         };
-        let now = put_child(cache, at, next, &became, fanout, kept, hand)?;
+        let now = put_child(cache, Descent { at, next }, &became, fanout, kept, hand)?;
         return Ok(Some(now));
     }
 }

@@ -176,6 +176,51 @@ fn blocks_are_those_of_the_format(rt: HostRuntime) -> Result<(), Fail> {
     Ok(())
 }
 
+// What opening checks: a block, a place in it, the bytes that it gets there, and what opening answers then.
+const CHECKS: [(u32, usize, &[u8], Option<Fault>); 16] = [
+    (0, 0, b"r", Some(Fault::NotAStore)),
+    (0, 8, b"\x00", Some(Fault::NotClosed)),
+    (0, 8, b"\x02", Some(Fault::NotClosed)),
+    (1, 7, b"r", Some(Fault::NotAStore)),
+    (1, 8, b"\x00\x00", Some(Fault::WrongVersion)),
+    (1, 8, b"\x00\x01", None),
+    (1, 8, b"\x00\x03", None),
+    (1, 8, b"\x00\x04", Some(Fault::WrongVersion)),
+    (1, 15, b"\x02", Some(Fault::Damaged(1))),
+    (1, 15, b"\x06", Some(Fault::Damaged(1))),
+    (
+        1,
+        16,
+        b"\x00\x00\x00\x02\x00\x00\x00\x01",
+        Some(Fault::Damaged(1)),
+    ),
+    (
+        1,
+        16,
+        b"\x00\x00\x00\x05\x00\x00\x00\x01",
+        Some(Fault::Damaged(1)),
+    ),
+    (
+        1,
+        16,
+        b"\x00\x00\x00\x04\x00\x00\x00\x00",
+        Some(Fault::Damaged(1)),
+    ),
+    (
+        1,
+        16,
+        b"\x00\x00\x00\x00\x00\x00\x00\x01",
+        Some(Fault::Damaged(1)),
+    ),
+    (
+        1,
+        16,
+        b"\x00\x00\x00\x04\x00\x00\x00\x03",
+        Some(Fault::Damaged(1)),
+    ),
+    (1, 16, b"\x00\x00\x00\x04\x00\x00\x00\x02", None),
+];
+
 #[test]
 fn opening_answers_the_first_check_that_fails(rt: HostRuntime) -> Result<(), Fail> {
     assert_eq!(rt;
@@ -183,50 +228,7 @@ fn opening_answers_the_first_check_that_fails(rt: HostRuntime) -> Result<(), Fai
         Some(Fault::NotAStore)
     );
     assert_eq!(rt; refusal(scene(rt.alloc(), false)?), None);
-    let table: [(u32, usize, &[u8], Option<Fault>); 16] = [
-        (0, 0, b"r", Some(Fault::NotAStore)),
-        (0, 8, b"\x00", Some(Fault::NotClosed)),
-        (0, 8, b"\x02", Some(Fault::NotClosed)),
-        (1, 7, b"r", Some(Fault::NotAStore)),
-        (1, 8, b"\x00\x00", Some(Fault::WrongVersion)),
-        (1, 8, b"\x00\x01", None),
-        (1, 8, b"\x00\x03", None),
-        (1, 8, b"\x00\x04", Some(Fault::WrongVersion)),
-        (1, 15, b"\x02", Some(Fault::Damaged(1))),
-        (1, 15, b"\x06", Some(Fault::Damaged(1))),
-        (
-            1,
-            16,
-            b"\x00\x00\x00\x02\x00\x00\x00\x01",
-            Some(Fault::Damaged(1)),
-        ),
-        (
-            1,
-            16,
-            b"\x00\x00\x00\x05\x00\x00\x00\x01",
-            Some(Fault::Damaged(1)),
-        ),
-        (
-            1,
-            16,
-            b"\x00\x00\x00\x04\x00\x00\x00\x00",
-            Some(Fault::Damaged(1)),
-        ),
-        (
-            1,
-            16,
-            b"\x00\x00\x00\x00\x00\x00\x00\x01",
-            Some(Fault::Damaged(1)),
-        ),
-        (
-            1,
-            16,
-            b"\x00\x00\x00\x04\x00\x00\x00\x03",
-            Some(Fault::Damaged(1)),
-        ),
-        (1, 16, b"\x00\x00\x00\x04\x00\x00\x00\x02", None),
-    ];
-    for (i, at, bytes, want) in table {
+    for (i, at, bytes, want) in CHECKS {
         assert_eq!(rt;
             refusal_of(rt.alloc(), i, at, bytes)?,
             want,

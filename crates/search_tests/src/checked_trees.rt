@@ -105,11 +105,10 @@ fn objects_of_an_old_leaf_have_the_tag_0(rt: HostRuntime) -> Result<(), Fail> {
     Ok(())
 }
 
-#[test]
-fn each_damage_is_found(rt: HostRuntime) -> Result<(), Fail> {
-    let root = Root { page: 5, level: 1 };
+// The damages: what it is, the page that gets it and its bytes, and the page that is found then.
+fn damages() -> [(&'static str, u32, [u8; 4096], u32); 9] {
     let [left, right] = ROOT;
-    for (what, page, bytes, found) in [
+    [
         (
             "a child that is its parent",
             5,
@@ -154,7 +153,13 @@ fn each_damage_is_found(rt: HostRuntime) -> Result<(), Fail> {
             page_of(1, &[left, ([10, 0, 13, 5], 6)]),
             6,
         ),
-    ] {
+    ]
+}
+
+#[test]
+fn each_damage_is_found(rt: HostRuntime) -> Result<(), Fail> {
+    let root = Root { page: 5, level: 1 };
+    for (what, page, bytes, found) in damages() {
         let answer = refusal(rt.alloc(), page, &bytes, root)?;
         assert!(rt; answer == Some(Fault::Damaged(found)), "{what}");
     }

@@ -112,7 +112,7 @@ pub fn answer_all<D: BlockDevice, A: Allocator + Copy + Drop>(
     Ok(())
 }
 
-// Puts a change to a store. Here and below the other commands are named too, so that no new one is passed
+// Puts a change to a store. Here and in `ask` the other commands are named too, so that no new one is passed
 // over.
 fn change<D: BlockDevice, A: Allocator + Copy + Drop>(
     store: &mut Store<D, A>,
@@ -197,43 +197,32 @@ pub fn listed(alloc: Global, table: &mut ListTable<Global>, command: Command<'_>
     Ok(Vec::new(alloc))
 }
 
+// The range query that a question is, if it is one: its layer, what it seeks, and the tag that is wanted.
+fn range_of(question: Command<'_>) -> Option<(&[u8], RawQuery, Option<u32>)> {
+    match question {
+        Command::Window(name, bounds) => Some((name, RawQuery::Window(bounds), None)),
+        Command::Inside(name, bounds) => Some((name, RawQuery::Inside(bounds), None)),
+        Command::Around(name, bounds) => Some((name, RawQuery::Around(bounds), None)),
+        Command::Point(name, point) => Some((name, RawQuery::Point(point), None)),
+        Command::Tagged(name, query, tag) => Some((name, query, Some(tag))),
+        _ => None,
+    }
+}
+
 // Puts a question to the plain list. A check and a closing find nothing to do, and changes have been made
 // before.
 fn list_answer(alloc: Global, table: &ListTable<Global>, question: Command<'_>) -> Answer {
     let mut numbers = Vec::new(alloc);
+    if let Some((name, query, tag)) = range_of(question) {
+        push_rows(&mut numbers, &table.range(name, query, tag)?)?;
+        return Ok(numbers);
+    }
     match question {
         Command::Get(name, id) => {
             let (bounds, tag) = table.get(name, id)?;
             push_row(&mut numbers, &(id, bounds, tag))?
         }
         Command::Count(name) => numbers.push(i128::from(table.count(name)?))?,
-        Command::Window(name, bounds) => {
-            push_rows(
-                &mut numbers,
-                &table.range(name, RawQuery::Window(bounds), None)?,
-            )?
-        }
-        Command::Inside(name, bounds) => {
-            push_rows(
-                &mut numbers,
-                &table.range(name, RawQuery::Inside(bounds), None)?,
-            )?
-        }
-        Command::Around(name, bounds) => {
-            push_rows(
-                &mut numbers,
-                &table.range(name, RawQuery::Around(bounds), None)?,
-            )?
-        }
-        Command::Point(name, point) => {
-            push_rows(
-                &mut numbers,
-                &table.range(name, RawQuery::Point(point), None)?,
-            )?
-        }
-        Command::Tagged(name, query, tag) => {
-            push_rows(&mut numbers, &table.range(name, query, Some(tag))?)?
-        }
         Command::Nearest(name, k, point) => {
             push_distances(&mut numbers, &table.nearest(name, k, point)?)?
         }
@@ -242,14 +231,7 @@ fn list_answer(alloc: Global, table: &ListTable<Global>, question: Command<'_>) 
         }
         Command::Layers => push_infos(&mut numbers, &table.layers()?)?,
         Command::Dump => push_dump(&mut numbers, &table.dump()?)?,
-        Command::Check | Command::Reopen => {}
-        Command::Create(..)
-        | Command::Insert(..)
-        | Command::InsertTagged(..)
-        | Command::Load(..)
-        | Command::Move(..)
-        | Command::Delete(..)
-        | Command::Drop(..) => {}
+        _ => {}
     }
     Ok(numbers)
 }

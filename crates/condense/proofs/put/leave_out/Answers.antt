@@ -23,7 +23,7 @@ use Rattle.condense.proofs.put.leave_out.Goals as goal
 
 pub keep-requires : goal.keep-requires
 keep-requires g c =
-    let level = c.args.next.below.level in
+    let level = c.args.step.next.below.level in
     let es = c.args.hand.now.entries.items in
     let refers : All (λ (e : Entry g.row.D). IsOfLevel level e.reference e.tag) es =
     All-mapped level es c.requires.cut.refers in
@@ -40,18 +40,18 @@ returns-in_err-free g c = record {
   taken = λ h above child m m1 id removed row held lower took others now. no_answer c.from_residual.result
       c.in_err-free.field-0.0 _ c.from_residual.ensures.1;
   sound = λ h above child. c.free.ensures.sound h
-      (page_of_node g.row.D (pages c.args.cache.now c.args.next.below.page) child.node child.there);
+      (page_of_node g.row.D (pages c.args.cache.now c.args.step.next.below.page) child.node child.there);
   still = λ h above child. no_answer c.from_residual.result c.in_err-free.field-0.0 _ c.from_residual.ensures.1;
   stay = λ h above child.
       let m : PageMap = pages c.args.cache.now in
-      let page = c.args.next.below.page in
+      let page = c.args.step.next.below.page in
       let live = page_of_node g.row.D (m page) child.node child.there in
       others_keep g.row.D m (pages c.free.new.self) page (c.free.ensures.others h.honest live)
-      (c.args.at.level + 1) child.node child.there
+      (c.args.step.at.level + 1) child.node child.there
       (omega (arith, child.level_is, c.requires.is_next.level));
   faults = λ h above child.
       let live =
-      page_of_node g.row.D (pages c.args.cache.now c.args.next.below.page) child.node child.there in
+      page_of_node g.row.D (pages c.args.cache.now c.args.step.next.below.page) child.node child.there in
       at_error c.from_residual.result c.in_err-free.field-0.0 IsOfDevice c.from_residual.ensures.1
       (c.in_err-free.ensures.faults h live (λ two. omega (arith, two, c.requires.is_next.page)));
   touched = λ h live. no_success c.from_residual.result c.in_err-free.field-0.0 _ c.from_residual.ensures.1;
@@ -65,8 +65,8 @@ returns g c =
     let old = c.args.cache.now in
     let freed = c.free.new.self in
     let new = c.take_at.new.cache in
-    let page = c.args.next.below.page in
-    let at = c.args.at in
+    let page = c.args.step.next.below.page in
+    let at = c.args.step.at in
     let take = c.take_at.ensures in
     let m : PageMap = pages old in
     let mf : PageMap = pages freed in
@@ -82,9 +82,9 @@ returns g c =
           let honest = (c.free.ensures.sound h live).honest in
           let apart = c.free.ensures.others h.honest live in
           let there =
-          parent_stays D m mf at c.args.next c.requires.is_next above child.node child.there child.level_is apart in
+          parent_stays D m mf at c.args.step.next c.requires.is_next above child.node child.there child.level_is apart in
           let taken =
-          child_left c.args.fanout m0 m1 mf at.page at.level id removed row c.args.next.place held
+          child_left c.args.fanout m0 m1 mf at.page at.level id removed row c.args.step.next.place held
           (held_now c.args.kept.now) above.node.entries page c.requires.is_next.above above.within above.names
           (λ k other. apart k other ∙ others k other) (held_now c.keep.new.self)
           c.args.hand.now.entries.items lower now.0 took c.requires.few
@@ -92,10 +92,10 @@ returns g c =
           ∙ ap (λ (l : ℕ). held_now c.args.kept.now ++ reverse (map (held_with l) c.args.hand.now.entries.items))
           c.requires.is_next.level) in
           IfOk-weaker c.take_at.result
-          (IsNow c.args.fanout (mn at.page) at.level (items_without above.node.entries c.args.next.place)
+          (IsNow c.args.fanout (mn at.page) at.level (items_without above.node.entries c.args.step.next.place)
           c.take_at.new.hand) _
           (λ became is. record {
-            items = items_without above.node.entries c.args.next.place;
+            items = items_without above.node.entries c.args.step.next.place;
             between = mf;
             taken = taken;
             others = take.others honest (page_of_node D (mf at.page) above.node there);
@@ -105,26 +105,26 @@ returns g c =
       sound = λ h above child.
           let live = page_of_node D (m page) child.node child.there in
           let there =
-          parent_stays D m mf at c.args.next c.requires.is_next above child.node child.there child.level_is
+          parent_stays D m mf at c.args.step.next c.requires.is_next above child.node child.there child.level_is
           (c.free.ensures.others h.honest live) in
           take.sound (c.free.ensures.sound h live) (page_of_node D (mf at.page) above.node there);
       still = λ h above child.
           let live = page_of_node D (m page) child.node child.there in
           let there =
-          parent_stays D m mf at c.args.next c.requires.is_next above child.node child.there child.level_is
+          parent_stays D m mf at c.args.step.next c.requires.is_next above child.node child.there child.level_is
           (c.free.ensures.others h.honest live) in
           take.still (c.free.ensures.sound h live).honest above.node there above.level_is;
       stay = λ h above child.
           let live = page_of_node D (m page) child.node child.there in
           let apart = c.free.ensures.others h.honest live in
           let there =
-          parent_stays D m mf at c.args.next c.requires.is_next above child.node child.there child.level_is apart in
-          above_stay D m mf at c.args.next c.requires.is_next above child.node child.there child.level_is apart mn
+          parent_stays D m mf at c.args.step.next c.requires.is_next above child.node child.there child.level_is apart in
+          above_stay D m mf at c.args.step.next c.requires.is_next above child.node child.there child.level_is apart mn
           (take.others (c.free.ensures.sound h live).honest (page_of_node D (mf at.page) above.node there));
       faults = λ h above child.
           let live = page_of_node D (m page) child.node child.there in
           let there =
-          parent_stays D m mf at c.args.next c.requires.is_next above child.node child.there child.level_is
+          parent_stays D m mf at c.args.step.next c.requires.is_next above child.node child.there child.level_is
           (c.free.ensures.others h.honest live) in
           take.faults (c.free.ensures.sound h live).honest above.node there above.level_is above.within;
       touched = λ h live. with_ok c.take_at.result _

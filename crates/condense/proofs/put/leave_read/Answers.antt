@@ -36,7 +36,7 @@ returns-in_err-read_into g c =
       taken = λ h above child m m1 id removed row held lower took others now. no_answer r f _ is;
       sound = λ h above child. first.map.sound.0 h;
       still = λ h above child. no_answer r f _ is;
-      stay = λ h above child. same_keeps g.row.D (c.args.at.level + 1) (pages old) (pages new)
+      stay = λ h above child. same_keeps g.row.D (c.args.step.at.level + 1) (pages old) (pages new)
           (first.map.pages_stay h.honest);
       faults = λ h above child. at_error r f IsOfDevice is
           (err.there h.honest child.node child.there child.level_is);
@@ -49,7 +49,7 @@ returns-then-len-least_entries g c =
     let D = g.row.D in
     let old = c.args.cache.now in
     let new = c.read_into.new.cache in
-    let page = c.args.next.below.page in
+    let page = c.args.step.next.below.page in
     let first : AsksUntil old new None = c.in_ok-read_into.ensures.asks in
     record {
       changes = asks_changes old new (Some (Damaged page)) (damaged_asks old new page first);
@@ -59,7 +59,7 @@ returns-then-len-least_entries g c =
       taken = λ h above child m m1 id removed row held lower took others now. tt;
       sound = λ h above child. first.map.sound.0 h;
       still = λ h above child. tt;
-      stay = λ h above child. same_keeps D (c.args.at.level + 1) (pages old) (pages new)
+      stay = λ h above child. same_keeps D (c.args.step.at.level + 1) (pages old) (pages new)
           (first.map.pages_stay h.honest);
       faults = λ h above child.
           let now = c.read_into.new.node in
@@ -84,7 +84,7 @@ pub leave_out-requires : goal.leave_out-requires
 leave_out-requires g c =
     let now = c.read_into.new.node in
     let ok = c.in_ok-read_into.ensures in
-    let cut : IsCut c.args.next.below.level (content_of now) = record {
+    let cut : IsCut c.args.step.next.below.level (content_of now) = record {
       level_is = ok.level;
       few = ok.spellable.few;
       refers = subst (λ l. All (λ (item : Item). IsOfLevel l item.reference item.tag)
@@ -118,10 +118,10 @@ returns g c =
     let old = c.args.cache.now in
     let mid = c.read_into.new.cache in
     let new = c.leave_out.new.cache in
-    let page = c.args.next.below.page in
-    let level = c.args.next.below.level in
-    let at = c.args.at in
-    let next = c.args.next in
+    let page = c.args.step.next.below.page in
+    let level = c.args.step.next.below.level in
+    let at = c.args.step.at in
+    let next = c.args.step.next in
     let hand = c.read_into.new.node in
     let ok = c.in_ok-read_into.ensures in
     let out = c.leave_out.ensures in
