@@ -71,9 +71,14 @@ pub as_many : (dims : ℕ) (pages : PageMap) (t : IdTree) → TreeStands dims pa
 as_many dims pages t stands = counted (objects_in t.row) stands.single
 
 -- some of the objects are new where all are
-pub new_front : (m : FinMap nat_cmp Object) (xs ys : List Entry) → AreNew m (xs ++ ys) → AreNew m xs
+new_front : (m : FinMap nat_cmp Object) (xs ys : List Entry) → AreNew m (xs ++ ys) → AreNew m xs
 new_front m [] ys new = tt
 new_front m (x ∷ xs) ys new = (new.0, new_front (map.insert m x.0 x.1) xs ys new.1)
+
+pub new_taken : (m : FinMap nat_cmp Object) (count : ℕ) (objects : List Entry) → AreNew m objects
+    → AreNew m (take count objects)
+new_taken m count objects new = new_front m (take count objects) (drop count objects)
+    (subst (AreNew m) (sym (take-append-drop count objects)) new)
 
 -- and the others are then
 new_behind : (m : FinMap nat_cmp Object) (xs ys : List Entry) → AreNew m (xs ++ ys)
@@ -115,12 +120,20 @@ fills_from dims old mid new t objects same f =
           moves_from old mid new (part_of t) (part_of f.table) same f.moves;
     }
 
--- the first of the objects from a place on
+-- the objects from a place on, the first by itself
+rest_is : (objects : List Entry) (count : ℕ) (object : Entry) → count < length objects
+    → object ≡ get_or objects count object → drop count objects ≡ object ∷ drop (count + 1) objects
+rest_is objects count object within is = drop_more objects count object within
+    ∙ ap (λ (o : Entry). o ∷ drop (count + 1) objects) (sym is)
+
 pub first_of : (objects : List Entry) (count : ℕ) (object : Entry) → count < length objects
     → object ≡ get_or objects count object → object ∷ [] ≡ take 1 (drop count objects)
-first_of objects count object within is = sym (ap (take 1)
-    (drop_more objects count object within
-    ∙ ap (λ (o : Entry). o ∷ drop (count + 1) objects) (sym is)))
+first_of objects count object within is = sym (ap (take 1) (rest_is objects count object within is))
+
+-- and the first of all is new where all are
+pub first_new : (m : FinMap nat_cmp Object) (objects : List Entry) (object : Entry) → 0 < length objects
+    → object ≡ get_or objects 0 object → AreNew m objects → map.contains_key m object.0 ≡ false
+first_new m objects object some is new = (subst (AreNew m) (rest_is objects 0 object some is) new).0
 
 module _ {B A : Type 0} {m : _} where
   -- the table with the objects so far
@@ -286,9 +299,7 @@ module _ {B A : Type 0} {m : _} where
       → IsNext dims leaf now p.filled.table object (drop (count + 1) objects)
   next_pushed {dims} {leaf} {old} {now} {t} {objects} {count} object within is p =
       let f = p.filled in
-      let parts : drop count objects ≡ object ∷ drop (count + 1) objects =
-      drop_more objects count object within
-      ∙ ap (λ (o : Entry). o ∷ drop (count + 1) objects) (sym is) in
+      let parts = rest_is objects count object within is in
       record {
         stands = f.stands;
         map_is = f.map_is;

@@ -1,8 +1,8 @@
 -- Ways that the identifiers from one to another share, and a leaf that takes objects of them one after the
 -- other.
 use Rattle.std.proofs.Common.{◌≡◌, ◌∙◌, ℕ, ◌+◌, ◌-◌, ◌<◌, ◌≤◌, ◌++◌, ◌∷◌, [], Bool, true, false, Some, None}
-use Rattle.std.proofs.Common.{List, length, get_or, refl, sym, ap, subst, arith, length-append}
-use Rattle.std.proofs.lemmas.List.{get_or-append-add}
+use Rattle.std.proofs.Common.{All, List, length, get_or, take, refl, sym, ap, subst, arith, length-append}
+use Rattle.std.proofs.lemmas.List.{get_or-append-add, length-take-le}
 use Rattle.std.proofs.lemmas.List.Elements.{All-head, All-tail}
 use Rattle.bucket_page.specs.Layout.{Entry}
 use Rattle.page_file.specs.Pages.{SameBut}
@@ -209,15 +209,17 @@ module _ (dims : ℕ) (pages : PageMap) (t : IdTree) (leaf : ℕ) (object : Entr
       }
 
 -- the objects that a run counts come into its leaf
-pub counted_run : (dims : ℕ) (t : IdTree) (root from upto leaf room : ℕ) (objects : List Entry)
-    → t.page ≡ root → HasRun dims root t.level t.row from upto leaf room → length objects ≤ room
-    → ((k : ℕ) (d : Entry) → k < length objects → IsFromTo from upto (get_or objects k d))
-    → TakesAll dims t leaf objects
-counted_run dims t root from upto leaf room objects at run few within =
-    let here = subst (λ (n : ℕ). HasRun dims n t.level t.row from upto leaf room) (sym at) run in
+pub counted_run : (dims : ℕ) (t : IdTree) (root from upto leaf room count : ℕ) (objects : List Entry)
+    → t.page ≡ root → (0 < room → HasRun dims root t.level t.row from upto leaf room) → ¬ (count ≡ 0)
+    → count ≤ room → count ≤ length objects → All (IsFromTo from upto) (take count objects)
+    → TakesAll dims t leaf (take count objects)
+counted_run dims t root from upto leaf room count objects at runs some few within range =
+    let run = subst (λ (n : ℕ). HasRun dims n t.level t.row from upto leaf room) (sym at)
+    (runs (omega (arith, some, few))) in
+    let size : length (take count objects) ≡ count = length-take-le count objects within in
     record {
       from = from;
       upto = upto;
-      within = within;
-      run = record { last = here.last; way = here.way; takes = omega (arith, here.takes, few) };
+      within = range;
+      run = record { last = run.last; way = run.way; takes = omega (arith, run.takes, few, size) };
     }
