@@ -215,24 +215,26 @@ module _ {B A : Type 0} {m : _} where
 
   pub fills_on : {dims root : ℕ} {old now : PageCache B A m} {objects : List Entry} {count : ℕ}
       (so_far : Filling dims root old now objects count) (new : PageCache B A m) (more : ℕ)
-      → count + more ≤ length objects → ChangesUntil now new None
+      (others : List Entry) → others ≡ drop count objects → count + more ≤ length objects
+      → ChangesUntil now new None
       → (IsPageMap now → (t : IdTree) → t.page ≡ root → TreeStands dims (pages now) t
-      → AreNew (objects_of t) (drop count objects) → IsPageMap new)
+      → AreNew (objects_of t) others → IsPageMap new)
       → (IsPageMap now → (t : IdTree) → t.page ≡ root → TreeStands dims (pages now) t
-      → AreNew (objects_of t) (drop count objects) → KeepsTidy dims (pages now) (pages new))
+      → AreNew (objects_of t) others → KeepsTidy dims (pages now) (pages new))
       → (IsPageMap now → (t : IdTree) → t.page ≡ root → TreeStands dims (pages now) t
-      → AreNew (objects_of t) (drop count objects)
-      → Fills dims (pages now) (pages new) t (take more (drop count objects)))
+      → AreNew (objects_of t) others → Fills dims (pages now) (pages new) t (take more others))
       → Filling dims root old new objects (count + more)
-  fills_on {dims} {root} {old} {now} {objects} {count} so_far new more within changes sound tidy fills =
+  fills_on {dims} {root} {old} {now} {objects} {count} so_far new more others is within changes sound tidy
+      fills =
       record {
         changes = changes_in_turn old now new None so_far.changes changes;
         left = λ sound_old t at stands fresh.
             let f = so_far.left sound_old t at stands fresh in
-            filled_on f new more (take more (drop count objects)) within refl
-            (sound f.map_is f.table (f.page ∙ at) f.stands f.rest)
-            (tidy f.map_is f.table (f.page ∙ at) f.stands f.rest)
-            (fills f.map_is f.table (f.page ∙ at) f.stands f.rest);
+            let rest = subst (AreNew (objects_of f.table)) (sym is) f.rest in
+            filled_on f new more (take more others) within (ap (take more) is)
+            (sound f.map_is f.table (f.page ∙ at) f.stands rest)
+            (tidy f.map_is f.table (f.page ∙ at) f.stands rest)
+            (fills f.map_is f.table (f.page ∙ at) f.stands rest);
       }
 
   -- all of them
