@@ -340,8 +340,8 @@ module _ {B A : Type 0} {m : _} where
             (absent_of f.table object.0 next.absent) (others honest live)
             (written honest (objects_in last) here room) in
             record {
-              filled = filled_on f new 1 (object ∷ []) (omega (arith, within)) (first_of objects count object within is)
-                  (sound f.map_is live) (tidy honest (objects_in last) here room)
+              filled = filled_on f new 1 (object ∷ []) (omega (arith, within))
+                  (first_of objects count object within is) (sound f.map_is live) (tidy honest (objects_in last) here room)
                   (fills_one dims (pages now) (pages new) f.table object one.sets);
               takes = one.takes;
             };

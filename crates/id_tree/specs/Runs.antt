@@ -1,6 +1,6 @@
 -- Runs: the identifiers from one to another that lead to one leaf, and objects that come there one after the
 -- other.
-use Rattle.std.specs.Prelude.{◌≡◌, ℕ, ◌+◌, ◌-◌, ◌<◌, ◌≤◌, List, length, slice_index_or, All}
+use Rattle.std.specs.Prelude.{ℕ, ◌+◌, ◌-◌, ◌<◌, ◌≤◌, List, length, slice_index_or, All}
 use Rattle.bucket_page.specs.Layout.{Entry}
 use Rattle.id_page.specs.Fork.{Link}
 use Rattle.id_page.specs.Leaf.{most_objects}

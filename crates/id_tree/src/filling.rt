@@ -26,8 +26,8 @@ use page_file::Fault;
 use std::alloc::Allocator;
 
 /// Adds objects to the table, none of which has an identifier that is there or that one before it has. The
-/// gate has to be open. In the order of their identifiers they leave full leaves, and a run of such objects is
-/// put into its leaf with one walk, which no clause says.
+/// gate has to be open. In the order of their identifiers they leave full leaves, and a run of such objects
+/// is put into its leaf with one walk, which no clause says.
 ///
 /// Where the pages stand for a table, it makes at most one page more live for each 28 objects that the table
 /// has then, and 14 more.
@@ -72,8 +72,8 @@ pub fn fill<const D: usize, B: BlockDevice, A: Allocator + Copy>(
     Ok(())
 }
 
-// Adds the first of the objects and those behind it that come into the same leaf, as far as that one has room.
-// Says how many it added.
+// Adds the first of the objects, and those behind it that come into the same leaf as far as that one has
+// room. Says how many it added.
 fn fill_run<const D: usize, B: BlockDevice, A: Allocator + Copy>(
     cache: &mut PageCache<B, A>,
     root: u32,

@@ -1,7 +1,7 @@
 //! Objects whose identifiers lead to one leaf, put there after one walk.
 
-ghost use Rattle.std.specs.Prelude.{◌≡◌, ◌<◌, ◌≤◌, ◌+◌, ◌⊎◌, ℕ, Bool, List, length, All, IfErr, IfOk, OnOk};
-ghost use Rattle.std.specs.Prelude.{take};
+ghost use Rattle.std.specs.Prelude.{◌≡◌, ◌<◌, ◌≤◌, ◌+◌, ◌⊎◌, ℕ, Bool, length, All, IfErr, IfOk, OnOk};
+ghost use Rattle.std.specs.Prelude.{slice_index_or, take};
 ghost use Rattle.box_math.specs.Bounds.{IsDims};
 ghost use Rattle.bucket_page.specs.Layout.{Entry};
 ghost use Rattle.page_file.specs.Fault.{IsDamage, IsOfDevice};
@@ -146,6 +146,8 @@ pub(crate) fn count_of_run<const D: usize>(
     ensures few { result ≤ most }
     ensures within { result ≤ length objects.now }
     ensures range { All (IsFromTo from upto) (take result objects.now) }
+    ensures end { (other : Entry) → result < most → result < length objects.now
+        → IsFromTo from upto (slice_index_or objects.now result other) → ⊥ }
 {
     let mut count = 0;
     while count < objects.len() {

@@ -1,5 +1,5 @@
 -- The goals of `fill` that are proved by hand.
-use Rattle.std.proofs.Common.{◌∙◌, ◌+◌, ◌<◌, ◌≤◌, ap, arith, length, length-drop, ◌≡◌, ◌⊎◌, ℕ, subst, sym}
+use Rattle.std.proofs.Common.{◌∙◌, ◌+◌, ◌≤◌, ap, arith, length, length-drop, ◌≡◌, ◌⊎◌, ℕ, subst, sym}
 use Rattle.std.proofs.lemmas.List.{take_rest}
 use Rattle.page_cache.specs.Calls.{changes_and_refuses, no_call_changes}
 use Rattle.node_page.specs.Faults.{IsNoDamage}
@@ -29,8 +29,14 @@ loop-filled-preserved g c =
     let added = c.in_ok-filled.ensures in
     let rest = take_rest c.args.objects.now c.loop-filled.filled in
     let within : c.loop-filled.filled + count ≤ length c.args.objects.now =
-    omega (arith, so_far.within, added.within, ap length rest, length-drop c.loop-filled.filled
-    c.args.objects.now) in
+    omega (
+      arith,
+      so_far.within,
+      added.within,
+      ap length rest,
+      length-drop c.loop-filled.filled
+          c.args.objects.now,
+    ) in
     record {
       filling = fills_on so_far.filling c.fill_run.new.cache count _ rest within added.changes added.sound
           added.tidy added.filled;

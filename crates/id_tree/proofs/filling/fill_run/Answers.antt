@@ -1,5 +1,5 @@
 -- The objects of a run are pushed into its leaf, or the first one is added by itself.
-use Rattle.std.proofs.Common.{◌≡◌, ◌+◌, ◌<◌, ◌≤◌, ◌⊎◌, [], ◌∷◌, None, ℕ, inl, length, subst}
+use Rattle.std.proofs.Common.{◌≡◌, ◌⊎◌, [], ◌∷◌, None, ℕ, inl, subst}
 use Rattle.page_file.specs.declared.fault.Fault.TheVariants as fault
 use Rattle.page_cache.specs.Cache.{given, pages}
 use Rattle.page_cache.specs.Calls.{asks_changes, changes_and_refuses, changes_in_turn}

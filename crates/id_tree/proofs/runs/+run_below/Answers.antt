@@ -1,5 +1,5 @@
 -- A run goes on in the child where the identifier is.
-use Rattle.std.proofs.Common.{◌≡◌, ◌∙◌, ◌⊎◌, ◌+◌, ◌-◌, ◌<◌, ◌≤◌, ℕ, length, refl, sym, arith, subst}
+use Rattle.std.proofs.Common.{◌≡◌, ◌∙◌, ◌⊎◌, ◌+◌, ◌-◌, ◌<◌, ◌≤◌, ℕ, length, sym, arith, subst}
 use Rattle.page_file.specs.Fault.{IsOfDevice}
 use Rattle.page_file.specs.declared.fault.Fault.TheVariants as fault
 use Rattle.page_cache.specs.Cache.{given, pages}
@@ -10,7 +10,7 @@ use Rattle.id_words.proofs.Results.{if_both}
 use Rattle.id_tree.specs.Checked.{ComesInTree, NamesChild}
 use Rattle.id_tree.specs.Runs.{HasRun}
 use Rattle.id_tree.specs.Tree.{HasNode, at_edge, links_of, objects_in}
-use Rattle.id_tree.proofs.DamageLemmas.{comes_at, comes_down, damaged_is, named_some}
+use Rattle.id_tree.proofs.DamageLemmas.{comes_at, comes_down, named_some}
 use Rattle.id_tree.proofs.GivenLemmas.{comes_here, comes_so}
 use Rattle.id_tree.proofs.NodeLemmas.{stands_same}
 use Rattle.id_tree.proofs.ResultLemmas.{if_err, if_ok}

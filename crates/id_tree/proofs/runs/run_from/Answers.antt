@@ -10,8 +10,8 @@ use Rattle.id_tree.specs.Checked.{ComesInTree, NamesChild}
 use Rattle.id_tree.specs.Rows.{NodeStands}
 use Rattle.id_tree.specs.Runs.{HasRun}
 use Rattle.id_tree.specs.Tree.{at_edge, links_of}
-use Rattle.id_tree.proofs.DamageLemmas.{comes_at, comes_down, damaged_is, named_some}
-use Rattle.id_tree.proofs.GivenLemmas.{comes_here, comes_so}
+use Rattle.id_tree.proofs.DamageLemmas.{comes_at, comes_down, named_some}
+use Rattle.id_tree.proofs.GivenLemmas.{comes_so}
 use Rattle.id_tree.proofs.NodeLemmas.{stands_same}
 use Rattle.id_tree.proofs.ResultLemmas.{if_err, if_ok}
 use Rattle.id_tree.proofs.RootLemmas.{root_fork}
