@@ -95,21 +95,13 @@ fn run_below<const D: usize, B: BlockDevice, A: Allocator + Copy>(
         return Err(Fault::Damaged(page));
     }
     match way.child {
-        Some(child) => run_below::<D, B, A>(cache, child, level - 1, id, lesser(upto, way.upto)),
+        Some(child) => run_below::<D, B, A>(cache, child, level - 1, id, upto.min(way.upto)),
         None => Ok(Run {
             leaf: page,
             upto,
             room: 0,
         }),
     }
-}
-
-// The lesser of two identifiers.
-fn lesser(a: u64, b: u64) -> u64
-    ensures first { result ≤ a }
-    ensures second { result ≤ b }
-{
-    if a < b { a } else { b }
 }
 
 // The run of the leaf at a page, in one look.

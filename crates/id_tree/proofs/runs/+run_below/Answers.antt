@@ -55,13 +55,13 @@ returns-in-Some-clause-found g t c = λ h edge row s.
     c.in_ok-way.way.upto place upto in
     let below = stands_same D old (pages c.step.new.cache) child (level - 1) (at_edge edge way.rest) way.below
     (asks.map.pages_stay h) (child_stands D old page level edge id child row high s way) in
-    if_both c.run_below.result (λ run. run.upto ≤ c.lesser.result)
+    if_both c.run_below.result (λ run. run.upto ≤ c.min.result)
     (λ run. 0 < run.room → HasRun D child (level - 1) way.below id run.upto run.leaf run.room)
     (λ run. 0 < run.room → HasRun D page level row id run.upto run.leaf run.room)
     c.run_below.ensures.within
     (c.run_below.ensures.found (asks.gate.honest.0 h) (at_edge edge way.rest) way.below below)
     (λ run less is some. run_down D old page level edge id child row high s way run.upto run.leaf run.room
-    (stops_too run.upto c.in_ok-way.way.upto way.rest (omega (arith, less, c.lesser.ensures.second)) stops)
+    (stops_too run.upto c.in_ok-way.way.upto way.rest (omega (arith, less, c.min.ensures)) stops)
     (is some))
 
 pub returns-in-Some-clause-stands : goal.returns-in-Some-clause-stands
