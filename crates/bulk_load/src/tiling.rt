@@ -25,7 +25,8 @@ pub fn tile<const D: usize, A: Allocator + Copy>(
     fanout: Fanout,
 ) -> Result<Vec<usize, A>, Fault>
     requires { IsDims D }
-    ensures tiled { IfOk result (λ sizes. IsTiledInto item_of D fanout.most entries.old entries.new sizes.items) }
+    ensures tiled { IfOk result (λ sizes. IsTiledInto item_of D fanout.most entries.old entries.new
+        sizes.items) }
     ensures all { IsPermutation entries.old entries.new }
     ensures memory { IfErr result (λ f. f ≡ fault.Memory) }
 {

@@ -44,7 +44,8 @@ pub(crate) fn insert_kept<const D: usize, B: BlockDevice, A: Allocator + Copy>(
         → IfOk result (λ after. IsPageMap cache.new
         × FillsTo D fanout.most (pages cache.old) (pages cache.new) t ws elsewhere after) }
     ensures faults { IsPageMap cache.old → (t : Tree) (ws : List Waiter) (elsewhere : ℕ → ℕ)
-        → CanFill D (pages cache.old) root t ws elsewhere (held_now kept.old) → CanFillShaped D fanout.most t ws
+        → CanFill D (pages cache.old) root t ws elsewhere (held_now kept.old) → CanFillShaped D fanout.most t
+        ws
         → IfErr result (IsNoDamage cache.new) }
     ensures sound { IsPageMap cache.old → OnOk result (IsPageMap cache.new) }
     ensures number { IsPageMap cache.old → IfErr result NamesInRange }

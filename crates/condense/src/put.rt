@@ -38,7 +38,8 @@ pub(crate) fn put_child<const D: usize, B: BlockDevice, A: Allocator + Copy>(
     requires is_next { IsNext step.at step.next }
     requires cut { IsFewInHand fanout.most step.next.below.level hand.old child.now }
     requires room { array_vec_len kept.old.orphans + 39 ≤ 1560 }
-    ensures { PutsChild fanout.most step.at step.next child.now cache.old cache.new hand.old hand.new kept.old kept.new
+    ensures { PutsChild fanout.most step.at step.next child.now cache.old cache.new hand.old hand.new kept.old
+        kept.new
         result }
 {
     match child {
@@ -60,7 +61,8 @@ fn leave_read<const D: usize, B: BlockDevice, A: Allocator + Copy>(
     requires open { gate_of cache.old ≡ Open }
     requires is_next { IsNext step.at step.next }
     requires room { array_vec_len kept.old.orphans + 39 ≤ 1560 }
-    ensures { PutsChild fanout.most step.at step.next became.Few cache.old cache.new hand.old hand.new kept.old kept.new
+    ensures { PutsChild fanout.most step.at step.next became.Few cache.old cache.new hand.old hand.new
+        kept.old kept.new
         result }
 {
     read_into(cache, step.next.below.page, step.next.below.level, hand)?;

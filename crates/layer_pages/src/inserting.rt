@@ -57,14 +57,7 @@ pub fn insert<const D: usize, B: BlockDevice, A: Allocator + Copy>(
 {
     // a box that was looked at is known to be one
     let _ = object.entry.bounds.low();
-    let after = insert_with(
-        cache,
-        layer.root,
-        &object.entry,
-        0,
-        layer.fanout,
-        waiting,
-    )?;
+    let after = insert_with(cache, layer.root, &object.entry, 0, layer.fanout, waiting)?;
     let ObjectAt { entry, spot } = object;
     id_table::add(
         cache,

@@ -101,14 +101,14 @@ module _ {D A : Type 0} {m : _} (kept : Layers D A m) (t : Table) (name : List �
       ap (λ (l : Layer). len l.objects) layer_is ∙ len-entries reading.layer.objects ∙ stands.count
       ∙ ap (λ (x : Record). x.count) (sym row_is)
 
-  pub located_here : (fan : Fanout) → fan.most ≡ r.fanout → IsLocated kept t name
+  pub located_here : (limit : Fanout) → limit.most ≡ r.fanout → IsLocated kept t name
       (record {
         dims = r.dims;
-        fanout = fan;
+        fanout = limit;
         root = record { page = r.root; level = r.level };
         ids_root = r.ids_root;
       })
-  located_here fan same =
+  located_here limit same =
       let stands =
       here_stands (pages kept.cache) (next_of kept.cache) (records_of kept.records) t sound.holds name
       place finds in

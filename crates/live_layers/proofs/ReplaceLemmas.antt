@@ -123,7 +123,8 @@ module _ {D A : Type 0} {m : _} (kept : Layers D A m) (t : Table) (name : List �
         subst (λ (l : Layer). IsLayerAt reading.row.dims reading.row.fanout (pages kept.cache)
         (root_of reading.row) reading.row.ids_root reading.pages l.objects) (sym layer_there)
         stands_there.at in
-        let at : IsLayerAt reading.row.dims located.fanout.most (pages kept.cache) located.root located.ids_root
+        let at : IsLayerAt reading.row.dims located.fanout.most (pages kept.cache) located.root
+        located.ids_root
         reading.pages (layer_at t name).objects =
         subst (λ (x : Whereabouts). IsLayerAt reading.row.dims x.fanout (pages kept.cache) x.root x.ids_root
         reading.pages (layer_at t name).objects) (sym by_record) its in
@@ -156,7 +157,8 @@ module _ {D A : Type 0} {m : _} (kept : Layers D A m) (t : Table) (name : List �
       at' = subst
           (λ (x : Whereabouts). IsLayerAt reading.row.dims x.fanout (pages new.cache) root x.ids_root
           became.layer objects) by_record
-          (subst (λ (k : ℕ). IsLayerAt k located.fanout.most (pages new.cache) root located.ids_root became.layer
+          (subst (λ (k : ℕ). IsLayerAt k located.fanout.most (pages new.cache) root located.ids_root
+          became.layer
           objects) (sym is_dims ∙ dims_there) became.stands)
 
       stands' : LayerStands (pages new.cache) reading'

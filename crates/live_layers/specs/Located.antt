@@ -18,7 +18,8 @@ pub record IsLocated {D A : Type 0} {m : _} (kept : Layers D A m) (t : Table) (n
   pub layer : LayerPages
   pub dims : (layer_at t name).dims ≡ located.dims
   pub fanout : (layer_at t name).fanout ≡ located.fanout.most
-  pub stands : IsLayerAt located.dims located.fanout.most (pages (cache_of kept)) located.root located.ids_root
+  pub stands : IsLayerAt located.dims located.fanout.most (pages (cache_of kept)) located.root
+      located.ids_root
       layer (layer_at t name).objects
   pub its_tree : HasTree kept name layer.tree
 

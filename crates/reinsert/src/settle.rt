@@ -112,7 +112,8 @@ fn take_out_far<const D: usize, B: BlockDevice, A: Allocator + Copy>(
     ensures measure { measure_of waiting.new ≤ measure_of waiting.old }
     ensures alone { IfOk result (λ s. s.beside ≡ None) }
     ensures settled { IsPageMap cache.old → (top : ℕ) → node.now.level < top
-        → SettlesNode fanout.most top page node.now.level (map item_of node.now.entries.items) cache.old cache.new
+        → SettlesNode fanout.most top page node.now.level (map item_of node.now.entries.items) cache.old
+        cache.new
         waiting.old.waits.items waiting.old.called waiting.new.waits.items waiting.new.called result }
     ensures sound { IsPageMap cache.old → IsLive cache.old page → OnOk result (IsPageMap cache.new) }
     ensures faults { IsPageMap cache.old → IsLive cache.old page → IfErr result (IsNoDamage cache.new) }
@@ -153,7 +154,8 @@ fn split_off<const D: usize, B: BlockDevice, A: Allocator + Copy>(
         (λ s. IfSome s.beside (λ e. IsOfLevel (node.now.level + 1) e.reference e.tag)) }
     ensures settled { IsPageMap cache.old
         → (top : ℕ) → (node.now.level < top → is_called waiting.old.called node.now.level ≡ true)
-        → SettlesNode fanout.most top page node.now.level (map item_of node.now.entries.items) cache.old cache.new
+        → SettlesNode fanout.most top page node.now.level (map item_of node.now.entries.items) cache.old
+        cache.new
         waiting.old.waits.items waiting.old.called waiting.new.waits.items waiting.new.called result }
     ensures sound { IsPageMap cache.old → IsLive cache.old page → OnOk result (IsPageMap cache.new) }
     ensures faults { IsPageMap cache.old → IsLive cache.old page → IfErr result (IsNoDamage cache.new) }

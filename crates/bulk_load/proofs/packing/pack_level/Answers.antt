@@ -18,7 +18,8 @@ write_level-requires g c =
     let P : Item → Type 0 = λ item. IsOfLevel c.args.level item.reference item.tag in
     let t : TiledSizes (length c.tile.new.entries) c.in_ok-sizes.sizes.items =
     tiled_sizes c.args.fanout.most c.args.entries.now c.tile.new.entries c.in_ok-sizes.sizes.items
-    c.requires.dims c.args.fanout.within.0 c.args.fanout.within.1 c.requires.above c.in_ok-sizes.ensures.tiled in (
+    c.requires.dims c.args.fanout.within.0 c.args.fanout.within.1 c.requires.above c.in_ok-sizes.ensures.tiled
+    in (
       search rules,
       (
         c.requires.dims,
@@ -44,7 +45,8 @@ pub returns-clause-two : goal.returns-clause-two
 returns-clause-two g c =
     let t : TiledSizes (length c.tile.new.entries) c.in_ok-sizes.sizes.items =
     tiled_sizes c.args.fanout.most c.args.entries.now c.tile.new.entries c.in_ok-sizes.sizes.items
-    c.requires.dims c.args.fanout.within.0 c.args.fanout.within.1 c.requires.above c.in_ok-sizes.ensures.tiled in
+    c.requires.dims c.args.fanout.within.0 c.args.fanout.within.1 c.requires.above c.in_ok-sizes.ensures.tiled
+    in
     if_ok_map c.write_level.result c.write_level.ensures.count
     (λ parents count. omega (arith, t.two, count, ap length c.as_slice.ensures.value))
 
@@ -52,7 +54,8 @@ pub returns-clause-half : goal.returns-clause-half
 returns-clause-half g c =
     let t : TiledSizes (length c.tile.new.entries) c.in_ok-sizes.sizes.items =
     tiled_sizes c.args.fanout.most c.args.entries.now c.tile.new.entries c.in_ok-sizes.sizes.items
-    c.requires.dims c.args.fanout.within.0 c.args.fanout.within.1 c.requires.above c.in_ok-sizes.ensures.tiled in
+    c.requires.dims c.args.fanout.within.0 c.args.fanout.within.1 c.requires.above c.in_ok-sizes.ensures.tiled
+    in
     if_ok_map c.write_level.result c.write_level.ensures.count
     (λ parents count. omega (
       arith,
@@ -83,7 +86,8 @@ pub returns-clause-grows : goal.returns-clause-grows
 returns-clause-grows g c =
     let t : TiledSizes (length c.tile.new.entries) c.in_ok-sizes.sizes.items =
     tiled_sizes c.args.fanout.most c.args.entries.now c.tile.new.entries c.in_ok-sizes.sizes.items
-    c.requires.dims c.args.fanout.within.0 c.args.fanout.within.1 c.requires.above c.in_ok-sizes.ensures.tiled in
+    c.requires.dims c.args.fanout.within.0 c.args.fanout.within.1 c.requires.above c.in_ok-sizes.ensures.tiled
+    in
     omega (
       arith,
       t.half,

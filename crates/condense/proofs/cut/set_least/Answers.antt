@@ -58,7 +58,8 @@ returns-then-has_box g c = λ hand.
     record {
       changes = asks_changes old new None first;
       grows = search rules;
-      cut = cut_written c.args.fanout.most c.len-count.result c.least.result c.written.result c.args.at.level hand
+      cut = cut_written c.args.fanout.most c.len-count.result c.least.result c.written.result c.args.at.level
+          hand
           c.written.ensures;
       now = λ h x there level.
           let same = same_content D (pages old) page view x
@@ -189,11 +190,13 @@ returns g c = λ hand.
     record {
       changes = changes_in_turn old mid new None (asks_changes old mid None first) ok.changes;
       grows = search rules;
-      cut = cut_written c.args.fanout.most c.len-count.result c.in-Some.round c.written-2.result c.args.at.level
+      cut = cut_written c.args.fanout.most c.len-count.result c.in-Some.round c.written-2.result
+          c.args.at.level
           hand c.written-2.ensures;
       now = λ h x there level.
           let is = boxed h x there in
-          now_written c.args.fanout.most c.len-count.result c.in-Some.round c.written-2.result (pages new page)
+          now_written c.args.fanout.most c.len-count.result c.in-Some.round c.written-2.result (pages new
+          page)
           c.args.at.level (set_box x.entries place b) hand
           (is.0 ∙ ap (λ (l : ℕ). Some
           (let k : NodeContent = record { level = l; entries = set_box x.entries place b } in k)) level)

@@ -44,7 +44,8 @@ returns-then-orphan-now-clause-faults g c = λ h t ws elsewhere can shaped.
     let level = c.in-Some.orphan.level in
     let held = held_now c.next.new.self in
     let k = comes D c.args.fanout.most m m1 t ws elsewhere c.inserting.now item level held f in
-    let s = comes_shaped D c.args.fanout.most m m1 t ws elsewhere c.inserting.now item level held f k shaped in
+    let s = comes_shaped D c.args.fanout.most m m1 t ws elsewhere c.inserting.now item level held f k shaped
+    in
     absurd (omega (arith, s.0, f.can.at.level, c.if-orphan-now.true))
 
 pub insert_with-requires : goal.insert_with-requires
@@ -78,7 +79,8 @@ returns-in_err-now-clause-faults g c = λ h t ws elsewhere can shaped.
     let level = c.in-Some.orphan.level in
     let held = held_now c.next.new.self in
     let k = comes D c.args.fanout.most m m1 t ws elsewhere c.inserting.now item level held f in
-    let s = comes_shaped D c.args.fanout.most m m1 t ws elsewhere c.inserting.now item level held f k shaped in
+    let s = comes_shaped D c.args.fanout.most m m1 t ws elsewhere c.inserting.now item level held f k shaped
+    in
     at_error c.from_residual.result c.in_err-now.field-0.0 (IsNoDamage c.insert_with.new.cache)
     c.from_residual.ensures.1
     (c.in_err-now.ensures.inserts.faults so_far.0 f.mid k.w.branch

@@ -76,7 +76,8 @@ returns g c =
           take.changes;
       grows = search rules;
       cut = take.cut;
-      room = omega (arith, c.keep.ensures.len, c.requires.few, fewest_is_low c.args.fanout.most c.args.fanout.within.1);
+      room = omega (arith, c.keep.ensures.len, c.requires.few, fewest_is_low c.args.fanout.most
+          c.args.fanout.within.1);
       taken = λ h above child m0 m1 id removed row held lower took others now.
           let live = page_of_node D (m page) child.node child.there in
           let honest = (c.free.ensures.sound h live).honest in
@@ -92,7 +93,8 @@ returns g c =
           ∙ ap (λ (l : ℕ). held_now c.args.kept.now ++ reverse (map (held_with l) c.args.hand.now.entries.items))
           c.requires.is_next.level) in
           IfOk-weaker c.take_at.result
-          (IsNow c.args.fanout.most (mn at.page) at.level (items_without above.node.entries c.args.step.next.place)
+          (IsNow c.args.fanout.most (mn at.page) at.level (items_without above.node.entries
+          c.args.step.next.place)
           c.take_at.new.hand) _
           (λ became is. record {
             items = items_without above.node.entries c.args.step.next.place;

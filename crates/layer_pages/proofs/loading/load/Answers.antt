@@ -60,7 +60,8 @@ returns-clause-loaded g c = λ sound l most all is same.
     let still =
     layer_still g.row.D c.args.layer.fanout.most most m mid c.args.layer.root after c.args.layer.ids_root l is
     objects loads in
-    layer_loaded g.row.D c.args.layer.fanout.most most m mid c.args.layer.root after c.args.layer.ids_root l is
+    layer_loaded g.row.D c.args.layer.fanout.most most m mid c.args.layer.root after c.args.layer.ids_root l
+    is
     objects loads
     (pages c.put_ids.new.cache) all same boxes
     (c.in_ok-put_ids.ensures.put (c.load.ensures.sound sound) l most all still same)

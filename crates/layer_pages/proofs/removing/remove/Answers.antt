@@ -22,11 +22,12 @@ made_so_not_refused both = absurd both.1
 pub returns-in_err-after-clause-absent : goal.returns-in_err-after-clause-absent
 returns-in_err-after-clause-absent g c = λ sound l objects is absent.
     let D = g.row.D in
+    let most = c.args.layer.fanout.most in
     let m = pages c.args.cache.now in
     let refused =
     c.in_err-after.ensures.absent sound l.tree (part_of l.ids)
-    (can_remove D c.args.layer.fanout.most m c.args.layer.root c.args.layer.ids_root l objects is)
-    (in_no_leaf D c.args.layer.fanout.most m c.args.layer.root c.args.layer.ids_root l objects is
+    (can_remove D most m c.args.layer.root c.args.layer.ids_root l objects is)
+    (in_no_leaf D most m c.args.layer.root c.args.layer.ids_root l objects is
     c.args.object.now.entry.reference
     (c.args.object.now.entry.bounds, c.args.object.now.entry.tag) absent) in (
       refused.0,
@@ -38,13 +39,14 @@ returns-in_err-after-clause-absent g c = λ sound l objects is absent.
 pub returns-in_err-after-clause-faults : goal.returns-in_err-after-clause-faults
 returns-in_err-after-clause-faults g c = λ sound l objects is spot there.
     let D = g.row.D in
+    let most = c.args.layer.fanout.most in
     let m = pages c.args.cache.now in
     at_error c.from_residual.result c.in_err-after.field-0.0
     (IsNoDamage c.remove_with.new.cache) c.from_residual.ensures.1
     (c.in_err-after.ensures.faults sound l.tree (part_of l.ids)
-    (can_remove D c.args.layer.fanout.most m c.args.layer.root c.args.layer.ids_root l objects is) is.tree.shape
+    (can_remove D most m c.args.layer.root c.args.layer.ids_root l objects is) is.tree.shape
     is.boxes
-    (in_a_leaf D c.args.layer.fanout.most m c.args.layer.root c.args.layer.ids_root l objects is
+    (in_a_leaf D most m c.args.layer.root c.args.layer.ids_root l objects is
     c.args.object.now.entry.reference
     (c.args.object.now.entry.bounds, c.args.object.now.entry.tag) there))
 
@@ -56,12 +58,13 @@ returns-clause-changes g c =
 pub returns-clause-sound : goal.returns-clause-sound
 returns-clause-sound g c = λ sound l objects is spot.
     let D = g.row.D in
+    let most = c.args.layer.fanout.most in
     let m = pages c.args.cache.now in
     let to =
     c.in_ok-after.ensures.removed sound l.tree (part_of l.ids)
-    (can_remove D c.args.layer.fanout.most m c.args.layer.root c.args.layer.ids_root l objects is) in
+    (can_remove D most m c.args.layer.root c.args.layer.ids_root l objects is) in
     c.in_ok-remove.ensures.sound to.0 l.ids is.ids_root_is
-    (ids_between D c.args.layer.fanout.most m c.args.layer.root c.args.layer.ids_root l objects is
+    (ids_between D most m c.args.layer.root c.args.layer.ids_root l objects is
     c.args.object.now.entry.reference
     (c.args.object.now.entry.bounds, c.args.object.now.entry.tag) (pages c.remove_with.new.cache) c.in_ok-after.after
     to.1) (spot l.ids is.ids_root_is is.ids)
@@ -69,30 +72,32 @@ returns-clause-sound g c = λ sound l objects is spot.
 pub returns-clause-removed : goal.returns-clause-removed
 returns-clause-removed g c = λ sound l objects is spot there.
     let D = g.row.D in
+    let most = c.args.layer.fanout.most in
     let m = pages c.args.cache.now in
     let mid = pages c.remove_with.new.cache in
     let id = c.args.object.now.entry.reference in
     let kept : Object = (c.args.object.now.entry.bounds, c.args.object.now.entry.tag) in
     let to =
     c.in_ok-after.ensures.removed sound l.tree (part_of l.ids)
-    (can_remove D c.args.layer.fanout.most m c.args.layer.root c.args.layer.ids_root l objects is) in
+    (can_remove D most m c.args.layer.root c.args.layer.ids_root l objects is) in
     let stand =
-    ids_between D c.args.layer.fanout.most m c.args.layer.root c.args.layer.ids_root l objects is id kept mid
+    ids_between D most m c.args.layer.root c.args.layer.ids_root l objects is id kept mid
     c.in_ok-after.after to.1 in
     let removed =
     c.in_ok-remove.ensures.removed to.0 l.ids is.ids_root_is stand
     (spot l.ids is.ids_root_is is.ids)
-    (in_table D c.args.layer.fanout.most m c.args.layer.root c.args.layer.ids_root l objects is id kept there) in
-    layer_removed D c.args.layer.fanout.most m c.args.layer.root c.args.layer.ids_root l objects is id kept mid
+    (in_table D most m c.args.layer.root c.args.layer.ids_root l objects is id kept there) in
+    layer_removed D most m c.args.layer.root c.args.layer.ids_root l objects is id kept mid
     c.in_ok-after.after to.1 (pages c.remove.new.cache) removed c.args.layer.fanout.within.0 there
 
 pub returns-clause-absent : goal.returns-clause-absent
 returns-clause-absent g c = λ sound l objects is absent.
     let D = g.row.D in
+    let most = c.args.layer.fanout.most in
     let m = pages c.args.cache.now in
     made_so_not_refused (c.in_ok-after.ensures.absent sound l.tree (part_of l.ids)
-    (can_remove D c.args.layer.fanout.most m c.args.layer.root c.args.layer.ids_root l objects is)
-    (in_no_leaf D c.args.layer.fanout.most m c.args.layer.root c.args.layer.ids_root l objects is
+    (can_remove D most m c.args.layer.root c.args.layer.ids_root l objects is)
+    (in_no_leaf D most m c.args.layer.root c.args.layer.ids_root l objects is
     c.args.object.now.entry.reference
     (c.args.object.now.entry.bounds, c.args.object.now.entry.tag) absent))
 
@@ -105,31 +110,33 @@ returns-in_err-remove-clause-changes g c =
 pub returns-in_err-remove-clause-absent : goal.returns-in_err-remove-clause-absent
 returns-in_err-remove-clause-absent g c = λ sound l objects is absent.
     let D = g.row.D in
+    let most = c.args.layer.fanout.most in
     let m = pages c.args.cache.now in
     made_so_not_refused (c.in_ok-after.ensures.absent sound l.tree (part_of l.ids)
-    (can_remove D c.args.layer.fanout.most m c.args.layer.root c.args.layer.ids_root l objects is)
-    (in_no_leaf D c.args.layer.fanout.most m c.args.layer.root c.args.layer.ids_root l objects is
+    (can_remove D most m c.args.layer.root c.args.layer.ids_root l objects is)
+    (in_no_leaf D most m c.args.layer.root c.args.layer.ids_root l objects is
     c.args.object.now.entry.reference
     (c.args.object.now.entry.bounds, c.args.object.now.entry.tag) absent))
 
 pub returns-in_err-remove-clause-faults : goal.returns-in_err-remove-clause-faults
 returns-in_err-remove-clause-faults g c = λ sound l objects is spot there.
     let D = g.row.D in
+    let most = c.args.layer.fanout.most in
     let m = pages c.args.cache.now in
     let id = c.args.object.now.entry.reference in
     let kept : Object = (c.args.object.now.entry.bounds, c.args.object.now.entry.tag) in
     let to =
     c.in_ok-after.ensures.removed sound l.tree (part_of l.ids)
-    (can_remove D c.args.layer.fanout.most m c.args.layer.root c.args.layer.ids_root l objects is) in
+    (can_remove D most m c.args.layer.root c.args.layer.ids_root l objects is) in
     let stand =
-    ids_between D c.args.layer.fanout.most m c.args.layer.root c.args.layer.ids_root l objects is id kept
+    ids_between D most m c.args.layer.root c.args.layer.ids_root l objects is id kept
     (pages c.remove_with.new.cache) c.in_ok-after.after to.1 in
     at_error c.from_residual-in_err-remove.result c.in_err-remove.field-0.0 (IsNoDamage c.remove.new.cache)
     c.from_residual-in_err-remove.ensures.1
     (inl
     (c.in_err-remove.ensures.faults to.0 l.ids is.ids_root_is stand
     (spot l.ids is.ids_root_is is.ids)
-    (in_table D c.args.layer.fanout.most m c.args.layer.root c.args.layer.ids_root l objects is id kept there)))
+    (in_table D most m c.args.layer.root c.args.layer.ids_root l objects is id kept there)))
 
 pub returns-in_err-remove-clause-other_faults : goal.returns-in_err-remove-clause-other_faults
 returns-in_err-remove-clause-other_faults g c =

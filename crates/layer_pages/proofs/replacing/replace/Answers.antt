@@ -25,11 +25,12 @@ made_so_not_refused both = absurd both.1
 pub returns-in_err-between-clause-absent : goal.returns-in_err-between-clause-absent
 returns-in_err-between-clause-absent g c = λ sound l objects is absent.
     let D = g.row.D in
+    let most = c.args.layer.fanout.most in
     let m = pages c.args.cache.now in
     let refused =
     c.in_err-between.ensures.absent sound l.tree (part_of l.ids)
-    (can_remove D c.args.layer.fanout.most m c.args.layer.root c.args.layer.ids_root l objects is)
-    (in_no_leaf D c.args.layer.fanout.most m c.args.layer.root c.args.layer.ids_root l objects is
+    (can_remove D most m c.args.layer.root c.args.layer.ids_root l objects is)
+    (in_no_leaf D most m c.args.layer.root c.args.layer.ids_root l objects is
     c.args.object.now.entry.reference
     (c.args.object.now.entry.bounds, c.args.object.now.entry.tag) absent) in (
       refused.0,
@@ -41,13 +42,14 @@ returns-in_err-between-clause-absent g c = λ sound l objects is absent.
 pub returns-in_err-between-clause-faults : goal.returns-in_err-between-clause-faults
 returns-in_err-between-clause-faults g c = λ sound l objects is spot there.
     let D = g.row.D in
+    let most = c.args.layer.fanout.most in
     let m = pages c.args.cache.now in
     at_error c.from_residual.result c.in_err-between.field-0.0
     (IsNoDamage c.remove_with.new.cache) c.from_residual.ensures.1
     (c.in_err-between.ensures.faults sound l.tree (part_of l.ids)
-    (can_remove D c.args.layer.fanout.most m c.args.layer.root c.args.layer.ids_root l objects is) is.tree.shape
+    (can_remove D most m c.args.layer.root c.args.layer.ids_root l objects is) is.tree.shape
     is.boxes
-    (in_a_leaf D c.args.layer.fanout.most m c.args.layer.root c.args.layer.ids_root l objects is
+    (in_a_leaf D most m c.args.layer.root c.args.layer.ids_root l objects is
     c.args.object.now.entry.reference
     (c.args.object.now.entry.bounds, c.args.object.now.entry.tag) there))
 
@@ -60,23 +62,25 @@ returns-in_err-after-clause-changes g c =
 pub returns-in_err-after-clause-absent : goal.returns-in_err-after-clause-absent
 returns-in_err-after-clause-absent g c = λ sound l objects is absent.
     let D = g.row.D in
+    let most = c.args.layer.fanout.most in
     let m = pages c.args.cache.now in
     made_so_not_refused (c.in_ok-between.ensures.absent sound l.tree (part_of l.ids)
-    (can_remove D c.args.layer.fanout.most m c.args.layer.root c.args.layer.ids_root l objects is)
-    (in_no_leaf D c.args.layer.fanout.most m c.args.layer.root c.args.layer.ids_root l objects is
+    (can_remove D most m c.args.layer.root c.args.layer.ids_root l objects is)
+    (in_no_leaf D most m c.args.layer.root c.args.layer.ids_root l objects is
     c.args.object.now.entry.reference
     (c.args.object.now.entry.bounds, c.args.object.now.entry.tag) absent))
 
 pub returns-in_err-after-clause-faults : goal.returns-in_err-after-clause-faults
 returns-in_err-after-clause-faults g c = λ sound l objects is spot there.
     let D = g.row.D in
+    let most = c.args.layer.fanout.most in
     let m = pages c.args.cache.now in
     let four = c.args.layer.fanout.within.0 in
     let to =
     c.in_ok-between.ensures.removed sound l.tree (part_of l.ids)
-    (can_remove D c.args.layer.fanout.most m c.args.layer.root c.args.layer.ids_root l objects is) in
+    (can_remove D most m c.args.layer.root c.args.layer.ids_root l objects is) in
     let shape =
-    shape_between D c.args.layer.fanout.most m c.args.layer.root c.args.layer.ids_root l objects is four
+    shape_between D most m c.args.layer.root c.args.layer.ids_root l objects is four
     c.args.object.now.entry.reference
     (c.args.object.now.entry.bounds, c.args.object.now.entry.tag) (c.args.new.now, c.args.object.now.entry.tag)
     (pages c.remove_with.new.cache)
@@ -86,12 +90,12 @@ returns-in_err-after-clause-faults g c = λ sound l objects is spot there.
     (c.in_err-after.ensures.inserts.faults to.0 to.1.new (object (c.args.new.now, c.args.object.now.entry.tag)
     c.args.object.now.entry.reference)
     (part_of l.ids)
-    (can_insert_between D c.args.layer.fanout.most m c.args.layer.root c.args.layer.ids_root l objects is four
+    (can_insert_between D most m c.args.layer.root c.args.layer.ids_root l objects is four
     c.args.object.now.entry.reference
     (c.args.object.now.entry.bounds, c.args.object.now.entry.tag) (c.args.new.now, c.args.object.now.entry.tag)
     (pages c.remove_with.new.cache)
-    c.in_ok-between.between to.1) (loose D c.args.layer.fanout.most to.1.new shape.0) shape.1
-    (entry_has_shape D c.args.layer.fanout.most m c.args.layer.root c.args.layer.ids_root l objects is
+    c.in_ok-between.between to.1) (loose D most to.1.new shape.0) shape.1
+    (entry_has_shape D most m c.args.layer.root c.args.layer.ids_root l objects is
     c.args.object.now.entry.reference
     (c.args.new.now, c.args.object.now.entry.tag) c.low.ensures.is_box))
 
@@ -109,22 +113,23 @@ returns-clause-changes g c =
 pub returns-clause-sound : goal.returns-clause-sound
 returns-clause-sound g c = λ sound l objects is spot there.
     let D = g.row.D in
+    let most = c.args.layer.fanout.most in
     let m = pages c.args.cache.now in
     let four = c.args.layer.fanout.within.0 in
     let to =
     c.in_ok-between.ensures.removed sound l.tree (part_of l.ids)
-    (can_remove D c.args.layer.fanout.most m c.args.layer.root c.args.layer.ids_root l objects is) in
+    (can_remove D most m c.args.layer.root c.args.layer.ids_root l objects is) in
     let into =
     c.in_ok-after.ensures.inserts.inserted to.0 to.1.new (object (c.args.new.now, c.args.object.now.entry.tag)
     c.args.object.now.entry.reference)
     (part_of l.ids)
-    (can_insert_between D c.args.layer.fanout.most m c.args.layer.root c.args.layer.ids_root l objects is four
+    (can_insert_between D most m c.args.layer.root c.args.layer.ids_root l objects is four
     c.args.object.now.entry.reference
     (c.args.object.now.entry.bounds, c.args.object.now.entry.tag) (c.args.new.now, c.args.object.now.entry.tag)
     (pages c.remove_with.new.cache)
     c.in_ok-between.between to.1) in
     let stand =
-    ids_unchanged D c.args.layer.fanout.most m c.args.layer.root c.args.layer.ids_root l objects is four
+    ids_unchanged D most m c.args.layer.root c.args.layer.ids_root l objects is four
     c.args.object.now.entry.reference
     (c.args.object.now.entry.bounds, c.args.object.now.entry.tag) (c.args.new.now, c.args.object.now.entry.tag)
     (pages c.remove_with.new.cache)
@@ -134,22 +139,23 @@ returns-clause-sound g c = λ sound l objects is spot there.
 pub returns-clause-replaced : goal.returns-clause-replaced
 returns-clause-replaced g c = λ sound l objects is spot there.
     let D = g.row.D in
+    let most = c.args.layer.fanout.most in
     let m = pages c.args.cache.now in
     let four = c.args.layer.fanout.within.0 in
     let to =
     c.in_ok-between.ensures.removed sound l.tree (part_of l.ids)
-    (can_remove D c.args.layer.fanout.most m c.args.layer.root c.args.layer.ids_root l objects is) in
+    (can_remove D most m c.args.layer.root c.args.layer.ids_root l objects is) in
     let into =
     c.in_ok-after.ensures.inserts.inserted to.0 to.1.new (object (c.args.new.now, c.args.object.now.entry.tag)
     c.args.object.now.entry.reference)
     (part_of l.ids)
-    (can_insert_between D c.args.layer.fanout.most m c.args.layer.root c.args.layer.ids_root l objects is four
+    (can_insert_between D most m c.args.layer.root c.args.layer.ids_root l objects is four
     c.args.object.now.entry.reference
     (c.args.object.now.entry.bounds, c.args.object.now.entry.tag) (c.args.new.now, c.args.object.now.entry.tag)
     (pages c.remove_with.new.cache)
     c.in_ok-between.between to.1) in
     let stand =
-    ids_unchanged D c.args.layer.fanout.most m c.args.layer.root c.args.layer.ids_root l objects is four
+    ids_unchanged D most m c.args.layer.root c.args.layer.ids_root l objects is four
     c.args.object.now.entry.reference
     (c.args.object.now.entry.bounds, c.args.object.now.entry.tag) (c.args.new.now, c.args.object.now.entry.tag)
     (pages c.remove_with.new.cache)
@@ -158,10 +164,10 @@ returns-clause-replaced g c = λ sound l objects is spot there.
     c.in_ok-update.ensures.updated into.0 l.ids is.ids_root_is stand
     (spot l.ids is.ids_root_is is.ids)
     (c.args.object.now.entry.bounds, c.args.object.now.entry.tag)
-    (kept_in_table D c.args.layer.fanout.most m c.args.layer.root c.args.layer.ids_root l objects is
+    (kept_in_table D most m c.args.layer.root c.args.layer.ids_root l objects is
     c.args.object.now.entry.reference
     (c.args.object.now.entry.bounds, c.args.object.now.entry.tag) there) refl in
-    layer_replaced D c.args.layer.fanout.most m c.args.layer.root c.args.layer.ids_root l objects is four
+    layer_replaced D most m c.args.layer.root c.args.layer.ids_root l objects is four
     c.args.object.now.entry.reference
     (c.args.object.now.entry.bounds, c.args.object.now.entry.tag) (c.args.new.now, c.args.object.now.entry.tag)
     (pages c.remove_with.new.cache)
@@ -171,10 +177,11 @@ returns-clause-replaced g c = λ sound l objects is spot there.
 pub returns-clause-absent : goal.returns-clause-absent
 returns-clause-absent g c = λ sound l objects is absent.
     let D = g.row.D in
+    let most = c.args.layer.fanout.most in
     let m = pages c.args.cache.now in
     made_so_not_refused (c.in_ok-between.ensures.absent sound l.tree (part_of l.ids)
-    (can_remove D c.args.layer.fanout.most m c.args.layer.root c.args.layer.ids_root l objects is)
-    (in_no_leaf D c.args.layer.fanout.most m c.args.layer.root c.args.layer.ids_root l objects is
+    (can_remove D most m c.args.layer.root c.args.layer.ids_root l objects is)
+    (in_no_leaf D most m c.args.layer.root c.args.layer.ids_root l objects is
     c.args.object.now.entry.reference
     (c.args.object.now.entry.bounds, c.args.object.now.entry.tag) absent))
 
@@ -188,32 +195,34 @@ returns-in_err-update-clause-changes g c =
 pub returns-in_err-update-clause-absent : goal.returns-in_err-update-clause-absent
 returns-in_err-update-clause-absent g c = λ sound l objects is absent.
     let D = g.row.D in
+    let most = c.args.layer.fanout.most in
     let m = pages c.args.cache.now in
     made_so_not_refused (c.in_ok-between.ensures.absent sound l.tree (part_of l.ids)
-    (can_remove D c.args.layer.fanout.most m c.args.layer.root c.args.layer.ids_root l objects is)
-    (in_no_leaf D c.args.layer.fanout.most m c.args.layer.root c.args.layer.ids_root l objects is
+    (can_remove D most m c.args.layer.root c.args.layer.ids_root l objects is)
+    (in_no_leaf D most m c.args.layer.root c.args.layer.ids_root l objects is
     c.args.object.now.entry.reference
     (c.args.object.now.entry.bounds, c.args.object.now.entry.tag) absent))
 
 pub returns-in_err-update-clause-faults : goal.returns-in_err-update-clause-faults
 returns-in_err-update-clause-faults g c = λ sound l objects is spot there.
     let D = g.row.D in
+    let most = c.args.layer.fanout.most in
     let m = pages c.args.cache.now in
     let four = c.args.layer.fanout.within.0 in
     let to =
     c.in_ok-between.ensures.removed sound l.tree (part_of l.ids)
-    (can_remove D c.args.layer.fanout.most m c.args.layer.root c.args.layer.ids_root l objects is) in
+    (can_remove D most m c.args.layer.root c.args.layer.ids_root l objects is) in
     let into =
     c.in_ok-after.ensures.inserts.inserted to.0 to.1.new (object (c.args.new.now, c.args.object.now.entry.tag)
     c.args.object.now.entry.reference)
     (part_of l.ids)
-    (can_insert_between D c.args.layer.fanout.most m c.args.layer.root c.args.layer.ids_root l objects is four
+    (can_insert_between D most m c.args.layer.root c.args.layer.ids_root l objects is four
     c.args.object.now.entry.reference
     (c.args.object.now.entry.bounds, c.args.object.now.entry.tag) (c.args.new.now, c.args.object.now.entry.tag)
     (pages c.remove_with.new.cache)
     c.in_ok-between.between to.1) in
     let stand =
-    ids_unchanged D c.args.layer.fanout.most m c.args.layer.root c.args.layer.ids_root l objects is four
+    ids_unchanged D most m c.args.layer.root c.args.layer.ids_root l objects is four
     c.args.object.now.entry.reference
     (c.args.object.now.entry.bounds, c.args.object.now.entry.tag) (c.args.new.now, c.args.object.now.entry.tag)
     (pages c.remove_with.new.cache)
@@ -222,7 +231,7 @@ returns-in_err-update-clause-faults g c = λ sound l objects is spot there.
     c.from_residual-in_err-update.ensures.1
     (inl (c.in_err-update.ensures.faults into.0 l.ids is.ids_root_is stand
     (spot l.ids is.ids_root_is is.ids)
-    (in_table D c.args.layer.fanout.most m c.args.layer.root c.args.layer.ids_root l objects is
+    (in_table D most m c.args.layer.root c.args.layer.ids_root l objects is
     c.args.object.now.entry.reference
     (c.args.object.now.entry.bounds, c.args.object.now.entry.tag) there)))
 

@@ -151,7 +151,8 @@ returns g c = record {
       stays
       (subst (λ l. IfOk c.settle.result
       (λ s. IsPageMap c.settle.new.cache
-      × SettlesTo D c.args.limits.fanout.most c.args.limits.top l c.args.waiting.now.called branches m0 m' page s
+      × SettlesTo D c.args.limits.fanout.most c.args.limits.top l c.args.waiting.now.called branches m0 m'
+      page s
       c.args.waiting.now.waits.items c.settle.new.waiting.waits.items
       c.settle.new.waiting.called)) level
       (c.settle.ensures.settled (c.in_ok-read_fitting.ensures.asks.map.sound.0 h) branches

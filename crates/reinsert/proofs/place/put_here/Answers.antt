@@ -51,10 +51,12 @@ returns-in-Some g c = record {
       (λ (b : Bounds). (node_in D (m' page) ≡ Some (pushed node (item_of c.args.entry.now)))
       × (b ≡ least_box D after))) c.in-Some.is (c.in_ok-bounds.ensures.added h.honest node there) in (
         c.in_ok-bounds.ensures.sound h can.live,
-        items_settled c.args.limits.fanout.most c.args.limits.top level c.args.waiting.now.called branches after m
+        items_settled c.args.limits.fanout.most c.args.limits.top level c.args.waiting.now.called branches
+        after m
             m' page settled
             c.args.waiting.now.waits.items c.args.waiting.now.waits.items c.args.waiting.now.called
-            are can (omega (arith, length-append items (item_of c.args.entry.now ∷ []), room.1, c.entries-most.ensures)) added.1 refl
+            are can (omega (arith, length-append items (item_of c.args.entry.now ∷ []), room.1,
+            c.entries-most.ensures)) added.1 refl
             refl refl added.0 (c.in_ok-bounds.ensures.others h.honest can.live),
       );
   faults = λ h items there asked few. tt;
@@ -189,7 +191,8 @@ returns g c = record {
       c.args.waiting.now.called branches m m0 m' page c.args.waiting.now.waits.items _ _ stays
       (subst (λ l. IfOk c.settle.result
       (λ s. IsPageMap c.settle.new.cache
-      × SettlesTo D c.args.limits.fanout.most c.args.limits.top l c.args.waiting.now.called branches m0 m' page s
+      × SettlesTo D c.args.limits.fanout.most c.args.limits.top l c.args.waiting.now.called branches m0 m'
+      page s
       c.args.waiting.now.waits.items c.settle.new.waiting.waits.items c.settle.new.waiting.called)) level
       (c.settle.ensures.settled (asks.map.sound.0 h) branches
       (are ∙ ap (λ (es : List Item). es ++ item_of c.args.entry.now ∷ []) same ∙ sym pushed

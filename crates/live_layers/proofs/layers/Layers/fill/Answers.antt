@@ -41,7 +41,8 @@ returns-in-Err-clause-faults g c = λ t name all sound finds dims none same.
     subst (λ (b : Broken). IsOfDevice b.cause) (sym c.broken_by.ensures)
     (no_page_wanted_by_load kept t before c.locate-located.ensures.few (most_loaded_pages count) count
     c.load.new.cache _ (omega (arith, c.requires.room, c.begin.ensures.count)) (omega (arith))
-    (c.load.ensures.grows before.map (reading kept t name c.args.place before finds).pages located.fanout.most all
+    (c.load.ensures.grows before.map (reading kept t name c.args.place before finds).pages located.fanout.most
+    all
     empty_there same)
     (c.in-Err.ensures.faults before.map (reading kept t name c.args.place before finds).pages
     located.fanout.most all empty_there same))

@@ -26,7 +26,8 @@ invariant_of-fanout g c =
     let is : r ≡ get_or items place r = c.index-deref-place.is
     ∙ ap (λ (xs : List LayerRecord). get_or xs place r) c.deref.ensures.0 in
     record {
-      within = fanout_fits items place r is (omega (arith, c.requires, length-map items record_of)) kept.are_layers;
+      within = fanout_fits items place r is (omega (arith, c.requires, length-map items record_of))
+          kept.are_layers;
     }
 
 pub returns-clause-root : goal.returns-clause-root

@@ -23,7 +23,8 @@ returns-in-Ok-clause-pairs g c = λ t first second sound located other.
     left.ids_root right.ids_root located.layer other.layer (layer_at t first) (layer_at t second)
     c.in-Ok.pairs.items
     (located.dims ∙ c.requires.left) at at'
-    (c.in-Ok.ensures.pairs sound.map.honest located.layer.tree other.layer.tree left.fanout.most right.fanout.most
+    (c.in-Ok.ensures.pairs sound.map.honest located.layer.tree other.layer.tree left.fanout.most
+    right.fanout.most
     at.tree at'.tree)
 
 pub returns-in-Ok-clause-looks : goal.returns-in-Ok-clause-looks
