@@ -46,8 +46,8 @@ one_more_entry layer id o was count absent is few more =
 module _ {D A : Type 0} {m : _} (kept : Layers D A m) (t : Table) (name : List ℕ) (place : ℕ)
     (sound : IsSound kept t) (finds : Finds t name place)
     (located : Located)
-    (by_record : (d : Record) → whereabouts_of located ≡ located_by (get_or (records_of kept.records) place
-    d))
+    (by_record : (d : Record) → whereabouts_of located ≡ located_by
+    (get_or (records_of kept.records) place d))
     (dims : ℕ) (is_dims : (layer_at t name).dims ≡ dims) where
   pub by_row : whereabouts_of located ≡ located_by (reading kept t name place sound finds).row
   by_row =

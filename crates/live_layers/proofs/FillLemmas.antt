@@ -31,8 +31,8 @@ use Rattle.live_layers.proofs.ReplaceLemmas.{tree_replaced}
 module _ {D A : Type 0} {m : _} (kept : Layers D A m) (t : Table) (name : List ℕ) (place : ℕ)
     (sound : IsSound kept t) (finds : Finds t name place)
     (located : Located)
-    (by_record : (d : Record) → whereabouts_of located ≡ located_by (get_or (records_of kept.records) place
-    d))
+    (by_record : (d : Record) → whereabouts_of located ≡ located_by
+    (get_or (records_of kept.records) place d))
     (dims : ℕ) (is_dims : (layer_at t name).dims ≡ dims) (none : len (layer_at t name).objects ≡ 0) where
   pub stands_empty : IsLayerAt dims located.fanout.most (pages kept.cache) located.root located.ids_root
       (reading kept t name place sound finds).pages empty

@@ -76,8 +76,8 @@ as_many_objects layer id known o there = len-insert nat_cmp_total layer.objects 
 module _ {D A : Type 0} {m : _} (kept : Layers D A m) (t : Table) (name : List ℕ) (place : ℕ)
     (sound : IsSound kept t) (finds : Finds t name place)
     (located : Located)
-    (by_record : (d : Record) → whereabouts_of located ≡ located_by (get_or (records_of kept.records) place
-    d))
+    (by_record : (d : Record) → whereabouts_of located ≡ located_by
+    (get_or (records_of kept.records) place d))
     (dims : ℕ) (is_dims : (layer_at t name).dims ≡ dims)
     (id : ℕ) (known : Object) (bounds : Bounds) (there : get (layer_at t name).objects id ≡ Some known)
     (cache : PageCache D A m) (root : Root)
@@ -143,7 +143,7 @@ module _ {D A : Type 0} {m : _} (kept : Layers D A m) (t : Table) (name : List �
         inserted =
             subst (λ (o : Object). HasGained layer id (bounds, tag_of o) replaced.between s)
             (its_object layer id known there)
-            (gained layer dims located.fanout.most is_dims most (record { tree = replaced.between; ids = l.ids
-            })
+            (gained layer dims located.fanout.most is_dims most
+            (record { tree = replaced.between; ids = l.ids })
             id (bounds, tag_of known) s replaced.inserted);
       })

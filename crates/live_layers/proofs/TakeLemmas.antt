@@ -73,8 +73,8 @@ module _ (layer : Layer) (dims most : ℕ) (is_dims : layer.dims ≡ dims) (is_m
 module _ {D A : Type 0} {m : _} (kept : Layers D A m) (t : Table) (name : List ℕ) (place : ℕ)
     (sound : IsSound kept t) (finds : Finds t name place)
     (located : Located)
-    (by_record : (d : Record) → whereabouts_of located ≡ located_by (get_or (records_of kept.records) place
-    d))
+    (by_record : (d : Record) → whereabouts_of located ≡ located_by
+    (get_or (records_of kept.records) place d))
     (dims : ℕ) (is_dims : (layer_at t name).dims ≡ dims) where
   abbrev pub read : LayerPages
   read = (reading kept t name place sound finds).pages
@@ -94,8 +94,8 @@ module _ {D A : Type 0} {m : _} (kept : Layers D A m) (t : Table) (name : List �
       (records : (d : Record)
       → records_of new.records ≡ slice_set (records_of kept.records) place
       (with_tree (get_or (records_of kept.records) place d) root count)) where
-    became_new : BecomesLayer dims located.fanout.most (pages kept.cache) (pages new.cache) (part_of_layer
-    read)
+    became_new : BecomesLayer dims located.fanout.most (pages kept.cache) (pages new.cache)
+        (part_of_layer read)
         (kind_of read.ids) root located.ids_root objects IsSo
     became_new =
         subst (λ (x : PageCache D A m). BecomesLayer dims located.fanout.most (pages kept.cache) (pages x)
@@ -133,8 +133,8 @@ module _ {D A : Type 0} {m : _} (kept : Layers D A m) (t : Table) (name : List �
   module _ (id : ℕ) (o : Object) (there : get (layer_at t name).objects id ≡ Some o)
       (cache : PageCache D A m) (root : Root)
       (became : BecomesLayer dims located.fanout.most (pages kept.cache) (pages cache) (part_of_layer read)
-      (kind_of read.ids) root located.ids_root (remove (layer_at t name).objects id) (HasRemoved dims
-      located.fanout.most read id o))
+      (kind_of read.ids) root located.ids_root (remove (layer_at t name).objects id)
+      (HasRemoved dims located.fanout.most read id o))
       (new : Layers D A m) (same : new.cache ≡ cache) (was count : ℕ)
       (was_is : (d : Record) → was ≡ (get_or (records_of kept.records) place d).count)
       (count_is : count ≡ was - 1)
@@ -168,8 +168,8 @@ module _ {D A : Type 0} {m : _} (kept : Layers D A m) (t : Table) (name : List �
     -- and the tree of the layer became one by a lawful removal
     pub tree_taken : ChangesTree kept new name (HasLost (layer_at t name) id)
     tree_taken =
-        tree_with cache root (remove (layer_at t name).objects id) (HasRemoved dims located.fanout.most read
-        id o)
+        tree_with cache root (remove (layer_at t name).objects id)
+        (HasRemoved dims located.fanout.most read id o)
         became new same count counts can le version few records (HasLost (layer_at t name) id)
         (λ s removed. lost (layer_at t name) dims located.fanout.most is_dims fanout_there read id o s
         (its_object (layer_at t name) id o there) removed)

@@ -50,8 +50,8 @@ pub(crate) fn place<const D: usize, B: BlockDevice, A: Allocator + Copy>(
     ensures placed { IsPageMap cache.old → (row : Row) (branch : Branch) → item_in branch ≡ item_of entry.now
         → CanPlace D (pages cache.old) at.page at.level target row branch →
         IfOk result (λ s. IsPageMap cache.new
-        × PlacesTo D limits.fanout.most limits.top at.level target waiting.old.called branch row (pages
-        cache.old)
+        × PlacesTo D limits.fanout.most limits.top at.level target waiting.old.called branch row
+        (pages cache.old)
         (pages cache.new)
         at.page s waiting.old.waits.items waiting.new.waits.items waiting.new.called) }
     ensures faults { IsPageMap cache.old → (row : Row) (branch : Branch) → item_in branch ≡ item_of entry.now
@@ -93,8 +93,8 @@ fn put_here<const D: usize, B: BlockDevice, A: Allocator + Copy>(
     requires open { gate_of cache.old ≡ Open }
     requires top { (at.level ≤ limits.top) × (limits.top ≤ 40) }
     requires refers { IsOfLevel at.level entry.now.reference entry.now.tag }
-    ensures { SettlesThere limits.fanout.most limits.top at (λ items. ⊤) (λ items. items ++ item_of entry.now
-        ∷ [])
+    ensures { SettlesThere limits.fanout.most limits.top at (λ items. ⊤)
+        (λ items. items ++ item_of entry.now ∷ [])
         cache.old cache.new waiting.old waiting.new result }
 {
     let most = limits.fanout.entries();

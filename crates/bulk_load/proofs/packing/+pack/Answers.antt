@@ -17,8 +17,8 @@ use Rattle.bulk_load.proofs.packing.+pack.Goals as goal
 
 pub returns-then-entries-entries-clause-packed : goal.returns-then-entries-entries-clause-packed
 returns-then-entries-entries-clause-packed g t c = λ sound bs waits.
-    root_written g.row.D c.args.fanout.most c.args.level (pages c.args.cache.now) (pages
-    c.write_new.new.cache)
+    root_written g.row.D c.args.fanout.most c.args.level (pages c.args.cache.now)
+    (pages c.write_new.new.cache)
     (items_of c.args.entries.now) bs (record { page = c.in_ok-page.page; level = c.args.level }) waits
     (omega (arith, length-map c.args.entries.now item_of, c.if-entries-entries.true, c.entries.ensures)) refl
     (c.in_ok-page.ensures.fresh sound) (c.in_ok-page.ensures.others sound) (c.in_ok-page.ensures.node sound)
@@ -85,8 +85,8 @@ returns-clause-packed g t c = λ sound bs waits.
     (subst (λ (level : ℕ). WaitFor g.row.D level (pages c.pack_level.new.cache)
     (items_of c.in_ok-parents.parents.items) l.parents) one l.wait) in
     if_ok_map c.pack.result (c.pack.ensures.packed (c.in_ok-parents.ensures.sound sound) l.parents wait)
-    (λ root packs. level_packed g.row.D c.args.fanout.most c.args.level (pages c.args.cache.now) (pages
-    c.pack_level.new.cache)
+    (λ root packs. level_packed g.row.D c.args.fanout.most c.args.level (pages c.args.cache.now)
+    (pages c.pack_level.new.cache)
     (pages c.pack.new.cache) bs l.runs l.parents root
     (omega (
       arith,

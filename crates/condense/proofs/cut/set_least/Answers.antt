@@ -195,8 +195,8 @@ returns g c = λ hand.
           hand c.written-2.ensures;
       now = λ h x there level.
           let is = boxed h x there in
-          now_written c.args.fanout.most c.len-count.result c.in-Some.round c.written-2.result (pages new
-          page)
+          now_written c.args.fanout.most c.len-count.result c.in-Some.round c.written-2.result
+          (pages new page)
           c.args.at.level (set_box x.entries place b) hand
           (is.0 ∙ ap (λ (l : ℕ). Some
           (let k : NodeContent = record { level = l; entries = set_box x.entries place b } in k)) level)

@@ -76,8 +76,13 @@ returns g c =
           take.changes;
       grows = search rules;
       cut = take.cut;
-      room = omega (arith, c.keep.ensures.len, c.requires.few, fewest_is_low c.args.fanout.most
-          c.args.fanout.within.1);
+      room = omega (
+        arith,
+        c.keep.ensures.len,
+        c.requires.few,
+        fewest_is_low c.args.fanout.most
+            c.args.fanout.within.1,
+      );
       taken = λ h above child m0 m1 id removed row held lower took others now.
           let live = page_of_node D (m page) child.node child.there in
           let honest = (c.free.ensures.sound h live).honest in

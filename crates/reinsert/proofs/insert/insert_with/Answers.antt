@@ -33,8 +33,8 @@ returns-then-root-ge40-clause-inserts g c = record {
       let m : PageMap = pages c.args.cache.now in
       let first : Wait D = record { entry = c.args.entry.now; level = c.args.level } in
       let low =
-      low_root c.args.fanout.most elsewhere m c.args.root [] first none_called (at_first t branch
-      c.args.level)
+      low_root c.args.fanout.most elsewhere m c.args.root [] first none_called
+      (at_first t branch c.args.level)
       (begun D m c.args.root first t branch elsewhere can)
       (first_has_shape D c.args.fanout.most c.args.level t branch can.fits shape boxes entry)
       c.requires.root.1 in

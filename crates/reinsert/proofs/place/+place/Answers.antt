@@ -168,7 +168,7 @@ returns-then-keeps_entries-clause-placed g t c = λ h row branch item can.
     (λ sound branches are settle there. (
       sound,
       items_settled c.args.limits.fanout.most c.args.limits.top level called branches (row_items row) m1 m1
-      page
+          page
           settled waits
           waits called (are ∙ items_kept (row_items row) way.place lower kept.0 (kept.1 ∙ is.bounds)) settle
           is.few is.least refl refl refl there (λ k differs. refl),

@@ -51,7 +51,7 @@ returns-in-Some g c = record {
       are ∙ items_boxed items c.args.place lower (nothing_beside lower.beside (sym c.is_some.ensures ∙ c.if-is_some.false)) in (
         c.in_ok-bounds.ensures.sound h can.live,
         items_settled c.args.limits.fanout.most c.args.limits.top level c.args.waiting.now.called branches
-        after m
+            after m
             m' page settled
             c.args.waiting.now.waits.items c.args.waiting.now.waits.items c.args.waiting.now.called
             now can (omega (

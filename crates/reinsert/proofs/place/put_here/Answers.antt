@@ -52,11 +52,15 @@ returns-in-Some g c = record {
       × (b ≡ least_box D after))) c.in-Some.is (c.in_ok-bounds.ensures.added h.honest node there) in (
         c.in_ok-bounds.ensures.sound h can.live,
         items_settled c.args.limits.fanout.most c.args.limits.top level c.args.waiting.now.called branches
-        after m
+            after m
             m' page settled
             c.args.waiting.now.waits.items c.args.waiting.now.waits.items c.args.waiting.now.called
-            are can (omega (arith, length-append items (item_of c.args.entry.now ∷ []), room.1,
-            c.entries-most.ensures)) added.1 refl
+            are can (omega (
+              arith,
+              length-append items (item_of c.args.entry.now ∷ []),
+              room.1,
+              c.entries-most.ensures,
+            )) added.1 refl
             refl refl added.0 (c.in_ok-bounds.ensures.others h.honest can.live),
       );
   faults = λ h items there asked few. tt;

@@ -18,8 +18,12 @@ returns-then-len-entries g c = record {
       c.write_fitting.ensures.alone;
   settled = λ h branches are can.
       c.write_fitting.ensures.settled h c.args.limits.fanout.most c.args.limits.top c.args.waiting.now.called
-      c.args.waiting.now.waits.items (omega (arith, c.if-len-entries.true, c.len.ensures.value,
-      c.entries.ensures)) branches are
+      c.args.waiting.now.waits.items (omega (
+        arith,
+        c.if-len-entries.true,
+        c.len.ensures.value,
+        c.entries.ensures,
+      )) branches are
       can;
   sound = c.write_fitting.ensures.sound;
   faults = c.write_fitting.ensures.faults;
