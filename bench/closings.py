@@ -4,8 +4,8 @@
 usage: closings.py TIMES REPLIES LINES FIRST COUNT.. -- PROGRAM WORD..
     COUNT is `INSERTS:CLOSINGS`: so many closings, each after so many of the inserts in LINES, of which the first FIRST are
     left out. TIMES gets a line for each: the milliseconds of a closing from when `reopen` is written until its reply is
-    read, and those of processor time, or those that are there already where they are fewer. REPLIES gets what the table
-    answers at the end. A closing before the first one is not counted.
+    read, those of processor time, and both for the inserts with their closing, or those that are there already where
+    they are fewer. REPLIES gets what the table answers at the end. A closing before the first one is not counted.
 """
 import itertools
 import math
@@ -40,12 +40,17 @@ class Program:
                 if self.process.stdout.readline() != b"ok\n":
                     sys.exit(f"closings.py: {line} was refused")
 
-    def close(self):
-        """The milliseconds of a closing, and those of its processor time."""
-        begun = time.perf_counter(), time.clock_gettime(self.clock)
+    def now(self):
+        return time.perf_counter(), time.clock_gettime(self.clock)
+
+    def close_after(self, lines):
+        """The milliseconds of the closing after these changes, and those of the changes with it, each also as processor time."""
+        begun = self.now()
+        self.change(lines)
+        changed = self.now()
         self.change(["reopen"])
-        ended = time.perf_counter(), time.clock_gettime(self.clock)
-        return [1000 * (after - before) for before, after in zip(begun, ended)]
+        ended = self.now()
+        return [1000 * (b - a) for first in (changed, begun) for a, b in zip(first, ended)]
 
     def end(self):
         """What the table answers at last."""
@@ -60,9 +65,8 @@ def measure(program, lines, inserts, closings):
     """The mean of so many closings, each after so many of the lines."""
     times = []
     for _ in range(closings):
-        program.change(list(itertools.islice(lines, inserts)))
-        times.append(program.close())
-    return [sum(column) / max(closings, 1) for column in zip(*times)] or [0.0, 0.0]
+        times.append(program.close_after(list(itertools.islice(lines, inserts))))
+    return [sum(column) / max(closings, 1) for column in zip(*times)] or [0.0] * 4
 
 
 def main():
@@ -75,7 +79,7 @@ def main():
     measured = [measure(program, lines, *map(int, count.split(":"))) for count in counts]
     with open(replies, "wb") as file:
         file.write(program.end())
-    before = [[math.inf, math.inf]] * len(measured)
+    before = [[math.inf] * 4] * len(measured)
     if os.path.exists(times):
         with open(times) as file:
             before = [[float(word) for word in line.split()] for line in file]

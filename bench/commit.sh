@@ -1,9 +1,9 @@
 #!/usr/bin/env bash
 # Measures closings (`reopen`) of a file beside commits of SQLite's R*Tree (peers.cpp; Debian's libsqlite3-dev): so many
-# uniform boxes are inserted into a file, closed, and then more before each closing. Prints the milliseconds of a closing, wall
-# and processor time, the least of the rounds' means, and how often it syncs (with `strace`). The time is from when `reopen` is
-# written into a pipe until its reply is read, and the inserts before it were answered by then. All tables are the same, or
-# it stops. The file system decides, so it is told; the files are in TMPDIR.
+# uniform boxes are inserted into a file, closed, and then more before each closing. Prints the milliseconds of a closing, and
+# of the inserts with it, wall and processor time, the least of the rounds' means, and how often it syncs (with `strace`). The
+# time of a closing is from when `reopen` is written into a pipe until its reply is read, and the inserts before it were
+# answered by then. All tables are the same, or it stops. The file system decides, so it is told; the files are in TMPDIR.
 #
 #   bench/commit.sh            a million boxes
 #   bench/commit.sh BOXES
@@ -57,17 +57,17 @@ syncs() {
     awk '$NF ~ /^f(data)?sync$/ { sum += $4 } END { print sum + 0 }' "$work/calls"
 }
 
-# A row of the table: the word before it, and the column of the times.
+# rows NAME COLUMN: the rows of the table for a time in this column of the files and the processor time behind it.
 rows() {
-    local row=0 count
+    local row=0 count column
     for count in "${counts[@]}"; do
         row=$((row + 1))
-        printf '| %s |' "${count%:*}"
+        printf '| %s %s |' "${count%:*}" "$1"
         for column in "${!calls[@]}"; do
-            awk -v r=$row 'NR == r { printf " %.2f, %.2f |", $1, $2 }' "$work/times.$column"
+            awk -v r=$row -v c="$2" 'NR == r { printf " %.2f, %.2f |", $c, $(c + 1) }' "$work/times.$column"
         done
         paste "$work/times.0" "$work/times.1" "$work/times.2" |
-            awk -v r=$row 'NR == r { printf " %.2f, %.2f |\n", $1 / $3, $1 / $5 }'
+            awk -v r=$row -v c="$2" 'NR == r { printf " %.2f, %.2f |\n", $c / $(c + 4), $c / $(c + 8) }'
     done
 }
 
@@ -80,7 +80,8 @@ printf '\n%s boxes in a file on %s, milliseconds of a closing: wall, processor\n
     "$boxes" "$(df --output=fstype "$work" | tail -n 1)"
 printf ' %s |' "${names[@]}" 'wall time of the first by the rollbacks'
 printf '\n|---|---|---|---|---|---|\n'
-rows
+rows 'closed' 1
+rows 'inserted and closed' 3
 if command -v strace >/dev/null; then
     printf '| syncs of a closing |'
     at=$((rounds * used))

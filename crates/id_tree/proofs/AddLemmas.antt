@@ -174,8 +174,8 @@ started dims old new t id kept s none w =
     leaf = more (object id kept) end
 
 -- a root that took the object as it is
-pub sets_here : (dims : ℕ) (old new : PageMap) (t : IdTree) (id : ℕ) (kept : Object) → TreeStands dims old t
-    → kept_in id (objects_in t.row) ≡ None → Becomes dims old new t.page t.level true t.row id (adds kept)
+unfoldable pub sets_here : (dims : ℕ) (old new : PageMap) (t : IdTree) (id : ℕ) (kept : Object)
+    → TreeStands dims old t → kept_in id (objects_in t.row) ≡ None → Becomes dims old new t.page t.level true t.row id (adds kept)
     → Sets dims old new t id kept
 sets_here dims old new t id kept s absent b =
     sets_of dims old new t t.level id (adds kept) kept b.now refl s (inr absent)

@@ -2,29 +2,36 @@
 use Rattle.std.proofs.Common.{◌≡◌, ◌∙◌, ℕ, ◌+◌, ◌/◌, ◌<◌, ◌≤◌, Bool, true, false, cond, eqb, is_some}
 use Rattle.std.proofs.Common.{arith, Some, None, List, [], ◌∷◌, ◌++◌, length, take, drop, get_or, refl, sym}
 use Rattle.std.proofs.Common.{ap, subst}
-use Rattle.std.proofs.lemmas.List.{drop_more, take_all, take_more}
+use Rattle.std.proofs.Common.{length-drop}
+use Rattle.std.proofs.Math.Seq.{take-add}
+use Rattle.std.proofs.lemmas.List.{drop-drop, drop_more, length-take-le, take-append-drop, take_all}
 use Rattle.std.specs.FinMap as map
 use Rattle.std.specs.FinMap.{FinMap, from_entries, get-from_entries}
 use Rattle.std.specs.Cmp.{nat_cmp_total}
 use Rattle.std.specs.Ordering.{nat_cmp}
 use Rattle.box_math.specs.Objects.{Object}
 use Rattle.bucket_page.specs.Layout.{Entry}
-use Rattle.page_cache.specs.Cache.{Grows, IsPageMap, next_of, pages}
+use Rattle.page_file.specs.Pages.{SameBut}
+use Rattle.page_cache.specs.Cache.{Grows, IsHonest, IsLive, IsPageMap, next_of, pages}
 use Rattle.page_cache.specs.Calls.{ChangesUntil, changes_in_turn}
 use Rattle.page_cache.specs.declared.cache.PageCache.{PageCache}
 use Rattle.node_page.specs.Parts.{Moves}
-use Rattle.node_page.proofs.PartLemmas.{moves_in_turn, staying_moves}
+use Rattle.node_page.proofs.PartLemmas.{moves_from, moves_in_turn, staying_moves}
 use Rattle.id_words.proofs.ObjectLemmas.{found_is, occurs_here}
 use Rattle.id_words.specs.Objects.{AreNew, kept_in, times_in, with_all}
 use Rattle.node_page.specs.Standing.{PageMap}
+use Rattle.id_page.specs.Leaf.{most_objects}
 use Rattle.id_tree.specs.Changes.{Fills, Sets}
+use Rattle.id_tree.specs.Runs.{TakesAll}
 use Rattle.id_tree.specs.Tidy.{KeepsTidy}
-use Rattle.id_tree.specs.Tree.{IdTree, TreeStands, objects_in, objects_of, part_of}
+use Rattle.id_tree.specs.Tree.{IdTree, TreeStands, leaf_in, objects_in, objects_of}
+use Rattle.id_tree.specs.Tree.{part_of}
 use Rattle.id_tree.proofs.FewLemmas.{few_pages}
 use Rattle.id_tree.proofs.LiveLemmas.{part_grows}
 use Rattle.id_tree.proofs.TidyLemmas.{tidy_in_turn, tidy_same}
-use Rattle.id_tree.proofs.NodeLemmas.{part_there}
-use Rattle.id_tree.proofs.RootLemmas.{root_stands}
+use Rattle.id_tree.proofs.NodeLemmas.{node_there, part_there}
+use Rattle.id_tree.proofs.RootLemmas.{absent_of, root_stands}
+use Rattle.id_tree.proofs.RunLemmas.{leaf_of_run, room_of_run, takes_one}
 
 with_all-append : (m : FinMap nat_cmp Object) (xs ys : List Entry)
     → with_all m (xs ++ ys) ≡ with_all (with_all m xs) ys
@@ -63,6 +70,71 @@ pub as_many : (dims : ℕ) (pages : PageMap) (t : IdTree) → TreeStands dims pa
     → map.len (objects_of t) ≡ length (objects_in t.row)
 as_many dims pages t stands = counted (objects_in t.row) stands.single
 
+-- some of the objects are new where all are
+new_front : (m : FinMap nat_cmp Object) (xs ys : List Entry) → AreNew m (xs ++ ys) → AreNew m xs
+new_front m [] ys new = tt
+new_front m (x ∷ xs) ys new = (new.0, new_front (map.insert m x.0 x.1) xs ys new.1)
+
+pub new_taken : (m : FinMap nat_cmp Object) (count : ℕ) (objects : List Entry) → AreNew m objects
+    → AreNew m (take count objects)
+new_taken m count objects new = new_front m (take count objects) (drop count objects)
+    (subst (AreNew m) (sym (take-append-drop count objects)) new)
+
+-- and the others are then
+new_behind : (m : FinMap nat_cmp Object) (xs ys : List Entry) → AreNew m (xs ++ ys)
+    → AreNew (with_all m xs) ys
+new_behind m [] ys new = new
+new_behind m (x ∷ xs) ys new = new_behind (map.insert m x.0 x.1) xs ys new.1
+
+-- a map with new objects is longer by so many
+longer_by : (m : FinMap nat_cmp Object) (xs : List Entry) → AreNew m xs
+    → map.len (with_all m xs) ≡ map.len m + length xs
+longer_by m [] new = omega arith
+longer_by m (x ∷ xs) new =
+    let rest = longer_by (map.insert m x.0 x.1) xs new.1 in
+    let one = one_longer m x new.0 in
+    omega (arith, rest, one)
+
+-- a table with one object more is one with all of a list of one
+pub fills_one : (dims : ℕ) (old new : PageMap) (t : IdTree) (object : Entry)
+    → Sets dims old new t object.0 object.1 → Fills dims old new t (object ∷ [])
+fills_one dims old new t object set =
+    record {
+      table = set.table;
+      page = set.page;
+      stands = set.stands;
+      objects = set.objects;
+      moves =
+          set.moves;
+    }
+
+pub fills_from : (dims : ℕ) (old mid new : PageMap) (t : IdTree) (objects : List Entry)
+    → ((n : ℕ) → mid n ≡ old n) → Fills dims mid new t objects → Fills dims old new t objects
+fills_from dims old mid new t objects same f =
+    record {
+      table = f.table;
+      page = f.page;
+      stands = f.stands;
+      objects = f.objects;
+      moves =
+          moves_from old mid new (part_of t) (part_of f.table) same f.moves;
+    }
+
+-- the objects from a place on, the first by itself
+rest_is : (objects : List Entry) (count : ℕ) (object : Entry) → count < length objects
+    → object ≡ get_or objects count object → drop count objects ≡ object ∷ drop (count + 1) objects
+rest_is objects count object within is = drop_more objects count object within
+    ∙ ap (λ (o : Entry). o ∷ drop (count + 1) objects) (sym is)
+
+pub first_of : (objects : List Entry) (count : ℕ) (object : Entry) → count < length objects
+    → object ≡ get_or objects count object → object ∷ [] ≡ take 1 (drop count objects)
+first_of objects count object within is = sym (ap (take 1) (rest_is objects count object within is))
+
+-- and the first of all is new where all are
+pub first_new : (m : FinMap nat_cmp Object) (objects : List Entry) (object : Entry) → 0 < length objects
+    → object ≡ get_or objects 0 object → AreNew m objects → map.contains_key m object.0 ≡ false
+first_new m objects object some is new = (subst (AreNew m) (rest_is objects 0 object some is) new).0
+
 module _ {B A : Type 0} {m : _} where
   -- the table with the objects so far
   pub record Filled (dims : ℕ) (old now : PageCache B A m) (t : IdTree) (objects : List Entry)
@@ -83,92 +155,99 @@ module _ {B A : Type 0} {m : _} where
       pub left : IsPageMap old → (t : IdTree) → t.page ≡ root → TreeStands dims (pages old) t
           → AreNew (objects_of t) objects → Filled dims old now t objects count
 
+  none_filled : (dims : ℕ) (cache : PageCache B A m) (t : IdTree) (objects : List Entry) → IsPageMap cache
+      → TreeStands dims (pages cache) t → AreNew (objects_of t) objects → Filled dims cache cache t objects 0
+  none_filled dims cache t objects sound stands new = record {
+    table = t;
+    page = refl;
+    stands = stands;
+    map_is = sound;
+    has = refl;
+    rest = new;
+    moves = staying_moves (pages cache) (pages cache) (part_of t) (λ n. refl) stands.once
+        (λ n here. part_there dims (pages cache) t.page t.level _ t.row n
+        (root_stands dims (pages cache) t stands) here);
+    tidy = tidy_same dims (pages cache) (pages cache) (λ n. refl);
+    count_is = omega arith;
+  }
+
   pub filling_begins : (dims root : ℕ) (cache : PageCache B A m) (objects : List Entry)
       → ChangesUntil cache cache None → Filling dims root cache cache objects 0
   filling_begins dims root cache objects changes = record {
     changes = changes;
-    left = λ sound t at stands new. record {
-      table = t;
-      page = refl;
-      stands = stands;
-      map_is = sound;
-      has = refl;
-      rest = new;
-      moves = staying_moves (pages cache) (pages cache) (part_of t) (λ n. refl) stands.once
-          (λ n here. part_there dims (pages cache) t.page t.level _ t.row n
-          (root_stands dims (pages cache) t stands) here);
-      tidy = tidy_same dims (pages cache) (pages cache) (λ n. refl);
-      count_is = omega arith;
-    };
+    left = λ sound t at stands new. none_filled dims cache t objects sound stands new;
   }
 
-  -- the next object is new
-  pub next_new : {dims : ℕ} {old now : PageCache B A m} {t : IdTree} {objects : List Entry} {count : ℕ}
-      (object : Entry) → count < length objects → object ≡ get_or objects count object
-      → (f : Filled dims old now t objects count)
-      → (map.contains_key (objects_of f.table) object.0 ≡ false)
-      × AreNew (map.insert (objects_of f.table) object.0 object.1) (drop (count + 1) objects)
-  next_new {objects = objects} {count = count} object within is f =
-      subst (λ (o : Entry). (map.contains_key (objects_of f.table) o.0 ≡ false)
-      × AreNew (map.insert (objects_of f.table) o.0 o.1) (drop (count + 1) objects)) (sym is)
-      (subst (AreNew (objects_of f.table)) (drop_more objects count object within) f.rest)
+  -- so many of the other objects were added
+  pub filled_on : {dims : ℕ} {old now : PageCache B A m} {t : IdTree} {objects : List Entry} {count : ℕ}
+      (f : Filled dims old now t objects count) (new : PageCache B A m) (more : ℕ) (added : List Entry)
+      → count + more ≤ length objects → added ≡ take more (drop count objects) → IsPageMap new
+      → KeepsTidy dims (pages now) (pages new) → Fills dims (pages now) (pages new) f.table added
+      → Filled dims old new t objects (count + more)
+  filled_on {dims} {old} {now} {t} {objects} {count} f new more added within is sound tidy next =
+      let others = drop count objects in
+      let parts : others ≡ added ++ drop more others =
+      sym (take-append-drop more others) ∙ ap (λ (xs : List Entry). xs ++ drop more others) (sym is) in
+      let fresh = subst (AreNew (objects_of f.table)) parts f.rest in
+      let size : length added ≡ more =
+      ap length is ∙ length-take-le more others (omega (arith, within, length-drop count objects)) in
+      let long = longer_by (objects_of f.table) added
+      (new_front (objects_of f.table) added (drop more others) fresh) in
+      let same = ap (λ (k : FinMap nat_cmp Object). map.len k) next.objects in
+      record {
+        table = next.table;
+        page = next.page ∙ f.page;
+        stands = next.stands;
+        map_is = sound;
+        has = next.objects ∙ ap (λ (k : FinMap nat_cmp Object). with_all k added) f.has
+            ∙ sym (with_all-append (objects_of t) (take count objects) added)
+            ∙ ap (with_all (objects_of t)) (ap (λ (xs : List Entry). take count objects ++ xs) is
+            ∙ sym (take-add count more objects));
+        rest = subst (λ (k : FinMap nat_cmp Object). AreNew k (drop (count + more) objects))
+            (sym next.objects)
+            (subst (AreNew (with_all (objects_of f.table) added)) (drop-drop more count objects)
+            (new_behind (objects_of f.table) added (drop more others) fresh));
+        moves = moves_in_turn (pages old) (pages now) (pages new) (part_of t) (part_of f.table)
+            (part_of next.table) f.moves next.moves;
+        tidy = tidy_in_turn dims (pages old) (pages now) (pages new) f.tidy tidy;
+        count_is = omega (arith, same, long, size, f.count_is);
+      }
 
-  -- and is added
   pub fills_on : {dims root : ℕ} {old now : PageCache B A m} {objects : List Entry} {count : ℕ}
-      (so_far : Filling dims root old now objects count) (object : Entry) (new : PageCache B A m)
-      → count < length objects → object ≡ get_or objects count object → ChangesUntil now new None
-      → (IsPageMap now → (t : IdTree) → t.page ≡ root → TreeStands dims (pages now) t → IsPageMap new)
+      (so_far : Filling dims root old now objects count) (new : PageCache B A m) (more : ℕ)
+      (others : List Entry) → others ≡ drop count objects → count + more ≤ length objects
+      → ChangesUntil now new None
       → (IsPageMap now → (t : IdTree) → t.page ≡ root → TreeStands dims (pages now) t
-      → KeepsTidy dims (pages now) (pages new))
+      → AreNew (objects_of t) others → IsPageMap new)
       → (IsPageMap now → (t : IdTree) → t.page ≡ root → TreeStands dims (pages now) t
-      → map.contains_key (objects_of t) object.0 ≡ false
-      → Sets dims (pages now) (pages new) t object.0 object.1)
-      → Filling dims root old new objects (count + 1)
-  fills_on {dims} {root} {old} {now} {objects} {count} so_far object new within is changes sound tidy sets =
+      → AreNew (objects_of t) others → KeepsTidy dims (pages now) (pages new))
+      → (IsPageMap now → (t : IdTree) → t.page ≡ root → TreeStands dims (pages now) t
+      → AreNew (objects_of t) others → Fills dims (pages now) (pages new) t (take more others))
+      → Filling dims root old new objects (count + more)
+  fills_on {dims} {root} {old} {now} {objects} {count} so_far new more others is within changes sound tidy
+      fills =
       record {
         changes = changes_in_turn old now new None so_far.changes changes;
         left = λ sound_old t at stands fresh.
             let f = so_far.left sound_old t at stands fresh in
-            let next = next_new object within is f in
-            let set = sets f.map_is f.table (f.page ∙ at) f.stands next.0 in
-            let taken : take (count + 1) objects ≡ take count objects ++ object ∷ [] =
-            take_more objects count object within ∙ ap (λ (o : Entry). take count objects ++ o ∷ [])
-            (sym is) in
-            record {
-              table = set.table;
-              page = set.page ∙ f.page;
-              stands = set.stands;
-              map_is = sound f.map_is f.table (f.page ∙ at) f.stands;
-              has = set.objects ∙ ap (λ (k : FinMap nat_cmp Object). map.insert k object.0 object.1) f.has
-                  ∙ sym (with_all-append (objects_of t) (take count objects) (object ∷ []))
-                  ∙ ap (with_all (objects_of t)) (sym taken);
-              rest = subst (λ (k : FinMap nat_cmp Object). AreNew k (drop (count + 1) objects))
-                  (sym set.objects)
-                  next.1;
-              moves = moves_in_turn (pages old) (pages now) (pages new) (part_of t) (part_of f.table)
-                  (part_of set.table) f.moves set.moves;
-              tidy = tidy_in_turn dims (pages old) (pages now) (pages new) f.tidy
-                  (tidy f.map_is f.table (f.page ∙ at) f.stands);
-              count_is = ap (λ (k : FinMap nat_cmp Object). map.len k) set.objects
-                  ∙ one_longer (objects_of f.table) object next.0 ∙ (let n = f.count_is in omega (arith, n));
-            };
+            let rest = subst (AreNew (objects_of f.table)) (sym is) f.rest in
+            filled_on f new more (take more others) within (ap (take more) is)
+            (sound f.map_is f.table (f.page ∙ at) f.stands rest)
+            (tidy f.map_is f.table (f.page ∙ at) f.stands rest)
+            (fills f.map_is f.table (f.page ∙ at) f.stands rest);
       }
 
   -- all of them
-  pub all_filled : (dims root : ℕ) (old now : PageCache B A m) (objects : List Entry) (count : ℕ)
-      → length objects ≤ count → Filling dims root old now objects count
-      → IsPageMap old → (t : IdTree) → t.page ≡ root → TreeStands dims (pages old) t
-      → AreNew (objects_of t) objects → Fills dims (pages old) (pages now) t objects
-  all_filled dims root old now objects count all so_far sound t at stands new =
-      let f = so_far.left sound t at stands new in
-      record {
-        table = f.table;
-        page = f.page;
-        stands = f.stands;
-        objects = f.has
-            ∙ ap (with_all (objects_of t)) (take_all count objects all);
-        moves = f.moves;
-      }
+  pub all_of : {dims : ℕ} {old now : PageCache B A m} {t : IdTree} {objects : List Entry} {count : ℕ}
+      → length objects ≤ count → Filled dims old now t objects count
+      → Fills dims (pages old) (pages now) t objects
+  all_of {dims} {old} {now} {t} {objects} {count} all f = record {
+    table = f.table;
+    page = f.page;
+    stands = f.stands;
+    objects = f.has ∙ ap (with_all (objects_of t)) (take_all count objects all);
+    moves = f.moves;
+  }
 
   -- so far the pages are few
   pub few_so_far : (dims root : ℕ) (old now : PageCache B A m) (objects : List Entry) (count : ℕ)
@@ -184,3 +263,86 @@ module _ {B A : Type 0} {m : _} where
       stands.once in
       let few = few_pages dims (next_of now) (pages now) f.table f.stands in
       omega (arith, grows, few, as_many dims (pages now) f.table f.stands, f.count_is, within)
+
+  -- ---- objects pushed into one leaf
+
+  -- the table with the objects so far, of which the leaf takes the others
+  pub record Pushed (dims leaf : ℕ) (old now : PageCache B A m) (t : IdTree) (objects : List Entry)
+      (count : ℕ) : Type 0 where
+    pub filled : Filled dims old now t objects count
+    pub takes : TakesAll dims filled.table leaf (drop count objects)
+
+  pub record Pushing (dims leaf : ℕ) (old now : PageCache B A m) (objects : List Entry) (count : ℕ) : Type 0
+    where
+      pub changes : ChangesUntil old now None
+      pub left : IsPageMap old → (t : IdTree) → TreeStands dims (pages old) t → TakesAll dims t leaf objects
+          → AreNew (objects_of t) objects → Pushed dims leaf old now t objects count
+
+  pub pushing_begins : (dims leaf : ℕ) (cache : PageCache B A m) (objects : List Entry)
+      → ChangesUntil cache cache None → Pushing dims leaf cache cache objects 0
+  unfolding none_filled
+  pushing_begins dims leaf cache objects changes = record {
+    changes = changes;
+    left = λ sound t stands takes new.
+        record { filled = none_filled dims cache t objects sound stands new; takes = takes };
+  }
+
+  -- the next object is new, and comes into the leaf
+  pub record IsNext (dims leaf : ℕ) (now : PageCache B A m) (t : IdTree) (object : Entry)
+      (rest : List Entry) : Type 0 where
+    pub stands : TreeStands dims (pages now) t
+    pub map_is : IsPageMap now
+    pub takes : TakesAll dims t leaf (object ∷ rest)
+    pub absent : map.contains_key (objects_of t) object.0 ≡ false
+
+  pub next_pushed : {dims leaf : ℕ} {old now : PageCache B A m} {t : IdTree} {objects : List Entry}
+      {count : ℕ} (object : Entry) → count < length objects → object ≡ get_or objects count object
+      → (p : Pushed dims leaf old now t objects count)
+      → IsNext dims leaf now p.filled.table object (drop (count + 1) objects)
+  next_pushed {dims} {leaf} {old} {now} {t} {objects} {count} object within is p =
+      let f = p.filled in
+      let parts = rest_is objects count object within is in
+      record {
+        stands = f.stands;
+        map_is = f.map_is;
+        takes = subst (TakesAll dims f.table leaf) parts p.takes;
+        absent = (subst (AreNew (objects_of f.table)) parts f.rest).0;
+      }
+
+  -- and is pushed
+  pub pushes_on : {dims leaf : ℕ} {old now : PageCache B A m} {objects : List Entry} {count : ℕ}
+      (so_far : Pushing dims leaf old now objects count) (object : Entry) (new : PageCache B A m)
+      → count < length objects → object ≡ get_or objects count object → ChangesUntil now new None
+      → (IsPageMap now → IsLive now leaf → IsPageMap new)
+      → (IsHonest now → (xs : List Entry) → leaf_in dims (pages now leaf) ≡ Some xs
+      → length xs < most_objects dims → KeepsTidy dims (pages now) (pages new))
+      → (IsHonest now → IsLive now leaf → SameBut leaf (pages now) (pages new))
+      → (IsHonest now → (xs : List Entry) → leaf_in dims (pages now leaf) ≡ Some xs
+      → length xs < most_objects dims → leaf_in dims (pages new leaf) ≡ Some (xs ++ object ∷ []))
+      → Pushing dims leaf old new objects (count + 1)
+  unfolding filled_on fills_one
+  pushes_on {dims} {leaf} {old} {now} {objects} {count} so_far object new within is changes sound tidy others
+      written =
+      record {
+        changes = changes_in_turn old now new None so_far.changes changes;
+        left = λ sound_old t stands takes fresh.
+            let p = so_far.left sound_old t stands takes fresh in
+            let f = p.filled in
+            let rest = drop (count + 1) objects in
+            let next = next_pushed object within is p in
+            let last = next.takes.run.last in
+            let leaf_is = leaf_of_run dims (pages now) f.table leaf object rest f.stands next.takes in
+            let here = leaf_is.stands.node.leaf refl in
+            let room = room_of_run dims (pages now) f.table leaf object rest f.stands next.takes in
+            let honest = f.map_is.honest in
+            let live = node_there dims (pages now) leaf 0 last leaf_is.stands.node in
+            let one = takes_one dims (pages now) f.table leaf object rest f.stands next.takes (pages new)
+            (absent_of f.table object.0 next.absent) (others honest live)
+            (written honest (objects_in last) here room) in
+            record {
+              filled = filled_on f new 1 (object ∷ []) (omega (arith, within))
+                  (first_of objects count object within is) (sound f.map_is live) (tidy honest (objects_in last) here room)
+                  (fills_one dims (pages now) (pages new) f.table object one.sets);
+              takes = one.takes;
+            };
+      }

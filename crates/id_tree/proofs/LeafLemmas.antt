@@ -14,8 +14,8 @@ use Rattle.id_tree.proofs.NodeLemmas.{row_of_parted, row_of_stands, there_of_lea
 use Rattle.id_tree.proofs.WayLemmas.{TurnsChild, by_child, child_large, child_stands, child_turned}
 
 -- a leaf whose page was written with other objects
-pub leaf_becomes : (dims : ℕ) (old new : PageMap) (page : ℕ) (edge : Bool) (row : Row) (id : ℕ) (step : Step)
-    (xs : List Entry) → NodeStands dims old page 0 edge row → SameBut page old new
+unfoldable pub leaf_becomes : (dims : ℕ) (old new : PageMap) (page : ℕ) (edge : Bool) (row : Row) (id : ℕ)
+    (step : Step) (xs : List Entry) → NodeStands dims old page 0 edge row → SameBut page old new
     → leaf_in dims (new page) ≡ Some xs
     → Turns id step (objects_in row) xs → 0 < length xs → (edge ≡ false → least_objects dims ≤ length xs)
     → Becomes dims old new page 0 edge row id step

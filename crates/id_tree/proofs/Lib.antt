@@ -19,6 +19,7 @@ pub mod PutLemmas
 pub mod DropLemmas
 pub mod FewLemmas
 pub mod LiveLemmas
+pub mod RunLemmas
 pub mod FillLemmas
 pub mod FreeLemmas
 pub mod CountLemmas

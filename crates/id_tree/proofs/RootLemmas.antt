@@ -158,8 +158,8 @@ tree_of dims old new t level id step now s fresh r = record {
   once = r.stands.once;
 }
 
-pub sets_of : (dims : ℕ) (old new : PageMap) (t : IdTree) (level id : ℕ) (step : Step) (kept : Object)
-    (now : Row) → kept_after step ≡ Some kept → TreeStands dims old t
+unfoldable pub sets_of : (dims : ℕ) (old new : PageMap) (t : IdTree) (level id : ℕ) (step : Step)
+    (kept : Object) (now : Row) → kept_after step ≡ Some kept → TreeStands dims old t
     → (come step ≡ 0) ⊎ (kept_in id (objects_in t.row) ≡ None)
     → IsRoot dims old new t level id step now → Sets dims old new t id kept
 sets_of dims old new t level id step kept now sets s fresh r = record {

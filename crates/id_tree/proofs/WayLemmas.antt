@@ -175,7 +175,7 @@ module _ (dims : ℕ) (pages : PageMap) (page level : ℕ) (edge : Bool) (id p :
       edge_of dims pages level high way.rest edge place count on_tail.5 all
 
   -- the child became another one by a step of the identifier: so did the node
-  pub child_turned : (new : PageMap) (step : Step) → (edge ≡ false → IsLarge dims level row)
+  unfoldable pub child_turned : (new : PageMap) (step : Step) → (edge ≡ false → IsLarge dims level row)
       → Becomes dims pages new p (level - 1) (at_edge edge way.rest) way.below id step
       → TurnsChild dims pages new page level edge row id step
   child_turned new step large b =
@@ -253,7 +253,7 @@ module _ (dims : ℕ) (pages : PageMap) (page level : ℕ) (edge : Bool) (id p :
           passes_last dims pages level id way.key q r c l high stands.5
           (subst (λ f. Passes id f way.key) e way.passes)
 
-  pub by_child : (new : PageMap) (step : Step) → (edge ≡ false → IsLarge dims level row)
+  unfoldable pub by_child : (new : PageMap) (step : Step) → (edge ≡ false → IsLarge dims level row)
       → Becomes dims pages new p (level - 1) (at_edge edge way.rest) way.below id step
       → Becomes dims pages new page level edge row id step
   by_child new step large b = (child_turned new step large b).becomes

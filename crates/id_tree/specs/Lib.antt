@@ -3,6 +3,7 @@ pub mod Tree
 pub mod Tidy
 pub mod Changes
 pub mod Rows
+pub mod Runs
 pub mod Steps
 pub mod Halving
 pub mod Writes

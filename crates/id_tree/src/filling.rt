@@ -1,6 +1,7 @@
 //! Many objects added.
 
-ghost use Rattle.std.specs.Prelude.{◌≡◌, ◌⊎◌, ◌+◌, ◌*◌, ◌/◌, ℕ, false, length, IfErr, OnOk};
+ghost use Rattle.std.specs.Prelude.{◌≡◌, ◌⊎◌, ◌+◌, ◌*◌, ◌/◌, ℕ, false, length, IfErr, IfOk, OnOk};
+ghost use Rattle.std.specs.Prelude.{◌<◌, ◌≤◌, take};
 ghost use Rattle.std.specs.FinMap as map;
 ghost use Rattle.box_math.specs.Bounds.{IsDims};
 ghost use Rattle.page_file.specs.Fault.{IsDamage};
@@ -17,6 +18,7 @@ ghost use Rattle.id_tree.specs.Tidy.{KeepsTidy};
 ghost use Rattle.id_tree.specs.Tree.{IdTree, TreeStands, objects_of};
 
 use crate::adding::add_object;
+use crate::runs::{count_of_run, push_all, run_from};
 use block_device::BlockDevice;
 use box_math::BBox;
 use page_cache::PageCache;
@@ -24,7 +26,8 @@ use page_file::Fault;
 use std::alloc::Allocator;
 
 /// Adds objects to the table, none of which has an identifier that is there or that one before it has. The
-/// gate has to be open. In the order of their identifiers they leave full leaves, which no clause says.
+/// gate has to be open. In the order of their identifiers they leave full leaves, and a run of such objects
+/// is put into its leaf with one walk, which no clause says.
 ///
 /// Where the pages stand for a table, it makes at most one page more live for each 28 objects that the table
 /// has then, and 14 more.
@@ -64,8 +67,47 @@ pub fn fill<const D: usize, B: BlockDevice, A: Allocator + Copy>(
 {
     let mut filled = 0;
     while filled < objects.len() {
-        add_object::<D, B, A>(cache, root, &objects[filled])?;
-        filled += 1;
+        filled += fill_run::<D, B, A>(cache, root, &objects[filled..])?;
     }
     Ok(())
+}
+
+// Adds the first of the objects, and those behind it that come into the same leaf as far as that one has
+// room. Says how many it added.
+fn fill_run<const D: usize, B: BlockDevice, A: Allocator + Copy>(
+    cache: &mut PageCache<B, A>,
+    root: u32,
+    objects: &[(u64, (BBox<D>, u32))],
+) -> Result<usize, Fault>
+    requires dims { IsDims D }
+    requires open { gate_of cache.old ≡ Open }
+    requires some { 0 < length objects.now }
+    ensures changes { Changes cache.old cache.new result }
+    ensures some { IfOk result (λ count. 0 < count) }
+    ensures within { IfOk result (λ count. count ≤ length objects.now) }
+    ensures sound { IsPageMap cache.old → (t : IdTree) → t.page ≡ root → TreeStands D (pages cache.old) t
+        → AreNew (objects_of t) objects.now → IsPageMap cache.new }
+    ensures tidy { IsPageMap cache.old → (t : IdTree) → t.page ≡ root → TreeStands D (pages cache.old) t
+        → AreNew (objects_of t) objects.now
+        → OnOk result (KeepsTidy D (pages cache.old) (pages cache.new)) }
+    ensures filled { IsPageMap cache.old → (t : IdTree) → t.page ≡ root → TreeStands D (pages cache.old) t
+        → AreNew (objects_of t) objects.now
+        → IfOk result (λ count. Fills D (pages cache.old) (pages cache.new) t (take count objects.now)) }
+    ensures grows { Grows most_added_pages cache.old cache.new }
+    ensures faults { IsPageMap cache.old → (t : IdTree) → t.page ≡ root → TreeStands D (pages cache.old) t
+        → AreNew (objects_of t) objects.now → IfErr result (IsNoDamage cache.new) }
+    ensures damage { IsHonest cache.old → touched_of cache.new ≡ false
+        → IfErr result (λ f. (n : ℕ) → f ≡ fault.Damaged n
+        → ComesInTree D (given cache.old) root n ⊎ MayBreakAt cache.old n) }
+    ensures other_faults { IfErr result (λ f. IsNoDamage cache.new f ⊎ IsDamage f) }
+{
+    let first = objects[0].0;
+    let run = run_from::<D, B, A>(cache, root, first)?;
+    let count = count_of_run(objects, first, run.upto, run.room);
+    if count == 0 {
+        add_object::<D, B, A>(cache, root, &objects[0])?;
+        return Ok(1);
+    }
+    push_all::<D, B, A>(cache, run.leaf, &objects[..count])?;
+    Ok(count)
 }

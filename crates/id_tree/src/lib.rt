@@ -24,6 +24,7 @@ mod parting;
 mod pushing;
 mod removing;
 mod rooting;
+mod runs;
 mod search;
 mod splitting;
 mod updating;

@@ -1,7 +1,7 @@
 //! Looks at the pages of a tree.
 
 ghost use Rattle.std.specs.Prelude.{◌≡◌, ℕ, ◌≤◌, ◌<◌, ◌⊎◌, Some, None, List, length, IfErr, IfOk, IsSomeAnd};
-ghost use Rattle.std.specs.Prelude.{IfSome};
+ghost use Rattle.std.specs.Prelude.{IfSome, ◌+◌};
 ghost use Rattle.block_bytes.specs.Numbers.{number_at};
 ghost use Rattle.box_math.specs.Bounds.{IsDims};
 ghost use Rattle.bucket_page.specs.Layout.{Entry};
@@ -10,30 +10,32 @@ ghost use Rattle.page_file.specs.declared.fault.Fault.TheVariants as fault;
 ghost use Rattle.page_cache.specs.Cache.{IsHonest, IsLive, pages, given};
 ghost use Rattle.page_cache.specs.Calls.{Asks};
 ghost use Rattle.id_words.specs.Objects.{kept_in};
-ghost use Rattle.id_page.specs.Fork.{AreAscending, ForkContent, fork_at, route, route_place};
+ghost use Rattle.id_page.specs.Fork.{AreAscending, ForkContent, fork_at, link_at, route, route_place};
 ghost use Rattle.id_page.specs.Leaf.{leaf_at, most_objects};
 ghost use Rattle.id_tree.specs.Rows.{IsFoundAt};
+ghost use Rattle.id_tree.specs.Runs.{IsUpto};
 ghost use Rattle.id_tree.specs.Tree.{fork_in, leaf_in};
 ghost use Rattle.id_tree.specs.Checked.{Names, NamesChild};
 
 use block_device::BlockDevice;
 use box_math::BBox;
 use id_page::{
-    count_at, has_fork_head, has_leaf_head, level_at, object_at, page_at, place_of_child,
+    count_at, has_fork_head, has_leaf_head, key_at, level_at, object_at, page_at, place_of_child,
     place_of_id,
 };
 use page_cache::PageCache;
 use page_file::Fault;
 use std::alloc::Allocator;
 
-/// What a fork says of the way to an identifier: its level, how many children it has, and the place and the
-/// page of the child where the identifier is.
+/// What a fork says of the way to an identifier: its level, how many children it has, the place and the page
+/// of the child where the identifier is, and the greatest identifier that is there too.
 #[derive(Clone, Copy, Drop)]
 pub(crate) struct Way {
     pub(crate) level: u8,
     pub(crate) count: usize,
     pub(crate) place: usize,
     pub(crate) child: Option<u32>,
+    pub(crate) upto: u64,
 }
 
 // The way to an identifier in a fork page. A fork of no children has none.
@@ -46,6 +48,8 @@ fn way_on(page: &[u8; 4096], id: u64) -> Way
         → result.child ≡ route id c.links }
     ensures place { (dims : ℕ) (c : ForkContent) → fork_at dims page.now ≡ Some c → AreAscending c.links
         → result.place ≡ route_place id c.links }
+    ensures upto { (dims : ℕ) (c : ForkContent) → fork_at dims page.now ≡ Some c
+        → IsUpto c.links result.place result.upto }
     ensures named { (dims : ℕ) (c : ForkContent) → fork_at dims page.now ≡ Some c
         → IfSome result.child (Names c) }
     ensures within { result.place ≤ result.count }
@@ -59,6 +63,7 @@ fn way_on(page: &[u8; 4096], id: u64) -> Way
             count,
             place: 0,
             child: None,
+            upto: u64::MAX,
         };
     }
     let place = place_of_child(page, id);
@@ -67,7 +72,22 @@ fn way_on(page: &[u8; 4096], id: u64) -> Way
         count,
         place,
         child: Some(page_at(page, place)),
+        upto: upto_on(page, place, count),
     }
+}
+
+// The greatest identifier of the child in a place of a fork page of so many.
+fn upto_on(page: &[u8; 4096], place: usize, count: usize) -> u64
+    requires within { place < count }
+    requires few { count ≤ 340 }
+    requires some { (place + 1 ≡ count) ⊎ (0 < (link_at page.now (place + 1)).0) }
+    ensures upto { (dims : ℕ) (c : ForkContent) → fork_at dims page.now ≡ Some c → count ≡ length c.links
+        → IsUpto c.links place result }
+{
+    if place + 1 == count {
+        return u64::MAX;
+    }
+    key_at(page, place + 1) - 1
 }
 
 // The way to an identifier in the fork at a page, in one look. A page that is none of this dimension is
@@ -87,6 +107,8 @@ pub(crate) fn step<const D: usize, B: BlockDevice, A: Allocator + Copy>(
         → AreAscending c.links → IfOk result (λ way. way.child ≡ route id c.links) }
     ensures place { IsHonest cache.old → (c : ForkContent) → fork_in D (pages cache.old number) ≡ Some c
         → AreAscending c.links → IfOk result (λ way. way.place ≡ route_place id c.links) }
+    ensures upto { IsHonest cache.old → (c : ForkContent) → fork_in D (pages cache.old number) ≡ Some c
+        → IfOk result (λ way. IsUpto c.links way.place way.upto) }
     ensures names { IsHonest cache.old → IfOk result
         (λ way. IfSome way.child (NamesChild D (given cache.old) number)) }
     ensures within { IfOk result (λ way. way.place ≤ way.count) }

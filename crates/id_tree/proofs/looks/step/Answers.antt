@@ -61,3 +61,10 @@ returns-clause-names g c = λ h.
     names_in g.row.D (given c.args.cache.now) c.args.number c.in_ok-page.page.now is.0
     (c.in_ok-page.ensures.given_bytes h) is.1
     c.way_on.result.child (c.way_on.ensures.named g.row.D is.0 is.1)
+
+pub returns-clause-upto : goal.returns-clause-upto
+returns-clause-upto g c = λ h content there.
+    let page = pages c.args.cache.now c.args.number in
+    c.way_on.ensures.upto g.row.D content
+    (fork_bytes g.row.D page _ content
+    (c.in_ok-page.ensures.bytes h (there_of_fork g.row.D page content there)) there)
