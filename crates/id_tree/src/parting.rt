@@ -36,7 +36,7 @@ pub(crate) fn count_under<const D: usize>(page: &[u8; 4096], key: u64) -> usize
 }
 
 // The key with so many objects of a leaf page below it, where each has an identifier of its own and there are
-// more. It is looked for by halves of all keys.
+// more. It is looked for by halves of the keys between the least and the greatest identifier.
 pub(crate) fn key_with<const D: usize>(page: &[u8; 4096], many: usize) -> u64
     requires dims { IsDims D }
     requires few { number_at 2 2 page.now ≤ most_objects D }
@@ -44,14 +44,52 @@ pub(crate) fn key_with<const D: usize>(page: &[u8; 4096], many: usize) -> u64
         → ((id : ℕ) → times_in id objects ≤ 1) → 0 < many → many < length objects
         → length (under_key result objects) ≡ many }
 {
-    let mut low = 0;
-    let mut high = u64::MAX;
+    let ends = ends_with::<D>(page, many);
+    let mut low = ends.0;
+    let mut high = ends.1;
     'halves: while high - low > 1 {
         let half = half_with::<D>(page, many, low, high);
         low = half.0;
         high = half.1;
     }
     high
+}
+
+// Two keys, of which fewer than so many objects are below the first, and as many or more below the second: the
+// least and the greatest identifier, or the ends of all keys where they are none.
+fn ends_with<const D: usize>(page: &[u8; 4096], many: usize) -> (u64, u64)
+    requires dims { IsDims D }
+    requires few { number_at 2 2 page.now ≤ most_objects D }
+    ensures some { result.0 < result.1 }
+    ensures low { (objects : List Entry) → leaf_at D page.now ≡ Some objects
+        → 0 < many → length (under_key result.0 objects) < many }
+    ensures high { (objects : List Entry) → leaf_at D page.now ≡ Some objects
+        → ((id : ℕ) → times_in id objects ≤ 1) → many < length objects
+        → many ≤ length (under_key result.1 objects) }
+{
+    let (least, greatest) = ends_of::<D>(page);
+    if least < greatest
+        && count_under::<D>(page, least) < many
+        && many <= count_under::<D>(page, greatest)
+    {
+        return (least, greatest);
+    }
+    (0, u64::MAX)
+}
+
+// The least and the greatest identifier of a leaf page.
+fn ends_of<const D: usize>(page: &[u8; 4096]) -> (u64, u64)
+    requires dims { IsDims D }
+    requires few { number_at 2 2 page.now ≤ most_objects D }
+{
+    let mut least = u64::MAX;
+    let mut greatest = 0;
+    for place in 0..count_at(page) {
+        let id = id_at::<D>(page, place);
+        least = least.min(id);
+        greatest = greatest.max(id);
+    }
+    (least, greatest)
 }
 
 // The half of the keys from `low` to `high` with a key with so many objects below it.

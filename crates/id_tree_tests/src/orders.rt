@@ -295,6 +295,8 @@ fn many_objects_are_added_at_once(rt: HostRuntime) -> Result<(), Fail> {
     let mut plain = BTreeMap::new(rt.alloc());
     let objects = objects_of::<2>(rt.alloc(), &mut plain, Order::Ascending, 6000)?;
     fill(&mut cache, table, objects.as_slice())?;
+    // one look for each object, and some for each leaf
+    assert!(rt; cache.looks() < 6600);
     let alike = count_alike::<2>(&mut cache, table, &plain, Order::Ascending, 12000)?;
     assert_eq!(rt; alike, 12000);
     assert!(rt; cache.next_number() <= 48);
