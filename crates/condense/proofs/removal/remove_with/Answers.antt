@@ -95,7 +95,8 @@ put_root-requires g c =
     subst (λ o. IfSome o (IsFewInHand c.args.fanout.most c.args.root.level hand)) c.in-Some.is
     c.in_ok-became.ensures.cut in
     let cut : c.is_written.result ≡ false → IsCut c.args.root.level (content_of hand) = λ unwritten.
-    cut_in_hand c.args.fanout.most c.args.root.level hand became few (sym c.is_written.ensures ∙ unwritten) in (
+    cut_in_hand c.args.fanout.most c.args.root.level hand became few
+    (sym c.is_written.ensures ∙ unwritten) in (
       search rules,
       (search rules, (search rules, (c.requires.dims, (gate, (c.requires.root, cut))))),
     )
