@@ -24,7 +24,7 @@ use node_page::{Entry, Root};
 use page_cache::PageCache;
 use page_file::Fault;
 use std::alloc::Allocator;
-use tree_node::see_boxes;
+use tree_node::{Fanout, see_boxes};
 
 /// Makes a tree packed from these objects, in pages that were not live: its nodes have at most `fanout`
 /// entries, and no objects make an empty leaf. The gate has to be open. The objects are left in some order.
@@ -38,16 +38,15 @@ pub fn load<const D: usize, B: BlockDevice, A: Allocator + Copy, H: Allocator + 
     alloc: H,
     cache: &mut PageCache<B, A>,
     objects: &mut [Entry<D>],
-    fanout: u8,
+    fanout: Fanout,
 ) -> Result<Root, Fault>
     requires dims { IsDims D }
     requires open { gate_of cache.old ≡ Open }
-    requires sized { (4 ≤ fanout) × (fanout ≤ 100) }
     ensures changes { Changes cache.old cache.new result }
     ensures sound { IsPageMap cache.old → IsPageMap cache.new }
     ensures loaded { IsPageMap cache.old
         → IfOk result (λ root.
-        Loads D fanout (pages cache.old) (pages cache.new) (items_of objects.old) root) }
+        Loads D fanout.most (pages cache.old) (pages cache.new) (items_of objects.old) root) }
     ensures all { IsPermutation objects.old objects.new }
     ensures grows { Grows (length objects.old + 1) cache.old cache.new }
     ensures faults { IsPageMap cache.old → IfErr result (IsNoDamage cache.new) }
@@ -62,11 +61,10 @@ fn pack<const D: usize, B: BlockDevice, A: Allocator + Copy, H: Allocator + Copy
     cache: &mut PageCache<B, A>,
     entries: &mut [Entry<D>],
     level: u8,
-    fanout: u8,
+    fanout: Fanout,
 ) -> Result<Root, Fault>
     requires dims { IsDims D }
     requires open { gate_of cache.old ≡ Open }
-    requires sized { (4 ≤ fanout) × (fanout ≤ 100) }
     requires some { 0 < level → 1 ≤ length entries.old }
     requires refers { All (λ item. IsOfLevel level item.reference item.tag) (items_of entries.old) }
     requires fits { length entries.old * 2 ^ level < 2 ^ 64 }
@@ -74,12 +72,12 @@ fn pack<const D: usize, B: BlockDevice, A: Allocator + Copy, H: Allocator + Copy
     ensures sound { IsPageMap cache.old → IsPageMap cache.new }
     ensures packed { IsPageMap cache.old → (bs : List Branch)
         → WaitFor D level (pages cache.old) (items_of entries.old) bs
-        → IfOk result (λ root. PackedAt D fanout level (pages cache.old) (pages cache.new) bs root) }
+        → IfOk result (λ root. PackedAt D fanout.most level (pages cache.old) (pages cache.new) bs root) }
     ensures all { IsPermutation entries.old entries.new }
     ensures grows { Grows (length entries.old + 1) cache.old cache.new }
     ensures faults { IsPageMap cache.old → IfErr result (IsNoDamage cache.new) }
 {
-    if entries.len() <= usize::from(fanout) {
+    if entries.len() <= fanout.entries() {
         let page = write_new(cache, entries, level)?;
         return Ok(Root { page, level });
     }
@@ -93,12 +91,11 @@ fn pack_level<const D: usize, B: BlockDevice, A: Allocator + Copy, H: Allocator 
     cache: &mut PageCache<B, A>,
     entries: &mut [Entry<D>],
     level: u8,
-    fanout: u8,
+    fanout: Fanout,
 ) -> Result<Vec<Entry<D>, H>, Fault>
     requires dims { IsDims D }
     requires open { gate_of cache.old ≡ Open }
-    requires sized { (4 ≤ fanout) × (fanout ≤ 100) }
-    requires above { fanout < length entries.old }
+    requires above { fanout.most < length entries.old }
     requires refers { All (λ item. IsOfLevel level item.reference item.tag) (items_of entries.old) }
     ensures changes { Changes cache.old cache.new result }
     ensures sound { IsPageMap cache.old → IsPageMap cache.new }
@@ -108,7 +105,7 @@ fn pack_level<const D: usize, B: BlockDevice, A: Allocator + Copy, H: Allocator 
         (items_of parents.items)) }
     ensures packed { IsPageMap cache.old → (bs : List Branch)
         → WaitFor D level (pages cache.old) (items_of entries.old) bs
-        → IfOk result (λ parents. LevelPacked D fanout level (pages cache.old) (pages cache.new) bs
+        → IfOk result (λ parents. LevelPacked D fanout.most level (pages cache.old) (pages cache.new) bs
         (items_of parents.items)) }
     ensures all { IsPermutation entries.old entries.new }
     ensures grows { Grows (length entries.old / 2) cache.old cache.new }

@@ -12,6 +12,7 @@ use crate::sorting::sort_on;
 use node_page::Entry;
 use page_file::Fault;
 use std::alloc::Allocator;
+use tree_node::Fanout;
 
 /// Puts the entries into the order in which the nodes of a packed tree take them, each at most `fanout`, and
 /// answers how many each node takes: one number for a list of one node, none for no entries. Entries of one
@@ -21,16 +22,16 @@ use std::alloc::Allocator;
 pub fn tile<const D: usize, A: Allocator + Copy>(
     alloc: A,
     entries: &mut [Entry<D>],
-    fanout: u8,
+    fanout: Fanout,
 ) -> Result<Vec<usize, A>, Fault>
-    requires dims { IsDims D }
-    requires some { 0 < fanout }
-    ensures tiled { IfOk result (λ sizes. IsTiledInto item_of D fanout entries.old entries.new sizes.items) }
+    requires { IsDims D }
+    ensures tiled { IfOk result (λ sizes. IsTiledInto item_of D fanout.most entries.old entries.new
+        sizes.items) }
     ensures all { IsPermutation entries.old entries.new }
     ensures memory { IfErr result (λ f. f ≡ fault.Memory) }
 {
     let mut sizes = Vec::new(alloc);
-    tile_on(alloc, entries, 0, usize::from(fanout), &mut sizes)?;
+    tile_on(alloc, entries, 0, fanout.entries(), &mut sizes)?;
     Ok(sizes)
 }
 

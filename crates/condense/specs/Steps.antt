@@ -45,6 +45,8 @@ pub record FindsNext {B A : Type 0} {m : _} (dims from : ℕ) (at : Root) (sough
   pub place : IfOk result (λ found. IfSome found (λ next. (from ≤ next.place) × (next.place < 100)))
   pub given_node : IsHonest old → IfOk result (λ found. IfSome found (λ next.
       LeadsDown dims (given old) at next))
+  pub encloses : IsHonest old → (c : NodeContent) → node_in dims (pages old at.page) ≡ Some c
+      → IfOk result (λ found. IfSome found (λ next. Within dims sought (box_at c.entries next.place)))
   pub before : IsHonest old → (c : NodeContent) → node_in dims (pages old at.page) ≡ Some c
       → IfOk result (λ found. IfSome found (λ next. (k : ℕ) → from ≤ k → k < next.place
       → k < length c.entries → ¬ Within dims sought (box_at c.entries k)))

@@ -5,7 +5,6 @@ ghost use Rattle.arrayvec.specs.ArrayVec.{array_vec_len};
 ghost use Rattle.box_math.specs.Bounds.{IsDims};
 ghost use Rattle.page_file.specs.declared.gate.Gate.TheVariants.{Open};
 ghost use Rattle.page_cache.specs.Cache.{gate_of};
-ghost use Rattle.tree_node.specs.Shape;
 ghost use Rattle.tree_node.specs.declared.node.Node.{Node};
 ghost use Rattle.tree_node.specs.Boxes.{box_at};
 ghost use Rattle.node_page.specs.Enlarged.{set_box};
@@ -21,32 +20,22 @@ use node_page::{NodeView, read_into, set_entry_box, take_entry, view_node};
 use page_cache::PageCache;
 use page_file::Fault;
 use std::alloc::Allocator;
-use tree_node::{Node, Root};
-
-// The least count of entries of a node below the root: 40 in a hundred of the most (Beckmann et al. 1990).
-pub(crate) fn least_entries(fanout: usize) -> usize
-    requires { (4 ≤ fanout) × (fanout ≤ 100) }
-    ensures value { result ≡ Shape.least_entries fanout }
-    ensures few { (2 ≤ result) × (result ≤ 40) }
-{
-    (2 * fanout / 5).max(2)
-}
+use tree_node::{Fanout, Node, Root};
 
 // Takes the entry in a place out of a node: in its page where enough are left, else in hand.
 pub(crate) fn take_at<const D: usize, B: BlockDevice, A: Allocator + Copy>(
     cache: &mut PageCache<B, A>,
     at: Root,
     place: usize,
-    fanout: usize,
+    fanout: Fanout,
     hand: &mut Node<D>,
 ) -> Result<Became<D>, Fault>
     requires dims { IsDims D }
     requires open { gate_of cache.old ≡ Open }
-    requires most { (4 ≤ fanout) × (fanout ≤ 100) }
-    ensures { Alters fanout place (λ items. items_without items place) at
+    ensures { Alters fanout.most place (λ items. items_without items place) at
         cache.old cache.new hand.new result }
 {
-    let fewest = least_entries(fanout);
+    let fewest = fanout.least_entries();
     if let Some(least) = take_entry(cache, at.page, at.level, place, fewest)? {
         return Ok(Became::Settled(least));
     }
@@ -74,12 +63,11 @@ pub(crate) fn set_least<const D: usize, B: BlockDevice, A: Allocator + Copy>(
     at: Root,
     place: usize,
     least: &BBox<D>,
-    fanout: usize,
+    fanout: Fanout,
 ) -> Result<Became<D>, Fault>
     requires dims { IsDims D }
     requires open { gate_of cache.old ≡ Open }
-    requires most { (4 ≤ fanout) × (fanout ≤ 100) }
-    ensures { (hand : Node D) → Alters fanout place (λ items. set_box items place least.now) at
+    ensures { (hand : Node D) → Alters fanout.most place (λ items. set_box items place least.now) at
         cache.old cache.new hand result }
 {
     let node = view_node::<D, B, A>(cache, at.page, at.level)?;
@@ -102,11 +90,10 @@ fn has_box<const D: usize>(node: &NodeView<D>, place: usize, bounds: &BBox<D>) -
 }
 
 // What a node of so many entries has become that its page has, with the least box round them.
-fn written<const D: usize>(count: usize, least: &BBox<D>, fanout: usize) -> Became<D>
-    requires { (4 ≤ fanout) × (fanout ≤ 100) }
-    ensures { IsWrittenWith fanout count least.now result }
+fn written<const D: usize>(count: usize, least: &BBox<D>, fanout: Fanout) -> Became<D>
+    ensures { IsWrittenWith fanout.most count least.now result }
 {
-    if count < least_entries(fanout) {
+    if count < fanout.least_entries() {
         Became::Few
     } else {
         Became::Settled(*least)

@@ -1,6 +1,6 @@
 //! What a removal has kept, inserted again.
 
-ghost use Rattle.std.specs.Prelude.{◌≡◌, ◌^◌, ◌*◌, ◌<◌, ◌≤◌, ℕ, List, [], None, Ok, IfOk, IfErr};
+ghost use Rattle.std.specs.Prelude.{◌≡◌, ◌*◌, ℕ, List, [], None, Ok, IfOk, IfErr};
 ghost use Rattle.std.specs.Prelude.{OnOk};
 ghost use Rattle.arrayvec.specs.ArrayVec.{array_vec_len};
 ghost use Rattle.box_math.specs.Bounds.{IsDims};
@@ -22,19 +22,18 @@ use page_cache::PageCache;
 use page_file::Fault;
 use reinsert::{Waiting, insert_with};
 use std::alloc::Allocator;
-use tree_node::Root;
+use tree_node::{Fanout, Root};
 
 // Inserts what is kept, each entry on its own level.
 pub(crate) fn insert_kept<const D: usize, B: BlockDevice, A: Allocator + Copy>(
     cache: &mut PageCache<B, A>,
     root: Root,
-    fanout: usize,
+    fanout: Fanout,
     waiting: &mut Waiting<D>,
     kept: &mut Kept<D>,
 ) -> Result<Root, Fault>
     requires dims { IsDims D }
     requires open { gate_of cache.old ≡ Open }
-    requires most { (4 ≤ fanout) × (fanout ≤ 100) }
     requires root { IsRoot root }
     ensures changes { Changes cache.old cache.new result }
     ensures grows { Grows (most_new_pages * array_vec_len kept.old.orphans) cache.old cache.new }
@@ -43,9 +42,10 @@ pub(crate) fn insert_kept<const D: usize, B: BlockDevice, A: Allocator + Copy>(
     ensures filled { IsPageMap cache.old → (t : Tree) (ws : List Waiter) (elsewhere : ℕ → ℕ)
         → CanFill D (pages cache.old) root t ws elsewhere (held_now kept.old)
         → IfOk result (λ after. IsPageMap cache.new
-        × FillsTo D fanout (pages cache.old) (pages cache.new) t ws elsewhere after) }
+        × FillsTo D fanout.most (pages cache.old) (pages cache.new) t ws elsewhere after) }
     ensures faults { IsPageMap cache.old → (t : Tree) (ws : List Waiter) (elsewhere : ℕ → ℕ)
-        → CanFill D (pages cache.old) root t ws elsewhere (held_now kept.old) → CanFillShaped D fanout t ws
+        → CanFill D (pages cache.old) root t ws elsewhere (held_now kept.old) → CanFillShaped D fanout.most t
+        ws
         → IfErr result (IsNoDamage cache.new) }
     ensures sound { IsPageMap cache.old → OnOk result (IsPageMap cache.new) }
     ensures number { IsPageMap cache.old → IfErr result NamesInRange }

@@ -1,6 +1,6 @@
 //! An object taken out of its leaf.
 
-ghost use Rattle.std.specs.Prelude.{◌≡◌, ◌<◌, ◌≤◌, ℕ, IfNone, IfSome, length, slice_index_or};
+ghost use Rattle.std.specs.Prelude.{◌≡◌, ◌<◌, ℕ, IfNone, IfSome, length, slice_index_or};
 ghost use Rattle.box_math.specs.Bounds.{IsDims};
 ghost use Rattle.page_file.specs.declared.gate.Gate.TheVariants.{Open};
 ghost use Rattle.page_cache.specs.Cache.{gate_of};
@@ -17,7 +17,7 @@ use node_page::{NodeView, next_set, view_node};
 use page_cache::PageCache;
 use page_file::Fault;
 use std::alloc::Allocator;
-use tree_node::{Entry, Node, Root};
+use tree_node::{Entry, Fanout, Node, Root};
 
 // Where a leaf has the object first.
 fn position_of<const D: usize>(
@@ -65,14 +65,13 @@ pub(crate) fn take_here<const D: usize, B: BlockDevice, A: Allocator + Copy>(
     cache: &mut PageCache<B, A>,
     at: Root,
     object: &Entry<D>,
-    fanout: usize,
+    fanout: Fanout,
     hand: &mut Node<D>,
 ) -> Result<Option<Became<D>>, Fault>
     requires dims { IsDims D }
     requires open { gate_of cache.old ≡ Open }
-    requires most { (4 ≤ fanout) × (fanout ≤ 100) }
     requires leaf { at.level ≡ 0 }
-    ensures { (kept : Kept D) → TakesOutBelow fanout at object.now.reference
+    ensures { (kept : Kept D) → TakesOutBelow fanout.most at object.now.reference
         (object.now.bounds, object.now.tag) cache.old cache.new kept kept hand.new result }
 {
     let Some(place) = find_here(cache, at.page, object)? else {

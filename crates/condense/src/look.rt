@@ -22,6 +22,8 @@ fn next_enclosing<const D: usize>(node: &NodeView<D>, bounds: &BBox<D>, from: us
     ensures within { from ≤ result }
     ensures none { (k : ℕ) → from ≤ k → k < result → k < length (content_in node.now).entries
         → ¬ Within D bounds.now (box_at (content_in node.now).entries k) }
+    ensures encloses { result < length (content_in node.now).entries
+        → Within D bounds.now (box_at (content_in node.now).entries result) }
 {
     let _ = bounds.low();
     let mask = node.mask(bounds);

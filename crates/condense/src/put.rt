@@ -13,7 +13,7 @@ ghost use Rattle.condense.specs.Steps.{PutsChild};
 ghost use Rattle.condense.specs.Taken.{IsCut};
 ghost use Rattle.condense.specs.declared.hand.Became.TheVariants as became;
 
-use crate::cut::{least_entries, set_least, take_at};
+use crate::cut::{set_least, take_at};
 use crate::hand::{Became, Descent};
 use crate::kept::Kept;
 use block_device::BlockDevice;
@@ -21,7 +21,7 @@ use node_page::read_into;
 use page_cache::PageCache;
 use page_file::Fault;
 use std::alloc::Allocator;
-use tree_node::Node;
+use tree_node::{Fanout, Node};
 
 // Puts a child of a node back, of which the object was taken: what the node has become. Where the child is in
 // hand, it is the node in hand, and afterwards this one may be.
@@ -29,17 +29,17 @@ pub(crate) fn put_child<const D: usize, B: BlockDevice, A: Allocator + Copy>(
     cache: &mut PageCache<B, A>,
     step: Descent,
     child: &Became<D>,
-    fanout: usize,
+    fanout: Fanout,
     kept: &mut Kept<D>,
     hand: &mut Node<D>,
 ) -> Result<Became<D>, Fault>
     requires dims { IsDims D }
     requires open { gate_of cache.old ≡ Open }
-    requires most { (4 ≤ fanout) × (fanout ≤ 100) }
     requires is_next { IsNext step.at step.next }
-    requires cut { IsFewInHand fanout step.next.below.level hand.old child.now }
+    requires cut { IsFewInHand fanout.most step.next.below.level hand.old child.now }
     requires room { array_vec_len kept.old.orphans + 39 ≤ 1560 }
-    ensures { PutsChild fanout step.at step.next child.now cache.old cache.new hand.old hand.new kept.old kept.new
+    ensures { PutsChild fanout.most step.at step.next child.now cache.old cache.new hand.old hand.new kept.old
+        kept.new
         result }
 {
     match child {
@@ -53,20 +53,20 @@ pub(crate) fn put_child<const D: usize, B: BlockDevice, A: Allocator + Copy>(
 fn leave_read<const D: usize, B: BlockDevice, A: Allocator + Copy>(
     cache: &mut PageCache<B, A>,
     step: Descent,
-    fanout: usize,
+    fanout: Fanout,
     kept: &mut Kept<D>,
     hand: &mut Node<D>,
 ) -> Result<Became<D>, Fault>
     requires dims { IsDims D }
     requires open { gate_of cache.old ≡ Open }
-    requires most { (4 ≤ fanout) × (fanout ≤ 100) }
     requires is_next { IsNext step.at step.next }
     requires room { array_vec_len kept.old.orphans + 39 ≤ 1560 }
-    ensures { PutsChild fanout step.at step.next became.Few cache.old cache.new hand.old hand.new kept.old kept.new
+    ensures { PutsChild fanout.most step.at step.next became.Few cache.old cache.new hand.old hand.new
+        kept.old kept.new
         result }
 {
     read_into(cache, step.next.below.page, step.next.below.level, hand)?;
-    if hand.entries.len() >= least_entries(fanout) {
+    if hand.entries.len() >= fanout.least_entries() {
         return Err(Fault::Damaged(step.next.below.page));
     }
     leave_out(cache, step, fanout, kept, hand)
@@ -77,18 +77,17 @@ fn leave_read<const D: usize, B: BlockDevice, A: Allocator + Copy>(
 fn leave_out<const D: usize, B: BlockDevice, A: Allocator + Copy>(
     cache: &mut PageCache<B, A>,
     step: Descent,
-    fanout: usize,
+    fanout: Fanout,
     kept: &mut Kept<D>,
     hand: &mut Node<D>,
 ) -> Result<Became<D>, Fault>
     requires dims { IsDims D }
     requires open { gate_of cache.old ≡ Open }
-    requires most { (4 ≤ fanout) × (fanout ≤ 100) }
     requires is_next { IsNext step.at step.next }
     requires cut { IsCut step.next.below.level (content_of hand.old) }
-    requires few { array_vec_len hand.old.entries < Shape.least_entries fanout }
+    requires few { array_vec_len hand.old.entries < Shape.least_entries fanout.most }
     requires room { array_vec_len kept.old.orphans + 39 ≤ 1560 }
-    ensures { PutsChild fanout step.at step.next became.Unwritten cache.old cache.new hand.old hand.new
+    ensures { PutsChild fanout.most step.at step.next became.Unwritten cache.old cache.new hand.old hand.new
         kept.old kept.new result }
 {
     cache.free(step.next.below.page)?;

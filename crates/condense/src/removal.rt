@@ -35,7 +35,7 @@ use page_cache::PageCache;
 use page_file::Fault;
 use reinsert::Waiting;
 use std::alloc::Allocator;
-use tree_node::{Entry, Node, Root};
+use tree_node::{Entry, Fanout, Node, Root};
 
 /// Removes the object of that identifier, which is the entry's reference, box and tag from the tree at that
 /// root (docs/RULES.md). The gate has to be open.
@@ -58,13 +58,12 @@ pub fn remove<const D: usize, B: BlockDevice, A: Allocator + Copy, H: Allocator 
     cache: &mut PageCache<B, A>,
     root: Root,
     object: &Entry<D>,
-    fanout: usize,
+    fanout: Fanout,
 ) -> Result<Root, Fault>
     requires dims { IsDims D }
     requires open { gate_of cache.old ≡ Open }
-    requires most { (4 ≤ fanout) × (fanout ≤ 100) }
     requires root { IsRoot root }
-    ensures { Removes D fanout root object.now.reference (object.now.bounds, object.now.tag)
+    ensures { Removes D fanout.most root object.now.reference (object.now.bounds, object.now.tag)
         cache.old cache.new result }
 {
     let mut waiting = Waiting::make(alloc)?;
@@ -78,15 +77,14 @@ pub fn remove_with<const D: usize, B: BlockDevice, A: Allocator + Copy>(
     cache: &mut PageCache<B, A>,
     root: Root,
     object: &Entry<D>,
-    fanout: usize,
+    fanout: Fanout,
     waiting: &mut Waiting<D>,
     kept: &mut Kept<D>,
 ) -> Result<Root, Fault>
     requires dims { IsDims D }
     requires open { gate_of cache.old ≡ Open }
-    requires most { (4 ≤ fanout) × (fanout ≤ 100) }
     requires root { IsRoot root }
-    ensures { Removes D fanout root object.now.reference (object.now.bounds, object.now.tag)
+    ensures { Removes D fanout.most root object.now.reference (object.now.bounds, object.now.tag)
         cache.old cache.new result }
 {
     kept.begin();
@@ -109,13 +107,12 @@ fn put_root<const D: usize, B: BlockDevice, A: Allocator + Copy>(
     cache: &mut PageCache<B, A>,
     root: Root,
     hand: &InHand<D>,
-    fanout: usize,
+    fanout: Fanout,
     waiting: &mut Waiting<D>,
     kept: &mut Kept<D>,
 ) -> Result<Root, Fault>
     requires dims { IsDims D }
     requires open { gate_of cache.old ≡ Open }
-    requires most { (4 ≤ fanout) × (fanout ≤ 100) }
     requires root { IsRoot root }
     requires cut { hand.now.settled ≡ false → IsCut root.level (content_of hand.now.node) }
     ensures changes { Changes cache.old cache.new result }
@@ -123,15 +120,15 @@ fn put_root<const D: usize, B: BlockDevice, A: Allocator + Copy>(
     ensures root { IfOk result IsRoot }
     ensures removed { IsPageMap cache.old → IsLive cache.old root.page → (m m1 : PageMap) (t : Tree)
         (elsewhere : ℕ → ℕ) (id : ℕ) (removed : Object) (items : List Item)
-        → TookOut D fanout m m1 root t elsewhere id removed (held_now kept.old) items
+        → TookOut D fanout.most m m1 root t elsewhere id removed (held_now kept.old) items
         → SameBut root.page m1 (pages cache.old) → IsSettledAs D root (pages cache.old) items hand.now
         → IfOk result (λ after. IsPageMap cache.new
-        × RemovesTo D fanout m (pages cache.new) elsewhere id removed t after) }
+        × RemovesTo D fanout.most m (pages cache.new) elsewhere id removed t after) }
     ensures faults { IsPageMap cache.old → IsLive cache.old root.page → (m m1 : PageMap) (t : Tree)
         (elsewhere : ℕ → ℕ) (id : ℕ) (removed : Object) (items : List Item)
-        → TookOut D fanout m m1 root t elsewhere id removed (held_now kept.old) items
+        → TookOut D fanout.most m m1 root t elsewhere id removed (held_now kept.old) items
         → SameBut root.page m1 (pages cache.old) → IsSettledAs D root (pages cache.old) items hand.now
-        → HasShape D fanout t → RowHasBoxes D t.row
+        → HasShape D fanout.most t → RowHasBoxes D t.row
         → IfErr result (IsNoDamage cache.new) }
     ensures damage { IsPageMap cache.old → IsLive cache.old root.page
         → (kept.old.orphans.items ≡ []) ⊎ (touched_of cache.old ≡ true) → touched_of cache.new ≡ false

@@ -16,7 +16,7 @@ use block_device::BlockDevice;
 use page_cache::PageCache;
 use page_file::Fault;
 use std::alloc::Allocator;
-use tree_node::{Entry, Node, Root};
+use tree_node::{Entry, Fanout, Node, Root};
 
 // Takes the object out of the first leaf below this node that has it, and to which boxes lead that enclose
 // its box, and condenses the nodes between: what this node has become, where there was one. Where no such
@@ -27,15 +27,14 @@ pub(crate) fn take_out<const D: usize, B: BlockDevice, A: Allocator + Copy>(
     cache: &mut PageCache<B, A>,
     at: Root,
     object: &Entry<D>,
-    fanout: usize,
+    fanout: Fanout,
     kept: &mut Kept<D>,
     hand: &mut Node<D>,
 ) -> Result<Option<Became<D>>, Fault>
     requires dims { IsDims D }
     requires open { gate_of cache.old ≡ Open }
-    requires most { (4 ≤ fanout) × (fanout ≤ 100) }
     requires room { array_vec_len kept.old.orphans + 39 * at.level ≤ 1560 }
-    ensures { TakesOutBelow fanout at object.now.reference (object.now.bounds, object.now.tag)
+    ensures { TakesOutBelow fanout.most at object.now.reference (object.now.bounds, object.now.tag)
         cache.old cache.new kept.old kept.new hand.new result }
 {
     if at.level == 0 {

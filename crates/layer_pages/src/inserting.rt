@@ -1,6 +1,6 @@
 //! An object inserted into a layer.
 
-ghost use Rattle.std.specs.Prelude.{◌≡◌, ◌≤◌, ℕ, false, IfErr, IfOk};
+ghost use Rattle.std.specs.Prelude.{◌≡◌, ℕ, false, IfErr, IfOk};
 ghost use Rattle.std.specs.FinMap as map;
 ghost use Rattle.box_math.specs.Bounds.{IsDims};
 ghost use Rattle.page_file.specs.declared.gate.Gate.TheVariants.{Open};
@@ -35,37 +35,29 @@ pub fn insert<const D: usize, B: BlockDevice, A: Allocator + Copy>(
 ) -> Result<Root, Fault>
     requires dims { IsDims D }
     requires open { gate_of cache.old ≡ Open }
-    requires most { (4 ≤ layer.fanout) × (layer.fanout ≤ 100) }
     requires root { CanBeRoot layer.root }
     ensures changes { Changes cache.old cache.new result }
     ensures root { IfOk result CanBeRoot }
     ensures sound { IsPageMap cache.old → (l : LayerPages) (objects : Objects)
-        → IsLayerAt D layer.fanout (pages cache.old) layer.root layer.ids_root l objects
+        → IsLayerAt D layer.fanout.most (pages cache.old) layer.root layer.ids_root l objects
         → IsAtSpot (pages cache.old) layer.ids_root object.now
         → IfOk result (λ _. IsPageMap cache.new) }
     ensures inserted { IsPageMap cache.old → (l : LayerPages) (objects : Objects)
-        → IsLayerAt D layer.fanout (pages cache.old) layer.root layer.ids_root l objects
+        → IsLayerAt D layer.fanout.most (pages cache.old) layer.root layer.ids_root l objects
         → IsAtSpot (pages cache.old) layer.ids_root object.now
         → map.contains_key objects (id_of object.now) ≡ false → IfOk result (λ after.
-        BecomesLayer D layer.fanout (pages cache.old) (pages cache.new) (part_of_layer l) (kind_of l.ids)
+        BecomesLayer D layer.fanout.most (pages cache.old) (pages cache.new) (part_of_layer l) (kind_of l.ids)
         after layer.ids_root (map.insert objects (id_of object.now) (kept_of object.now))
-        (HasInserted D layer.fanout l (id_of object.now) (kept_of object.now))) }
+        (HasInserted D layer.fanout.most l (id_of object.now) (kept_of object.now))) }
     ensures grows { Grows most_inserted_pages cache.old cache.new }
     ensures faults { IsPageMap cache.old → (l : LayerPages) (objects : Objects)
-        → IsLayerAt D layer.fanout (pages cache.old) layer.root layer.ids_root l objects
+        → IsLayerAt D layer.fanout.most (pages cache.old) layer.root layer.ids_root l objects
         → IsAtSpot (pages cache.old) layer.ids_root object.now → IfErr result (IsNoDamage cache.new) }
     ensures other_faults { IfErr result IsChangeFault }
 {
     // a box that was looked at is known to be one
     let _ = object.entry.bounds.low();
-    let after = insert_with(
-        cache,
-        layer.root,
-        &object.entry,
-        0,
-        usize::from(layer.fanout),
-        waiting,
-    )?;
+    let after = insert_with(cache, layer.root, &object.entry, 0, layer.fanout, waiting)?;
     let ObjectAt { entry, spot } = object;
     id_table::add(
         cache,

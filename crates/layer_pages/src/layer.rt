@@ -2,6 +2,7 @@
 
 use id_table::Spot;
 use node_page::{Entry, Root};
+use tree_node::Fanout;
 
 /// The root of a layer's tree, the first page of its identifier table, and how many entries a node of
 /// the tree has at most.
@@ -9,7 +10,7 @@ use node_page::{Entry, Root};
 pub struct Layer {
     pub root: Root,
     pub ids_root: u32,
-    pub fanout: u8,
+    pub fanout: Fanout,
 }
 
 /// An object of a layer, or one that it is to get, and where its identifier is in the layer's table, or would

@@ -1,6 +1,6 @@
 //! All objects of a layer at once.
 
-ghost use Rattle.std.specs.Prelude.{◌≡◌, ◌≤◌, ℕ, true, false, map as each, All};
+ghost use Rattle.std.specs.Prelude.{◌≡◌, ℕ, true, false, map as each, All};
 ghost use Rattle.std.specs.Prelude.{IfErr, IfOk, IsPermutation, OnOk, length};
 ghost use Rattle.std.specs.FinMap as map;
 ghost use Rattle.box_math.specs.Bounds.{IsBox, IsDims};
@@ -40,7 +40,6 @@ pub fn load<const D: usize, B: BlockDevice, A: Allocator + Copy, H: Allocator + 
 ) -> Result<Root, Fault>
     requires dims { IsDims D }
     requires open { gate_of cache.old ≡ Open }
-    requires most { (4 ≤ layer.fanout) × (layer.fanout ≤ 100) }
     requires root { CanBeRoot layer.root }
     ensures changes { Changes cache.old cache.new result }
     ensures root { IfOk result CanBeRoot }
@@ -52,9 +51,9 @@ pub fn load<const D: usize, B: BlockDevice, A: Allocator + Copy, H: Allocator + 
         → IsLayerAt D most (pages cache.old) layer.root layer.ids_root l map.empty →
         IsPermutation objects.old (map.entries all)
         → IfOk result (λ after.
-        BecomesLayer D layer.fanout (pages cache.old) (pages cache.new) (part_of_layer l)
+        BecomesLayer D layer.fanout.most (pages cache.old) (pages cache.new) (part_of_layer l)
         (kind_of l.ids) after
-        layer.ids_root all (HasPacked D layer.fanout objects.old)) }
+        layer.ids_root all (HasPacked D layer.fanout.most objects.old)) }
     ensures same { IsPermutation objects.old objects.new }
     ensures grows { IsPageMap cache.old → (l : LayerPages) (most : ℕ) (all : Objects)
         → IsLayerAt D most (pages cache.old) layer.root layer.ids_root l map.empty →

@@ -1,6 +1,6 @@
 //! An object removed from a layer.
 
-ghost use Rattle.std.specs.Prelude.{◌≡◌, ◌≤◌, ℕ, IfErr, IfOk};
+ghost use Rattle.std.specs.Prelude.{◌≡◌, ℕ, IfErr, IfOk};
 ghost use Rattle.std.specs.FinMap as map;
 ghost use Rattle.box_math.specs.Bounds.{IsDims};
 ghost use Rattle.page_file.specs.declared.gate.Gate.TheVariants.{Open};
@@ -40,33 +40,38 @@ pub fn remove<const D: usize, B: BlockDevice, A: Allocator + Copy>(
 ) -> Result<Root, Fault>
     requires dims { IsDims D }
     requires open { gate_of cache.old ≡ Open }
-    requires most { (4 ≤ layer.fanout) × (layer.fanout ≤ 100) }
     requires root { CanBeRoot layer.root }
     ensures changes { Changes cache.old cache.new result }
     ensures root { IfOk result CanBeRoot }
     ensures sound { IsPageMap cache.old → (l : LayerPages) (objects : Objects)
-        → IsLayerAt D layer.fanout (pages cache.old) layer.root layer.ids_root l objects
+        → IsLayerAt D layer.fanout.most (pages cache.old) layer.root layer.ids_root l objects
         → IsAtSpot (pages cache.old) layer.ids_root object.now
         → IfOk result (λ _. IsPageMap cache.new) }
     ensures removed { IsPageMap cache.old → (l : LayerPages) (objects : Objects)
-        → IsLayerAt D layer.fanout (pages cache.old) layer.root layer.ids_root l objects
+        → IsLayerAt D layer.fanout.most (pages cache.old) layer.root layer.ids_root l objects
         → IsAtSpot (pages cache.old) layer.ids_root object.now → HasObject objects object.now
         → IfOk result (λ after.
-        BecomesLayer D layer.fanout (pages cache.old) (pages cache.new) (part_of_layer l) (kind_of l.ids)
+        BecomesLayer D layer.fanout.most (pages cache.old) (pages cache.new) (part_of_layer l) (kind_of l.ids)
         after layer.ids_root (map.remove objects (id_of object.now))
-        (HasRemoved D layer.fanout l (id_of object.now) (kept_of object.now))) }
+        (HasRemoved D layer.fanout.most l (id_of object.now) (kept_of object.now))) }
     ensures absent { IsPageMap cache.old → (l : LayerPages) (objects : Objects)
-        → IsLayerAt D layer.fanout (pages cache.old) layer.root layer.ids_root l objects
+        → IsLayerAt D layer.fanout.most (pages cache.old) layer.root layer.ids_root l objects
         → ¬ (HasObject objects object.now) → IsRefused layer.root.page cache.old cache.new result }
     ensures grows { Grows most_removal_pages cache.old cache.new }
     ensures faults { IsPageMap cache.old → (l : LayerPages) (objects : Objects)
-        → IsLayerAt D layer.fanout (pages cache.old) layer.root layer.ids_root l objects
+        → IsLayerAt D layer.fanout.most (pages cache.old) layer.root layer.ids_root l objects
         → IsAtSpot (pages cache.old) layer.ids_root object.now → HasObject objects object.now
         → IfErr result (IsNoDamage cache.new) }
     ensures other_faults { IfErr result IsChangeFault }
 {
-    let most = usize::from(layer.fanout);
-    let after = remove_with(cache, layer.root, &object.entry, most, waiting, kept)?;
+    let after = remove_with(
+        cache,
+        layer.root,
+        &object.entry,
+        layer.fanout,
+        waiting,
+        kept,
+    )?;
     id_table::remove::<D, B, A>(cache, layer.ids_root, object.spot, object.entry.reference)?;
     Ok(after)
 }

@@ -1,6 +1,6 @@
 //! An object of a layer that gets another box.
 
-ghost use Rattle.std.specs.Prelude.{◌≡◌, ◌≤◌, ℕ, IfErr, IfOk};
+ghost use Rattle.std.specs.Prelude.{◌≡◌, ℕ, IfErr, IfOk};
 ghost use Rattle.std.specs.FinMap as map;
 ghost use Rattle.box_math.specs.Bounds.{IsDims};
 ghost use Rattle.page_file.specs.declared.gate.Gate.TheVariants.{Open};
@@ -42,35 +42,34 @@ pub fn replace<const D: usize, B: BlockDevice, A: Allocator + Copy>(
 ) -> Result<Root, Fault>
     requires dims { IsDims D }
     requires open { gate_of cache.old ≡ Open }
-    requires most { (4 ≤ layer.fanout) × (layer.fanout ≤ 100) }
     requires root { CanBeRoot layer.root }
     ensures changes { Changes cache.old cache.new result }
     ensures root { IfOk result CanBeRoot }
     ensures sound { IsPageMap cache.old → (l : LayerPages) (objects : Objects)
-        → IsLayerAt D layer.fanout (pages cache.old) layer.root layer.ids_root l objects
+        → IsLayerAt D layer.fanout.most (pages cache.old) layer.root layer.ids_root l objects
         → IsAtSpot (pages cache.old) layer.ids_root object.now → HasObject objects object.now
         → IfOk result (λ _. IsPageMap cache.new) }
     ensures replaced { IsPageMap cache.old → (l : LayerPages) (objects : Objects)
-        → IsLayerAt D layer.fanout (pages cache.old) layer.root layer.ids_root l objects
+        → IsLayerAt D layer.fanout.most (pages cache.old) layer.root layer.ids_root l objects
         → IsAtSpot (pages cache.old) layer.ids_root object.now → HasObject objects object.now
         → IfOk result (λ after.
-        BecomesLayer D layer.fanout (pages cache.old) (pages cache.new) (part_of_layer l) (kind_of l.ids)
+        BecomesLayer D layer.fanout.most (pages cache.old) (pages cache.new) (part_of_layer l) (kind_of l.ids)
         after layer.ids_root (map.insert objects (id_of object.now) (new.now, object.now.entry.tag))
-        (HasReplaced D layer.fanout l (id_of object.now) (kept_of object.now)
+        (HasReplaced D layer.fanout.most l (id_of object.now) (kept_of object.now)
         (new.now, object.now.entry.tag))) }
     ensures absent { IsPageMap cache.old → (l : LayerPages) (objects : Objects)
-        → IsLayerAt D layer.fanout (pages cache.old) layer.root layer.ids_root l objects
+        → IsLayerAt D layer.fanout.most (pages cache.old) layer.root layer.ids_root l objects
         → ¬ (HasObject objects object.now) → IsRefused layer.root.page cache.old cache.new result }
     ensures grows { Grows most_replaced_pages cache.old cache.new }
     ensures faults { IsPageMap cache.old → (l : LayerPages) (objects : Objects)
-        → IsLayerAt D layer.fanout (pages cache.old) layer.root layer.ids_root l objects
+        → IsLayerAt D layer.fanout.most (pages cache.old) layer.root layer.ids_root l objects
         → IsAtSpot (pages cache.old) layer.ids_root object.now → HasObject objects object.now
         → IfErr result (IsNoDamage cache.new) }
     ensures other_faults { IfErr result IsChangeFault }
 {
     // a box that was looked at is known to be one
     let _ = new.low();
-    let most = usize::from(layer.fanout);
+    let most = layer.fanout;
     let between = remove_with(cache, layer.root, &object.entry, most, waiting, kept)?;
     let ObjectAt { entry, spot } = object;
     let moved = Entry {

@@ -18,7 +18,7 @@ use Rattle.tree_node.specs.Trees.{object}
 use Rattle.tree_node.specs.declared.node.Root.{Root}
 use Rattle.live_layers.specs.Catalog.{with_tree}
 use Rattle.live_layers.specs.Keeping.{ChangesTree, Finds, IsSound}
-use Rattle.live_layers.specs.Located.{located_by}
+use Rattle.live_layers.specs.Located.{located_by, whereabouts_of}
 use Rattle.live_layers.specs.Rules.{HasGained}
 use Rattle.live_layers.specs.declared.layers.Layers.{Layers}
 use Rattle.live_layers.specs.declared.located.Located.{Located}
@@ -46,24 +46,25 @@ one_more_entry layer id o was count absent is few more =
 module _ {D A : Type 0} {m : _} (kept : Layers D A m) (t : Table) (name : List ℕ) (place : ℕ)
     (sound : IsSound kept t) (finds : Finds t name place)
     (located : Located)
-    (by_record : (d : Record) → located ≡ located_by (get_or (records_of kept.records) place d))
+    (by_record : (d : Record) → whereabouts_of located ≡ located_by
+    (get_or (records_of kept.records) place d))
     (dims : ℕ) (is_dims : (layer_at t name).dims ≡ dims) where
-  pub by_row : located ≡ located_by (reading kept t name place sound finds).row
+  pub by_row : whereabouts_of located ≡ located_by (reading kept t name place sound finds).row
   by_row =
       let row : Record = (reading kept t name place sound finds).row in
       by_record row ∙ ap located_by (row_there kept t name place sound finds row)
 
-  pub stands_at : IsLayerAt dims located.fanout (pages kept.cache) located.root located.ids_root
+  pub stands_at : IsLayerAt dims located.fanout.most (pages kept.cache) located.root located.ids_root
       (reading kept t name place sound finds).pages (layer_at t name).objects
   stands_at = stands_here kept t name place sound finds located by_row dims is_dims
 
   module _ (id : ℕ) (o : Object) (absent : contains_key (layer_at t name).objects id ≡ false)
       (cache : PageCache D A m) (root : Root)
-      (became : BecomesLayer dims located.fanout (pages kept.cache) (pages cache)
+      (became : BecomesLayer dims located.fanout.most (pages kept.cache) (pages cache)
       (part_of_layer (reading kept t name place sound finds).pages)
       (kind_of (reading kept t name place sound finds).pages.ids) root located.ids_root
       (map_insert (layer_at t name).objects id o)
-      (HasInserted dims located.fanout (reading kept t name place sound finds).pages id o))
+      (HasInserted dims located.fanout.most (reading kept t name place sound finds).pages id o))
       (new : Layers D A m) (same : new.cache ≡ cache) (was count : ℕ)
       (was_is : (d : Record) → was ≡ (get_or (records_of kept.records) place d).count)
       (count_is : count ≡ min (was + 1) (2 ^ 64 - 1))
@@ -73,17 +74,17 @@ module _ {D A : Type 0} {m : _} (kept : Layers D A m) (t : Table) (name : List �
       (records : (d : Record)
       → records_of new.records ≡ slice_set (records_of kept.records) place
       (with_tree (get_or (records_of kept.records) place d) root count)) where
-    became_new : BecomesLayer dims located.fanout (pages kept.cache) (pages new.cache)
+    became_new : BecomesLayer dims located.fanout.most (pages kept.cache) (pages new.cache)
         (part_of_layer (reading kept t name place sound finds).pages)
         (kind_of (reading kept t name place sound finds).pages.ids) root located.ids_root
         (map_insert (layer_at t name).objects id o)
-        (HasInserted dims located.fanout (reading kept t name place sound finds).pages id o)
+        (HasInserted dims located.fanout.most (reading kept t name place sound finds).pages id o)
     became_new =
-        subst (λ (x : PageCache D A m). BecomesLayer dims located.fanout (pages kept.cache) (pages x)
+        subst (λ (x : PageCache D A m). BecomesLayer dims located.fanout.most (pages kept.cache) (pages x)
         (part_of_layer (reading kept t name place sound finds).pages)
         (kind_of (reading kept t name place sound finds).pages.ids) root located.ids_root
         (map_insert (layer_at t name).objects id o)
-        (HasInserted dims located.fanout (reading kept t name place sound finds).pages id o)) (sym same)
+        (HasInserted dims located.fanout.most (reading kept t name place sound finds).pages id o)) (sym same)
         became
 
     was_there : was ≡ (reading kept t name place sound finds).row.count
@@ -115,7 +116,7 @@ module _ {D A : Type 0} {m : _} (kept : Layers D A m) (t : Table) (name : List �
     sound_added is_map total unwritten =
         sound_replaced kept t name place sound finds located by_row dims is_dims new root
         (map_insert (layer_at t name).objects id o)
-        (HasInserted dims located.fanout (reading kept t name place sound finds).pages id o) became_new
+        (HasInserted dims located.fanout.most (reading kept t name place sound finds).pages id o) became_new
         count counts
         can.level later same_version few records (subst (λ (x : PageCache D A m). IsPageMap x) (sym same) is_map)
         (omega (arith, total, more, sound.counted)) unwritten
@@ -125,7 +126,7 @@ module _ {D A : Type 0} {m : _} (kept : Layers D A m) (t : Table) (name : List �
     tree_added =
         tree_replaced kept t name place sound finds located by_row dims is_dims new root
         (map_insert (layer_at t name).objects id o)
-        (HasInserted dims located.fanout (reading kept t name place sound finds).pages id o) became_new
+        (HasInserted dims located.fanout.most (reading kept t name place sound finds).pages id o) became_new
         count counts
         can.level later same_version few records (HasGained (layer_at t name) id o)
         (λ inserted. (

@@ -20,7 +20,7 @@ use Rattle.plain_table.specs.Table.{Table, layer_at, most_objects, object_count}
 use Rattle.tree_node.specs.declared.node.Root.{Root}
 use Rattle.live_layers.specs.Catalog.{with_tree}
 use Rattle.live_layers.specs.Keeping.{ChangesTree, Finds, IsSound}
-use Rattle.live_layers.specs.Located.{located_by}
+use Rattle.live_layers.specs.Located.{located_by, whereabouts_of}
 use Rattle.live_layers.specs.Rules.{HasFilled}
 use Rattle.live_layers.specs.declared.layers.Layers.{Layers}
 use Rattle.live_layers.specs.declared.located.Located.{Located}
@@ -31,36 +31,38 @@ use Rattle.live_layers.proofs.ReplaceLemmas.{tree_replaced}
 module _ {D A : Type 0} {m : _} (kept : Layers D A m) (t : Table) (name : List ℕ) (place : ℕ)
     (sound : IsSound kept t) (finds : Finds t name place)
     (located : Located)
-    (by_record : (d : Record) → located ≡ located_by (get_or (records_of kept.records) place d))
+    (by_record : (d : Record) → whereabouts_of located ≡ located_by
+    (get_or (records_of kept.records) place d))
     (dims : ℕ) (is_dims : (layer_at t name).dims ≡ dims) (none : len (layer_at t name).objects ≡ 0) where
-  pub stands_empty : IsLayerAt dims located.fanout (pages kept.cache) located.root located.ids_root
+  pub stands_empty : IsLayerAt dims located.fanout.most (pages kept.cache) located.root located.ids_root
       (reading kept t name place sound finds).pages empty
   stands_empty =
-      subst (λ (o : Objects). IsLayerAt dims located.fanout (pages kept.cache) located.root located.ids_root
+      subst (λ (o : Objects). IsLayerAt dims located.fanout.most (pages kept.cache) located.root
+      located.ids_root
       (reading kept t name place sound finds).pages o) (empty_of_len (layer_at t name).objects none)
       (stands_at kept t name place sound finds located by_record dims is_dims)
 
   module _ (objects : List (ℕ × Object)) (all : Objects) (same_objects : IsPermutation objects (entries all))
       (cache : PageCache D A m) (root : Root)
-      (became : BecomesLayer dims located.fanout (pages kept.cache) (pages cache)
+      (became : BecomesLayer dims located.fanout.most (pages kept.cache) (pages cache)
       (part_of_layer (reading kept t name place sound finds).pages)
       (kind_of (reading kept t name place sound finds).pages.ids) root located.ids_root all
-      (HasPacked dims located.fanout objects))
+      (HasPacked dims located.fanout.most objects))
       (new : Layers D A m) (same : new.cache ≡ cache) (can : CanBeRoot root)
       (le : next_of kept.cache ≤ next_of cache) (version : version_of cache ≡ version_of kept.cache)
       (room : kept.object_count + length objects ≤ most_objects)
       (records : (d : Record)
       → records_of new.records ≡ slice_set (records_of kept.records) place
       (with_tree (get_or (records_of kept.records) place d) root (length objects))) where
-    became_new : BecomesLayer dims located.fanout (pages kept.cache) (pages new.cache)
+    became_new : BecomesLayer dims located.fanout.most (pages kept.cache) (pages new.cache)
         (part_of_layer (reading kept t name place sound finds).pages)
         (kind_of (reading kept t name place sound finds).pages.ids) root located.ids_root all
-        (HasPacked dims located.fanout objects)
+        (HasPacked dims located.fanout.most objects)
     became_new =
-        subst (λ (x : PageCache D A m). BecomesLayer dims located.fanout (pages kept.cache) (pages x)
+        subst (λ (x : PageCache D A m). BecomesLayer dims located.fanout.most (pages kept.cache) (pages x)
         (part_of_layer (reading kept t name place sound finds).pages)
         (kind_of (reading kept t name place sound finds).pages.ids) root located.ids_root all
-        (HasPacked dims located.fanout objects)) (sym same) became
+        (HasPacked dims located.fanout.most objects)) (sym same) became
 
     counts : length (entries all) ≡ length objects
     counts = length_permutation objects (entries all) same_objects
@@ -90,7 +92,7 @@ module _ {D A : Type 0} {m : _} (kept : Layers D A m) (t : Table) (name : List �
     sound_filled is_map total unwritten =
         sound_replaced kept t name place sound finds located
         (by_row kept t name place sound finds located by_record dims is_dims) dims is_dims new root all
-        (HasPacked dims located.fanout objects) became_new (length objects) counts
+        (HasPacked dims located.fanout.most objects) became_new (length objects) counts
         can.level later same_version few records (subst (λ (x : PageCache D A m). IsPageMap x) (sym same) is_map)
         (omega (arith, total, more, sound.counted)) unwritten
 
@@ -99,7 +101,7 @@ module _ {D A : Type 0} {m : _} (kept : Layers D A m) (t : Table) (name : List �
     tree_filled =
         let by = by_row kept t name place sound finds located by_record dims is_dims in
         tree_replaced kept t name place sound finds located by dims is_dims new root all
-        (HasPacked dims located.fanout objects) became_new (length objects) counts can.level later
+        (HasPacked dims located.fanout.most objects) became_new (length objects) counts can.level later
         same_version few records (HasFilled (layer_at t name) objects)
         (λ packed. subst (λ (k : ℕ). HasPacked k (layer_at t name).fanout objects became_new.layer.tree)
         (sym is_dims)

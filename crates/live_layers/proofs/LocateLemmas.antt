@@ -11,6 +11,7 @@ use Rattle.catalog_page.specs.declared.layer_record.LayerRecord.{LayerRecord}
 use Rattle.layer_pages.specs.Layers.{CanBeRoot, IsLayerAt}
 use Rattle.page_cache.specs.Cache.{next_of, pages}
 use Rattle.plain_table.specs.Table.{Layer, Table, is_dims, is_fanout, is_layer_name, layer_at}
+use Rattle.tree_node.specs.declared.fanout.Fanout.{Fanout}
 use Rattle.live_layers.specs.Catalog.{AreLayers, is_layer_record, is_page}
 use Rattle.live_layers.specs.Keeping.{Finds, IsSound}
 use Rattle.live_layers.specs.Layers.{Reading, root_of}
@@ -100,14 +101,14 @@ module _ {D A : Type 0} {m : _} (kept : Layers D A m) (t : Table) (name : List �
       ap (λ (l : Layer). len l.objects) layer_is ∙ len-entries reading.layer.objects ∙ stands.count
       ∙ ap (λ (x : Record). x.count) (sym row_is)
 
-  pub located_here : IsLocated kept t name
+  pub located_here : (limit : Fanout) → limit.most ≡ r.fanout → IsLocated kept t name
       (record {
         dims = r.dims;
-        fanout = r.fanout;
+        fanout = limit;
         root = record { page = r.root; level = r.level };
         ids_root = r.ids_root;
       })
-  located_here =
+  located_here limit same =
       let stands =
       here_stands (pages kept.cache) (next_of kept.cache) (records_of kept.records) t sound.holds name
       place finds in
@@ -118,10 +119,12 @@ module _ {D A : Type 0} {m : _} (kept : Layers D A m) (t : Table) (name : List �
         layer = reading.pages;
         dims = ap (λ (l : Layer). l.dims) layer_is ∙ stands.dims ∙ ap (λ (x : Record). x.dims) (sym row_is);
         fanout = ap (λ (l : Layer). l.fanout) layer_is ∙ stands.fanout
-            ∙ ap (λ (x : Record). x.fanout) (sym row_is);
+            ∙ ap (λ (x : Record). x.fanout) (sym row_is) ∙ sym same;
         stands =
-            subst (λ (l : Layer). IsLayerAt r.dims r.fanout (pages kept.cache) (root_of (record_of r))
-            r.ids_root reading.pages l.objects) (sym layer_is) its;
+            subst (λ (k : ℕ). IsLayerAt r.dims k (pages kept.cache) (root_of (record_of r)) r.ids_root
+            reading.pages (layer_at t name).objects) (sym same)
+            (subst (λ (l : Layer). IsLayerAt r.dims r.fanout (pages kept.cache) (root_of (record_of r))
+            r.ids_root reading.pages l.objects) (sym layer_is) its);
         its_tree = record {
           row = reading.row;
           among = (
@@ -140,8 +143,8 @@ module _ {D A : Type 0} {m : _} (kept : Layers D A m) (t : Table) (name : List �
 -- the layer stands with the axes that are known
 pub stands_with : {D A : Type 0} {m : _} (kept : Layers D A m) (t : Table) (name : List ℕ) (there : Located)
     (located : IsLocated kept t name there) (axes : ℕ) → there.dims ≡ axes
-    → IsLayerAt axes there.fanout (pages kept.cache) there.root there.ids_root located.layer
+    → IsLayerAt axes there.fanout.most (pages kept.cache) there.root there.ids_root located.layer
     (layer_at t name).objects
 stands_with kept t name there located axes e =
-    subst (λ (d : ℕ). IsLayerAt d there.fanout (pages kept.cache) there.root there.ids_root located.layer
+    subst (λ (d : ℕ). IsLayerAt d there.fanout.most (pages kept.cache) there.root there.ids_root located.layer
     (layer_at t name).objects) e located.stands

@@ -22,7 +22,7 @@ use Rattle.plain_table.specs.declared.refusal.Refusal.{Refusal}
 use Rattle.tree_node.specs.declared.node.Root.{Root}
 use Rattle.live_layers.specs.Catalog.{with_tree}
 use Rattle.live_layers.specs.Keeping.{ChangesTree, Finds, IsSound}
-use Rattle.live_layers.specs.Located.{located_by}
+use Rattle.live_layers.specs.Located.{located_by, whereabouts_of}
 use Rattle.live_layers.specs.Questions.{IsNamed}
 use Rattle.live_layers.specs.Rules.{HasGained, HasMoved}
 use Rattle.live_layers.specs.declared.layers.Layers.{Layers}
@@ -76,15 +76,17 @@ as_many_objects layer id known o there = len-insert nat_cmp_total layer.objects 
 module _ {D A : Type 0} {m : _} (kept : Layers D A m) (t : Table) (name : List ℕ) (place : ℕ)
     (sound : IsSound kept t) (finds : Finds t name place)
     (located : Located)
-    (by_record : (d : Record) → located ≡ located_by (get_or (records_of kept.records) place d))
+    (by_record : (d : Record) → whereabouts_of located ≡ located_by
+    (get_or (records_of kept.records) place d))
     (dims : ℕ) (is_dims : (layer_at t name).dims ≡ dims)
     (id : ℕ) (known : Object) (bounds : Bounds) (there : get (layer_at t name).objects id ≡ Some known)
     (cache : PageCache D A m) (root : Root)
-    (became : BecomesLayer dims located.fanout (pages kept.cache) (pages cache)
+    (became : BecomesLayer dims located.fanout.most (pages kept.cache) (pages cache)
     (part_of_layer (read kept t name place sound finds located by_record dims is_dims))
     (kind_of (read kept t name place sound finds located by_record dims is_dims).ids) root
     located.ids_root (map_insert (layer_at t name).objects id (bounds, tag_of known))
-    (HasReplaced dims located.fanout (read kept t name place sound finds located by_record dims is_dims) id
+    (HasReplaced dims located.fanout.most (read kept t name place sound finds located by_record dims is_dims)
+    id
     known (bounds, tag_of known)))
     (new : Layers D A m) (same : new.cache ≡ cache) (count : ℕ)
     (count_is : (d : Record) → count ≡ (get_or (records_of kept.records) place d).count)
@@ -116,7 +118,8 @@ module _ {D A : Type 0} {m : _} (kept : Layers D A m) (t : Table) (name : List �
   sound_moved is_map total unwritten =
       sound_with kept t name place sound finds located by_record dims is_dims cache root
       (map_insert (layer_at t name).objects id (bounds, tag_of known))
-      (HasReplaced dims located.fanout (read kept t name place sound finds located by_record dims is_dims) id
+      (HasReplaced dims located.fanout.most (read kept t name place sound finds located by_record dims
+      is_dims) id
       known (bounds, tag_of known)) became new same count counts can le version few records
       is_map
       (total ∙ sound.counted ∙ sym as_many) unwritten
@@ -129,17 +132,18 @@ module _ {D A : Type 0} {m : _} (kept : Layers D A m) (t : Table) (name : List �
       let most = fanout_there kept t name place sound finds located by_record dims is_dims in
       tree_with kept t name place sound finds located by_record dims is_dims cache root
       (map_insert layer.objects id (bounds, tag_of known))
-      (HasReplaced dims located.fanout l id known (bounds, tag_of known)) became new same count counts
+      (HasReplaced dims located.fanout.most l id known (bounds, tag_of known)) became new same count counts
       can le version few records
       (HasMoved layer id bounds)
       (λ s replaced. record {
         between = replaced.between;
         removed =
-            lost layer dims located.fanout is_dims most l id known replaced.between
+            lost layer dims located.fanout.most is_dims most l id known replaced.between
             (its_object layer id known there) replaced.removed;
         inserted =
             subst (λ (o : Object). HasGained layer id (bounds, tag_of o) replaced.between s)
             (its_object layer id known there)
-            (gained layer dims located.fanout is_dims most (record { tree = replaced.between; ids = l.ids })
+            (gained layer dims located.fanout.most is_dims most
+            (record { tree = replaced.between; ids = l.ids })
             id (bounds, tag_of known) s replaced.inserted);
       })

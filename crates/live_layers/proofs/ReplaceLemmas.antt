@@ -19,7 +19,7 @@ use Rattle.node_page.specs.Standing.{PageMap}
 use Rattle.live_layers.specs.Catalog.{is_layer, with_tree}
 use Rattle.live_layers.specs.Keeping.{ChangesTree, Finds, IsSound}
 use Rattle.live_layers.specs.Layers.{AllowsTable, Holds, IsTreeOf, LayerStands, Reading, root_of}
-use Rattle.live_layers.specs.Located.{located_by}
+use Rattle.live_layers.specs.Located.{Whereabouts, located_by, whereabouts_of}
 use Rattle.live_layers.specs.declared.layers.Layers.{Layers}
 use Rattle.live_layers.specs.declared.located.Located.{Located}
 use Rattle.live_layers.proofs.CatalogGood.{few_good, good_parts}
@@ -112,10 +112,10 @@ module _ {D A : Type 0} {m : _} (kept : Layers D A m) (t : Table) (name : List �
         tree = stands_there.at.tree;
       }
 
-  module _ (located : Located) (by_record : located ≡ located_by reading.row) (dims : ℕ)
+  module _ (located : Located) (by_record : whereabouts_of located ≡ located_by reading.row) (dims : ℕ)
       (is_dims : (layer_at t name).dims ≡ dims) where
     -- it stands where it was located
-    pub stands_here : IsLayerAt dims located.fanout (pages kept.cache) located.root located.ids_root
+    pub stands_here : IsLayerAt dims located.fanout.most (pages kept.cache) located.root located.ids_root
         reading.pages (layer_at t name).objects
     stands_here =
         let its : IsLayerAt reading.row.dims reading.row.fanout (pages kept.cache) (root_of reading.row)
@@ -123,20 +123,21 @@ module _ {D A : Type 0} {m : _} (kept : Layers D A m) (t : Table) (name : List �
         subst (λ (l : Layer). IsLayerAt reading.row.dims reading.row.fanout (pages kept.cache)
         (root_of reading.row) reading.row.ids_root reading.pages l.objects) (sym layer_there)
         stands_there.at in
-        let at : IsLayerAt reading.row.dims located.fanout (pages kept.cache) located.root located.ids_root
+        let at : IsLayerAt reading.row.dims located.fanout.most (pages kept.cache) located.root
+        located.ids_root
         reading.pages (layer_at t name).objects =
-        subst (λ (x : Located). IsLayerAt reading.row.dims x.fanout (pages kept.cache) x.root x.ids_root
+        subst (λ (x : Whereabouts). IsLayerAt reading.row.dims x.fanout (pages kept.cache) x.root x.ids_root
         reading.pages (layer_at t name).objects) (sym by_record) its in
-        subst (λ (k : ℕ). IsLayerAt k located.fanout (pages kept.cache) located.root located.ids_root
+        subst (λ (k : ℕ). IsLayerAt k located.fanout.most (pages kept.cache) located.root located.ids_root
         reading.pages (layer_at t name).objects) (sym dims_there ∙ is_dims) at
 
-    pub fanout_here : (layer_at t name).fanout ≡ located.fanout
-    fanout_here = fanout_there ∙ ap (λ (x : Located). x.fanout) (sym by_record)
+    pub fanout_here : (layer_at t name).fanout ≡ located.fanout.most
+    fanout_here = fanout_there ∙ ap (λ (x : Whereabouts). x.fanout) (sym by_record)
 
     -- ---- it has other objects
 
     module _ (new : Layers D A m) (root : Root) (objects : Objects) (IsSo : Tree → Type 0)
-        (became : BecomesLayer dims located.fanout (pages kept.cache) (pages new.cache)
+        (became : BecomesLayer dims located.fanout.most (pages kept.cache) (pages new.cache)
         (part_of_layer reading.pages) (kind_of reading.pages.ids) root located.ids_root objects IsSo)
         (count : ℕ) (counts : length (entries objects) ≡ count) (low : root.level ≤ 40)
         (le : next_of kept.cache ≤ next_of new.cache) (version : version_of new.cache ≡ version_of kept.cache)
@@ -154,9 +155,10 @@ module _ {D A : Type 0} {m : _} (kept : Layers D A m) (t : Table) (name : List �
       at' : IsLayerAt reading.row.dims reading.row.fanout (pages new.cache) root reading.row.ids_root
           became.layer objects
       at' = subst
-          (λ (x : Located). IsLayerAt reading.row.dims x.fanout (pages new.cache) root x.ids_root
+          (λ (x : Whereabouts). IsLayerAt reading.row.dims x.fanout (pages new.cache) root x.ids_root
           became.layer objects) by_record
-          (subst (λ (k : ℕ). IsLayerAt k located.fanout (pages new.cache) root located.ids_root became.layer
+          (subst (λ (k : ℕ). IsLayerAt k located.fanout.most (pages new.cache) root located.ids_root
+          became.layer
           objects) (sym is_dims ∙ dims_there) became.stands)
 
       stands' : LayerStands (pages new.cache) reading'

@@ -6,7 +6,7 @@ use Rattle.id_table.specs.declared.asking.Spot.{Spot}
 use Rattle.node_page.specs.Standing.{PageMap}
 use Rattle.page_cache.specs.Cache.{pages}
 use Rattle.live_layers.specs.Keeping.{cache_of, records_in}
-use Rattle.live_layers.specs.Located.{IsRecorded, IsSpotIn, IsSpotOf, located_by}
+use Rattle.live_layers.specs.Located.{IsRecorded, IsSpotIn, IsSpotOf, Whereabouts, located_by, whereabouts_of}
 use Rattle.live_layers.specs.declared.layers.Layers.{Layers}
 use Rattle.live_layers.specs.declared.located.Located.{Located}
 
@@ -25,10 +25,10 @@ module _ {D A : Type 0} {m : _} (dims : ℕ) (old new : Layers D A m)
   pub spot_in : (located : Located) → IsRecorded old place located → IsSpotOf dims new located id spot
       → IsSpotIn dims new place id spot
   spot_in located was is other recorded =
-      let same : other ≡ located = recorded some_record
+      let same : whereabouts_of other ≡ whereabouts_of located = recorded some_record
       ∙ ap (λ (rows : List Record). located_by (get_or rows place some_record)) records
       ∙ sym (was some_record) in
-      subst (λ (l : Located). IsSpotOf dims new l id spot) (sym same) is
+      subst (λ (w : Whereabouts). IsSpotAt dims (pages (cache_of new)) w.ids_root id spot) (sym same) is
 
   -- and still is once a change is begun
   pub spot_begun : IsSpotIn dims old place id spot → (located : Located) → IsRecorded new place located

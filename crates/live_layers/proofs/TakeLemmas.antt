@@ -21,7 +21,7 @@ use Rattle.tree_node.specs.Trees.{Tree, object}
 use Rattle.tree_node.specs.declared.node.Root.{Root}
 use Rattle.live_layers.specs.Catalog.{with_tree}
 use Rattle.live_layers.specs.Keeping.{ChangesTree, Finds, IsSound}
-use Rattle.live_layers.specs.Located.{located_by}
+use Rattle.live_layers.specs.Located.{located_by, whereabouts_of}
 use Rattle.live_layers.specs.Rules.{HasGained, HasLost}
 use Rattle.live_layers.specs.declared.layers.Layers.{Layers}
 use Rattle.live_layers.specs.declared.located.Located.{Located}
@@ -73,18 +73,19 @@ module _ (layer : Layer) (dims most : ℕ) (is_dims : layer.dims ≡ dims) (is_m
 module _ {D A : Type 0} {m : _} (kept : Layers D A m) (t : Table) (name : List ℕ) (place : ℕ)
     (sound : IsSound kept t) (finds : Finds t name place)
     (located : Located)
-    (by_record : (d : Record) → located ≡ located_by (get_or (records_of kept.records) place d))
+    (by_record : (d : Record) → whereabouts_of located ≡ located_by
+    (get_or (records_of kept.records) place d))
     (dims : ℕ) (is_dims : (layer_at t name).dims ≡ dims) where
   abbrev pub read : LayerPages
   read = (reading kept t name place sound finds).pages
 
-  pub fanout_there : (layer_at t name).fanout ≡ located.fanout
+  pub fanout_there : (layer_at t name).fanout ≡ located.fanout.most
   fanout_there =
       fanout_here kept t name place sound finds located
       (by_row kept t name place sound finds located by_record dims is_dims) dims is_dims
 
   module _ (cache : PageCache D A m) (root : Root) (objects : Objects) (IsSo : Tree → Type 0)
-      (became : BecomesLayer dims located.fanout (pages kept.cache) (pages cache) (part_of_layer read)
+      (became : BecomesLayer dims located.fanout.most (pages kept.cache) (pages cache) (part_of_layer read)
       (kind_of read.ids) root located.ids_root objects IsSo)
       (new : Layers D A m) (same : new.cache ≡ cache) (count : ℕ) (counts : len objects ≡ count)
       (can : CanBeRoot root) (le : next_of kept.cache ≤ next_of cache)
@@ -93,10 +94,11 @@ module _ {D A : Type 0} {m : _} (kept : Layers D A m) (t : Table) (name : List �
       (records : (d : Record)
       → records_of new.records ≡ slice_set (records_of kept.records) place
       (with_tree (get_or (records_of kept.records) place d) root count)) where
-    became_new : BecomesLayer dims located.fanout (pages kept.cache) (pages new.cache) (part_of_layer read)
+    became_new : BecomesLayer dims located.fanout.most (pages kept.cache) (pages new.cache)
+        (part_of_layer read)
         (kind_of read.ids) root located.ids_root objects IsSo
     became_new =
-        subst (λ (x : PageCache D A m). BecomesLayer dims located.fanout (pages kept.cache) (pages x)
+        subst (λ (x : PageCache D A m). BecomesLayer dims located.fanout.most (pages kept.cache) (pages x)
         (part_of_layer read) (kind_of read.ids) root located.ids_root objects IsSo) (sym same) became
 
     later : next_of kept.cache ≤ next_of new.cache
@@ -130,8 +132,9 @@ module _ {D A : Type 0} {m : _} (kept : Layers D A m) (t : Table) (name : List �
 
   module _ (id : ℕ) (o : Object) (there : get (layer_at t name).objects id ≡ Some o)
       (cache : PageCache D A m) (root : Root)
-      (became : BecomesLayer dims located.fanout (pages kept.cache) (pages cache) (part_of_layer read)
-      (kind_of read.ids) root located.ids_root (remove (layer_at t name).objects id) (HasRemoved dims located.fanout read id o))
+      (became : BecomesLayer dims located.fanout.most (pages kept.cache) (pages cache) (part_of_layer read)
+      (kind_of read.ids) root located.ids_root (remove (layer_at t name).objects id)
+      (HasRemoved dims located.fanout.most read id o))
       (new : Layers D A m) (same : new.cache ≡ cache) (was count : ℕ)
       (was_is : (d : Record) → was ≡ (get_or (records_of kept.records) place d).count)
       (count_is : count ≡ was - 1)
@@ -157,14 +160,16 @@ module _ {D A : Type 0} {m : _} (kept : Layers D A m) (t : Table) (name : List �
         → IsSound new (map_insert t name (without_object (layer_at t name) id))
     sound_taken is_map total unwritten =
         sound_with cache root (remove (layer_at t name).objects id)
-        (HasRemoved dims located.fanout read id o) became new same count counts can le version few records
+        (HasRemoved dims located.fanout.most read id o) became new same count counts can le version few
+        records
         is_map
         (omega (arith, total, fewer, sound.counted)) unwritten
 
     -- and the tree of the layer became one by a lawful removal
     pub tree_taken : ChangesTree kept new name (HasLost (layer_at t name) id)
     tree_taken =
-        tree_with cache root (remove (layer_at t name).objects id) (HasRemoved dims located.fanout read id o)
+        tree_with cache root (remove (layer_at t name).objects id)
+        (HasRemoved dims located.fanout.most read id o)
         became new same count counts can le version few records (HasLost (layer_at t name) id)
-        (λ s removed. lost (layer_at t name) dims located.fanout is_dims fanout_there read id o s
+        (λ s removed. lost (layer_at t name) dims located.fanout.most is_dims fanout_there read id o s
         (its_object (layer_at t name) id o there) removed)

@@ -23,7 +23,7 @@ use box_math::BBox;
 use page_cache::PageCache;
 use page_file::Fault;
 use std::alloc::Allocator;
-use tree_node::{Node, Root, least};
+use tree_node::{Node, Root, least, least_entries};
 
 /// What a tree holds.
 #[derive(Drop)]
@@ -89,7 +89,7 @@ fn fits_below<const D: usize>(node: &Node<D>, bounds: &BBox<D>, fanout: u8) -> b
 {
     let most = usize::from(fanout);
     let count = node.entries.len();
-    if count < (2 * most / 5).max(2) || count > most {
+    if count < least_entries(fanout) || count > most {
         return false;
     }
     *bounds == least(node.entries.as_slice())

@@ -16,7 +16,7 @@ use block_device::BlockDevice;
 use page_cache::PageCache;
 use page_file::Fault;
 use std::alloc::Allocator;
-use tree_node::{Entry, Root};
+use tree_node::{Entry, Fanout, Root};
 
 /// Inserts an entry at a level of the tree at that root (docs/RULES.md): on level 0 an object, above it a
 /// child, which refers to a page from 3 to 2^31 - 1. The gate has to be open.
@@ -41,15 +41,14 @@ pub fn insert_at<const D: usize, B: BlockDevice, A: Allocator + Copy, H: Allocat
     root: Root,
     entry: &Entry<D>,
     level: u8,
-    fanout: usize,
+    fanout: Fanout,
 ) -> Result<Root, Fault>
     requires dims { IsDims D }
     requires open { gate_of cache.old ≡ Open }
-    requires most { (4 ≤ fanout) × (fanout ≤ 100) }
     requires levels { (level ≤ root.level) × (root.level ≤ 40) }
     requires root { (3 ≤ root.page) × (root.page < 2 ^ 31) }
     requires refers { IsOfLevel level entry.now.reference entry.now.tag }
-    ensures { Inserts fanout root entry.now level cache.old cache.new result }
+    ensures { Inserts fanout.most root entry.now level cache.old cache.new result }
 {
     let mut waiting = Waiting::make(alloc)?;
     insert_with(cache, root, entry, level, fanout, &mut waiting)
@@ -62,16 +61,15 @@ pub fn insert_with<const D: usize, B: BlockDevice, A: Allocator + Copy>(
     root: Root,
     entry: &Entry<D>,
     level: u8,
-    fanout: usize,
+    fanout: Fanout,
     waiting: &mut Waiting<D>,
 ) -> Result<Root, Fault>
     requires dims { IsDims D }
     requires open { gate_of cache.old ≡ Open }
-    requires most { (4 ≤ fanout) × (fanout ≤ 100) }
     requires levels { (level ≤ root.level) × (root.level ≤ 40) }
     requires root { (3 ≤ root.page) × (root.page < 2 ^ 31) }
     requires refers { IsOfLevel level entry.now.reference entry.now.tag }
-    ensures inserts { Inserts fanout root entry.now level cache.old cache.new result }
+    ensures inserts { Inserts fanout.most root entry.now level cache.old cache.new result }
     ensures tall { root.level ≡ 40 → (result ≡ Err (fault.Damaged root.page))
         × IsUnchanged cache.old cache.new }
 {
@@ -95,16 +93,15 @@ fn place_one<const D: usize, B: BlockDevice, A: Allocator + Copy>(
     cache: &mut PageCache<B, A>,
     root: Root,
     first: &Wait<D>,
-    fanout: usize,
+    fanout: Fanout,
     waiting: &mut Waiting<D>,
 ) -> Result<Root, Fault>
     requires dims { IsDims D }
     requires open { gate_of cache.old ≡ Open }
-    requires most { (4 ≤ fanout) × (fanout ≤ 100) }
     requires level { root.level ≤ 40 }
     requires root { (3 ≤ root.page) × (root.page < 2 ^ 31) }
     requires refers { IsOfLevel first.now.level first.now.entry.reference first.now.entry.tag }
-    ensures { PlacesOne fanout root first.now cache.old cache.new waiting.old waiting.new result }
+    ensures { PlacesOne fanout.most root first.now cache.old cache.new waiting.old waiting.new result }
 {
     if first.level > root.level {
         return Err(Fault::Damaged(root.page));

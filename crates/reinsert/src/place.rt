@@ -27,7 +27,7 @@ use node_page::{add_entry, enlarge_entry, read_into};
 use page_cache::PageCache;
 use page_file::Fault;
 use std::alloc::Allocator;
-use tree_node::{Entry, Node, Root};
+use tree_node::{Entry, Fanout, Node, Root};
 
 // Puts the entry into the node on its level that the choice leads to from this node down. In a sound map
 // `Damaged` names a page that a walk down the nodes, as they were, comes to.
@@ -41,7 +41,6 @@ pub(crate) fn place<const D: usize, B: BlockDevice, A: Allocator + Copy>(
 ) -> Result<Settled<D>, Fault>
     requires dims { IsDims D }
     requires open { gate_of cache.old ≡ Open }
-    requires most { (4 ≤ limits.fanout) × (limits.fanout ≤ 100) }
     requires levels { (target ≤ at.level) × (at.level ≤ limits.top) × (limits.top ≤ 40) }
     requires refers { IsOfLevel target entry.now.reference entry.now.tag }
     ensures changes { Changes cache.old cache.new result }
@@ -51,11 +50,13 @@ pub(crate) fn place<const D: usize, B: BlockDevice, A: Allocator + Copy>(
     ensures placed { IsPageMap cache.old → (row : Row) (branch : Branch) → item_in branch ≡ item_of entry.now
         → CanPlace D (pages cache.old) at.page at.level target row branch →
         IfOk result (λ s. IsPageMap cache.new
-        × PlacesTo D limits.fanout limits.top at.level target waiting.old.called branch row (pages cache.old)
+        × PlacesTo D limits.fanout.most limits.top at.level target waiting.old.called branch row
+        (pages cache.old)
         (pages cache.new)
         at.page s waiting.old.waits.items waiting.new.waits.items waiting.new.called) }
     ensures faults { IsPageMap cache.old → (row : Row) (branch : Branch) → item_in branch ≡ item_of entry.now
-        → CanPlace D (pages cache.old) at.page at.level target row branch → HasFewEntries D limits.fanout row →
+        → CanPlace D (pages cache.old) at.page at.level target row branch → HasFewEntries D limits.fanout.most
+        row →
         IfErr result (IsNoDamage cache.new) }
     ensures sound { IsPageMap cache.old → OnOk result (IsPageMap cache.new) }
     ensures damage { IsPageMap cache.old
@@ -90,13 +91,14 @@ fn put_here<const D: usize, B: BlockDevice, A: Allocator + Copy>(
 ) -> Result<Settled<D>, Fault>
     requires dims { IsDims D }
     requires open { gate_of cache.old ≡ Open }
-    requires most { (4 ≤ limits.fanout) × (limits.fanout ≤ 100) }
     requires top { (at.level ≤ limits.top) × (limits.top ≤ 40) }
     requires refers { IsOfLevel at.level entry.now.reference entry.now.tag }
-    ensures { SettlesThere limits.fanout limits.top at (λ items. ⊤) (λ items. items ++ item_of entry.now ∷ [])
+    ensures { SettlesThere limits.fanout.most limits.top at (λ items. ⊤)
+        (λ items. items ++ item_of entry.now ∷ [])
         cache.old cache.new waiting.old waiting.new result }
 {
-    if let Some(bounds) = add_entry(cache, at.page, at.level, entry, limits.fanout)? {
+    let most = limits.fanout.entries();
+    if let Some(bounds) = add_entry(cache, at.page, at.level, entry, most)? {
         return Ok(Settled {
             bounds,
             beside: None,
@@ -115,14 +117,14 @@ fn put_here<const D: usize, B: BlockDevice, A: Allocator + Copy>(
 fn read_fitting<const D: usize, B: BlockDevice, A: Allocator + Copy>(
     cache: &mut PageCache<B, A>,
     at: Root,
-    fanout: usize,
+    fanout: Fanout,
     node: &mut Node<D>,
 ) -> Result<(), Fault>
     requires dims { IsDims D }
-    ensures { ReadsFitting fanout at cache.old cache.new node.new result }
+    ensures { ReadsFitting fanout.most at cache.old cache.new node.new result }
 {
     read_into(cache, at.page, at.level, node)?;
-    if node.entries.len() > fanout {
+    if node.entries.len() > fanout.entries() {
         return Err(Fault::Damaged(at.page));
     }
     Ok(())
@@ -147,16 +149,15 @@ fn put_above<const D: usize, B: BlockDevice, A: Allocator + Copy>(
 ) -> Result<Settled<D>, Fault>
     requires dims { IsDims D }
     requires open { gate_of cache.old ≡ Open }
-    requires most { (4 ≤ limits.fanout) × (limits.fanout ≤ 100) }
     requires top { (at.level ≤ limits.top) × (limits.top ≤ 40) }
     requires beside { IfSome lower.beside (λ e. IsOfLevel at.level e.reference e.tag) }
-    ensures { SettlesThere limits.fanout limits.top at (λ items. place < length items)
+    ensures { SettlesThere limits.fanout.most limits.top at (λ items. place < length items)
         (λ items. items_after items place lower.entry) cache.old cache.new waiting.old waiting.new result }
 {
     if lower.beside.is_some() {
         return put_anew(cache, at, place, lower, limits, waiting);
     }
-    let most = limits.fanout;
+    let most = limits.fanout.entries();
     if let Some(bounds) = enlarge_entry(cache, at.page, at.level, place, &lower.bounds, most)? {
         return Ok(Settled {
             bounds,
@@ -177,10 +178,9 @@ fn put_anew<const D: usize, B: BlockDevice, A: Allocator + Copy>(
 ) -> Result<Settled<D>, Fault>
     requires dims { IsDims D }
     requires open { gate_of cache.old ≡ Open }
-    requires most { (4 ≤ limits.fanout) × (limits.fanout ≤ 100) }
     requires top { (at.level ≤ limits.top) × (limits.top ≤ 40) }
     requires beside { IfSome lower.beside (λ e. IsOfLevel at.level e.reference e.tag) }
-    ensures { SettlesThere limits.fanout limits.top at (λ items. place < length items)
+    ensures { SettlesThere limits.fanout.most limits.top at (λ items. place < length items)
         (λ items. items_after items place lower.entry) cache.old cache.new waiting.old waiting.new result }
 {
     let mut node = Node {

@@ -27,15 +27,14 @@ use page_cache::PageCache;
 use page_file::Fault;
 use rstar_split::split;
 use std::alloc::Allocator;
-use tree_node::{Entry, Node, least};
+use tree_node::{Entry, Fanout, Node, least};
 
 // How many entries a far set has: 30 in a hundred.
-fn far_count(fanout: usize) -> usize
-    requires { (4 ≤ fanout) × (fanout ≤ 100) }
-    ensures value { result ≡ Far.far_count fanout }
-    ensures few { (1 ≤ result) × (result ≤ 30) × (result + 1 ≤ fanout) }
+fn far_count(fanout: Fanout) -> usize
+    ensures value { result ≡ Far.far_count fanout.most }
+    ensures few { (1 ≤ result) × (result ≤ 30) × (result + 1 ≤ fanout.most) }
 {
-    (3 * fanout / 10).max(1)
+    (3 * fanout.entries() / 10).max(1)
 }
 
 // Writes a node that may have one entry too many.
@@ -48,15 +47,14 @@ pub(crate) fn settle<const D: usize, B: BlockDevice, A: Allocator + Copy>(
 ) -> Result<Settled<D>, Fault>
     requires dims { IsDims D }
     requires open { gate_of cache.old ≡ Open }
-    requires most { (4 ≤ limits.fanout) × (limits.fanout ≤ 100) }
     requires top { (node.now.level ≤ limits.top) × (limits.top ≤ 40) }
     requires some { 0 < array_vec_len node.now.entries }
-    requires few { array_vec_len node.now.entries ≤ limits.fanout + 1 }
+    requires few { array_vec_len node.now.entries ≤ limits.fanout.most + 1 }
     requires refers { All (λ e. IsOfLevel node.now.level e.reference e.tag) node.now.entries.items }
-    ensures { SettlesAt limits.fanout limits.top page node.now.level (map item_of node.now.entries.items)
+    ensures { SettlesAt limits.fanout.most limits.top page node.now.level (map item_of node.now.entries.items)
         cache.old cache.new waiting.old waiting.new result }
 {
-    if node.entries.len() <= limits.fanout {
+    if node.entries.len() <= limits.fanout.entries() {
         return write_fitting(cache, page, node);
     }
     if node.level < limits.top && !waiting.is_called(node.level) {
@@ -100,14 +98,13 @@ fn take_out_far<const D: usize, B: BlockDevice, A: Allocator + Copy>(
     cache: &mut PageCache<B, A>,
     page: u32,
     node: &Node<D>,
-    fanout: usize,
+    fanout: Fanout,
     waiting: &mut Waiting<D>,
 ) -> Result<Settled<D>, Fault>
     requires dims { IsDims D }
     requires open { gate_of cache.old ≡ Open }
-    requires most { (4 ≤ fanout) × (fanout ≤ 100) }
     requires level { node.now.level < 41 }
-    requires many { array_vec_len node.now.entries ≡ fanout + 1 }
+    requires many { array_vec_len node.now.entries ≡ fanout.most + 1 }
     requires refers { All (λ e. IsOfLevel node.now.level e.reference e.tag) node.now.entries.items }
     requires first { is_called waiting.old.called node.now.level ≡ false }
     ensures changes { Changes cache.old cache.new result }
@@ -115,7 +112,8 @@ fn take_out_far<const D: usize, B: BlockDevice, A: Allocator + Copy>(
     ensures measure { measure_of waiting.new ≤ measure_of waiting.old }
     ensures alone { IfOk result (λ s. s.beside ≡ None) }
     ensures settled { IsPageMap cache.old → (top : ℕ) → node.now.level < top
-        → SettlesNode fanout top page node.now.level (map item_of node.now.entries.items) cache.old cache.new
+        → SettlesNode fanout.most top page node.now.level (map item_of node.now.entries.items) cache.old
+        cache.new
         waiting.old.waits.items waiting.old.called waiting.new.waits.items waiting.new.called result }
     ensures sound { IsPageMap cache.old → IsLive cache.old page → OnOk result (IsPageMap cache.new) }
     ensures faults { IsPageMap cache.old → IsLive cache.old page → IfErr result (IsNoDamage cache.new) }
@@ -141,14 +139,13 @@ fn split_off<const D: usize, B: BlockDevice, A: Allocator + Copy>(
     cache: &mut PageCache<B, A>,
     page: u32,
     node: &Node<D>,
-    fanout: usize,
+    fanout: Fanout,
     waiting: &mut Waiting<D>,
 ) -> Result<Settled<D>, Fault>
     requires dims { IsDims D }
     requires open { gate_of cache.old ≡ Open }
-    requires most { (4 ≤ fanout) × (fanout ≤ 100) }
     requires level { node.now.level < 41 }
-    requires many { array_vec_len node.now.entries ≡ fanout + 1 }
+    requires many { array_vec_len node.now.entries ≡ fanout.most + 1 }
     requires refers { All (λ e. IsOfLevel node.now.level e.reference e.tag) node.now.entries.items }
     ensures changes { Changes cache.old cache.new result }
     ensures grows { Grows 1 cache.old cache.new }
@@ -157,7 +154,8 @@ fn split_off<const D: usize, B: BlockDevice, A: Allocator + Copy>(
         (λ s. IfSome s.beside (λ e. IsOfLevel (node.now.level + 1) e.reference e.tag)) }
     ensures settled { IsPageMap cache.old
         → (top : ℕ) → (node.now.level < top → is_called waiting.old.called node.now.level ≡ true)
-        → SettlesNode fanout top page node.now.level (map item_of node.now.entries.items) cache.old cache.new
+        → SettlesNode fanout.most top page node.now.level (map item_of node.now.entries.items) cache.old
+        cache.new
         waiting.old.waits.items waiting.old.called waiting.new.waits.items waiting.new.called result }
     ensures sound { IsPageMap cache.old → IsLive cache.old page → OnOk result (IsPageMap cache.new) }
     ensures faults { IsPageMap cache.old → IsLive cache.old page → IfErr result (IsNoDamage cache.new) }

@@ -18,7 +18,7 @@ use node_page::view_node;
 use page_cache::PageCache;
 use page_file::Fault;
 use std::alloc::Allocator;
-use tree_node::Root;
+use tree_node::{Fanout, Root};
 
 /// The child of a node that a box goes to, and what the node is where that child stays as it is.
 #[derive(Clone, Copy)]
@@ -38,22 +38,22 @@ pub(crate) fn way_down<const D: usize, B: BlockDevice, A: Allocator + Copy>(
     cache: &mut PageCache<B, A>,
     at: Root,
     bounds: &BBox<D>,
-    fanout: usize,
+    fanout: Fanout,
 ) -> Result<Way<D>, Fault>
     requires dims { IsDims D }
     requires above { 0 < at.level }
     ensures asks { Asks cache.old cache.new result }
     ensures way { IsHonest cache.old → (c : NodeContent) → node_in D (pages cache.old at.page) ≡ Some c
-        → c.level ≡ at.level → IfOk result (IsWay D fanout at.level c.entries bounds.now) }
+        → c.level ≡ at.level → IfOk result (IsWay D fanout.most at.level c.entries bounds.now) }
     ensures faults { IsHonest cache.old → (c : NodeContent) → node_in D (pages cache.old at.page) ≡ Some c
-        → c.level ≡ at.level → length c.entries ≤ fanout → IfErr result IsOfDevice }
+        → c.level ≡ at.level → length c.entries ≤ fanout.most → IfErr result IsOfDevice }
     ensures named { IsHonest cache.old → IfOk result (λ way. (c : NodeContent)
         × (node_in D (given cache.old at.page) ≡ Some c) × Names c way.page) }
     ensures damaged { IsHonest cache.old → IfErr result (λ f. IsOfDevice f ⊎ (f ≡ fault.Damaged at.page)) }
     ensures other_faults { IfErr result (λ f. IsOfDevice f ⊎ IsDamage f) }
 {
     let node = view_node::<D, B, A>(cache, at.page, at.level)?;
-    if node.len() > fanout {
+    if node.len() > fanout.entries() {
         return Err(Fault::Damaged(at.page));
     }
     let place = choose(&node, bounds);

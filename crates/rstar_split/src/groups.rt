@@ -15,7 +15,7 @@ use crate::margins::margins;
 use crate::sorting::{Bound, order};
 use arrayvec::ArrayVec;
 use box_math::BBox;
-use tree_node::{Entry, picked};
+use tree_node::{Entry, Fanout, picked};
 
 // Sorts the entries on an axis: writes down their positions, and answers the sum of the margins.
 fn sort_on<const D: usize>(
@@ -107,19 +107,18 @@ fn least_cut<const D: usize>(
 /// The two groups of the chosen split of a node that has one entry more than the most.
 pub fn split<const D: usize>(
     entries: &ArrayVec<Entry<D>, 101>,
-    fanout: usize,
+    fanout: Fanout,
 ) -> (ArrayVec<Entry<D>, 101>, ArrayVec<Entry<D>, 101>)
     requires dims { IsDims D }
-    requires most { (4 ≤ fanout) × (fanout ≤ 100) }
-    requires count { array_vec_len entries.now ≡ fanout + 1 }
-    ensures divided { IsDividedBySplit D fanout entries.now.items result.0.items result.1.items }
+    requires count { array_vec_len entries.now ≡ fanout.most + 1 }
+    ensures divided { IsDividedBySplit D fanout.most entries.now.items result.0.items result.1.items }
     ensures all { IsPermutation entries.now.items (result.0.items ++ result.1.items) }
-    ensures whole { array_vec_len result.0 + array_vec_len result.1 ≡ fanout + 1 }
-    ensures full { (least_entries fanout ≤ array_vec_len result.0)
-        × (least_entries fanout ≤ array_vec_len result.1) }
+    ensures whole { array_vec_len result.0 + array_vec_len result.1 ≡ fanout.most + 1 }
+    ensures full { (least_entries fanout.most ≤ array_vec_len result.0)
+        × (least_entries fanout.most ≤ array_vec_len result.1) }
 {
     let all = entries.as_slice();
-    let m = (2 * fanout / 5).max(2);
+    let m = fanout.least_entries();
     let mut room = [0; 101];
     let places = &mut room[..all.len()];
     let mut upper_room = [0; 101];

@@ -1,8 +1,8 @@
-//! The tests of entries and of likely orders.
+//! The tests of entries, of how many there may be, and of likely orders.
 
 use box_math::BBox;
 use std::test::Fail;
-use tree_node::{Entry, box_of, least, likely_first, picked, reference_of, see_boxes};
+use tree_node::{Entry, Fanout, box_of, least, likely_first, picked, reference_of, see_boxes};
 
 #[test]
 fn the_default_entry_is_the_origin(rt: HostRuntime) {
@@ -41,6 +41,16 @@ fn entries_are_picked_and_enclosed(rt: HostRuntime) -> Result<(), Fail> {
     assert!(rt; turned.get(0) == Some(&second));
     assert!(rt; turned.get(1) == Some(&first));
     Ok(())
+}
+
+#[test]
+fn a_node_has_from_four_to_a_hundred_entries(rt: HostRuntime) {
+    for (most, least_count) in [(4u8, 2usize), (10, 4), (16, 6), (100, 40)] {
+        let fanout = Fanout::from_byte(most).expect(&rt, "a number of entries");
+        assert_eq!(rt; fanout.entries(), usize::from(most));
+        assert_eq!(rt; fanout.least_entries(), least_count, "of {most}");
+    }
+    assert!(rt; Fanout::from_byte(3).is_none() && Fanout::from_byte(101).is_none());
 }
 
 #[test]

@@ -7,7 +7,7 @@ use choose_subtree::choose;
 use node_page::{NodeView, encode};
 use reinsert::farthest;
 use rstar_split::split;
-use tree_node::{Entry, Node};
+use tree_node::{Entry, Fanout, Node};
 
 /// A box of two axes.
 fn plane(low: [i32; 2], high: [i32; 2]) -> BBox<2> {
@@ -152,7 +152,7 @@ fn chooses_between_two_leaves(rt: HostRuntime) {
 fn splits_worked_points(rt: HostRuntime) {
     let (first, second) = split(
         &points(&[(1, 0, 0), (2, 1, 0), (3, 2, 0), (4, 3, 0), (5, 10, 0)]),
-        4,
+        Fanout { most: 4 },
     );
     assert!(rt; are(&first, &[1, 2]) && are(&second, &[3, 4, 5]));
     let (first, second) = split(
@@ -163,22 +163,22 @@ fn splits_worked_points(rt: HostRuntime) {
             (4, 102, 102),
             (5, 104, 100),
         ]),
-        4,
+        Fanout { most: 4 },
     );
     assert!(rt; are(&first, &[1, 2]) && are(&second, &[3, 4, 5]));
     let (first, second) = split(
         &points(&[(9, 5, 0), (4, 0, 5), (7, -5, 0), (2, 0, -5), (5, 3, 4)]),
-        4,
+        Fanout { most: 4 },
     );
     assert!(rt; are(&first, &[2, 7]) && are(&second, &[9, 5, 4]));
     let (first, second) = split(
         &points(&[(8, -5, 0), (9, -6, 0), (1, 5, 0), (2, 6, 0), (3, 7, 0)]),
-        4,
+        Fanout { most: 4 },
     );
     assert!(rt; are(&first, &[9, 8]) && are(&second, &[1, 2, 3]));
     let (first, second) = split(
         &points(&[(2, 1, 0), (6, 11, 0), (7, 4, 0), (8, 5, 0), (1, 0, 0)]),
-        4,
+        Fanout { most: 4 },
     );
     assert!(rt; are(&first, &[1, 2]) && are(&second, &[7, 8, 6]));
 }
@@ -203,7 +203,7 @@ fn greatest() -> ArrayVec<Entry<3>, 101> {
 fn splits_the_greatest_boxes(rt: HostRuntime) {
     let entries = greatest();
     assert!(rt; entries.len() == 101);
-    let (first, second) = split(&entries, 100);
+    let (first, second) = split(&entries, Fanout { most: 100 });
     assert_eq!(rt; first.len(), 40);
     assert_eq!(rt; second.len(), 61);
     assert!(rt;

@@ -4,10 +4,12 @@
 #![tactic(auto)]
 
 mod entries;
+mod fanout;
 pub mod laws;
 mod node;
 mod orders;
 
 pub use entries::{box_of, least, picked, reference_of, see_boxes};
+pub use fanout::{Fanout, least_entries};
 pub use node::{Entry, Node, Root};
 pub use orders::{likely_first, likely_order};

@@ -12,7 +12,7 @@ use reinsert::Waiting;
 use std::alloc::Global;
 use std::test::Fail;
 use test_caches::Cache;
-use tree_node::{Entry, Node, Root};
+use tree_node::{Entry, Fanout, Node, Root};
 
 // The root of the tree of five points on a line.
 const FIVE: Root = Root { page: 5, level: 1 };
@@ -30,7 +30,7 @@ fn take(alloc: Global, cache: &mut Cache, id: u64, x: i32) -> Result<Root, Fault
     requires { gate_of cache.old ≡ Open }
     ensures { gate_of cache.new ≡ Open }
 {
-    remove(alloc, cache, FIVE, &point(id, x, 0), 4)
+    remove(alloc, cache, FIVE, &point(id, x, 0), Fanout { most: 4 })
 }
 
 #[test]
@@ -74,7 +74,7 @@ fn an_object_that_is_not_there_changes_nothing(rt: HostRuntime) -> Result<(), Fa
         tag: 1,
         ..point(1, 0, 0)
     };
-    assert!(rt; remove(rt.alloc(), &mut cache, FIVE, &tagged, 4) == absent);
+    assert!(rt; remove(rt.alloc(), &mut cache, FIVE, &tagged, Fanout { most: 4 }) == absent);
     assert!(rt; !cache.is_touched());
     let are = leaves_are(rt.alloc(), &mut cache, FIVE, &[&[1, 2], &[3, 4, 5]])?;
     assert!(rt; are);
@@ -90,7 +90,7 @@ fn the_room_serves_one_removal_after_the_other(rt: HostRuntime) -> Result<(), Fa
         &mut cache,
         FIVE,
         &point(1, 0, 0),
-        4,
+        Fanout { most: 4 },
         &mut waiting,
         &mut kept,
     )?;
@@ -98,7 +98,7 @@ fn the_room_serves_one_removal_after_the_other(rt: HostRuntime) -> Result<(), Fa
         &mut cache,
         first,
         &point(4, 3, 0),
-        4,
+        Fanout { most: 4 },
         &mut waiting,
         &mut kept,
     )?;

@@ -1,8 +1,6 @@
 //! Many boxes inserted one after the other: the tree is checked on the way, and answers windows as a plain
 //! filter does.
 
-ghost use Rattle.std.specs.Prelude.{◌≤◌};
-
 use crate::scene::{Asked, Dice, Spread, add_tree, are_rows, boxes, insert_all, is_whole};
 use range_query::window;
 use reinsert::Waiting;
@@ -10,14 +8,13 @@ use std::alloc::Global;
 use std::process::Abort;
 use std::test::Fail;
 use test_caches::bare;
+use tree_node::Fanout;
 
 // How many boxes are inserted between two checks of the tree.
 const PART: usize = 1_000;
 
 // Inserts so many boxes, and checks the tree on the way. Then it compares a hundred windows.
-fn grow(rt: &impl Abort, alloc: Global, count: u64, fanout: u8) -> Result<(), Fail>
-    requires { (4 ≤ fanout) × (fanout ≤ 100) }
-{
+fn grow(rt: &impl Abort, alloc: Global, count: u64, fanout: Fanout) -> Result<(), Fail> {
     let entries = boxes(alloc, Spread::Uniform, count)?;
     let mut cache = bare(alloc)?;
     let mut waiting = Waiting::make(alloc)?;
@@ -49,15 +46,15 @@ fn grow(rt: &impl Abort, alloc: Global, count: u64, fanout: u8) -> Result<(), Fa
 
 #[test]
 fn many_boxes_four_to_a_node(rt: HostRuntime) -> Result<(), Fail> {
-    grow(&rt, rt.alloc(), 100_000, 4)
+    grow(&rt, rt.alloc(), 100_000, Fanout { most: 4 })
 }
 
 #[test]
 fn many_boxes_ten_to_a_node(rt: HostRuntime) -> Result<(), Fail> {
-    grow(&rt, rt.alloc(), 100_000, 10)
+    grow(&rt, rt.alloc(), 100_000, Fanout { most: 10 })
 }
 
 #[test]
 fn many_boxes_a_hundred_to_a_node(rt: HostRuntime) -> Result<(), Fail> {
-    grow(&rt, rt.alloc(), 100_000, 100)
+    grow(&rt, rt.alloc(), 100_000, Fanout { most: 100 })
 }

@@ -1,8 +1,6 @@
 //! Many boxes loaded at once: the tree is checked, and answers each range query as a plain filter of the list
 //! does.
 
-ghost use Rattle.std.specs.Prelude.{◌≤◌};
-
 use crate::scene::{Asked, Dice, Spread, are_rows, boxes, is_whole, load_boxes, tag_for};
 use box_math::BBox;
 use node_page::{Entry, Root};
@@ -12,6 +10,10 @@ use std::alloc::Global;
 use std::process::Abort;
 use std::test::Fail;
 use test_caches::{Cache, bare};
+use tree_node::Fanout;
+
+// How many boxes are loaded.
+const MANY: u64 = 100_000;
 
 // A window, a box to lie in, a box to be around, or a point, by turns. The last two are a box of the list and
 // its lowest point.
@@ -53,21 +55,18 @@ fn rows_of(
     }
 }
 
-// Loads so many boxes, checks the tree, and compares two hundred queries.
+// Loads many boxes, checks the tree, and compares two hundred queries.
 fn load_and_ask(
     rt: &impl Abort,
     alloc: Global,
     spread: Spread,
-    count: u64,
-    fanout: u8,
-) -> Result<(), Fail>
-    requires { (4 ≤ fanout) × (fanout ≤ 100) }
-{
-    let objects = boxes(alloc, spread, count)?;
+    fanout: Fanout,
+) -> Result<(), Fail> {
+    let objects = boxes(alloc, spread, MANY)?;
     let mut cache = bare(alloc)?;
-    let root = load_boxes(alloc, &mut cache, spread, count, fanout)?;
+    let root = load_boxes(alloc, &mut cache, spread, MANY, fanout)?;
     assert!(rt; is_whole(alloc, &mut cache, root, objects.as_slice(), fanout)?);
-    let mut dice = Dice::new(count);
+    let mut dice = Dice::new(MANY);
     let mut found: usize = 0;
     'queries: for turn in 0..200u32 {
         let asked = ask(&mut dice, spread, turn, objects.as_slice());
@@ -83,14 +82,14 @@ fn load_and_ask(
 
 #[test]
 fn boxes_that_lie_anywhere(rt: HostRuntime) -> Result<(), Fail> {
-    load_and_ask(&rt, rt.alloc(), Spread::Uniform, 100_000, 4)?;
-    load_and_ask(&rt, rt.alloc(), Spread::Uniform, 100_000, 10)?;
-    load_and_ask(&rt, rt.alloc(), Spread::Uniform, 100_000, 100)
+    load_and_ask(&rt, rt.alloc(), Spread::Uniform, Fanout { most: 4 })?;
+    load_and_ask(&rt, rt.alloc(), Spread::Uniform, Fanout { most: 10 })?;
+    load_and_ask(&rt, rt.alloc(), Spread::Uniform, Fanout { most: 100 })
 }
 
 #[test]
 fn boxes_that_lie_in_clusters(rt: HostRuntime) -> Result<(), Fail> {
-    load_and_ask(&rt, rt.alloc(), Spread::Clustered, 100_000, 4)?;
-    load_and_ask(&rt, rt.alloc(), Spread::Clustered, 100_000, 10)?;
-    load_and_ask(&rt, rt.alloc(), Spread::Clustered, 100_000, 100)
+    load_and_ask(&rt, rt.alloc(), Spread::Clustered, Fanout { most: 4 })?;
+    load_and_ask(&rt, rt.alloc(), Spread::Clustered, Fanout { most: 10 })?;
+    load_and_ask(&rt, rt.alloc(), Spread::Clustered, Fanout { most: 100 })
 }

@@ -15,6 +15,7 @@ use refusing::Refusing;
 use reinsert::insert_at;
 use std::alloc::{Allocator, Global};
 use std::test::Fail;
+use tree_node::Fanout;
 
 // The root of each tree below.
 const ROOT: Root = Root { page: 5, level: 1 };
@@ -53,11 +54,11 @@ fn make<B: BlockDevice, A: Allocator + Copy>(
         Call::FreeTree => free_tree::<2, _, _>(cache, ROOT),
         Call::Remove => {
             let first = point(1, 0, 0);
-            remove(alloc, cache, ROOT, &first, 4).map(|_| ())
+            remove(alloc, cache, ROOT, &first, Fanout { most: 4 }).map(|_| ())
         }
         Call::Insert => {
             let last = point(8, 5, 0);
-            insert_at(alloc, cache, ROOT, &last, 0, 4).map(|_| ())
+            insert_at(alloc, cache, ROOT, &last, 0, Fanout { most: 4 }).map(|_| ())
         }
     }
 }

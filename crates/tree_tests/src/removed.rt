@@ -13,6 +13,7 @@ use std::alloc::Global;
 use std::process::Abort;
 use std::test::Fail;
 use test_caches::{Cache, bare};
+use tree_node::Fanout;
 
 // How many changes are made between two checks of the tree.
 const PART: u64 = 1_000;
@@ -22,21 +23,18 @@ const PART: u64 = 1_000;
 struct Scene {
     cache: Cache,
     root: Root,
-    fanout: u8,
+    fanout: Fanout,
     waiting: Box<Waiting<2>, Global>,
     kept: Box<Kept<2>, Global>,
     objects: Vec<Entry<2>>,
     dice: Dice,
     ghost open: { gate_of cache ≡ Open },
     ghost begins: { (root.level ≤ 40) × (3 ≤ root.page) × (root.page < 2 ^ 31) },
-    ghost most: { (4 ≤ fanout) × (fanout ≤ 100) },
 }
 
 impl Scene {
     // A tree without objects.
-    fn new(alloc: Global, fanout: u8) -> Result<Scene, Fault>
-        requires { (4 ≤ fanout) × (fanout ≤ 100) }
-    {
+    fn new(alloc: Global, fanout: Fanout) -> Result<Scene, Fault> {
         let mut cache = bare(alloc)?;
         let root = add_tree::<2>(&mut cache)?;
         Ok(Scene {
@@ -46,19 +44,18 @@ impl Scene {
             waiting: Waiting::make(alloc)?,
             kept: Kept::make(alloc)?,
             objects: Vec::new(alloc),
-            dice: Dice::new(u64::from(fanout)),
+            dice: Dice::new(u64::from(fanout.most)),
         })
     }
 
     // Inserts an object.
     fn add(&mut self, object: Entry<2>) -> Result<(), Fault> {
-        let most = usize::from(self.fanout);
         self.root = insert_with(
             &mut self.cache,
             self.root,
             &object,
             0,
-            most,
+            self.fanout,
             &mut self.waiting,
         )?;
         self.objects.push(object)?;
@@ -72,12 +69,11 @@ impl Scene {
             return Ok(None);
         }
         let object = self.objects.swap_remove(place % self.objects.len());
-        let most = usize::from(self.fanout);
         self.root = remove_with(
             &mut self.cache,
             self.root,
             &object,
-            most,
+            self.fanout,
             &mut self.waiting,
             &mut self.kept,
         )?;
@@ -129,9 +125,7 @@ impl Scene {
 }
 
 // Makes 80,000 changes, and then removes what is there.
-fn change_and_remove(rt: &impl Abort, alloc: Global, fanout: u8) -> Result<(), Fail>
-    requires { (4 ≤ fanout) × (fanout ≤ 100) }
-{
+fn change_and_remove(rt: &impl Abort, alloc: Global, fanout: Fanout) -> Result<(), Fail> {
     let mut scene = Scene::new(alloc, fanout)?;
     for part in 0..80u64 {
         scene.changes(part.saturating_mul(PART))?;
@@ -148,15 +142,15 @@ fn change_and_remove(rt: &impl Abort, alloc: Global, fanout: u8) -> Result<(), F
 
 #[test]
 fn changed_and_emptied_four_to_a_node(rt: HostRuntime) -> Result<(), Fail> {
-    change_and_remove(&rt, rt.alloc(), 4)
+    change_and_remove(&rt, rt.alloc(), Fanout { most: 4 })
 }
 
 #[test]
 fn changed_and_emptied_ten_to_a_node(rt: HostRuntime) -> Result<(), Fail> {
-    change_and_remove(&rt, rt.alloc(), 10)
+    change_and_remove(&rt, rt.alloc(), Fanout { most: 10 })
 }
 
 #[test]
 fn changed_and_emptied_a_hundred_to_a_node(rt: HostRuntime) -> Result<(), Fail> {
-    change_and_remove(&rt, rt.alloc(), 100)
+    change_and_remove(&rt, rt.alloc(), Fanout { most: 100 })
 }

@@ -12,6 +12,7 @@ use range_query::window;
 use std::alloc::Global;
 use std::test::Fail;
 use test_caches::{Cache, bare};
+use tree_node::Fanout;
 
 // The identifiers that meet the window from (x, y) to (u, v), and how many pages were looked at.
 fn meeting(
@@ -34,9 +35,9 @@ fn meeting(
 #[test]
 fn ties_are_split_on_the_first_axis(rt: HostRuntime) -> Result<(), Fail> {
     let mut cache = bare(rt.alloc())?;
-    let root = insert_tree(rt.alloc(), &mut cache, &line(), 4)?;
+    let root = insert_tree(rt.alloc(), &mut cache, &line(), Fanout { most: 4 })?;
     assert!(rt; leaves_are(rt.alloc(), &mut cache, root, &[&[1, 2], &[3, 4, 5]])?);
-    assert!(rt; is_whole(rt.alloc(), &mut cache, root, &line(), 4)?);
+    assert!(rt; is_whole(rt.alloc(), &mut cache, root, &line(), Fanout { most: 4 })?);
     let (ids, looks) = meeting(rt.alloc(), &mut cache, root, [10, 0, 10, 0])?;
     assert!(rt; ids.as_slice() == [5].as_slice() && looks == 2);
     let (ids, looks) = meeting(rt.alloc(), &mut cache, root, [0, 0, 10, 0])?;
@@ -57,7 +58,7 @@ fn a_first_overflow_takes_out_the_farthest(rt: HostRuntime) -> Result<(), Fail> 
         point(8, 103, 101),
     ];
     let mut cache = bare(rt.alloc())?;
-    let root = insert_tree(rt.alloc(), &mut cache, &eight, 4)?;
+    let root = insert_tree(rt.alloc(), &mut cache, &eight, Fanout { most: 4 })?;
     assert!(rt;
         leaves_are(
             rt.alloc(),
@@ -87,7 +88,7 @@ fn a_second_overflow_splits(rt: HostRuntime) -> Result<(), Fail> {
         point(8, 5, 0),
     ];
     let mut cache = bare(rt.alloc())?;
-    let root = insert_tree(rt.alloc(), &mut cache, &eight, 4)?;
+    let root = insert_tree(rt.alloc(), &mut cache, &eight, Fanout { most: 4 })?;
     assert!(rt;
         leaves_are(
             rt.alloc(),
@@ -111,7 +112,7 @@ fn equal_distances_go_by_identifier(rt: HostRuntime) -> Result<(), Fail> {
         point(5, 3, 4),
     ];
     let mut cache = bare(rt.alloc())?;
-    let root = insert_tree(rt.alloc(), &mut cache, &around_origin, 4)?;
+    let root = insert_tree(rt.alloc(), &mut cache, &around_origin, Fanout { most: 4 })?;
     assert!(rt; leaves_are(rt.alloc(), &mut cache, root, &[&[2, 7], &[9, 5, 4]])?);
     let before = cache.looks();
     let rows = nearest::<2, _, _, _>(rt.alloc(), &mut cache, root, &[0, 0], 3)?;
@@ -130,7 +131,7 @@ fn leaves_at_one_distance_are_both_looked_at(rt: HostRuntime) -> Result<(), Fail
         point(3, 7, 0),
     ];
     let mut cache = bare(rt.alloc())?;
-    let root = insert_tree(rt.alloc(), &mut cache, &both_sides, 4)?;
+    let root = insert_tree(rt.alloc(), &mut cache, &both_sides, Fanout { most: 4 })?;
     assert!(rt; leaves_are(rt.alloc(), &mut cache, root, &[&[9, 8], &[1, 2, 3]])?);
     let before = cache.looks();
     let rows = nearest::<2, _, _, _>(rt.alloc(), &mut cache, root, &[0, 0], 1)?;
@@ -143,9 +144,9 @@ fn leaves_at_one_distance_are_both_looked_at(rt: HostRuntime) -> Result<(), Fail
 fn a_packed_line_has_leaves_of_three_and_two(rt: HostRuntime) -> Result<(), Fail> {
     let mut cache = bare(rt.alloc())?;
     let mut objects = line();
-    let root = load(rt.alloc(), &mut cache, &mut objects, 4)?;
+    let root = load(rt.alloc(), &mut cache, &mut objects, Fanout { most: 4 })?;
     assert!(rt; leaves_are(rt.alloc(), &mut cache, root, &[&[1, 2, 3], &[4, 5]])?);
-    assert!(rt; is_whole(rt.alloc(), &mut cache, root, &line(), 4)?);
+    assert!(rt; is_whole(rt.alloc(), &mut cache, root, &line(), Fanout { most: 4 })?);
     let (ids, looks) = meeting(rt.alloc(), &mut cache, root, [10, 0, 10, 0])?;
     assert!(rt; ids.as_slice() == [5].as_slice() && looks == 2);
     Ok(())

@@ -14,6 +14,7 @@ use page_file::{Fault, open_pages};
 use reinsert::{Waiting, insert_with};
 use std::alloc::{Allocator, Global};
 use test_caches::{Cache, bare};
+use tree_node::Fanout;
 
 /// Adds a tree without objects.
 pub fn add_tree<const D: usize>(cache: &mut Cache) -> Result<Root, Fault>
@@ -40,18 +41,17 @@ pub fn insert_all<const D: usize>(
     waiting: &mut Waiting<D>,
     root: Root,
     entries: &[Entry<D>],
-    fanout: u8,
+    fanout: Fanout,
 ) -> Result<Root, Fault>
     requires open { gate_of cache.old ≡ Open }
     requires dims { (2 ≤ D) × (D ≤ 3) }
-    requires most { (4 ≤ fanout) × (fanout ≤ 100) }
     requires root { (root.level ≤ 40) × (3 ≤ root.page) × (root.page < 2 ^ 31) }
     ensures open { gate_of cache.new ≡ Open }
     ensures root { IfOk result (λ root. (root.level ≤ 40) × (3 ≤ root.page) × (root.page < 2 ^ 31)) }
 {
     let mut now = root;
     'entries: for entry in entries {
-        now = insert_with(cache, now, entry, 0, usize::from(fanout), waiting)?;
+        now = insert_with(cache, now, entry, 0, fanout, waiting)?;
     }
     Ok(now)
 }
@@ -61,11 +61,10 @@ pub fn insert_tree<const D: usize>(
     alloc: Global,
     cache: &mut Cache,
     entries: &[Entry<D>],
-    fanout: u8,
+    fanout: Fanout,
 ) -> Result<Root, Fault>
     requires open { gate_of cache.old ≡ Open }
     requires dims { (2 ≤ D) × (D ≤ 3) }
-    requires most { (4 ≤ fanout) × (fanout ≤ 100) }
     ensures open { gate_of cache.new ≡ Open }
     ensures root { IfOk result (λ root. (root.level ≤ 40) × (3 ≤ root.page) × (root.page < 2 ^ 31)) }
 {
@@ -77,7 +76,7 @@ pub fn insert_tree<const D: usize>(
 /// The device of a file whose one tree was made by inserting these entries, four to a node, and its root.
 pub fn file_with(alloc: Global, entries: &[Entry<2>]) -> Result<(MemoryDevice, Root), Fault> {
     let mut cache = bare(alloc)?;
-    let root = insert_tree(alloc, &mut cache, entries, 4)?;
+    let root = insert_tree(alloc, &mut cache, entries, Fanout { most: 4 })?;
     let device = cache.close().map_err(|(fault, _)| fault)?;
     Ok((device, root))
 }
@@ -101,10 +100,9 @@ pub fn load_boxes(
     cache: &mut Cache,
     spread: Spread,
     count: u64,
-    fanout: u8,
+    fanout: Fanout,
 ) -> Result<Root, Fault>
     requires open { gate_of cache.old ≡ Open }
-    requires most { (4 ≤ fanout) × (fanout ≤ 100) }
     ensures open { gate_of cache.new ≡ Open }
 {
     let mut objects = boxes(alloc, spread, count)?;
@@ -117,12 +115,12 @@ pub fn is_whole<const D: usize, B: BlockDevice, A: Allocator + Copy>(
     cache: &mut PageCache<B, A>,
     root: Root,
     objects: &[Entry<D>],
-    fanout: u8,
+    fanout: Fanout,
 ) -> Result<bool, Fault>
     requires dims { (2 ≤ D) × (D ≤ 3) }
     ensures gate { gate_of cache.new ≡ gate_of cache.old }
 {
-    let mut facts = check_tree::<D, _, _, _>(alloc, cache, root, fanout)?;
+    let mut facts = check_tree::<D, _, _, _>(alloc, cache, root, fanout.most)?;
     facts.pairs.sort_unstable_by_key(|pair| pair.0);
     Ok(are_rows(facts.pairs.as_slice(), objects, &Asked::All, None))
 }

@@ -8,6 +8,7 @@ use spatial_join::join;
 use std::alloc::Global;
 use std::test::Fail;
 use test_caches::bare;
+use tree_node::Fanout;
 
 const MANY: u64 = 20_000;
 
@@ -42,7 +43,7 @@ fn the_nearest_are_the_first_of_a_sort(rt: HostRuntime) -> Result<(), Fail> {
     for spread in [Spread::Uniform, Spread::Clustered] {
         let objects = boxes(rt.alloc(), spread, MANY)?;
         let mut cache = bare(rt.alloc())?;
-        let root = load_boxes(rt.alloc(), &mut cache, spread, MANY, 10)?;
+        let root = load_boxes(rt.alloc(), &mut cache, spread, MANY, Fanout { most: 10 })?;
         let mut dice = Dice::new(3);
         for turn in 0..60u32 {
             let at = [dice.place(Spread::Uniform), dice.place(spread)];
@@ -80,8 +81,8 @@ fn joins_are_those_of_a_double_loop(rt: HostRuntime) -> Result<(), Fail> {
         let many = boxes(rt.alloc(), spread, MANY)?;
         let few = boxes(rt.alloc(), spread, FEW)?;
         let mut cache = bare(rt.alloc())?;
-        let tall = insert_tree::<2>(rt.alloc(), &mut cache, few.as_slice(), 4)?;
-        let low = load_boxes(rt.alloc(), &mut cache, spread, MANY, 100)?;
+        let tall = insert_tree::<2>(rt.alloc(), &mut cache, few.as_slice(), Fanout { most: 4 })?;
+        let low = load_boxes(rt.alloc(), &mut cache, spread, MANY, Fanout { most: 100 })?;
         assert!(rt; low.level < tall.level);
         for within in [0, 1_000_003] {
             let pairs = join::<2, _, _, _>(rt.alloc(), &mut cache, tall, low, within)?;

@@ -12,13 +12,13 @@ use crate::located::Located;
 use block_device::BlockDevice;
 use node_page::Root;
 use std::alloc::Allocator;
+use tree_node::Fanout;
 
 impl<D: BlockDevice, A: Allocator> Layers<D, A> {
     // Where the layer at a place stands.
     pub(crate) fn locate(&self, place: usize) -> Located
         requires { place < length (records_in self.now) }
         ensures dims { IsDims result.dims }
-        ensures fanout { (4 ≤ result.fanout) × (result.fanout ≤ 100) }
         ensures root { CanBeRoot result.root }
         ensures located { (t : Table) (name : List ℕ) → IsSound self.now t → Finds t name place →
             IsLocated self.now t name result }
@@ -26,9 +26,12 @@ impl<D: BlockDevice, A: Allocator> Layers<D, A> {
         ensures by_record { IsRecorded self.now place result }
     {
         let record = &self.records[place];
+        let fanout = Fanout {
+            most: record.fanout,
+        };
         Located {
             dims: record.dims,
-            fanout: record.fanout,
+            fanout,
             root: Root {
                 page: record.root,
                 level: record.level,

@@ -15,11 +15,12 @@ use Rattle.bulk_load.proofs.LevelLemmas.{level_packed, root_written}
 use Rattle.bulk_load.proofs.SizeLemmas.{next_fits}
 use Rattle.bulk_load.proofs.packing.+pack.Goals as goal
 
-pub returns-then-entries-from-clause-packed : goal.returns-then-entries-from-clause-packed
-returns-then-entries-from-clause-packed g t c = λ sound bs waits.
-    root_written g.row.D c.args.fanout c.args.level (pages c.args.cache.now) (pages c.write_new.new.cache)
+pub returns-then-entries-entries-clause-packed : goal.returns-then-entries-entries-clause-packed
+returns-then-entries-entries-clause-packed g t c = λ sound bs waits.
+    root_written g.row.D c.args.fanout.most c.args.level (pages c.args.cache.now)
+    (pages c.write_new.new.cache)
     (items_of c.args.entries.now) bs (record { page = c.in_ok-page.page; level = c.args.level }) waits
-    (omega (arith, length-map c.args.entries.now item_of, c.if-entries-from.true, c.from.ensures)) refl
+    (omega (arith, length-map c.args.entries.now item_of, c.if-entries-entries.true, c.entries.ensures)) refl
     (c.in_ok-page.ensures.fresh sound) (c.in_ok-page.ensures.others sound) (c.in_ok-page.ensures.node sound)
 
 pub returns-in_err-page-clause-all : goal.returns-in_err-page-clause-all
@@ -49,17 +50,14 @@ pack-requires g t c κs within =
                   (
                     c.in_ok-parents.ensures.changes.gate.gate ∙ c.requires.open,
                     (
-                      c.requires.sized,
+                      λ above. omega (arith, long, c.in_ok-parents.ensures.two),
                       (
-                        λ above. omega (arith, long, c.in_ok-parents.ensures.two),
-                        (
-                          subst (λ (es : List (Entry g.row.D)). All
-                              (λ (item : Item). IsOfLevel (c.args.level + 1) item.reference item.tag)
-                              (items_of es)) (sym c.as_mut_slice.ensures.value)
-                              c.in_ok-parents.ensures.refers,
-                          next_fits (length c.args.entries.now) (length c.as_mut_slice.result.now)
-                              c.args.level (omega (arith, long, half)) c.requires.fits,
-                        ),
+                        subst (λ (es : List (Entry g.row.D)). All
+                            (λ (item : Item). IsOfLevel (c.args.level + 1) item.reference item.tag)
+                            (items_of es)) (sym c.as_mut_slice.ensures.value)
+                            c.in_ok-parents.ensures.refers,
+                        next_fits (length c.args.entries.now) (length c.as_mut_slice.result.now)
+                            c.args.level (omega (arith, long, half)) c.requires.fits,
                       ),
                     ),
                   ),
@@ -87,15 +85,16 @@ returns-clause-packed g t c = λ sound bs waits.
     (subst (λ (level : ℕ). WaitFor g.row.D level (pages c.pack_level.new.cache)
     (items_of c.in_ok-parents.parents.items) l.parents) one l.wait) in
     if_ok_map c.pack.result (c.pack.ensures.packed (c.in_ok-parents.ensures.sound sound) l.parents wait)
-    (λ root packs. level_packed g.row.D c.args.fanout c.args.level (pages c.args.cache.now) (pages c.pack_level.new.cache)
+    (λ root packs. level_packed g.row.D c.args.fanout.most c.args.level (pages c.args.cache.now)
+    (pages c.pack_level.new.cache)
     (pages c.pack.new.cache) bs l.runs l.parents root
     (omega (
       arith,
       ap length waits.are,
       length-map bs item_in,
       length-map c.args.entries.now item_of,
-      c.if-entries-from.false,
-      c.from.ensures,
+      c.if-entries-entries.false,
+      c.entries.ensures,
     )) l.tiled l.made l.moves
-    (subst (λ (level : ℕ). PackedAt g.row.D c.args.fanout level (pages c.pack_level.new.cache)
+    (subst (λ (level : ℕ). PackedAt g.row.D c.args.fanout.most level (pages c.pack_level.new.cache)
     (pages c.pack.new.cache) l.parents root) (sym one) packs))

@@ -9,8 +9,8 @@ use Rattle.bulk_load.proofs.packing.load.Goals as goal
 
 pub returns-clause-loaded : goal.returns-clause-loaded
 returns-clause-loaded g c =
-    λ sound. all_loaded g.row.D c.args.fanout (pages c.args.cache.now) (pages c.pack.new.cache)
-    (items_of c.args.objects.now) c.pack.result c.requires.dims c.requires.sized.0
+    λ sound. all_loaded g.row.D c.args.fanout.most (pages c.args.cache.now) (pages c.pack.new.cache)
+    (items_of c.args.objects.now) c.pack.result c.requires.dims c.args.fanout.within.0
     (c.pack.ensures.packed sound (objects_of (items_of c.args.objects.now))
     (objects_wait g.row.D (pages c.args.cache.now) (items_of c.args.objects.now)
     (λ i below. c.see_boxes.ensures i (omega (arith, below, length-map c.args.objects.now item_of)))))

@@ -17,8 +17,9 @@ pub write_level-requires : goal.write_level-requires
 write_level-requires g c =
     let P : Item → Type 0 = λ item. IsOfLevel c.args.level item.reference item.tag in
     let t : TiledSizes (length c.tile.new.entries) c.in_ok-sizes.sizes.items =
-    tiled_sizes c.args.fanout c.args.entries.now c.tile.new.entries c.in_ok-sizes.sizes.items
-    c.requires.dims c.requires.sized.0 c.requires.sized.1 c.requires.above c.in_ok-sizes.ensures.tiled in (
+    tiled_sizes c.args.fanout.most c.args.entries.now c.tile.new.entries c.in_ok-sizes.sizes.items
+    c.requires.dims c.args.fanout.within.0 c.args.fanout.within.1 c.requires.above c.in_ok-sizes.ensures.tiled
+    in (
       search rules,
       (
         c.requires.dims,
@@ -43,16 +44,18 @@ write_level-requires g c =
 pub returns-clause-two : goal.returns-clause-two
 returns-clause-two g c =
     let t : TiledSizes (length c.tile.new.entries) c.in_ok-sizes.sizes.items =
-    tiled_sizes c.args.fanout c.args.entries.now c.tile.new.entries c.in_ok-sizes.sizes.items
-    c.requires.dims c.requires.sized.0 c.requires.sized.1 c.requires.above c.in_ok-sizes.ensures.tiled in
+    tiled_sizes c.args.fanout.most c.args.entries.now c.tile.new.entries c.in_ok-sizes.sizes.items
+    c.requires.dims c.args.fanout.within.0 c.args.fanout.within.1 c.requires.above c.in_ok-sizes.ensures.tiled
+    in
     if_ok_map c.write_level.result c.write_level.ensures.count
     (λ parents count. omega (arith, t.two, count, ap length c.as_slice.ensures.value))
 
 pub returns-clause-half : goal.returns-clause-half
 returns-clause-half g c =
     let t : TiledSizes (length c.tile.new.entries) c.in_ok-sizes.sizes.items =
-    tiled_sizes c.args.fanout c.args.entries.now c.tile.new.entries c.in_ok-sizes.sizes.items
-    c.requires.dims c.requires.sized.0 c.requires.sized.1 c.requires.above c.in_ok-sizes.ensures.tiled in
+    tiled_sizes c.args.fanout.most c.args.entries.now c.tile.new.entries c.in_ok-sizes.sizes.items
+    c.requires.dims c.args.fanout.within.0 c.args.fanout.within.1 c.requires.above c.in_ok-sizes.ensures.tiled
+    in
     if_ok_map c.write_level.result c.write_level.ensures.count
     (λ parents count. omega (
       arith,
@@ -64,7 +67,7 @@ returns-clause-half g c =
 
 pub returns-clause-packed : goal.returns-clause-packed
 returns-clause-packed g c = λ sound bs waits.
-    let w = wait_tiled c.args.fanout c.args.level (pages c.args.cache.now) bs c.args.entries.now
+    let w = wait_tiled c.args.fanout.most c.args.level (pages c.args.cache.now) bs c.args.entries.now
     c.tile.new.entries c.in_ok-sizes.sizes.items c.in_ok-sizes.ensures.tiled waits in
     if_ok_map c.write_level.result
     (c.write_level.ensures.written sound w.runs (w.lengths ∙ sym c.as_slice.ensures.value) w.wait)
@@ -82,8 +85,9 @@ returns-clause-packed g c = λ sound bs waits.
 pub returns-clause-grows : goal.returns-clause-grows
 returns-clause-grows g c =
     let t : TiledSizes (length c.tile.new.entries) c.in_ok-sizes.sizes.items =
-    tiled_sizes c.args.fanout c.args.entries.now c.tile.new.entries c.in_ok-sizes.sizes.items
-    c.requires.dims c.requires.sized.0 c.requires.sized.1 c.requires.above c.in_ok-sizes.ensures.tiled in
+    tiled_sizes c.args.fanout.most c.args.entries.now c.tile.new.entries c.in_ok-sizes.sizes.items
+    c.requires.dims c.args.fanout.within.0 c.args.fanout.within.1 c.requires.above c.in_ok-sizes.ensures.tiled
+    in
     omega (
       arith,
       t.half,

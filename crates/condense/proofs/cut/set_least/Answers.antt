@@ -58,7 +58,8 @@ returns-then-has_box g c = λ hand.
     record {
       changes = asks_changes old new None first;
       grows = search rules;
-      cut = cut_written c.args.fanout c.len-count.result c.least.result c.written.result c.args.at.level hand
+      cut = cut_written c.args.fanout.most c.len-count.result c.least.result c.written.result c.args.at.level
+          hand
           c.written.ensures;
       now = λ h x there level.
           let same = same_content D (pages old) page view x
@@ -67,7 +68,7 @@ returns-then-has_box g c = λ hand.
           ap (λ (k : NodeContent). set_box k.entries c.args.place c.args.least.now) (sym same) ∙ same_box in
           let here : node_in D (pages new page) ≡ Some view =
           ap (node_in D) (first.map.pages_stay h page) ∙ there ∙ ap (λ (k : NodeContent). Some k) (sym same) in
-          now_written c.args.fanout c.len-count.result c.least.result c.written.result (pages new page)
+          now_written c.args.fanout.most c.len-count.result c.least.result c.written.result (pages new page)
           c.args.at.level (set_box x.entries c.args.place c.args.least.now) hand
           (here ∙ ap (λ (l : ℕ). Some (let k : NodeContent = record { level = l; entries = view.entries } in k))
           c.in_ok-node.ensures.level
@@ -82,7 +83,7 @@ returns-then-has_box g c = λ hand.
             node = x;
             there = ap (node_in D) (first.map.pages_stay h page) ∙ there;
             level_is = level;
-            few = few_written c.args.fanout c.len-count.result c.least.result c.written.result
+            few = few_written c.args.fanout.most c.len-count.result c.least.result c.written.result
                 (length x.entries)
                 (c.len-count.ensures.count ∙ ap (λ (k : NodeContent). length k.entries) same)
                 c.written.ensures;
@@ -189,11 +190,13 @@ returns g c = λ hand.
     record {
       changes = changes_in_turn old mid new None (asks_changes old mid None first) ok.changes;
       grows = search rules;
-      cut = cut_written c.args.fanout c.len-count.result c.in-Some.round c.written-2.result c.args.at.level
+      cut = cut_written c.args.fanout.most c.len-count.result c.in-Some.round c.written-2.result
+          c.args.at.level
           hand c.written-2.ensures;
       now = λ h x there level.
           let is = boxed h x there in
-          now_written c.args.fanout c.len-count.result c.in-Some.round c.written-2.result (pages new page)
+          now_written c.args.fanout.most c.len-count.result c.in-Some.round c.written-2.result
+          (pages new page)
           c.args.at.level (set_box x.entries place b) hand
           (is.0 ∙ ap (λ (l : ℕ). Some
           (let k : NodeContent = record { level = l; entries = set_box x.entries place b } in k)) level)
@@ -202,7 +205,7 @@ returns g c = λ hand.
         node = with_box_at x place b;
         there = (boxed h x there).0;
         level_is = level;
-        few = few_written c.args.fanout c.len-count.result c.in-Some.round c.written-2.result
+        few = few_written c.args.fanout.most c.len-count.result c.in-Some.round c.written-2.result
             (length (set_box x.entries place b)) (count h x there) c.written-2.ensures;
       };
       others = λ h live k other. ok.others (first.gate.honest.0 h) (live_mid h live) k other

@@ -25,7 +25,7 @@ inserting-init g c = (
   omega arith,
   λ h t ws elsewhere can. (
     h,
-    filled_first g.row.D c.args.fanout (pages c.args.cache.now) t ws elsewhere c.args.root
+    filled_first g.row.D c.args.fanout.most (pages c.args.cache.now) t ws elsewhere c.args.root
         (held_now c.args.kept.now) can,
   ),
   λ none. (none, refl, no_call_asks c.args.cache.now),
@@ -38,13 +38,14 @@ returns-then-orphan-now-clause-faults g c = λ h t ws elsewhere can shaped.
     let m : PageMap = pages c.args.cache.now in
     let m1 : PageMap = pages c.inserting.cache in
     let so_far = c.inserting.invariant.4 h t ws elsewhere can in
-    let f = subst (λ (hs : List Held). Filled D c.args.fanout m m1 t ws elsewhere c.inserting.now hs)
+    let f = subst (λ (hs : List Held). Filled D c.args.fanout.most m m1 t ws elsewhere c.inserting.now hs)
     c.in-Some.ensures.some so_far.1 in
     let item = item_of c.in-Some.orphan.entry in
     let level = c.in-Some.orphan.level in
     let held = held_now c.next.new.self in
-    let k = comes D c.args.fanout m m1 t ws elsewhere c.inserting.now item level held f in
-    let s = comes_shaped D c.args.fanout m m1 t ws elsewhere c.inserting.now item level held f k shaped in
+    let k = comes D c.args.fanout.most m m1 t ws elsewhere c.inserting.now item level held f in
+    let s = comes_shaped D c.args.fanout.most m m1 t ws elsewhere c.inserting.now item level held f k shaped
+    in
     absurd (omega (arith, s.0, f.can.at.level, c.if-orphan-now.true))
 
 pub insert_with-requires : goal.insert_with-requires
@@ -58,11 +59,8 @@ insert_with-requires g c =
           (
             gate,
             (
-              c.requires.most,
-              (
-                (omega (arith, c.if-orphan-now.false), c.inserting.invariant.1.low),
-                (c.inserting.invariant.1.page, c.in-Some.ensures.refers),
-              ),
+              (omega (arith, c.if-orphan-now.false), c.inserting.invariant.1.low),
+              (c.inserting.invariant.1.page, c.in-Some.ensures.refers),
             ),
           ),
         ),
@@ -75,18 +73,19 @@ returns-in_err-now-clause-faults g c = λ h t ws elsewhere can shaped.
     let m : PageMap = pages c.args.cache.now in
     let m1 : PageMap = pages c.inserting.cache in
     let so_far = c.inserting.invariant.4 h t ws elsewhere can in
-    let f = subst (λ (hs : List Held). Filled D c.args.fanout m m1 t ws elsewhere c.inserting.now hs)
+    let f = subst (λ (hs : List Held). Filled D c.args.fanout.most m m1 t ws elsewhere c.inserting.now hs)
     c.in-Some.ensures.some so_far.1 in
     let item = item_of c.in-Some.orphan.entry in
     let level = c.in-Some.orphan.level in
     let held = held_now c.next.new.self in
-    let k = comes D c.args.fanout m m1 t ws elsewhere c.inserting.now item level held f in
-    let s = comes_shaped D c.args.fanout m m1 t ws elsewhere c.inserting.now item level held f k shaped in
+    let k = comes D c.args.fanout.most m m1 t ws elsewhere c.inserting.now item level held f in
+    let s = comes_shaped D c.args.fanout.most m m1 t ws elsewhere c.inserting.now item level held f k shaped
+    in
     at_error c.from_residual.result c.in_err-now.field-0.0 (IsNoDamage c.insert_with.new.cache)
     c.from_residual.ensures.1
     (c.in_err-now.ensures.inserts.faults so_far.0 f.mid k.w.branch
     (λ n. occurs_waiting n k.ws' + elsewhere n)
-    (can_insert D c.args.fanout m m1 t ws elsewhere c.inserting.now item level held f k
+    (can_insert D c.args.fanout.most m m1 t ws elsewhere c.inserting.now item level held f k
     (omega (arith, c.if-orphan-now.false))) s.1 s.2 s.3)
 
 pub inserting-preserved : goal.inserting-preserved
@@ -107,21 +106,21 @@ inserting-preserved g c = (
       let m : PageMap = pages c.args.cache.now in
       let m1 : PageMap = pages c.inserting.cache in
       let so_far = c.inserting.invariant.4 h t ws elsewhere can in
-      let f = subst (λ (hs : List Held). Filled D c.args.fanout m m1 t ws elsewhere c.inserting.now hs)
+      let f = subst (λ (hs : List Held). Filled D c.args.fanout.most m m1 t ws elsewhere c.inserting.now hs)
       c.in-Some.ensures.some so_far.1 in
       let item = item_of c.in-Some.orphan.entry in
       let level = c.in-Some.orphan.level in
       let held = held_now c.next.new.self in
-      let k = comes D c.args.fanout m m1 t ws elsewhere c.inserting.now item level held f in
+      let k = comes D c.args.fanout.most m m1 t ws elsewhere c.inserting.now item level held f in
       let done =
       c.in_ok-now.ensures.inserts.inserted so_far.0 f.mid k.w.branch
       (λ n. occurs_waiting n k.ws' + elsewhere n)
-      (can_insert D c.args.fanout m m1 t ws elsewhere c.inserting.now item level held f k
+      (can_insert D c.args.fanout.most m m1 t ws elsewhere c.inserting.now item level held f k
       (omega (arith, c.if-orphan-now.false))) in (
         done.0,
-        filled_more D c.args.fanout m m1 t ws elsewhere c.inserting.now item level held f k
+        filled_more D c.args.fanout.most m m1 t ws elsewhere c.inserting.now item level held f k
             (pages c.insert_with.new.cache) c.in_ok-now.now c.in_ok-now.ensures.inserts.root.rises
-            (omega (arith, c.requires.most)) done.1,
+            (omega (arith, c.args.fanout.within)) done.1,
       ),
   λ none. absurd (omega (arith, c.in-Some.ensures.fewer, ap length (c.inserting.invariant.5 none).0)),
   λ h. c.in_ok-now.ensures.inserts.sound (c.inserting.invariant.6 h),
@@ -131,7 +130,7 @@ pub returns-clause-filled : goal.returns-clause-filled
 returns-clause-filled g c = λ h t ws elsewhere can.
     let so_far = c.inserting.invariant.4 h t ws elsewhere can in (
       so_far.0,
-      filled_end g.row.D c.args.fanout (pages c.args.cache.now) (pages c.inserting.cache) t ws elsewhere
+      filled_end g.row.D c.args.fanout.most (pages c.args.cache.now) (pages c.inserting.cache) t ws elsewhere
           c.inserting.now (held_now c.inserting.kept) so_far.1
           (ap (map (orphan_held {D = g.row.D})) (c.in_default.ensures.none refl)),
     )

@@ -23,7 +23,8 @@ invariant-inserting g l =
     × (IsPageMap l.fn.cache → (t : Tree) (ws : List Waiter) (elsewhere : ℕ → ℕ)
     → CanFill g.row.D (pages l.fn.cache) l.fn.root t ws elsewhere (held_now l.fn.kept)
     → IsPageMap l.cache
-    × Filled g.row.D l.fanout (pages l.fn.cache) (pages l.cache) t ws elsewhere l.now (held_now l.kept))
+    × Filled g.row.D l.fn.fanout.most (pages l.fn.cache) (pages l.cache) t ws elsewhere l.now
+    (held_now l.kept))
     × (l.fn.kept.orphans.items ≡ [] → (l.kept.orphans.items ≡ []) × (l.now ≡ l.fn.root)
     × AsksUntil l.fn.cache l.cache None)
     × (IsPageMap l.fn.cache → IsPageMap l.cache)

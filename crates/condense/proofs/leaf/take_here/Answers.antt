@@ -68,7 +68,7 @@ returns-in_default g c = λ kept.
       none = (first, refl);
       taken = λ h row stands. tt;
       found = λ h row stands leads.
-          absurd (none_here c.args.fanout (pages old) c.args.at c.args.object.now.reference
+          absurd (none_here c.args.fanout.most (pages old) c.args.at c.args.object.now.reference
           (c.args.object.now.bounds, c.args.object.now.tag) row c.requires.leaf stands
           (at_none c.in_ok-place.field-0 _
           (ok.none h.honest (record { level = c.args.at.level; entries = row_items row }) stands.root)
@@ -166,7 +166,7 @@ returns g c = λ kept.
           record {
             items = items_without (row_items row) place;
             between = pages old;
-            taken = taken_here c.args.fanout (pages old) (pages old) at c.args.object.now.reference
+            taken = taken_here c.args.fanout.most (pages old) (pages old) at c.args.object.now.reference
                 (c.args.object.now.bounds, c.args.object.now.tag) row (held_now kept)
                 (items_without (row_items row) place) c.requires.leaf stands (λ n. refl)
                 (record {

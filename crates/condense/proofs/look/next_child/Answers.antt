@@ -34,6 +34,8 @@ returns-in_err-node g c = record {
   is_next = no_answer c.from_residual.result c.in_err-node.field-0.0 _ c.from_residual.ensures.1;
   place = no_answer c.from_residual.result c.in_err-node.field-0.0 _ c.from_residual.ensures.1;
   given_node = λ h. no_answer c.from_residual.result c.in_err-node.field-0.0 _ c.from_residual.ensures.1;
+  encloses = λ h content there. no_answer c.from_residual.result c.in_err-node.field-0.0 _
+      c.from_residual.ensures.1;
   before = λ h content there. no_answer c.from_residual.result c.in_err-node.field-0.0 _
       c.from_residual.ensures.1;
   none = λ h content there. no_answer c.from_residual.result c.in_err-node.field-0.0 _
@@ -53,6 +55,7 @@ returns-then-place-len g c = record {
   is_next = tt;
   place = tt;
   given_node = λ h. tt;
+  encloses = λ h content there. tt;
   before = λ h content there. tt;
   none = λ h content there.
       let D = g.row.D in
@@ -89,6 +92,14 @@ returns g c =
         names = ap (λ (x : Item). x.reference)
             (c.entry.ensures ∙ get_or_default view.entries place (item_of c.entry.result) no_item within);
       };
+      encloses = λ h content there.
+          let D = g.row.D in
+          let m : PageMap = pages c.args.cache.now in
+          let same =
+          same_content D m c.args.at.page view content
+          (c.in_ok-node.ensures.node h (page_of_node D (m c.args.at.page) content there)) there in
+          subst (λ (x : NodeContent). Within D c.args.bounds.now (box_at x.entries place)) same
+          (c.next_enclosing-place.ensures.encloses within);
       before = λ h content there.
           let D = g.row.D in
           let m : PageMap = pages c.args.cache.now in

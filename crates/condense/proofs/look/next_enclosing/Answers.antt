@@ -44,3 +44,13 @@ returns-clause-none g c = λ k low below lt. c.entries.invariant.1 k below low l
 
 pub returns-then-encloses-clause-none : goal.returns-then-encloses-clause-none
 returns-then-encloses-clause-none g c = λ k low below lt. c.entries.invariant.1 k below low lt
+
+pub returns-clause-encloses : goal.returns-clause-encloses
+returns-clause-encloses g c = λ within. absurd (omega (arith, within, c.entries-test.false, c.len.ensures.count))
+
+pub returns-then-encloses-clause-encloses : goal.returns-then-encloses-clause-encloses
+returns-then-encloses-clause-encloses g c = λ within.
+    let items : List Item = (content_in c.args.node.now).entries in
+    let box = ap (λ (y : Item). y.bounds)
+    (c.entry.ensures ∙ get_or_default items c.entries.place (item_of c.entry.result) no_item within) in
+    subst (Within g.row.D c.args.bounds.now) box (c.encloses.ensures.encloses.0 c.if-encloses.true)

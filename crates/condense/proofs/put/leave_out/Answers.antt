@@ -27,7 +27,7 @@ keep-requires g c =
     let es = c.args.hand.now.entries.items in
     let refers : All (λ (e : Entry g.row.D). IsOfLevel level e.reference e.tag) es =
     All-mapped level es c.requires.cut.refers in
-    let low = fewest_is_low c.args.fanout c.requires.most.1 in
+    let low = fewest_is_low c.args.fanout.most c.args.fanout.within.1 in
     (search rules, (search rules, (search rules, (omega (arith, c.requires.room, c.requires.few, low), refers))))
 
 pub returns-in_err-free : goal.returns-in_err-free
@@ -76,7 +76,13 @@ returns g c =
           take.changes;
       grows = search rules;
       cut = take.cut;
-      room = omega (arith, c.keep.ensures.len, c.requires.few, fewest_is_low c.args.fanout c.requires.most.1);
+      room = omega (
+        arith,
+        c.keep.ensures.len,
+        c.requires.few,
+        fewest_is_low c.args.fanout.most
+            c.args.fanout.within.1,
+      );
       taken = λ h above child m0 m1 id removed row held lower took others now.
           let live = page_of_node D (m page) child.node child.there in
           let honest = (c.free.ensures.sound h live).honest in
@@ -84,7 +90,7 @@ returns g c =
           let there =
           parent_stays D m mf at c.args.step.next c.requires.is_next above child.node child.there child.level_is apart in
           let taken =
-          child_left c.args.fanout m0 m1 mf at.page at.level id removed row c.args.step.next.place held
+          child_left c.args.fanout.most m0 m1 mf at.page at.level id removed row c.args.step.next.place held
           (held_now c.args.kept.now) above.node.entries page c.requires.is_next.above above.within above.names
           (λ k other. apart k other ∙ others k other) (held_now c.keep.new.self)
           c.args.hand.now.entries.items lower now.0 took c.requires.few
@@ -92,7 +98,8 @@ returns g c =
           ∙ ap (λ (l : ℕ). held_now c.args.kept.now ++ reverse (map (held_with l) c.args.hand.now.entries.items))
           c.requires.is_next.level) in
           IfOk-weaker c.take_at.result
-          (IsNow c.args.fanout (mn at.page) at.level (items_without above.node.entries c.args.step.next.place)
+          (IsNow c.args.fanout.most (mn at.page) at.level (items_without above.node.entries
+          c.args.step.next.place)
           c.take_at.new.hand) _
           (λ became is. record {
             items = items_without above.node.entries c.args.step.next.place;

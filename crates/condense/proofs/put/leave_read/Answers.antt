@@ -90,7 +90,7 @@ leave_out-requires g c =
       refers = subst (λ l. All (λ (item : Item). IsOfLevel l item.reference item.tag)
           (map (item_of {D = g.row.D}) now.entries.items)) ok.level ok.spellable.refers;
     } in
-    let few : length now.entries.items < least_entries c.args.fanout = omega (
+    let few : length now.entries.items < least_entries c.args.fanout.most = omega (
       arith,
       c.if-len-least_entries.false,
       c.len.ensures.value,
@@ -105,7 +105,7 @@ leave_out-requires g c =
             c.requires.dims,
             (
               ok.asks.gate.gate ∙ c.requires.open,
-              (c.requires.most, (c.requires.is_next, (cut, (few, c.requires.room)))),
+              (c.requires.is_next, (cut, (few, c.requires.room))),
             ),
           ),
         ),
@@ -126,8 +126,8 @@ returns g c =
     let ok = c.in_ok-read_into.ensures in
     let out = c.leave_out.ensures in
     let first : AsksUntil old mid None = ok.asks in
-    let child_mid : IsPageMap old → IsStill {D = D} c.args.fanout page level (pages old) became.Few
-    → IsStill {D = D} c.args.fanout page level (pages mid) became.Unwritten = λ h child. record {
+    let child_mid : IsPageMap old → IsStill {D = D} c.args.fanout.most page level (pages old) became.Few
+    → IsStill {D = D} c.args.fanout.most page level (pages mid) became.Unwritten = λ h child. record {
       node = child.node;
       there = ap (node_in D) (first.map.pages_stay h.honest page) ∙ child.there;
       level_is = child.level_is;

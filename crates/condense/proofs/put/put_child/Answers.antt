@@ -25,7 +25,8 @@ returns-in-Settled g c =
     let least = c.in-Settled.least in
     let hand = c.args.hand.now in
     let a = c.set_least.ensures hand in
-    let settled : PutsChild c.args.fanout at next (became.Settled least) old new hand hand c.args.kept.now
+    let settled : PutsChild c.args.fanout.most at next (became.Settled least) old new hand hand
+    c.args.kept.now
     c.args.kept.now c.set_least.result = record {
       changes = a.changes;
       grows = a.grows;
@@ -34,17 +35,20 @@ returns-in-Settled g c =
       taken = λ h above child m m1 id removed row held lower took others now.
           let held1 = held_now c.args.kept.now in
           let taken =
-          child_settled c.args.fanout m m1 (pages old) at.page at.level id removed row next.place held held1
+          child_settled c.args.fanout.most m m1 (pages old) at.page at.level id removed row next.place held
+          held1
           above.node.entries page c.requires.is_next.above above.within above.names others lower took now.1
           (now.0 ∙ ap (λ (l : ℕ). Some (let k : NodeContent = record { level = l; entries = lower } in k))
           c.requires.is_next.level) in
           IfOk-weaker c.set_least.result
-          (IsNow c.args.fanout (pages new at.page) at.level (set_box above.node.entries next.place least) hand)
+          (IsNow c.args.fanout.most (pages new at.page) at.level (set_box above.node.entries next.place least)
+          hand)
           _
           (λ now_is is. record {
             items = set_box above.node.entries next.place least;
             between = pages old;
-            taken = subst (λ (b : Bounds). HasTaken D c.args.fanout m (pages old) at.level id removed row held
+            taken = subst (λ (b : Bounds). HasTaken D c.args.fanout.most m (pages old) at.level id removed row
+                held
                 held1 (set_box above.node.entries next.place b)) (sym now.2) taken;
             others = a.others h.honest (page_of_node D (pages old at.page) above.node above.there);
             now = is;
@@ -59,5 +63,5 @@ returns-in-Settled g c =
       touched = λ h live. with_ok c.set_least.result _ (inl refl);
       other_faults = a.other_faults;
     } in
-    subst (λ b. PutsChild c.args.fanout at next b old new hand hand c.args.kept.now c.args.kept.now
+    subst (λ b. PutsChild c.args.fanout.most at next b old new hand hand c.args.kept.now c.args.kept.now
     c.set_least.result) (sym c.in-Settled.is) settled

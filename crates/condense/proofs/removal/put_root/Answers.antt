@@ -30,7 +30,8 @@ pub returns-in_err-write_root-clause-faults : goal.returns-in_err-write_root-cla
 returns-in_err-write_root-clause-faults g c =
     λ h live m m1 t elsewhere id removed items took others is shape boxes.
     let node = c.args.hand.now.node in
-    let s = cut_shaped g.row.D c.args.fanout id removed t took.taken.out shape boxes took.taken.takes_out in
+    let s = cut_shaped g.row.D c.args.fanout.most id removed t took.taken.out shape boxes took.taken.takes_out
+    in
     let some : c.args.hand.now.settled ≡ false → 0 < c.args.root.level → 1 ≤ array_vec_len node.entries =
     λ unwritten high.
     let many = s.tree.some (omega (arith, high, took.can.at.level)) in
@@ -76,9 +77,9 @@ returns-in_err-filled-clause-faults g c =
     root_written root (pages c.args.cache.now) m2 items c.args.hand.now is (write.stays h.honest)
     (λ unwritten. (c.requires.cut unwritten).level_is) (λ unwritten. write.written h live unwritten) in
     let can =
-    can_fill D c.args.fanout m m1 root t elsewhere id removed held items took m2 root.level refl there
+    can_fill D c.args.fanout.most m m1 root t elsewhere id removed held items took m2 root.level refl there
     (λ k other. write.others h.honest live k other ∙ others k other) in
-    let s = cut_shaped D c.args.fanout id removed t took.taken.out shape boxes took.taken.takes_out in
+    let s = cut_shaped D c.args.fanout.most id removed t took.taken.out shape boxes took.taken.takes_out in
     at_error c.from_residual-in_err-filled.result c.in_err-filled.field-0.0
     (IsNoDamage c.insert_kept.new.cache) c.from_residual-in_err-filled.ensures.1
     (c.in_err-filled.ensures.faults (write.sound h live) (cut_root took) took.taken.out.kept elsewhere can s)
@@ -94,15 +95,16 @@ returns-clause-removed g c = λ h live m m1 t elsewhere id removed items took ot
     root_written root (pages c.args.cache.now) m2 items c.args.hand.now is (write.stays h.honest)
     (λ unwritten. (c.requires.cut unwritten).level_is) (λ unwritten. write.written h live unwritten) in
     let can =
-    can_fill D c.args.fanout m m1 root t elsewhere id removed held items took m2 root.level refl there
+    can_fill D c.args.fanout.most m m1 root t elsewhere id removed held items took m2 root.level refl there
     (λ k other. write.others h.honest live k other ∙ others k other) in
     let filled =
     c.in_ok-filled.ensures.filled (write.sound h live) (cut_root took) took.taken.out.kept elsewhere can in
     map_ok c.give_way.result (IsPageMap c.give_way.new.cache)
     (GivesWayTo D (pages c.insert_kept.new.cache) (pages c.give_way.new.cache) filled.1.new)
-    (RemovesTo D c.args.fanout m (pages c.give_way.new.cache) elsewhere id removed t)
+    (RemovesTo D c.args.fanout.most m (pages c.give_way.new.cache) elsewhere id removed t)
     (c.give_way.ensures.lowered filled.0 filled.1.new filled.1.at filled.1.stands)
-    (λ after gives. removes_to D c.args.fanout m m1 root t elsewhere id removed held items took m2 root.level
+    (λ after gives. removes_to D c.args.fanout.most m m1 root t elsewhere id removed held items took m2
+    root.level
     refl there (λ k other. write.others h.honest live k other ∙ others k other)
     (pages c.insert_kept.new.cache) (pages c.give_way.new.cache) c.in_ok-filled.filled after filled.1 gives)
 
@@ -117,7 +119,7 @@ returns-clause-faults g c = λ h live m m1 t elsewhere id removed items took oth
     root_written root (pages c.args.cache.now) m2 items c.args.hand.now is (write.stays h.honest)
     (λ unwritten. (c.requires.cut unwritten).level_is) (λ unwritten. write.written h live unwritten) in
     let can =
-    can_fill D c.args.fanout m m1 root t elsewhere id removed held items took m2 root.level refl there
+    can_fill D c.args.fanout.most m m1 root t elsewhere id removed held items took m2 root.level refl there
     (λ k other. write.others h.honest live k other ∙ others k other) in
     let filled =
     c.in_ok-filled.ensures.filled (write.sound h live) (cut_root took) took.taken.out.kept elsewhere can in

@@ -77,7 +77,7 @@ returns-in_default g c =
           let stands = stands_there g.row.D (pages old) c.args.root t can.at can.stands in
           absurd (never_some c.in_ok-became.field-0 c.in_default.not-Some
           (ok.found h t.row stands
-          (leads_there g.row.D c.args.fanout c.args.object.now.reference
+          (leads_there g.row.D c.args.fanout.most c.args.object.now.reference
           (c.args.object.now.bounds, c.args.object.now.tag) t.row shape.below has)));
       damage = λ h none n damaged. ([], damaged_read (Damaged page) page n (inr refl) damaged);
       number = λ h n damaged.
@@ -91,13 +91,14 @@ put_root-requires g c =
     let became = c.in-Some.became in
     let hand = c.take_out.new.hand in
     let gate = c.in_ok-became.ensures.changes.gate.gate ∙ c.requires.open in
-    let few : IsFewInHand c.args.fanout c.args.root.level hand became =
-    subst (λ o. IfSome o (IsFewInHand c.args.fanout c.args.root.level hand)) c.in-Some.is
+    let few : IsFewInHand c.args.fanout.most c.args.root.level hand became =
+    subst (λ o. IfSome o (IsFewInHand c.args.fanout.most c.args.root.level hand)) c.in-Some.is
     c.in_ok-became.ensures.cut in
     let cut : c.is_written.result ≡ false → IsCut c.args.root.level (content_of hand) = λ unwritten.
-    cut_in_hand c.args.fanout c.args.root.level hand became few (sym c.is_written.ensures ∙ unwritten) in (
+    cut_in_hand c.args.fanout.most c.args.root.level hand became few
+    (sym c.is_written.ensures ∙ unwritten) in (
       search rules,
-      (search rules, (search rules, (c.requires.dims, (gate, (c.requires.most, (c.requires.root, cut)))))),
+      (search rules, (search rules, (c.requires.dims, (gate, (c.requires.root, cut))))),
     )
 
 pub returns : goal.returns
@@ -108,7 +109,7 @@ returns g c =
     let new = c.put_root.new.cache in
     let root = c.args.root in
     let page = root.page in
-    let most = c.args.fanout in
+    let most = c.args.fanout.most in
     let became = c.in-Some.became in
     let hand = c.take_out.new.hand in
     let ok = c.in_ok-became.ensures in
@@ -153,7 +154,7 @@ returns g c =
           in
           keeps_all c.put_root.result (IsPageMap new) D most (pages old) (pages new) elsewhere
           c.args.object.now.reference (c.args.object.now.bounds, c.args.object.now.tag) t
-          (omega (arith, c.requires.most)) shape boxes
+          (omega (arith, c.args.fanout.within)) shape boxes
           (put.removed (sound h) (live h) (pages old) d.between t elsewhere c.args.object.now.reference
           (c.args.object.now.bounds, c.args.object.now.tag) d.items took d.others (
             λ settled. in_page most (pages low page) root.level d.items hand became d.now

@@ -78,7 +78,7 @@ returns-in_default g t c =
       taken = λ h row stands. tt;
       found = λ h row stands leads.
           let high : 0 < at.level = omega (arith, c.if-at-eq0.false) in
-          absurd (none_leads c.args.fanout (pages old) at row c.children.from c.args.object.now.reference
+          absurd (none_leads c.args.fanout.most (pages old) at row c.children.from c.args.object.now.reference
           (c.args.object.now.bounds, c.args.object.now.tag) stands high
           (at_none c.in_ok-next.field-0 _
           (ok.none (first.gate.honest.0 h.honest) (record { level = at.level; entries = row_items row })
@@ -137,7 +137,8 @@ returns-in_err-became g t c =
           let b = is_below (pages old) (pages here) at row next stands same (above h) is_next in
           on_err r _
           (err.absent (walked.map.sound.0 h) b.h.from.row b.stands
-          (below_contained D c.args.fanout (pages old) (pages here) at row (above h).node.entries next.place
+          (below_contained D c.args.fanout.most (pages old) (pages here) at row (above h).node.entries
+          next.place
           next.below b c.args.object.now.reference (c.args.object.now.bounds, c.args.object.now.tag) lacks)
           ∙ walked.touched);
       faults = λ h row stands.
@@ -198,11 +199,13 @@ children-preserved g t c =
           c.in-Some.is
           (finds.before (first.gate.honest.0 h.honest) (record { level = at.level; entries = row_items row })
           (ap (node_in D) (first.map.pages_stay h.honest at.page) ∙ stands.root)) in
-          later_than D c.args.fanout (pages old) (pages here) at row (above h).node.entries next.place next.below
+          later_than D c.args.fanout.most (pages old) (pages here) at row (above h).node.entries next.place
+          next.below
           b c.args.object.now.reference (c.args.object.now.bounds, c.args.object.now.tag)
           (λ both. never_some c.in_ok-became.field-0 c.in_default-2.not-Some
           (ok.found (walked.map.sound.0 h) b.h.from.row b.stands both.1))
-          (passed_to c.args.fanout (pages old) at row c.children.from (next.place - c.children.from) next.place
+          (passed_to c.args.fanout.most (pages old) at row c.children.from (next.place - c.children.from)
+          next.place
           c.args.object.now.reference (c.args.object.now.bounds, c.args.object.now.tag) stands is_next.above
           (omega (arith, place.0)) before (c.children.invariant.3 h row stands leads)),
     )
@@ -232,8 +235,9 @@ returns-in_err-now g t c =
     let became = c.in-Some-2.became in
     let sound : IsPageMap old → IsPageMap low =
     λ h. subst (λ o. IfSome o (λ _. IsPageMap low)) c.in-Some-2.is (ok.sound (walked.map.sound.0 h)) in
-    let stays : IsPageMap old → StaysAbove c.args.fanout next.below (pages here) (pages low) became =
-    λ h. subst (λ o. IfSome o (StaysAbove c.args.fanout next.below (pages here) (pages low))) c.in-Some-2.is
+    let stays : IsPageMap old → StaysAbove c.args.fanout.most next.below (pages here) (pages low) became =
+    λ h. subst (λ o. IfSome o (StaysAbove c.args.fanout.most next.below (pages here) (pages low)))
+    c.in-Some-2.is
     (ok.stays (walked.map.sound.0 h)) in
     let above_low : IsPageMap old → LeadsDown D (pages low) at next =
     λ h. leads_kept D (pages here) (pages low) at next is_next (stays h).stay (above h) in
@@ -262,14 +266,14 @@ returns-in_err-now g t c =
           let same = walked.map.pages_stay h.honest in
           let b = is_below (pages old) (pages here) at row next stands same (above h) is_next in
           let done =
-          subst (λ o. IfSome o (HasBecome c.args.fanout (pages here) (pages low) next.below
+          subst (λ o. IfSome o (HasBecome c.args.fanout.most (pages here) (pages low) next.below
           c.args.object.now.reference (c.args.object.now.bounds, c.args.object.now.tag) b.h.from.row
           (held_now c.children.kept) (held_now c.take_out.new.kept) c.take_out.new.hand)) c.in-Some-2.is
           (ok.taken (walked.map.sound.0 h) b.h.from.row b.stands) in
-          absurd (below_contained D c.args.fanout (pages old) (pages here) at row (above h).node.entries
+          absurd (below_contained D c.args.fanout.most (pages old) (pages here) at row (above h).node.entries
           next.place next.below b c.args.object.now.reference
           (c.args.object.now.bounds, c.args.object.now.tag) lacks
-          (takes_contained D c.args.fanout c.args.object.now.reference
+          (takes_contained D c.args.fanout.most c.args.object.now.reference
           (c.args.object.now.bounds, c.args.object.now.tag) next.below.level b.h.from.row done.taken.out
           done.taken.takes_out));
       faults = λ h row stands. at_error r f IsOfDevice is
@@ -308,8 +312,9 @@ returns-in-children g t c =
     let became = c.in-Some-2.became in
     let sound : IsPageMap old → IsPageMap low =
     λ h. subst (λ o. IfSome o (λ _. IsPageMap low)) c.in-Some-2.is (ok.sound (walked.map.sound.0 h)) in
-    let stays : IsPageMap old → StaysAbove c.args.fanout next.below (pages here) (pages low) became =
-    λ h. subst (λ o. IfSome o (StaysAbove c.args.fanout next.below (pages here) (pages low))) c.in-Some-2.is
+    let stays : IsPageMap old → StaysAbove c.args.fanout.most next.below (pages here) (pages low) became =
+    λ h. subst (λ o. IfSome o (StaysAbove c.args.fanout.most next.below (pages here) (pages low)))
+    c.in-Some-2.is
     (ok.stays (walked.map.sound.0 h)) in
     let above_low : IsPageMap old → LeadsDown D (pages low) at next =
     λ h. leads_kept D (pages here) (pages low) at next is_next (stays h).stay (above h) in
@@ -333,13 +338,14 @@ returns-in-children g t c =
           let same = walked.map.pages_stay h.honest in
           let b = is_below (pages old) (pages here) at row next stands same (above h) is_next in
           let done =
-          subst (λ o. IfSome o (HasBecome c.args.fanout (pages here) (pages low) next.below
+          subst (λ o. IfSome o (HasBecome c.args.fanout.most (pages here) (pages low) next.below
           c.args.object.now.reference (c.args.object.now.bounds, c.args.object.now.tag) b.h.from.row
           (held_now c.children.kept) (held_now c.take_out.new.kept) c.take_out.new.hand)) c.in-Some-2.is
           (ok.taken (walked.map.sound.0 h) b.h.from.row b.stands) in
           put.taken (sound h) (above_low h) (stays h).still (pages old) done.between c.args.object.now.reference
           (c.args.object.now.bounds, c.args.object.now.tag) row (held_now c.args.kept.now) done.items
-          (took_below D c.args.fanout (pages old) (pages here) at row (above h).node.entries next.place next.below
+          (took_below D c.args.fanout.most (pages old) (pages here) at row (above h).node.entries next.place
+          next.below
           b c.args.object.now.reference (c.args.object.now.bounds, c.args.object.now.tag) done.between at.level
           (held_now c.children.kept) (held_now c.args.kept.now) (held_now c.take_out.new.kept) done.items stands
           same refl (ap (map (orphan_held {D = D})) c.children.invariant.1) done.taken)

@@ -22,7 +22,7 @@ as_many entries lent objects same items = ap length same ∙ sym (length-map ent
 pub returns-then-not-can_be_root-clause-faults : goal.returns-then-not-can_be_root-clause-faults
 returns-then-not-can_be_root-clause-faults g c =
     λ sound l most all is same. absurd (c.if-not-can_be_root.ensures.no refl
-    (low_root c.args.cache.now c.load.new.cache g.row.D c.args.layer.fanout
+    (low_root c.args.cache.now c.load.new.cache g.row.D c.args.layer.fanout.most
     (items_of c.as_mut_slice.result.now)
     c.in_ok-after.after (c.in_ok-after.ensures.loaded sound)))
 
@@ -36,10 +36,10 @@ returns-clause-sound g c = λ sound l most all is same.
     let items : items_of c.as_mut_slice.result.now ≡ each item_of_object c.args.objects.now =
     ap items_of c.as_mut_slice.ensures.value ∙ c.in_ok-entries.ensures.items in
     let loads =
-    subst (λ (xs : List Item). Loads g.row.D c.args.layer.fanout (pages c.args.cache.now)
+    subst (λ (xs : List Item). Loads g.row.D c.args.layer.fanout.most (pages c.args.cache.now)
     (pages c.load.new.cache) xs c.in_ok-after.after) items (c.in_ok-after.ensures.loaded sound) in
     c.in_ok-put_ids.ensures.sound (c.load.ensures.sound sound) l most all
-    (layer_still g.row.D c.args.layer.fanout most (pages c.args.cache.now) (pages c.load.new.cache)
+    (layer_still g.row.D c.args.layer.fanout.most most (pages c.args.cache.now) (pages c.load.new.cache)
     c.args.layer.root
     c.in_ok-after.after c.args.layer.ids_root l is c.args.objects.now loads) same
 
@@ -52,15 +52,16 @@ returns-clause-loaded g c = λ sound l most all is same.
     let items : items_of c.as_mut_slice.result.now ≡ each item_of_object objects =
     ap items_of c.as_mut_slice.ensures.value ∙ c.in_ok-entries.ensures.items in
     let loads =
-    subst (λ (xs : List Item). Loads g.row.D c.args.layer.fanout m mid xs after) items
+    subst (λ (xs : List Item). Loads g.row.D c.args.layer.fanout.most m mid xs after) items
     (c.in_ok-after.ensures.loaded sound) in
     let boxes =
     subst (λ (xs : List Item). All (λ (item : Item). IsBox g.row.D item.bounds) xs)
     c.in_ok-entries.ensures.items c.in_ok-entries.ensures.boxes in
     let still =
-    layer_still g.row.D c.args.layer.fanout most m mid c.args.layer.root after c.args.layer.ids_root l is
+    layer_still g.row.D c.args.layer.fanout.most most m mid c.args.layer.root after c.args.layer.ids_root l is
     objects loads in
-    layer_loaded g.row.D c.args.layer.fanout most m mid c.args.layer.root after c.args.layer.ids_root l is
+    layer_loaded g.row.D c.args.layer.fanout.most most m mid c.args.layer.root after c.args.layer.ids_root l
+    is
     objects loads
     (pages c.put_ids.new.cache) all same boxes
     (c.in_ok-put_ids.ensures.put (c.load.ensures.sound sound) l most all still same)
@@ -76,12 +77,12 @@ returns-in_err-put_ids-clause-faults g c = λ sound l most all is same.
     let items : items_of c.as_mut_slice.result.now ≡ each item_of_object c.args.objects.now =
     ap items_of c.as_mut_slice.ensures.value ∙ c.in_ok-entries.ensures.items in
     let loads =
-    subst (λ (xs : List Item). Loads g.row.D c.args.layer.fanout (pages c.args.cache.now)
+    subst (λ (xs : List Item). Loads g.row.D c.args.layer.fanout.most (pages c.args.cache.now)
     (pages c.load.new.cache) xs c.in_ok-after.after) items (c.in_ok-after.ensures.loaded sound) in
     at_error c.from_residual-in_err-put_ids.result c.in_err-put_ids.field-0.0 (IsNoDamage c.put_ids.new.cache)
     c.from_residual-in_err-put_ids.ensures.1
     (c.in_err-put_ids.ensures.faults (c.load.ensures.sound sound) l most all
-    (layer_still g.row.D c.args.layer.fanout most (pages c.args.cache.now) (pages c.load.new.cache)
+    (layer_still g.row.D c.args.layer.fanout.most most (pages c.args.cache.now) (pages c.load.new.cache)
     c.args.layer.root
     c.in_ok-after.after c.args.layer.ids_root l is c.args.objects.now loads) same)
 
@@ -108,7 +109,7 @@ returns-clause-grows g c = λ sound l most all is same.
     let items : items_of c.as_mut_slice.result.now ≡ each item_of_object c.args.objects.now =
     ap items_of c.as_mut_slice.ensures.value ∙ c.in_ok-entries.ensures.items in
     let loads =
-    subst (λ (xs : List Item). Loads g.row.D c.args.layer.fanout (pages c.args.cache.now)
+    subst (λ (xs : List Item). Loads g.row.D c.args.layer.fanout.most (pages c.args.cache.now)
     (pages c.load.new.cache) xs c.in_ok-after.after) items (c.in_ok-after.ensures.loaded sound) in
     omega (
       arith,
@@ -116,7 +117,7 @@ returns-clause-grows g c = λ sound l most all is same.
       as_many _ c.as_mut_slice.result.now c.args.objects.now c.as_mut_slice.ensures.value
           c.in_ok-entries.ensures.items,
       c.put_ids.ensures.grows (c.load.ensures.sound sound) l most all
-          (layer_still g.row.D c.args.layer.fanout most (pages c.args.cache.now) (pages c.load.new.cache)
+          (layer_still g.row.D c.args.layer.fanout.most most (pages c.args.cache.now) (pages c.load.new.cache)
           c.args.layer.root c.in_ok-after.after c.args.layer.ids_root l is c.args.objects.now loads) same,
     )
 
@@ -125,7 +126,7 @@ returns-in_err-put_ids-clause-grows g c = λ sound l most all is same.
     let items : items_of c.as_mut_slice.result.now ≡ each item_of_object c.args.objects.now =
     ap items_of c.as_mut_slice.ensures.value ∙ c.in_ok-entries.ensures.items in
     let loads =
-    subst (λ (xs : List Item). Loads g.row.D c.args.layer.fanout (pages c.args.cache.now)
+    subst (λ (xs : List Item). Loads g.row.D c.args.layer.fanout.most (pages c.args.cache.now)
     (pages c.load.new.cache) xs c.in_ok-after.after) items (c.in_ok-after.ensures.loaded sound) in
     omega (
       arith,
@@ -133,6 +134,6 @@ returns-in_err-put_ids-clause-grows g c = λ sound l most all is same.
       as_many _ c.as_mut_slice.result.now c.args.objects.now c.as_mut_slice.ensures.value
           c.in_ok-entries.ensures.items,
       c.put_ids.ensures.grows (c.load.ensures.sound sound) l most all
-          (layer_still g.row.D c.args.layer.fanout most (pages c.args.cache.now) (pages c.load.new.cache)
+          (layer_still g.row.D c.args.layer.fanout.most most (pages c.args.cache.now) (pages c.load.new.cache)
           c.args.layer.root c.in_ok-after.after c.args.layer.ids_root l is c.args.objects.now loads) same,
     )

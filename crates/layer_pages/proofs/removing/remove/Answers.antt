@@ -1,6 +1,5 @@
 -- An object fewer in the tree, and then in the table.
-use Rattle.std.proofs.Common.{ℕ, ◌≡◌, None, inl, sym, subst, arith}
-use Rattle.std.specs.FinMap as map
+use Rattle.std.proofs.Common.{◌≡◌, None, inl}
 use Rattle.std.specs.Prelude.{◌⊎◌}
 use Rattle.box_math.specs.Objects.{Object}
 use Rattle.page_file.specs.Fault.{IsOfDevice}
@@ -8,12 +7,10 @@ use Rattle.page_file.specs.declared.fault.Fault.TheVariants as fault
 use Rattle.page_cache.specs.Cache.{pages}
 use Rattle.page_cache.specs.Calls.{changes_and_refuses, changes_in_turn}
 use Rattle.node_page.proofs.NodeLemmas.{at_error}
-use Rattle.id_table.specs.Table.{kind_of, part_of}
+use Rattle.id_table.specs.Table.{part_of}
 use Rattle.node_page.specs.Faults.{IsChangeFault, IsNoDamage}
 use Rattle.reinsert.proofs.FaultLemmas.{one_more}
 use Rattle.condense.proofs.RemoveLemmas.{refused_so}
-use Rattle.layer_pages.specs.Changes.{BecomesLayer, HasRemoved}
-use Rattle.layer_pages.specs.Layers.{IsLayerAt, part_of_layer}
 use Rattle.layer_pages.proofs.RemovedLemmas.{can_remove, ids_between, in_a_leaf, in_no_leaf, in_table}
 use Rattle.layer_pages.proofs.RemovedLemmas.{layer_removed}
 use Rattle.layer_pages.proofs.removing.remove.Goals as goal
@@ -23,17 +20,14 @@ made_so_not_refused : {A P : Type 0} → A × ⊥ → P
 made_so_not_refused both = absurd both.1
 
 pub returns-in_err-after-clause-absent : goal.returns-in_err-after-clause-absent
-returns-in_err-after-clause-absent g c = λ sound l objects at absent.
+returns-in_err-after-clause-absent g c = λ sound l objects is absent.
     let D = g.row.D in
+    let most = c.args.layer.fanout.most in
     let m = pages c.args.cache.now in
-    let is =
-    subst (λ (most : ℕ). IsLayerAt D most m c.args.layer.root c.args.layer.ids_root l objects)
-    (sym c.from-most.ensures)
-    at in
     let refused =
     c.in_err-after.ensures.absent sound l.tree (part_of l.ids)
-    (can_remove D c.from-most.result m c.args.layer.root c.args.layer.ids_root l objects is)
-    (in_no_leaf D c.from-most.result m c.args.layer.root c.args.layer.ids_root l objects is
+    (can_remove D most m c.args.layer.root c.args.layer.ids_root l objects is)
+    (in_no_leaf D most m c.args.layer.root c.args.layer.ids_root l objects is
     c.args.object.now.entry.reference
     (c.args.object.now.entry.bounds, c.args.object.now.entry.tag) absent) in (
       refused.0,
@@ -43,19 +37,16 @@ returns-in_err-after-clause-absent g c = λ sound l objects at absent.
     )
 
 pub returns-in_err-after-clause-faults : goal.returns-in_err-after-clause-faults
-returns-in_err-after-clause-faults g c = λ sound l objects at spot there.
+returns-in_err-after-clause-faults g c = λ sound l objects is spot there.
     let D = g.row.D in
+    let most = c.args.layer.fanout.most in
     let m = pages c.args.cache.now in
-    let is =
-    subst (λ (most : ℕ). IsLayerAt D most m c.args.layer.root c.args.layer.ids_root l objects)
-    (sym c.from-most.ensures)
-    at in
     at_error c.from_residual.result c.in_err-after.field-0.0
     (IsNoDamage c.remove_with.new.cache) c.from_residual.ensures.1
     (c.in_err-after.ensures.faults sound l.tree (part_of l.ids)
-    (can_remove D c.from-most.result m c.args.layer.root c.args.layer.ids_root l objects is) is.tree.shape
+    (can_remove D most m c.args.layer.root c.args.layer.ids_root l objects is) is.tree.shape
     is.boxes
-    (in_a_leaf D c.from-most.result m c.args.layer.root c.args.layer.ids_root l objects is
+    (in_a_leaf D most m c.args.layer.root c.args.layer.ids_root l objects is
     c.args.object.now.entry.reference
     (c.args.object.now.entry.bounds, c.args.object.now.entry.tag) there))
 
@@ -65,61 +56,48 @@ returns-clause-changes g c =
     c.in_ok-after.ensures.changes c.in_ok-remove.ensures.changes
 
 pub returns-clause-sound : goal.returns-clause-sound
-returns-clause-sound g c = λ sound l objects at spot.
+returns-clause-sound g c = λ sound l objects is spot.
     let D = g.row.D in
+    let most = c.args.layer.fanout.most in
     let m = pages c.args.cache.now in
-    let is =
-    subst (λ (most : ℕ). IsLayerAt D most m c.args.layer.root c.args.layer.ids_root l objects)
-    (sym c.from-most.ensures)
-    at in
     let to =
     c.in_ok-after.ensures.removed sound l.tree (part_of l.ids)
-    (can_remove D c.from-most.result m c.args.layer.root c.args.layer.ids_root l objects is) in
+    (can_remove D most m c.args.layer.root c.args.layer.ids_root l objects is) in
     c.in_ok-remove.ensures.sound to.0 l.ids is.ids_root_is
-    (ids_between D c.from-most.result m c.args.layer.root c.args.layer.ids_root l objects is
+    (ids_between D most m c.args.layer.root c.args.layer.ids_root l objects is
     c.args.object.now.entry.reference
     (c.args.object.now.entry.bounds, c.args.object.now.entry.tag) (pages c.remove_with.new.cache) c.in_ok-after.after
     to.1) (spot l.ids is.ids_root_is is.ids)
 
 pub returns-clause-removed : goal.returns-clause-removed
-returns-clause-removed g c = λ sound l objects at spot there.
+returns-clause-removed g c = λ sound l objects is spot there.
     let D = g.row.D in
+    let most = c.args.layer.fanout.most in
     let m = pages c.args.cache.now in
     let mid = pages c.remove_with.new.cache in
     let id = c.args.object.now.entry.reference in
     let kept : Object = (c.args.object.now.entry.bounds, c.args.object.now.entry.tag) in
-    let is =
-    subst (λ (most : ℕ). IsLayerAt D most m c.args.layer.root c.args.layer.ids_root l objects)
-    (sym c.from-most.ensures)
-    at in
     let to =
     c.in_ok-after.ensures.removed sound l.tree (part_of l.ids)
-    (can_remove D c.from-most.result m c.args.layer.root c.args.layer.ids_root l objects is) in
+    (can_remove D most m c.args.layer.root c.args.layer.ids_root l objects is) in
     let stand =
-    ids_between D c.from-most.result m c.args.layer.root c.args.layer.ids_root l objects is id kept mid
+    ids_between D most m c.args.layer.root c.args.layer.ids_root l objects is id kept mid
     c.in_ok-after.after to.1 in
     let removed =
     c.in_ok-remove.ensures.removed to.0 l.ids is.ids_root_is stand
     (spot l.ids is.ids_root_is is.ids)
-    (in_table D c.from-most.result m c.args.layer.root c.args.layer.ids_root l objects is id kept there) in
-    subst (λ (most : ℕ). BecomesLayer D most m (pages c.remove.new.cache) (part_of_layer l)
-    (kind_of l.ids) c.in_ok-after.after c.args.layer.ids_root (map.remove objects id) (HasRemoved D most l id kept))
-    c.from-most.ensures
-    (layer_removed D c.from-most.result m c.args.layer.root c.args.layer.ids_root l objects is id kept mid
-    c.in_ok-after.after to.1 (pages c.remove.new.cache) removed
-    (omega (arith, c.requires.most.0, c.from-most.ensures)) there)
+    (in_table D most m c.args.layer.root c.args.layer.ids_root l objects is id kept there) in
+    layer_removed D most m c.args.layer.root c.args.layer.ids_root l objects is id kept mid
+    c.in_ok-after.after to.1 (pages c.remove.new.cache) removed c.args.layer.fanout.within.0 there
 
 pub returns-clause-absent : goal.returns-clause-absent
-returns-clause-absent g c = λ sound l objects at absent.
+returns-clause-absent g c = λ sound l objects is absent.
     let D = g.row.D in
+    let most = c.args.layer.fanout.most in
     let m = pages c.args.cache.now in
-    let is =
-    subst (λ (most : ℕ). IsLayerAt D most m c.args.layer.root c.args.layer.ids_root l objects)
-    (sym c.from-most.ensures)
-    at in
     made_so_not_refused (c.in_ok-after.ensures.absent sound l.tree (part_of l.ids)
-    (can_remove D c.from-most.result m c.args.layer.root c.args.layer.ids_root l objects is)
-    (in_no_leaf D c.from-most.result m c.args.layer.root c.args.layer.ids_root l objects is
+    (can_remove D most m c.args.layer.root c.args.layer.ids_root l objects is)
+    (in_no_leaf D most m c.args.layer.root c.args.layer.ids_root l objects is
     c.args.object.now.entry.reference
     (c.args.object.now.entry.bounds, c.args.object.now.entry.tag) absent))
 
@@ -130,41 +108,35 @@ returns-in_err-remove-clause-changes g c =
     c.in_ok-after.ensures.changes c.in_err-remove.ensures.changes
 
 pub returns-in_err-remove-clause-absent : goal.returns-in_err-remove-clause-absent
-returns-in_err-remove-clause-absent g c = λ sound l objects at absent.
+returns-in_err-remove-clause-absent g c = λ sound l objects is absent.
     let D = g.row.D in
+    let most = c.args.layer.fanout.most in
     let m = pages c.args.cache.now in
-    let is =
-    subst (λ (most : ℕ). IsLayerAt D most m c.args.layer.root c.args.layer.ids_root l objects)
-    (sym c.from-most.ensures)
-    at in
     made_so_not_refused (c.in_ok-after.ensures.absent sound l.tree (part_of l.ids)
-    (can_remove D c.from-most.result m c.args.layer.root c.args.layer.ids_root l objects is)
-    (in_no_leaf D c.from-most.result m c.args.layer.root c.args.layer.ids_root l objects is
+    (can_remove D most m c.args.layer.root c.args.layer.ids_root l objects is)
+    (in_no_leaf D most m c.args.layer.root c.args.layer.ids_root l objects is
     c.args.object.now.entry.reference
     (c.args.object.now.entry.bounds, c.args.object.now.entry.tag) absent))
 
 pub returns-in_err-remove-clause-faults : goal.returns-in_err-remove-clause-faults
-returns-in_err-remove-clause-faults g c = λ sound l objects at spot there.
+returns-in_err-remove-clause-faults g c = λ sound l objects is spot there.
     let D = g.row.D in
+    let most = c.args.layer.fanout.most in
     let m = pages c.args.cache.now in
     let id = c.args.object.now.entry.reference in
     let kept : Object = (c.args.object.now.entry.bounds, c.args.object.now.entry.tag) in
-    let is =
-    subst (λ (most : ℕ). IsLayerAt D most m c.args.layer.root c.args.layer.ids_root l objects)
-    (sym c.from-most.ensures)
-    at in
     let to =
     c.in_ok-after.ensures.removed sound l.tree (part_of l.ids)
-    (can_remove D c.from-most.result m c.args.layer.root c.args.layer.ids_root l objects is) in
+    (can_remove D most m c.args.layer.root c.args.layer.ids_root l objects is) in
     let stand =
-    ids_between D c.from-most.result m c.args.layer.root c.args.layer.ids_root l objects is id kept
+    ids_between D most m c.args.layer.root c.args.layer.ids_root l objects is id kept
     (pages c.remove_with.new.cache) c.in_ok-after.after to.1 in
     at_error c.from_residual-in_err-remove.result c.in_err-remove.field-0.0 (IsNoDamage c.remove.new.cache)
     c.from_residual-in_err-remove.ensures.1
     (inl
     (c.in_err-remove.ensures.faults to.0 l.ids is.ids_root_is stand
     (spot l.ids is.ids_root_is is.ids)
-    (in_table D c.from-most.result m c.args.layer.root c.args.layer.ids_root l objects is id kept there)))
+    (in_table D most m c.args.layer.root c.args.layer.ids_root l objects is id kept there)))
 
 pub returns-in_err-remove-clause-other_faults : goal.returns-in_err-remove-clause-other_faults
 returns-in_err-remove-clause-other_faults g c =

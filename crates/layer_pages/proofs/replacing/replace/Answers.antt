@@ -1,6 +1,5 @@
 -- The object with another box in the tree, and then in the table.
-use Rattle.std.proofs.Common.{ℕ, ◌≡◌, ◌≤◌, None, inl, refl, sym, subst, arith}
-use Rattle.std.specs.FinMap as map
+use Rattle.std.proofs.Common.{◌≡◌, None, inl, refl}
 use Rattle.std.specs.Prelude.{◌⊎◌}
 use Rattle.page_file.specs.Fault.{IsOfDevice}
 use Rattle.page_file.specs.declared.fault.Fault.TheVariants as fault
@@ -10,11 +9,9 @@ use Rattle.tree_node.specs.Trees.{object}
 use Rattle.node_page.proofs.NodeLemmas.{at_error}
 use Rattle.node_page.specs.Faults.{IsChangeFault, IsNoDamage}
 use Rattle.node_page.proofs.RootedLemmas.{loose}
-use Rattle.id_table.specs.Table.{kind_of, part_of}
+use Rattle.id_table.specs.Table.{part_of}
 use Rattle.reinsert.proofs.FaultLemmas.{one_more}
 use Rattle.condense.proofs.RemoveLemmas.{refused_so}
-use Rattle.layer_pages.specs.Changes.{BecomesLayer, HasReplaced}
-use Rattle.layer_pages.specs.Layers.{IsLayerAt, part_of_layer}
 use Rattle.layer_pages.proofs.MadeLemmas.{entry_has_shape}
 use Rattle.layer_pages.proofs.RemovedLemmas.{can_remove, in_a_leaf, in_no_leaf, in_table, kept_in_table}
 use Rattle.layer_pages.proofs.ReplacedLemmas.{can_insert_between, ids_unchanged, layer_replaced}
@@ -26,16 +23,14 @@ made_so_not_refused : {A P : Type 0} → A × ⊥ → P
 made_so_not_refused both = absurd both.1
 
 pub returns-in_err-between-clause-absent : goal.returns-in_err-between-clause-absent
-returns-in_err-between-clause-absent g c = λ sound l objects at absent.
+returns-in_err-between-clause-absent g c = λ sound l objects is absent.
     let D = g.row.D in
+    let most = c.args.layer.fanout.most in
     let m = pages c.args.cache.now in
-    let is =
-    subst (λ (most : ℕ). IsLayerAt D most m c.args.layer.root c.args.layer.ids_root l objects)
-    (sym c.from-most.ensures) at in
     let refused =
     c.in_err-between.ensures.absent sound l.tree (part_of l.ids)
-    (can_remove D c.from-most.result m c.args.layer.root c.args.layer.ids_root l objects is)
-    (in_no_leaf D c.from-most.result m c.args.layer.root c.args.layer.ids_root l objects is
+    (can_remove D most m c.args.layer.root c.args.layer.ids_root l objects is)
+    (in_no_leaf D most m c.args.layer.root c.args.layer.ids_root l objects is
     c.args.object.now.entry.reference
     (c.args.object.now.entry.bounds, c.args.object.now.entry.tag) absent) in (
       refused.0,
@@ -45,18 +40,16 @@ returns-in_err-between-clause-absent g c = λ sound l objects at absent.
     )
 
 pub returns-in_err-between-clause-faults : goal.returns-in_err-between-clause-faults
-returns-in_err-between-clause-faults g c = λ sound l objects at spot there.
+returns-in_err-between-clause-faults g c = λ sound l objects is spot there.
     let D = g.row.D in
+    let most = c.args.layer.fanout.most in
     let m = pages c.args.cache.now in
-    let is =
-    subst (λ (most : ℕ). IsLayerAt D most m c.args.layer.root c.args.layer.ids_root l objects)
-    (sym c.from-most.ensures) at in
     at_error c.from_residual.result c.in_err-between.field-0.0
     (IsNoDamage c.remove_with.new.cache) c.from_residual.ensures.1
     (c.in_err-between.ensures.faults sound l.tree (part_of l.ids)
-    (can_remove D c.from-most.result m c.args.layer.root c.args.layer.ids_root l objects is) is.tree.shape
+    (can_remove D most m c.args.layer.root c.args.layer.ids_root l objects is) is.tree.shape
     is.boxes
-    (in_a_leaf D c.from-most.result m c.args.layer.root c.args.layer.ids_root l objects is
+    (in_a_leaf D most m c.args.layer.root c.args.layer.ids_root l objects is
     c.args.object.now.entry.reference
     (c.args.object.now.entry.bounds, c.args.object.now.entry.tag) there))
 
@@ -67,31 +60,27 @@ returns-in_err-after-clause-changes g c =
     c.in_ok-between.ensures.changes c.in_err-after.ensures.inserts.changes
 
 pub returns-in_err-after-clause-absent : goal.returns-in_err-after-clause-absent
-returns-in_err-after-clause-absent g c = λ sound l objects at absent.
+returns-in_err-after-clause-absent g c = λ sound l objects is absent.
     let D = g.row.D in
+    let most = c.args.layer.fanout.most in
     let m = pages c.args.cache.now in
-    let is =
-    subst (λ (most : ℕ). IsLayerAt D most m c.args.layer.root c.args.layer.ids_root l objects)
-    (sym c.from-most.ensures) at in
     made_so_not_refused (c.in_ok-between.ensures.absent sound l.tree (part_of l.ids)
-    (can_remove D c.from-most.result m c.args.layer.root c.args.layer.ids_root l objects is)
-    (in_no_leaf D c.from-most.result m c.args.layer.root c.args.layer.ids_root l objects is
+    (can_remove D most m c.args.layer.root c.args.layer.ids_root l objects is)
+    (in_no_leaf D most m c.args.layer.root c.args.layer.ids_root l objects is
     c.args.object.now.entry.reference
     (c.args.object.now.entry.bounds, c.args.object.now.entry.tag) absent))
 
 pub returns-in_err-after-clause-faults : goal.returns-in_err-after-clause-faults
-returns-in_err-after-clause-faults g c = λ sound l objects at spot there.
+returns-in_err-after-clause-faults g c = λ sound l objects is spot there.
     let D = g.row.D in
+    let most = c.args.layer.fanout.most in
     let m = pages c.args.cache.now in
-    let is =
-    subst (λ (most : ℕ). IsLayerAt D most m c.args.layer.root c.args.layer.ids_root l objects)
-    (sym c.from-most.ensures) at in
-    let four : 4 ≤ c.from-most.result = omega (arith, c.requires.most.0, c.from-most.ensures) in
+    let four = c.args.layer.fanout.within.0 in
     let to =
     c.in_ok-between.ensures.removed sound l.tree (part_of l.ids)
-    (can_remove D c.from-most.result m c.args.layer.root c.args.layer.ids_root l objects is) in
+    (can_remove D most m c.args.layer.root c.args.layer.ids_root l objects is) in
     let shape =
-    shape_between D c.from-most.result m c.args.layer.root c.args.layer.ids_root l objects is four
+    shape_between D most m c.args.layer.root c.args.layer.ids_root l objects is four
     c.args.object.now.entry.reference
     (c.args.object.now.entry.bounds, c.args.object.now.entry.tag) (c.args.new.now, c.args.object.now.entry.tag)
     (pages c.remove_with.new.cache)
@@ -101,12 +90,12 @@ returns-in_err-after-clause-faults g c = λ sound l objects at spot there.
     (c.in_err-after.ensures.inserts.faults to.0 to.1.new (object (c.args.new.now, c.args.object.now.entry.tag)
     c.args.object.now.entry.reference)
     (part_of l.ids)
-    (can_insert_between D c.from-most.result m c.args.layer.root c.args.layer.ids_root l objects is four
+    (can_insert_between D most m c.args.layer.root c.args.layer.ids_root l objects is four
     c.args.object.now.entry.reference
     (c.args.object.now.entry.bounds, c.args.object.now.entry.tag) (c.args.new.now, c.args.object.now.entry.tag)
     (pages c.remove_with.new.cache)
-    c.in_ok-between.between to.1) (loose D c.from-most.result to.1.new shape.0) shape.1
-    (entry_has_shape D c.from-most.result m c.args.layer.root c.args.layer.ids_root l objects is
+    c.in_ok-between.between to.1) (loose D most to.1.new shape.0) shape.1
+    (entry_has_shape D most m c.args.layer.root c.args.layer.ids_root l objects is
     c.args.object.now.entry.reference
     (c.args.new.now, c.args.object.now.entry.tag) c.low.ensures.is_box))
 
@@ -122,27 +111,25 @@ returns-clause-changes g c =
     c.in_ok-between.ensures.changes c.in_ok-after.ensures.inserts.changes) c.in_ok-update.ensures.changes
 
 pub returns-clause-sound : goal.returns-clause-sound
-returns-clause-sound g c = λ sound l objects at spot there.
+returns-clause-sound g c = λ sound l objects is spot there.
     let D = g.row.D in
+    let most = c.args.layer.fanout.most in
     let m = pages c.args.cache.now in
-    let is =
-    subst (λ (most : ℕ). IsLayerAt D most m c.args.layer.root c.args.layer.ids_root l objects)
-    (sym c.from-most.ensures) at in
-    let four : 4 ≤ c.from-most.result = omega (arith, c.requires.most.0, c.from-most.ensures) in
+    let four = c.args.layer.fanout.within.0 in
     let to =
     c.in_ok-between.ensures.removed sound l.tree (part_of l.ids)
-    (can_remove D c.from-most.result m c.args.layer.root c.args.layer.ids_root l objects is) in
+    (can_remove D most m c.args.layer.root c.args.layer.ids_root l objects is) in
     let into =
     c.in_ok-after.ensures.inserts.inserted to.0 to.1.new (object (c.args.new.now, c.args.object.now.entry.tag)
     c.args.object.now.entry.reference)
     (part_of l.ids)
-    (can_insert_between D c.from-most.result m c.args.layer.root c.args.layer.ids_root l objects is four
+    (can_insert_between D most m c.args.layer.root c.args.layer.ids_root l objects is four
     c.args.object.now.entry.reference
     (c.args.object.now.entry.bounds, c.args.object.now.entry.tag) (c.args.new.now, c.args.object.now.entry.tag)
     (pages c.remove_with.new.cache)
     c.in_ok-between.between to.1) in
     let stand =
-    ids_unchanged D c.from-most.result m c.args.layer.root c.args.layer.ids_root l objects is four
+    ids_unchanged D most m c.args.layer.root c.args.layer.ids_root l objects is four
     c.args.object.now.entry.reference
     (c.args.object.now.entry.bounds, c.args.object.now.entry.tag) (c.args.new.now, c.args.object.now.entry.tag)
     (pages c.remove_with.new.cache)
@@ -150,27 +137,25 @@ returns-clause-sound g c = λ sound l objects at spot there.
     c.in_ok-update.ensures.sound into.0 l.ids is.ids_root_is stand (spot l.ids is.ids_root_is is.ids)
 
 pub returns-clause-replaced : goal.returns-clause-replaced
-returns-clause-replaced g c = λ sound l objects at spot there.
+returns-clause-replaced g c = λ sound l objects is spot there.
     let D = g.row.D in
+    let most = c.args.layer.fanout.most in
     let m = pages c.args.cache.now in
-    let is =
-    subst (λ (most : ℕ). IsLayerAt D most m c.args.layer.root c.args.layer.ids_root l objects)
-    (sym c.from-most.ensures) at in
-    let four : 4 ≤ c.from-most.result = omega (arith, c.requires.most.0, c.from-most.ensures) in
+    let four = c.args.layer.fanout.within.0 in
     let to =
     c.in_ok-between.ensures.removed sound l.tree (part_of l.ids)
-    (can_remove D c.from-most.result m c.args.layer.root c.args.layer.ids_root l objects is) in
+    (can_remove D most m c.args.layer.root c.args.layer.ids_root l objects is) in
     let into =
     c.in_ok-after.ensures.inserts.inserted to.0 to.1.new (object (c.args.new.now, c.args.object.now.entry.tag)
     c.args.object.now.entry.reference)
     (part_of l.ids)
-    (can_insert_between D c.from-most.result m c.args.layer.root c.args.layer.ids_root l objects is four
+    (can_insert_between D most m c.args.layer.root c.args.layer.ids_root l objects is four
     c.args.object.now.entry.reference
     (c.args.object.now.entry.bounds, c.args.object.now.entry.tag) (c.args.new.now, c.args.object.now.entry.tag)
     (pages c.remove_with.new.cache)
     c.in_ok-between.between to.1) in
     let stand =
-    ids_unchanged D c.from-most.result m c.args.layer.root c.args.layer.ids_root l objects is four
+    ids_unchanged D most m c.args.layer.root c.args.layer.ids_root l objects is four
     c.args.object.now.entry.reference
     (c.args.object.now.entry.bounds, c.args.object.now.entry.tag) (c.args.new.now, c.args.object.now.entry.tag)
     (pages c.remove_with.new.cache)
@@ -179,33 +164,24 @@ returns-clause-replaced g c = λ sound l objects at spot there.
     c.in_ok-update.ensures.updated into.0 l.ids is.ids_root_is stand
     (spot l.ids is.ids_root_is is.ids)
     (c.args.object.now.entry.bounds, c.args.object.now.entry.tag)
-    (kept_in_table D c.from-most.result m c.args.layer.root c.args.layer.ids_root l objects is
+    (kept_in_table D most m c.args.layer.root c.args.layer.ids_root l objects is
     c.args.object.now.entry.reference
     (c.args.object.now.entry.bounds, c.args.object.now.entry.tag) there) refl in
-    subst (λ (most : ℕ). BecomesLayer D most m (pages c.update.new.cache) (part_of_layer l)
-    (kind_of l.ids) c.in_ok-after.after
-    c.args.layer.ids_root (map.insert objects c.args.object.now.entry.reference
-    (c.args.new.now, c.args.object.now.entry.tag))
-    (HasReplaced D most l c.args.object.now.entry.reference (c.args.object.now.entry.bounds, c.args.object.now.entry.tag)
-    (c.args.new.now, c.args.object.now.entry.tag)))
-    c.from-most.ensures
-    (layer_replaced D c.from-most.result m c.args.layer.root c.args.layer.ids_root l objects is four
+    layer_replaced D most m c.args.layer.root c.args.layer.ids_root l objects is four
     c.args.object.now.entry.reference
     (c.args.object.now.entry.bounds, c.args.object.now.entry.tag) (c.args.new.now, c.args.object.now.entry.tag)
     (pages c.remove_with.new.cache)
     c.in_ok-between.between to.1 (pages c.insert_with.new.cache) c.in_ok-after.after into.1
-    (pages c.update.new.cache) set c.low.ensures.is_box there)
+    (pages c.update.new.cache) set c.low.ensures.is_box there
 
 pub returns-clause-absent : goal.returns-clause-absent
-returns-clause-absent g c = λ sound l objects at absent.
+returns-clause-absent g c = λ sound l objects is absent.
     let D = g.row.D in
+    let most = c.args.layer.fanout.most in
     let m = pages c.args.cache.now in
-    let is =
-    subst (λ (most : ℕ). IsLayerAt D most m c.args.layer.root c.args.layer.ids_root l objects)
-    (sym c.from-most.ensures) at in
     made_so_not_refused (c.in_ok-between.ensures.absent sound l.tree (part_of l.ids)
-    (can_remove D c.from-most.result m c.args.layer.root c.args.layer.ids_root l objects is)
-    (in_no_leaf D c.from-most.result m c.args.layer.root c.args.layer.ids_root l objects is
+    (can_remove D most m c.args.layer.root c.args.layer.ids_root l objects is)
+    (in_no_leaf D most m c.args.layer.root c.args.layer.ids_root l objects is
     c.args.object.now.entry.reference
     (c.args.object.now.entry.bounds, c.args.object.now.entry.tag) absent))
 
@@ -217,40 +193,36 @@ returns-in_err-update-clause-changes g c =
     c.in_ok-between.ensures.changes c.in_ok-after.ensures.inserts.changes) c.in_err-update.ensures.changes
 
 pub returns-in_err-update-clause-absent : goal.returns-in_err-update-clause-absent
-returns-in_err-update-clause-absent g c = λ sound l objects at absent.
+returns-in_err-update-clause-absent g c = λ sound l objects is absent.
     let D = g.row.D in
+    let most = c.args.layer.fanout.most in
     let m = pages c.args.cache.now in
-    let is =
-    subst (λ (most : ℕ). IsLayerAt D most m c.args.layer.root c.args.layer.ids_root l objects)
-    (sym c.from-most.ensures) at in
     made_so_not_refused (c.in_ok-between.ensures.absent sound l.tree (part_of l.ids)
-    (can_remove D c.from-most.result m c.args.layer.root c.args.layer.ids_root l objects is)
-    (in_no_leaf D c.from-most.result m c.args.layer.root c.args.layer.ids_root l objects is
+    (can_remove D most m c.args.layer.root c.args.layer.ids_root l objects is)
+    (in_no_leaf D most m c.args.layer.root c.args.layer.ids_root l objects is
     c.args.object.now.entry.reference
     (c.args.object.now.entry.bounds, c.args.object.now.entry.tag) absent))
 
 pub returns-in_err-update-clause-faults : goal.returns-in_err-update-clause-faults
-returns-in_err-update-clause-faults g c = λ sound l objects at spot there.
+returns-in_err-update-clause-faults g c = λ sound l objects is spot there.
     let D = g.row.D in
+    let most = c.args.layer.fanout.most in
     let m = pages c.args.cache.now in
-    let is =
-    subst (λ (most : ℕ). IsLayerAt D most m c.args.layer.root c.args.layer.ids_root l objects)
-    (sym c.from-most.ensures) at in
-    let four : 4 ≤ c.from-most.result = omega (arith, c.requires.most.0, c.from-most.ensures) in
+    let four = c.args.layer.fanout.within.0 in
     let to =
     c.in_ok-between.ensures.removed sound l.tree (part_of l.ids)
-    (can_remove D c.from-most.result m c.args.layer.root c.args.layer.ids_root l objects is) in
+    (can_remove D most m c.args.layer.root c.args.layer.ids_root l objects is) in
     let into =
     c.in_ok-after.ensures.inserts.inserted to.0 to.1.new (object (c.args.new.now, c.args.object.now.entry.tag)
     c.args.object.now.entry.reference)
     (part_of l.ids)
-    (can_insert_between D c.from-most.result m c.args.layer.root c.args.layer.ids_root l objects is four
+    (can_insert_between D most m c.args.layer.root c.args.layer.ids_root l objects is four
     c.args.object.now.entry.reference
     (c.args.object.now.entry.bounds, c.args.object.now.entry.tag) (c.args.new.now, c.args.object.now.entry.tag)
     (pages c.remove_with.new.cache)
     c.in_ok-between.between to.1) in
     let stand =
-    ids_unchanged D c.from-most.result m c.args.layer.root c.args.layer.ids_root l objects is four
+    ids_unchanged D most m c.args.layer.root c.args.layer.ids_root l objects is four
     c.args.object.now.entry.reference
     (c.args.object.now.entry.bounds, c.args.object.now.entry.tag) (c.args.new.now, c.args.object.now.entry.tag)
     (pages c.remove_with.new.cache)
@@ -259,7 +231,7 @@ returns-in_err-update-clause-faults g c = λ sound l objects at spot there.
     c.from_residual-in_err-update.ensures.1
     (inl (c.in_err-update.ensures.faults into.0 l.ids is.ids_root_is stand
     (spot l.ids is.ids_root_is is.ids)
-    (in_table D c.from-most.result m c.args.layer.root c.args.layer.ids_root l objects is
+    (in_table D most m c.args.layer.root c.args.layer.ids_root l objects is
     c.args.object.now.entry.reference
     (c.args.object.now.entry.bounds, c.args.object.now.entry.tag) there)))
 

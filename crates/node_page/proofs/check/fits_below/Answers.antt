@@ -17,10 +17,9 @@ returns g c =
         omega (
           arith,
           length-map entries item_of,
-          c.max.ensures,
-          c.from-most.ensures,
+          c.least_entries.ensures,
           c.len-count.ensures.value,
-          c.if-count-max.false,
+          c.if-count-least_entries.false,
         ),
         omega (
           arith,

@@ -33,9 +33,11 @@ returns-then-root-ge40-clause-inserts g c = record {
       let m : PageMap = pages c.args.cache.now in
       let first : Wait D = record { entry = c.args.entry.now; level = c.args.level } in
       let low =
-      low_root c.args.fanout elsewhere m c.args.root [] first none_called (at_first t branch c.args.level)
+      low_root c.args.fanout.most elsewhere m c.args.root [] first none_called
+      (at_first t branch c.args.level)
       (begun D m c.args.root first t branch elsewhere can)
-      (first_has_shape D c.args.fanout c.args.level t branch can.fits shape boxes entry) c.requires.root.1 in
+      (first_has_shape D c.args.fanout.most c.args.level t branch can.fits shape boxes entry)
+      c.requires.root.1 in
       absurd (omega (arith, low, c.if-root-ge40.true));
   damage = λ h none n damaged.
       ([], damaged_read (fault.Damaged c.args.root.page) c.args.root.page n (inr refl) damaged);
@@ -70,7 +72,7 @@ returns-in_err-now-clause-inserts g c = record {
       at_error c.from_residual.result c.in_err-now.field-0.0 (IsNoDamage c.place_one.new.cache)
       c.from_residual.ensures.1
       (c.in_err-now.ensures.faults h s elsewhere at2
-      (first_has_shape D c.args.fanout c.args.level t branch can.fits shape boxes entry));
+      (first_has_shape D c.args.fanout.most c.args.level t branch can.fits shape boxes entry));
   damage = λ h none.
       at_error c.from_residual.result c.in_err-now.field-0.0
       (λ f. (n : ℕ) → f ≡ fault.Damaged n → ComesTo g.row.D (given c.args.cache.now) c.args.root.page n)
@@ -105,7 +107,7 @@ placing-init g c = (
       elsewhere s) (sym c.begin.ensures.called) at1 in
       let step = c.in_ok-now.ensures.placed h s elsewhere at2 in (
         step.0,
-        reached_first D c.args.fanout elsewhere m (pages c.place_one.new.cache) s c.in_ok-now.now
+        reached_first D c.args.fanout.most elsewhere m (pages c.place_one.new.cache) s c.in_ok-now.now
             c.place_one.new.waiting.waits.items c.place_one.new.waiting.called step.1,
       ),
   λ h. (c.in_ok-now.ensures.sound h, c.in_ok-now.ensures.stays),
@@ -139,9 +141,9 @@ returns-in_err-now-2-clause-inserts g c = record {
       (c.next.new.self.waits.items ++ c.in-Some.wait ∷ []) cs elsewhere r.1.last)
       (sym c.next.ensures.called) at1 in
       let last =
-      placings_keep_shape D c.args.fanout elsewhere r.1.count (at_first t branch c.args.level) r.1.last
-      r.1.run (omega (arith, c.requires.most))
-      (first_has_shape D c.args.fanout c.args.level t branch can.fits shape boxes entry) in
+      placings_keep_shape D c.args.fanout.most elsewhere r.1.count (at_first t branch c.args.level) r.1.last
+      r.1.run (omega (arith, c.args.fanout.within))
+      (first_has_shape D c.args.fanout.most c.args.level t branch can.fits shape boxes entry) in
       at_error c.from_residual-in_err-now-2.result c.in_err-now-2.field-0.0
       (IsNoDamage c.place_one-in-Some.new.cache) c.from_residual-in_err-now-2.ensures.1
       (c.in_err-now-2.ensures.faults r.0 r.1.last elsewhere at2 last);
@@ -207,7 +209,7 @@ placing-preserved g c = (
       (sym c.next.ensures.called) at1 in
       let step = c.in_ok-now-2.ensures.placed r.0 r.1.last elsewhere at2 in (
         step.0,
-        reached_more D c.args.fanout elsewhere m m1 (pages c.place_one-in-Some.new.cache) s c.placing.now
+        reached_more D c.args.fanout.most elsewhere m m1 (pages c.place_one-in-Some.new.cache) s c.placing.now
             c.in_ok-now-2.now c.placing.waiting.waits.items c.place_one-in-Some.new.waiting.waits.items
             c.placing.waiting.called c.place_one-in-Some.new.waiting.called r.1 step.1,
       ),
@@ -232,7 +234,7 @@ returns-clause-inserts g c = record {
   inserted = λ h t branch elsewhere can.
       let r = c.placing.invariant.4 h t branch elsewhere can in (
         r.0,
-        inserted_end g.row.D c.args.fanout c.args.level elsewhere (pages c.args.cache.now)
+        inserted_end g.row.D c.args.fanout.most c.args.level elsewhere (pages c.args.cache.now)
             (pages c.placing.cache) t branch c.placing.now c.placing.waiting.waits.items
             c.placing.waiting.called
             r.1 (c.in_default.ensures.none refl),

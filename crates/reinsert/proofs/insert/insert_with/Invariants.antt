@@ -20,7 +20,8 @@ invariant-placing g l =
     × (IsPageMap l.fn.cache → (t : Tree) (branch : Branch) (elsewhere : ℕ → ℕ)
     → CanInsert g.row.D (pages l.fn.cache) l.fn.root (item_of l.fn.entry) l.fn.level t branch elsewhere
     → IsPageMap l.cache
-    × Reached g.row.D l.fn.fanout elsewhere (pages l.fn.cache) (pages l.cache) (at_first t branch l.fn.level)
+    × Reached g.row.D l.fn.fanout.most elsewhere (pages l.fn.cache) (pages l.cache)
+    (at_first t branch l.fn.level)
     l.now l.waiting.waits.items l.waiting.called)
     × (IsPageMap l.fn.cache → IsPageMap l.cache × ((l.now ≡ l.fn.root) ⊎ (touched_of l.cache ≡ true)))
 

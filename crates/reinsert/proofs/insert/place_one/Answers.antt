@@ -24,7 +24,7 @@ returns-then-first-root g c = record {
   root = search rules;
   placed = λ h s elsewhere at. tt;
   faults = λ h s elsewhere at shape.
-      let f = first_can c.args.fanout elsewhere (pages c.args.cache.now) c.args.root
+      let f = first_can c.args.fanout.most elsewhere (pages c.args.cache.now) c.args.root
       c.args.waiting.now.waits.items c.args.first.now c.args.waiting.now.called s at shape in
       absurd (omega (arith, f.fits, c.if-first-root.true));
   sound = λ h. tt;
@@ -44,7 +44,7 @@ returns-in_err-bounds g c = record {
   placed = λ h s elsewhere at. no_answer c.from_residual.result c.in_err-bounds.field-0.0 _
       c.from_residual.ensures.1;
   faults = λ h s elsewhere at shape.
-      let f = first_can c.args.fanout elsewhere (pages c.args.cache.now) c.args.root
+      let f = first_can c.args.fanout.most elsewhere (pages c.args.cache.now) c.args.root
       c.args.waiting.now.waits.items c.args.first.now c.args.waiting.now.called s at shape in
       at_error c.from_residual.result c.in_err-bounds.field-0.0 (IsNoDamage c.place.new.cache)
       c.from_residual.ensures.1
@@ -68,7 +68,7 @@ returns-in_default g c = record {
   placed = λ h s elsewhere at.
       let m : PageMap = pages c.args.cache.now in
       let m1 : PageMap = pages c.place.new.cache in
-      first_alone (IsPageMap c.place.new.cache) c.args.fanout elsewhere m m1 c.args.root
+      first_alone (IsPageMap c.place.new.cache) c.args.fanout.most elsewhere m m1 c.args.root
       c.args.waiting.now.waits.items c.place.new.waiting.waits.items c.args.first.now
       c.args.waiting.now.called c.place.new.waiting.called s c.in_ok-bounds.field-0 at
       c.if-first-root.false (λ row branch item can. c.in_ok-bounds.ensures.placed h row branch item can)
@@ -95,7 +95,7 @@ returns g c = record {
       let m : PageMap = pages c.args.cache.now in
       let m1 : PageMap = pages c.place.new.cache in
       let m2 : PageMap = pages c.grow.new.cache in
-      first_grown (IsPageMap c.place.new.cache) c.args.fanout elsewhere m m1 c.args.root
+      first_grown (IsPageMap c.place.new.cache) c.args.fanout.most elsewhere m m1 c.args.root
       c.args.waiting.now.waits.items c.place.new.waiting.waits.items c.args.first.now
       c.args.waiting.now.called c.place.new.waiting.called s c.in_ok-bounds.field-0 at
       c.if-first-root.false (λ row branch item can. c.in_ok-bounds.ensures.placed h row branch item can)
@@ -105,10 +105,10 @@ returns g c = record {
       let m : PageMap = pages c.args.cache.now in
       let waits = c.args.waiting.now.waits.items in
       let called = c.args.waiting.now.called in
-      let f = first_can c.args.fanout elsewhere m c.args.root waits c.args.first.now called s at shape in
+      let f = first_can c.args.fanout.most elsewhere m c.args.root waits c.args.first.now called s at shape in
       let sound = (c.in_ok-bounds.ensures.placed h f.row f.branch f.item f.can).0 in
       let low =
-      low_root c.args.fanout elsewhere m c.args.root waits c.args.first.now called s at shape
+      low_root c.args.fanout.most elsewhere m c.args.root waits c.args.first.now called s at shape
       c.requires.root.1 in
       c.grow.ensures.faults sound low;
   sound = λ h.

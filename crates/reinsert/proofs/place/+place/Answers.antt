@@ -36,13 +36,7 @@ put_here-requires g t c =
             c.requires.dims,
             (
               c.requires.open,
-              (
-                c.requires.most,
-                (
-                  (omega (arith, c.requires.levels), omega (arith, c.requires.levels)),
-                  refers,
-                ),
-              ),
+              ((omega (arith, c.requires.levels), omega (arith, c.requires.levels)), refers),
             ),
           ),
         ),
@@ -53,7 +47,7 @@ pub returns-then-at-target-clause-placed : goal.returns-then-at-target-clause-pl
 returns-then-at-target-clause-placed g t c = λ h row branch item can.
     let m : PageMap = pages c.args.cache.now in
     let m' : PageMap = pages c.put_here.new.cache in
-    here_ok c.put_here.result (IsPageMap c.put_here.new.cache) c.args.limits.fanout c.args.limits.top
+    here_ok c.put_here.result (IsPageMap c.put_here.new.cache) c.args.limits.fanout.most c.args.limits.top
     c.args.at.level
     c.args.target c.args.waiting.now.called branch row m m m' c.args.at.page
     c.args.waiting.now.waits.items _ _
@@ -64,7 +58,7 @@ returns-then-at-target-clause-placed g t c = λ h row branch item can.
 pub returns-then-at-target-clause-faults : goal.returns-then-at-target-clause-faults
 returns-then-at-target-clause-faults g t c =
     λ h row branch item can few. c.put_here.ensures.faults h (row_items row) can.there tt
-    (few_items g.row.D c.args.limits.fanout row few)
+    (few_items g.row.D c.args.limits.fanout.most row few)
 
 -- ---- the way down is refused, or the placing below it
 
@@ -73,7 +67,7 @@ returns-in_err-way-clause-faults g t c = λ h row branch item can few.
     at_error c.from_residual.result c.in_err-way.field-0.0 (IsNoDamage c.way_down.new.cache)
     c.from_residual.ensures.1
     (inl (c.in_err-way.ensures.faults h.honest (record { level = c.args.at.level; entries = row_items row })
-    can.there refl (few_items g.row.D c.args.limits.fanout row few)))
+    can.there refl (few_items g.row.D c.args.limits.fanout.most row few)))
 
 pub returns-in_err-way-clause-other_faults : goal.returns-in_err-way-clause-other_faults
 returns-in_err-way-clause-other_faults g t c =
@@ -89,7 +83,7 @@ returns-in_err-lower-clause-faults g t c = λ h row branch item can few.
     c.in_ok-way.ensures.way h.honest (record { level = c.args.at.level; entries = row_items row })
     can.there refl in
     let low =
-    few_can c.args.limits.fanout c.args.at.level c.args.target way.place way.page branch row m m0
+    few_can c.args.limits.fanout.most c.args.at.level c.args.target way.place way.page branch row m m0
     c.args.at.page
     (row_items row)
     (c.in_ok-way.ensures.asks.map.pages_stay h.honest) can
@@ -132,7 +126,7 @@ place-requires g t c κs within =
                   search rules,
                   (
                     c.requires.dims,
-                    (gate, (c.requires.most, (omega (arith, above, c.requires.levels), c.requires.refers))),
+                    (gate, (omega (arith, above, c.requires.levels), c.requires.refers)),
                   ),
                 ),
               ),
@@ -163,7 +157,7 @@ returns-then-keeps_entries-clause-placed g t c = λ h row branch item can.
     let kept = c.keeps_entries.ensures c.if-keeps_entries.true in
     let chosen =
     subst (λ (x : Item). IsChosenChild D level (row_items row) x.bounds way.place) (sym item) is.chosen in
-    over_ok done (IsPageMap c.place.new.cache) (IsPageMap c.place.new.cache) c.args.limits.fanout
+    over_ok done (IsPageMap c.place.new.cache) (IsPageMap c.place.new.cache) c.args.limits.fanout.most
     c.args.limits.top level
     c.args.target way.place way.page c.args.waiting.now.called called branch row m m0 m1 m1 page lower
     c.args.waiting.now.waits.items waits waits called (row_items row)
@@ -173,7 +167,8 @@ returns-then-keeps_entries-clause-placed g t c = λ h row branch item can.
     could)
     (λ sound branches are settle there. (
       sound,
-      items_settled c.args.limits.fanout c.args.limits.top level called branches (row_items row) m1 m1 page
+      items_settled c.args.limits.fanout.most c.args.limits.top level called branches (row_items row) m1 m1
+          page
           settled waits
           waits called (are ∙ items_kept (row_items row) way.place lower kept.0 (kept.1 ∙ is.bounds)) settle
           is.few is.least refl refl refl there (λ k differs. refl),
@@ -203,10 +198,7 @@ put_above-requires g t c =
           (
             c.in_ok-lower.ensures.changes.gate.gate ∙ c.in_ok-way.ensures.asks.gate.gate
                 ∙ c.requires.open,
-            (
-              c.requires.most,
-              ((omega (arith, c.requires.levels), omega (arith, c.requires.levels)), beside),
-            ),
+            ((omega (arith, c.requires.levels), omega (arith, c.requires.levels)), beside),
           ),
         ),
       ),
@@ -226,7 +218,7 @@ returns-clause-placed g t c = λ h row branch item can.
     let chosen =
     subst (λ (x : Item). IsChosenChild D level (row_items row) x.bounds way.place) (sym item) is.chosen in
     over_ok c.put_above.result (IsPageMap c.put_above.new.cache) (IsPageMap c.place.new.cache)
-    c.args.limits.fanout
+    c.args.limits.fanout.most
     c.args.limits.top level c.args.target way.place way.page c.args.waiting.now.called
     c.place.new.waiting.called branch row m m0 m1 m'
     c.args.at.page c.in_ok-lower.lower c.args.waiting.now.waits.items c.place.new.waiting.waits.items _ _
@@ -247,7 +239,7 @@ returns-clause-faults g t c = λ h row branch item can few.
     let is =
     c.in_ok-way.ensures.way h.honest (record { level = level; entries = row_items row }) can.there refl in
     let there =
-    there_after (IsPageMap c.place.new.cache) c.args.limits.fanout c.args.limits.top level c.args.target
+    there_after (IsPageMap c.place.new.cache) c.args.limits.fanout.most c.args.limits.top level c.args.target
     way.place
     way.page c.args.waiting.now.called c.place.new.waiting.called branch row m m0 m1 c.args.at.page
     c.in_ok-lower.lower
@@ -257,7 +249,7 @@ returns-clause-faults g t c = λ h row branch item can few.
     (λ below could. c.in_ok-lower.ensures.placed (c.in_ok-way.ensures.asks.map.sound.0 h) below branch item
     could) in
     c.put_above.ensures.faults there.0 (row_items row) there.1 is.chosen.within
-    (few_items g.row.D c.args.limits.fanout row few)
+    (few_items g.row.D c.args.limits.fanout.most row few)
 
 pub returns-clause-changes : goal.returns-clause-changes
 returns-clause-changes g t c =

@@ -50,10 +50,16 @@ returns-in-Some g c = record {
       let now : map item_in branches ≡ after =
       are ∙ items_boxed items c.args.place lower (nothing_beside lower.beside (sym c.is_some.ensures ∙ c.if-is_some.false)) in (
         c.in_ok-bounds.ensures.sound h can.live,
-        items_settled c.args.limits.fanout c.args.limits.top level c.args.waiting.now.called branches after m
+        items_settled c.args.limits.fanout.most c.args.limits.top level c.args.waiting.now.called branches
+            after m
             m' page settled
             c.args.waiting.now.waits.items c.args.waiting.now.waits.items c.args.waiting.now.called
-            now can (omega (arith, length-set_box items c.args.place lower.bounds, can_enlarge.few))
+            now can (omega (
+              arith,
+              length-set_box items c.args.place lower.bounds,
+              can_enlarge.few,
+              c.entries-most.ensures,
+            ))
             enlarged.1 refl refl refl enlarged.0 (c.in_ok-bounds.ensures.others h.honest can.live),
       );
   faults = λ h items there asked few. tt;
@@ -80,7 +86,7 @@ put_anew-requires-2 g c =
           c.requires.dims,
           (
             asked.gate.gate ∙ c.requires.open,
-            (c.requires.most, (c.requires.top, c.requires.beside)),
+            (c.requires.top, c.requires.beside),
           ),
         ),
       ),

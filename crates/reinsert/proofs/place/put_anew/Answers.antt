@@ -91,7 +91,7 @@ put_lower-requires g c =
         search rules,
         (
           omega (arith, c.if-place-len.false, c.len.ensures.value),
-          (omega (arith, c.in_ok-read_fitting.ensures.few, c.requires.most), (refers, beside)),
+          (omega (arith, c.in_ok-read_fitting.ensures.few, c.args.limits.fanout.within), (refers, beside)),
         ),
       ),
     )
@@ -115,11 +115,8 @@ settle-requires g c =
             (
               c.in_ok-read_fitting.ensures.asks.gate.gate ∙ c.requires.open,
               (
-                c.requires.most,
-                (
-                  (omega (arith, level, c.requires.top), omega (arith, c.requires.top)),
-                  (new.some, (omega (arith, new.few, c.in_ok-read_fitting.ensures.few), refers)),
-                ),
+                (omega (arith, level, c.requires.top), omega (arith, c.requires.top)),
+                (new.some, (omega (arith, new.few, c.in_ok-read_fitting.ensures.few), refers)),
               ),
             ),
           ),
@@ -149,12 +146,13 @@ returns g c = record {
       let same : items ≡ map item_of c.read_fitting.new.node.entries.items =
       ap (λ (x : NodeContent). x.entries) (same_content D m page _ _ there read) in
       let stays = c.in_ok-read_fitting.ensures.asks.map.pages_stay h.honest in
-      settles_from c.settle.result (IsPageMap c.settle.new.cache) c.args.limits.fanout c.args.limits.top
+      settles_from c.settle.result (IsPageMap c.settle.new.cache) c.args.limits.fanout.most c.args.limits.top
       c.args.at.level c.args.waiting.now.called branches m m0 m' page c.args.waiting.now.waits.items _ _
       stays
       (subst (λ l. IfOk c.settle.result
       (λ s. IsPageMap c.settle.new.cache
-      × SettlesTo D c.args.limits.fanout c.args.limits.top l c.args.waiting.now.called branches m0 m' page s
+      × SettlesTo D c.args.limits.fanout.most c.args.limits.top l c.args.waiting.now.called branches m0 m'
+      page s
       c.args.waiting.now.waits.items c.settle.new.waiting.waits.items
       c.settle.new.waiting.called)) level
       (c.settle.ensures.settled (c.in_ok-read_fitting.ensures.asks.map.sound.0 h) branches

@@ -51,10 +51,16 @@ returns-in-Some g c = record {
       (λ (b : Bounds). (node_in D (m' page) ≡ Some (pushed node (item_of c.args.entry.now)))
       × (b ≡ least_box D after))) c.in-Some.is (c.in_ok-bounds.ensures.added h.honest node there) in (
         c.in_ok-bounds.ensures.sound h can.live,
-        items_settled c.args.limits.fanout c.args.limits.top level c.args.waiting.now.called branches after m
+        items_settled c.args.limits.fanout.most c.args.limits.top level c.args.waiting.now.called branches
+            after m
             m' page settled
             c.args.waiting.now.waits.items c.args.waiting.now.waits.items c.args.waiting.now.called
-            are can (omega (arith, length-append items (item_of c.args.entry.now ∷ []), room.1)) added.1 refl
+            are can (omega (
+              arith,
+              length-append items (item_of c.args.entry.now ∷ []),
+              room.1,
+              c.entries-most.ensures,
+            )) added.1 refl
             refl refl added.0 (c.in_ok-bounds.ensures.others h.honest can.live),
       );
   faults = λ h items there asked few. tt;
@@ -136,13 +142,10 @@ settle-requires g c =
             (
               c.in_ok-read_fitting.ensures.asks.gate.gate ∙ asked.gate.gate ∙ c.requires.open,
               (
-                c.requires.most,
+                (omega (arith, level, c.requires.top), omega (arith, c.requires.top)),
                 (
-                  (omega (arith, level, c.requires.top), omega (arith, c.requires.top)),
-                  (
-                    omega (arith, c.push.ensures.len),
-                    (omega (arith, c.push.ensures.len, c.in_ok-read_fitting.ensures.few), refers),
-                  ),
+                  omega (arith, c.push.ensures.len),
+                  (omega (arith, c.push.ensures.len, c.in_ok-read_fitting.ensures.few), refers),
                 ),
               ),
             ),
@@ -187,12 +190,13 @@ returns g c = record {
       ap (λ (x : NodeContent). x.entries)
       (same_content D (pages c.add_entry.new.cache) page _ _ there' read) in
       let pushed = map-append item_of node.entries.items (c.args.entry.now ∷ []) in
-      settles_from c.settle.result (IsPageMap c.settle.new.cache) c.args.limits.fanout c.args.limits.top
+      settles_from c.settle.result (IsPageMap c.settle.new.cache) c.args.limits.fanout.most c.args.limits.top
       c.args.at.level
       c.args.waiting.now.called branches m m0 m' page c.args.waiting.now.waits.items _ _ stays
       (subst (λ l. IfOk c.settle.result
       (λ s. IsPageMap c.settle.new.cache
-      × SettlesTo D c.args.limits.fanout c.args.limits.top l c.args.waiting.now.called branches m0 m' page s
+      × SettlesTo D c.args.limits.fanout.most c.args.limits.top l c.args.waiting.now.called branches m0 m'
+      page s
       c.args.waiting.now.waits.items c.settle.new.waiting.waits.items c.settle.new.waiting.called)) level
       (c.settle.ensures.settled (asks.map.sound.0 h) branches
       (are ∙ ap (λ (es : List Item). es ++ item_of c.args.entry.now ∷ []) same ∙ sym pushed

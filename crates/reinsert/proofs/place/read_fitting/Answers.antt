@@ -38,8 +38,8 @@ returns-in_err-read_into g c = record {
       c.from_residual.ensures.1 c.in_err-read_into.ensures.other_faults;
 }
 
-pub returns-then-len-fanout : goal.returns-then-len-fanout
-returns-then-len-fanout g c = record {
+pub returns-then-len-entries : goal.returns-then-len-entries
+returns-then-len-entries g c = record {
   asks = damaged_asks c.args.cache.now c.read_into.new.cache c.args.at.page c.in_ok-read_into.ensures.asks;
   node = λ h live. tt;
   faults = λ honest node there level few.
@@ -51,7 +51,8 @@ returns-then-len-fanout g c = record {
         ap (λ (x : NodeContent). length x.entries) same,
         length-map c.read_into.new.node.entries.items item_of,
         few,
-        c.if-len-fanout.true,
+        c.if-len-entries.true,
+        c.entries.ensures,
         c.len.ensures.value,
       ));
   level = search rules;

@@ -8,8 +8,8 @@ use Rattle.reinsert.proofs.settle.settle.Goals as goal
 use Rattle.reinsert.proofs.settle.settle.Goals.{else-node-limits-via-then-node-limits+else-not-is_called}
 use Rattle.reinsert.proofs.settle.settle.Goals.{else-node-limits-via-else-node-limits}
 
-pub returns-then-len-limits : goal.returns-then-len-limits
-returns-then-len-limits g c = record {
+pub returns-then-len-entries : goal.returns-then-len-entries
+returns-then-len-entries g c = record {
   changes = c.write_fitting.ensures.changes;
   grows = search rules;
   measure = search rules;
@@ -17,8 +17,13 @@ returns-then-len-limits g c = record {
       (λ (e : Entry g.row.D). IsOfLevel (c.args.node.now.level + 1) e.reference e.tag)
       c.write_fitting.ensures.alone;
   settled = λ h branches are can.
-      c.write_fitting.ensures.settled h c.args.limits.fanout c.args.limits.top c.args.waiting.now.called
-      c.args.waiting.now.waits.items (omega (arith, c.if-len-limits.true, c.len.ensures.value)) branches are
+      c.write_fitting.ensures.settled h c.args.limits.fanout.most c.args.limits.top c.args.waiting.now.called
+      c.args.waiting.now.waits.items (omega (
+        arith,
+        c.if-len-entries.true,
+        c.len.ensures.value,
+        c.entries.ensures,
+      )) branches are
       can;
   sound = c.write_fitting.ensures.sound;
   faults = c.write_fitting.ensures.faults;

@@ -17,12 +17,12 @@ write_both-requires g c = (
       c.requires.open,
       (
         spellable_of c.args.node.now.level c.split-first.result.0.items
-            (omega (arith, c.split-first.ensures.whole, c.split-first.ensures.full, c.requires.most))
+            (omega (arith, c.split-first.ensures.whole, c.split-first.ensures.full, c.args.fanout.within))
             (omega (arith, c.split-first.ensures.full))
             (All-part c.args.node.now.level c.args.node.now.entries.items c.split-first.result.0.items _
             c.split-first.ensures.divided.first_is c.requires.refers),
         spellable_of c.args.node.now.level c.split-first.result.1.items
-            (omega (arith, c.split-first.ensures.whole, c.split-first.ensures.full, c.requires.most))
+            (omega (arith, c.split-first.ensures.whole, c.split-first.ensures.full, c.args.fanout.within))
             (omega (arith, c.split-first.ensures.full))
             (All-part c.args.node.now.level c.args.node.now.entries.items c.split-first.result.1.items _
             c.split-first.ensures.divided.second_is c.requires.refers),
@@ -50,7 +50,7 @@ returns-clause-settled g c = λ h top held branches are can.
     c.from.ensures in
     let written = c.in_ok-number.ensures.written h can.live in (
       written.0,
-      split_settled c.args.fanout top c.args.node.now.level c.args.waiting.now.called branches
+      split_settled c.args.fanout.most top c.args.node.now.level c.args.waiting.now.called branches
           c.args.node.now.entries.items _ _ c.args.page _ _ _ _ are can
           c.in_ok-number.number
           (record { bounds = c.least-other.result; reference = c.from.result; tag = 0 }) first second

@@ -45,7 +45,7 @@ write_node-requires g c = (
             c.farthest-near.ensures.counts,
             c.far_count.ensures.few,
             c.requires.many,
-            c.requires.most,
+            c.args.fanout.within,
           ))
           (omega (arith, c.farthest-near.ensures.counts, c.requires.many, c.far_count.ensures.few))
           (All-part c.args.node.now.level c.args.node.now.entries.items c.farthest-near.result.0.items _
@@ -57,7 +57,7 @@ write_node-requires g c = (
 pub returns-clause-settled : goal.returns-clause-settled
 returns-clause-settled g c = λ h top below branches are can. (
   c.write_node.ensures.sound h can.live,
-  far_settled c.args.fanout top c.args.node.now.level c.args.waiting.now.called branches
+  far_settled c.args.fanout.most top c.args.node.now.level c.args.waiting.now.called branches
       c.args.node.now.entries.items _ _ c.args.page _ _ _ _ are can
       c.farthest-near.result.0.items c.farthest-near.result.1.items
       (subst (λ p. IsDividedFar g.row.D p c.args.node.now.entries.items c.farthest-near.result.0.items

@@ -13,8 +13,8 @@ use Rattle.reinsert.specs.Placed.{IsWay}
 use Rattle.reinsert.specs.declared.way.Way.{Way}
 use Rattle.reinsert.proofs.way.way_down.Goals as goal
 
-pub returns-then-len-fanout-clause-faults : goal.returns-then-len-fanout-clause-faults
-returns-then-len-fanout-clause-faults g c = λ h content there level few.
+pub returns-then-len-entries-clause-faults : goal.returns-then-len-entries-clause-faults
+returns-then-len-entries-clause-faults g c = λ h content there level few.
     let m : PageMap = pages c.args.cache.now in
     let live = page_of_node g.row.D (m c.args.at.page) content there in
     let same =
@@ -24,7 +24,8 @@ returns-then-len-fanout-clause-faults g c = λ h content there level few.
       arith,
       ap (λ (x : NodeContent). length x.entries) same,
       few,
-      c.if-len-fanout.true,
+      c.if-len-entries.true,
+      c.entries.ensures,
       c.len.ensures.count,
     ))
 
@@ -41,9 +42,9 @@ returns-clause-way g c = λ h content there level.
     ∙ get_or_default view.entries place (item_of child) no_item c.choose-place.ensures.within in
     let way : Way D =
     record { place = place; page = child.reference; bounds = child.bounds; least = c.least.result } in
-    subst (λ items. IsWay D c.args.fanout c.args.at.level items c.args.bounds.now way)
+    subst (λ items. IsWay D c.args.fanout.most c.args.at.level items c.args.bounds.now way)
     (ap (λ (x : NodeContent). x.entries) same) (record {
-      few = omega (arith, c.if-len-fanout.false, c.len.ensures.count);
+      few = omega (arith, c.if-len-entries.false, c.len.ensures.count, c.entries.ensures);
       chosen =
           subst (λ l. IsChosenChild D l view.entries c.args.bounds.now place) c.in_ok-node.ensures.level
           c.choose-place.ensures.chosen;

@@ -34,7 +34,7 @@ picked-requires g c =
       long,
       ap length c.as_slice-all.ensures.value,
       c.requires.count,
-      c.requires.most,
+      c.args.fanout.within,
     ) in
     (search rules, (search rules, (few, λ k h. omega (arith, front k 0 h, long))))
 
@@ -59,7 +59,7 @@ picked-requires-2 g c =
       long,
       ap length c.as_slice-all.ensures.value,
       c.requires.count,
-      c.requires.most,
+      c.args.fanout.within,
     ) in
     (search rules, (search rules, (few, λ k h. omega (arith, back k 0 h, long))))
 
@@ -72,7 +72,7 @@ returns-clause-divided g c =
     let axis = c.best_axis.result in
     let cut = c.least_cut-cut.result in
     let cuts = c.least_cut-cut.ensures axis c.best_axis.ensures.sorts in
-    let m : c.max-m.result ≡ least_entries c.args.fanout = search rules in
+    let m : c.least_entries-m.result ≡ least_entries c.args.fanout.most = c.least_entries-m.ensures.value in
     let o : List ℕ = order_of (items_of es) axis cut.bound in
     let places : c.least_cut-cut.new.places ≡ o = cuts.order
     ∙ ap (λ xs. order_of (items_of xs) axis cut.bound) is in
@@ -91,10 +91,10 @@ returns-clause-divided g c =
         size = cut.size;
         axis_least =
             subst (λ n. AxisLeast es n) m
-            (subst (λ xs. AxisLeast xs c.max-m.result) is c.best_axis.ensures.first);
+            (subst (λ xs. AxisLeast xs c.least_entries-m.result) is c.best_axis.ensures.first);
         first_full = omega (arith, m, cuts.first_full);
         second_full = omega (arith, m, same, cuts.second_full);
-        least = subst (λ n. Least es n) m (subst (λ xs. Least xs c.max-m.result) is cuts.least);
+        least = subst (λ n. Least es n) m (subst (λ xs. Least xs c.least_entries-m.result) is cuts.least);
         first_is = refl;
         second_is = refl;
       };
@@ -105,4 +105,4 @@ returns-clause-divided g c =
     }
 
 pub returns-clause-all : goal.returns-clause-all
-returns-clause-all g c = divided_whole g.row.D c.args.fanout _ _ _ (returns-clause-divided g c)
+returns-clause-all g c = divided_whole g.row.D c.args.fanout.most _ _ _ (returns-clause-divided g c)

@@ -41,10 +41,11 @@ returns-in-Err-clause-faults g c = λ t name all sound finds dims none same.
     subst (λ (b : Broken). IsOfDevice b.cause) (sym c.broken_by.ensures)
     (no_page_wanted_by_load kept t before c.locate-located.ensures.few (most_loaded_pages count) count
     c.load.new.cache _ (omega (arith, c.requires.room, c.begin.ensures.count)) (omega (arith))
-    (c.load.ensures.grows before.map (reading kept t name c.args.place before finds).pages located.fanout all
+    (c.load.ensures.grows before.map (reading kept t name c.args.place before finds).pages located.fanout.most
+    all
     empty_there same)
     (c.in-Err.ensures.faults before.map (reading kept t name c.args.place before finds).pages
-    located.fanout all empty_there same))
+    located.fanout.most all empty_there same))
 
 pub returns-clause-filled : goal.returns-clause-filled
 returns-clause-filled g c = λ t name all sound finds dims none same.
@@ -54,13 +55,13 @@ returns-clause-filled g c = λ t name all sound finds dims none same.
     let by = c.locate-located.ensures.by_record in
     let l = (reading kept t name c.args.place before finds).pages in
     let empty_there = stands_empty kept t name c.args.place before finds located by g.row.D dims none in
-    let became = c.in-Ok.ensures.loaded before.map l located.fanout all empty_there same in
+    let became = c.in-Ok.ensures.loaded before.map l located.fanout.most all empty_there same in
     sound_filled kept t name c.args.place before finds located by g.row.D dims none c.args.objects.now all
     same c.load.new.cache c.in-Ok.root became _ c.note.ensures.cache
     c.in-Ok.ensures.root c.in-Ok.ensures.changes.next
     (c.in-Ok.ensures.changes.gate.version before.map.honest)
     (omega (arith, c.requires.room, c.begin.ensures.count)) c.note.ensures.records
-    (c.in-Ok.ensures.sound before.map l located.fanout all empty_there same)
+    (c.in-Ok.ensures.sound before.map l located.fanout.most all empty_there same)
     (omega (arith, c.note.ensures.count)) c.note.ensures.written
 
 pub returns-clause-tree : goal.returns-clause-tree
@@ -71,7 +72,7 @@ returns-clause-tree g c = λ t name all sound finds dims none same.
     let by = c.locate-located.ensures.by_record in
     let l = (reading kept t name c.args.place before finds).pages in
     let empty_there = stands_empty kept t name c.args.place before finds located by g.row.D dims none in
-    let became = c.in-Ok.ensures.loaded before.map l located.fanout all empty_there same in
+    let became = c.in-Ok.ensures.loaded before.map l located.fanout.most all empty_there same in
     changes_before c.args.self.now kept _ name (HasFilled (layer_at t name) c.args.objects.now)
     (c.begin.ensures.keeps.map.pages_stay sound.map.honest) c.begin.ensures.keeps.records
     (tree_filled kept t name c.args.place before finds located by g.row.D dims none c.args.objects.now all

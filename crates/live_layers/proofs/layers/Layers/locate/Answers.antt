@@ -1,5 +1,5 @@
 -- The record at the place is that of a layer that may be, and says where the layer stands.
-use Rattle.std.proofs.Common.{◌≡◌, ◌∙◌, List, get_or, length, ap, arith, sym}
+use Rattle.std.proofs.Common.{◌≡◌, ◌∙◌, List, get_or, length, ap, arith, refl, sym}
 use Rattle.std.proofs.lemmas.List.{get_or-map, length-map}
 use Rattle.catalog_page.specs.Layout.{record_of, records_of}
 use Rattle.catalog_page.specs.declared.layer_record.LayerRecord.{LayerRecord}
@@ -17,15 +17,18 @@ returns-clause-dims g c =
     ∙ ap (λ (xs : List LayerRecord). get_or xs place r) c.deref.ensures.0 in
     dims_fit items place r is (omega (arith, c.requires, length-map items record_of)) kept.are_layers
 
-pub returns-clause-fanout : goal.returns-clause-fanout
-returns-clause-fanout g c =
+pub invariant_of-fanout : goal.invariant_of-fanout
+invariant_of-fanout g c =
     let kept = c.args.self.now in
     let items = kept.records.items in
     let place = c.args.place in
     let r = c.index-deref-place.result in
     let is : r ≡ get_or items place r = c.index-deref-place.is
     ∙ ap (λ (xs : List LayerRecord). get_or xs place r) c.deref.ensures.0 in
-    fanout_fits items place r is (omega (arith, c.requires, length-map items record_of)) kept.are_layers
+    record {
+      within = fanout_fits items place r is (omega (arith, c.requires, length-map items record_of))
+          kept.are_layers;
+    }
 
 pub returns-clause-root : goal.returns-clause-root
 returns-clause-root g c =
@@ -44,7 +47,7 @@ returns-clause-located g c = λ t name sound finds.
     let r = c.index-deref-place.result in
     let is : r ≡ get_or kept.records.items place r = c.index-deref-place.is
     ∙ ap (λ (xs : List LayerRecord). get_or xs place r) c.deref.ensures.0 in
-    located_here kept t name place sound finds r is
+    located_here kept t name place sound finds r is _ refl
 
 pub returns-clause-few : goal.returns-clause-few
 returns-clause-few g c =

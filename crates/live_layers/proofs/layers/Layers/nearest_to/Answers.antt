@@ -30,8 +30,8 @@ returns-in-Ok-clause-replied g c = λ t name sound located.
     let axes : there.dims ≡ g.row.D = sym c.from.ensures ∙ c.if-from.false in
     let at = stands_with old t name there located g.row.D axes in
     let nearest : c.in-Ok.rows.items ≡ take c.args.k (by_distance layer.dims point objects) =
-    c.in-Ok.ensures.rows sound.map.honest located.layer.tree there.fanout at.tree
-    ∙ nearest_are_objects g.row.D there.fanout (pages old.cache) there.root there.ids_root located.layer
+    c.in-Ok.ensures.rows sound.map.honest located.layer.tree there.fanout.most at.tree
+    ∙ nearest_are_objects g.row.D there.fanout.most (pages old.cache) there.root there.ids_root located.layer
     layer.objects c.args.k point at
     ∙ ap (λ (d : ℕ). take c.args.k (by_distance d point objects)) (sym axes ∙ sym located.dims) in
     let right = tested_same g.row.D layer.dims there.dims located.dims axes in
@@ -52,13 +52,13 @@ returns-in-Ok-clause-looks g c = λ t name sound located.
     let tree = located.layer.tree in
     let nearest : nearest_rows g.row.D c.args.k point tree ≡ take c.args.k
     (by_distance layer.dims point objects) =
-    nearest_are_objects g.row.D there.fanout (pages old.cache) there.root there.ids_root located.layer
+    nearest_are_objects g.row.D there.fanout.most (pages old.cache) there.root there.ids_root located.layer
     layer.objects c.args.k point at
     ∙ ap (λ (d : ℕ). take c.args.k (by_distance d point objects)) (sym axes ∙ sym located.dims) in
     record {
       tree = tree;
       is_tree = located.its_tree;
-      looks = c.in-Ok.ensures.looks sound.map.honest tree there.fanout at.tree
+      looks = c.in-Ok.ensures.looks sound.map.honest tree there.fanout.most at.tree
           ∙ ap (λ (rows : List (ℕ × ℕ)). counted (looks_of old.cache)
           (admitted (is_searched g.row.D c.args.k point rows) tree)) nearest;
     }
@@ -77,7 +77,7 @@ returns-in-Err-clause-replied g c = λ t name sound located.
     ((not (g.row.D == layer.dims), refusal.WrongDims) ∷ (not (is_count c.args.k), refusal.BadCount) ∷ []))
     (Distances (take c.args.k (by_distance layer.dims c.args.point.now (entries layer.objects)))) _ _
     (device_refuses rose c.in-Err.fault
-    (c.in-Err.ensures.stands sound.map.honest located.layer.tree there.fanout at.tree)
+    (c.in-Err.ensures.stands sound.map.honest located.layer.tree there.fanout.most at.tree)
     (risen_of _ _ c.in-Err.fault c.in-Err.ensures.asks.faults))
     (ap Refused c.as_refusal.ensures)
 

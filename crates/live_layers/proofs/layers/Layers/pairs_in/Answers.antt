@@ -19,11 +19,12 @@ returns-in-Ok-clause-pairs g c = λ t first second sound located other.
     let right = c.args.right.now in
     let at = stands_with old t first left located g.row.D c.requires.left in
     let at' = stands_with old t second right other g.row.D c.requires.right in
-    pairs_are g.row.D c.args.within left.fanout right.fanout (pages old.cache) left.root right.root
+    pairs_are g.row.D c.args.within left.fanout.most right.fanout.most (pages old.cache) left.root right.root
     left.ids_root right.ids_root located.layer other.layer (layer_at t first) (layer_at t second)
     c.in-Ok.pairs.items
     (located.dims ∙ c.requires.left) at at'
-    (c.in-Ok.ensures.pairs sound.map.honest located.layer.tree other.layer.tree left.fanout right.fanout
+    (c.in-Ok.ensures.pairs sound.map.honest located.layer.tree other.layer.tree left.fanout.most
+    right.fanout.most
     at.tree at'.tree)
 
 pub returns-in-Ok-clause-looks : goal.returns-in-Ok-clause-looks
@@ -38,8 +39,8 @@ returns-in-Ok-clause-looks g c = λ t first second sound located other.
       other = other.layer.tree;
       is_tree = located.its_tree;
       is_other = other.its_tree;
-      looks = c.in-Ok.ensures.looks sound.map.honest located.layer.tree other.layer.tree left.fanout
-          right.fanout at.tree at'.tree;
+      looks = c.in-Ok.ensures.looks sound.map.honest located.layer.tree other.layer.tree left.fanout.most
+          right.fanout.most at.tree at'.tree;
     }
 
 pub returns-in-Err-clause-fault : goal.returns-in-Err-clause-fault
@@ -54,8 +55,8 @@ returns-in-Err-clause-fault g c = λ t first second sound located other.
     (g.B.BlockDevice.faults (device_of c.join.new.cache)) in
     subst (λ (x : Refusal). IsFault rose x) (sym c.as_refusal.ensures)
     (device_refuses rose c.in-Err.fault
-    (c.in-Err.ensures.stands sound.map.honest located.layer.tree other.layer.tree left.fanout
-    right.fanout at.tree at'.tree) (risen_of _ _ c.in-Err.fault c.in-Err.ensures.asks.faults))
+    (c.in-Err.ensures.stands sound.map.honest located.layer.tree other.layer.tree left.fanout.most
+    right.fanout.most at.tree at'.tree) (risen_of _ _ c.in-Err.fault c.in-Err.ensures.asks.faults))
 
 pub returns-in-Ok-clause-keeps : goal.returns-in-Ok-clause-keeps
 returns-in-Ok-clause-keeps g c =

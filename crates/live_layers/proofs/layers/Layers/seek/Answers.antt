@@ -17,9 +17,9 @@ returns-in-Ok-clause-rows g c = λ t name sound located.
     let there = c.args.located.now in
     let old = c.args.self.now in
     let at = stands_with old t name there located g.row.D c.requires.axes in
-    ranges_answer_objects g.row.D there.fanout (pages old.cache) there.root there.ids_root located.layer
+    ranges_answer_objects g.row.D there.fanout.most (pages old.cache) there.root there.ids_root located.layer
     (layer_at t name).objects (seeks c.args.query.now) c.args.tag c.in-Ok.rows.items at
-    (c.in-Ok.ensures.rows sound.map.honest located.layer.tree there.fanout at.tree)
+    (c.in-Ok.ensures.rows sound.map.honest located.layer.tree there.fanout.most at.tree)
 
 pub returns-in-Ok-clause-looks : goal.returns-in-Ok-clause-looks
 returns-in-Ok-clause-looks g c = λ t name sound located.
@@ -28,7 +28,7 @@ returns-in-Ok-clause-looks g c = λ t name sound located.
     record {
       tree = located.layer.tree;
       is_tree = located.its_tree;
-      looks = c.in-Ok.ensures.looks sound.map.honest located.layer.tree there.fanout at.tree;
+      looks = c.in-Ok.ensures.looks sound.map.honest located.layer.tree there.fanout.most at.tree;
     }
 
 pub returns-in-Err-clause-fault : goal.returns-in-Err-clause-fault
@@ -40,7 +40,7 @@ returns-in-Err-clause-fault g c = λ t name sound located.
     (g.B.BlockDevice.faults (device_of c.range.new.cache)) in
     subst (λ (x : Refusal). IsFault rose x) (sym c.as_refusal.ensures)
     (device_refuses rose c.in-Err.fault
-    (c.in-Err.ensures.stands sound.map.honest located.layer.tree there.fanout at.tree)
+    (c.in-Err.ensures.stands sound.map.honest located.layer.tree there.fanout.most at.tree)
     (risen_of _ _ c.in-Err.fault c.in-Err.ensures.asks.faults))
 
 pub returns-in-Ok-clause-keeps : goal.returns-in-Ok-clause-keeps

@@ -33,7 +33,7 @@ returns-in-Err-clause-faults g c = λ t name sound finds.
     located.dims dims in
     subst (λ (b : Broken). IsOfDevice b.cause) (sym c.broken_by.ensures)
     (c.in-Err.ensures.faults before.map (reading kept t name c.args.place before finds).pages
-    located.fanout (layer_at t name).objects at)
+    located.fanout.most (layer_at t name).objects at)
 
 pub invariant_of-self-2 : goal.invariant_of-self-2
 invariant_of-self-2 g c =
@@ -58,11 +58,11 @@ returns-clause-taken g c = λ t name sound finds.
     let objects = (layer_at t name).objects in
     let records = taken_out kept.records.items c.remove.new.self.items c.args.place c.remove.ensures.items in
     sound_less kept _ t name c.args.place before finds
-    (c.in-Ok.ensures.freed before.map l located.fanout objects at)
+    (c.in-Ok.ensures.freed before.map l located.fanout.most objects at)
     c.in-Ok.ensures.changes.next
     (c.in-Ok.ensures.changes.gate.version before.map.honest) records c.count_at-count.result
     c.count_at-count.ensures
-    (c.in-Ok.ensures.sound before.map l located.fanout objects at) c.saturating_sub-self.ensures
+    (c.in-Ok.ensures.sound before.map l located.fanout.most objects at) c.saturating_sub-self.ensures
     refl
 
 pub returns-clause-others : goal.returns-clause-others
@@ -79,7 +79,7 @@ returns-clause-others g c = λ t name sound finds.
     keeps_before c.args.self.now kept _ name (c.begin.ensures.keeps.map.pages_stay sound.map.honest)
     c.begin.ensures.keeps.records
     (trees_left kept _ t name c.args.place before finds
-    (c.in-Ok.ensures.freed before.map l located.fanout (layer_at t name).objects at)
+    (c.in-Ok.ensures.freed before.map l located.fanout.most (layer_at t name).objects at)
     c.in-Ok.ensures.changes.next
     (c.in-Ok.ensures.changes.gate.version before.map.honest) records)
 
