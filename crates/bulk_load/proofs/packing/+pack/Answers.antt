@@ -15,12 +15,12 @@ use Rattle.bulk_load.proofs.LevelLemmas.{level_packed, root_written}
 use Rattle.bulk_load.proofs.SizeLemmas.{next_fits}
 use Rattle.bulk_load.proofs.packing.+pack.Goals as goal
 
-pub returns-then-entries-entries-clause-packed : goal.returns-then-entries-entries-clause-packed
-returns-then-entries-entries-clause-packed g t c = λ sound bs waits.
+pub returns-then-entries-clause-packed : goal.returns-then-entries-clause-packed
+returns-then-entries-clause-packed g t c = λ sound bs waits.
     root_written g.row.D c.args.fanout.most c.args.level (pages c.args.cache.now)
     (pages c.write_new.new.cache)
     (items_of c.args.entries.now) bs (record { page = c.in_ok-page.page; level = c.args.level }) waits
-    (omega (arith, length-map c.args.entries.now item_of, c.if-entries-entries.true, c.entries.ensures)) refl
+    (omega (arith, length-map c.args.entries.now item_of, c.if-entries.true, c.entries.ensures)) refl
     (c.in_ok-page.ensures.fresh sound) (c.in_ok-page.ensures.others sound) (c.in_ok-page.ensures.node sound)
 
 pub returns-in_err-page-clause-all : goal.returns-in_err-page-clause-all
@@ -93,7 +93,7 @@ returns-clause-packed g t c = λ sound bs waits.
       ap length waits.are,
       length-map bs item_in,
       length-map c.args.entries.now item_of,
-      c.if-entries-entries.false,
+      c.if-entries.false,
       c.entries.ensures,
     )) l.tiled l.made l.moves
     (subst (λ (level : ℕ). PackedAt g.row.D c.args.fanout.most level (pages c.pack_level.new.cache)
