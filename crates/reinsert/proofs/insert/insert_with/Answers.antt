@@ -1,5 +1,5 @@
 -- The goals of `insert_with` that are proved by hand.
-use Rattle.std.proofs.Common.{rules, ◌++◌, [], ◌∷◌, List, Bool, None, sym, subst, refl, arith}
+use Rattle.std.proofs.Common.{rules, rules, ◌++◌, [], ◌∷◌, List, Bool, None, sym, subst, refl, arith}
 use Rattle.std.proofs.Common.{◌≡◌, ◌∙◌, ⊎_elim, inl, inr, ℕ, true}
 use Rattle.std.proofs.lemmas.Bool.{true≢false}
 use Rattle.page_file.specs.declared.fault.Fault.TheVariants as fault
@@ -249,3 +249,7 @@ returns-clause-inserts g c = record {
 -- ---- in any pages of a sound map, of which none was touched
 
 -- ---- in any pages of a sound map
+
+pub place_one-requires-in-Some : goal.place_one-requires-in-Some
+place_one-requires-in-Some g c =
+    (search rules, (search rules, (c.requires.dims, (search rules, (search rules, (search rules, search rules))))))
