@@ -6,6 +6,7 @@ use Rattle.std.specs.List.{list_all}
 use Rattle.std.specs.Str.Parse.{digits_value, digits_value_after}
 use Rattle.std.proofs.lemmas.Bool.Decides.{nat_tests}
 use Rattle.std.proofs.lemmas.List.{drop_all}
+use Rattle.std.proofs.Math.Nat.{pow-le-pow_right}
 use Rattle.std.proofs.Math.Seq.{drop-cons}
 use Rattle.command_shell.specs.Numbers.{is_numeral, number_in}
 
@@ -52,3 +53,24 @@ all_read word i value some all so_far =
     let d : true ≡ list_all is_ascii_digit word = sym (ap (list_all is_ascii_digit) none)
     ∙ so_far.digits_are in
     grind (arith, nat_tests)
+
+-- a word of at most nineteen bytes, of which the digits so far have this value
+pub record IsShortTo (word : List ℕ) (i value : ℕ) : Type 0 where
+  pub value_is : digits_value_after 10 value (drop i word) ≡ digits_value 10 word
+  pub below : value < 10 ^ i
+  pub digits_are : list_all is_ascii_digit (drop i word) ≡ list_all is_ascii_digit word
+
+-- at most so many digits have a value below that power of ten
+short_of : (i most value : ℕ) → i ≤ most → value < 10 ^ i → value < 10 ^ most
+short_of i most value few below =
+    let h : 10 ^ i ≤ 10 ^ most = pow-le-pow_right {n = 10} (omega arith) {i = i} {j = most} few in
+    omega (arith, h, below)
+
+-- one digit more than eighteen fits in 64 bits
+pub one_more_fits : (i value digit : ℕ) → i < 19 → value < 10 ^ i → digit ≤ 9 → value * 10 + digit < 2 ^ 64
+one_more_fits i value digit few below is =
+    let h = short_of i 18 value (omega (arith, few)) below in omega (arith, h, is)
+
+-- a decimal digit is at most nine
+pub digit_at_most_nine : (byte : ℕ) → is_ascii_digit byte ≡ true → digit_value byte ≤ 9
+digit_at_most_nine byte is = grind (arith, nat_tests)

@@ -85,9 +85,28 @@ pub fn number(word: &[u8]) -> Option<u64>
     if word.is_empty() {
         return None;
     }
+    if word.len() <= MOST_FITTING {
+        return fitting_number(word);
+    }
     let mut value = 0;
     for byte in word {
         value = followed_by(value, digit(*byte)?)?;
+    }
+    Some(value)
+}
+
+// So many digits or fewer have a value below 2^64.
+const MOST_FITTING: usize = 19;
+
+// The number that a word of at most so many bytes is. No digit makes it too large, so none is tested for that.
+fn fitting_number(word: &[u8]) -> Option<u64>
+    requires some { 0 < length word.now }
+    requires short { length word.now ≤ 19 }
+    ensures { result ≡ number_in word.now }
+{
+    let mut value = 0;
+    for byte in word {
+        value = value * 10 + digit(*byte)?;
     }
     Some(value)
 }
