@@ -5,7 +5,7 @@ use crate::cached::steps::Step::{
     Allocate, CheckAgain, Edit, First, Flush, Free, FreePages, Looks, Next, Page, Put, Raise,
     Settle, Version,
 };
-use crate::cached::steps::{DONE, Steps, play, repeat, take};
+use crate::cached::steps::{Answer, DONE, Steps, play, repeat, take};
 use block_device::{FuseDevice, FuseMode, MemoryDevice};
 use page_file::Fault;
 use std::alloc::Global;
@@ -27,14 +27,32 @@ fn two_pages(
     }
 }
 
-// A test: what it is of, the number of the device's call that fails and each later one with it, the steps
-// over the file as it is opened, and those over the file as it is closed and opened again.
-type Script = (&'static str, u32, Steps, Steps);
+// The first other answer over the file as it is opened first, how many calls of the device there were then,
+// and the first other answer over the file as it is closed and opened again.
+type Played = (Option<(usize, Answer)>, u64, Option<(usize, Answer)>);
+
+// Takes steps over the file on a device of which a call fails, and others over the file on the device below.
+fn played_twice(
+    alloc: Global,
+    (passes, mode): (u32, FuseMode),
+    steps: Steps,
+    again: Steps,
+) -> Result<Played, Fault> {
+    let fuse = two_pages(alloc, passes, mode)?;
+    let (fuse, other) = played(fuse, alloc, steps)?;
+    let calls = fuse.calls();
+    let (_, after) = played(fuse.into_inner(), alloc, again)?;
+    Ok((other, calls, after))
+}
+
+// A test: what it is of, how many calls of the device pass before one fails, the steps over the file as it is
+// opened, and those over the file as it is closed and opened again.
+type Script = (&'static str, (u32, FuseMode), Steps, Steps);
 
 // No call fails.
-const NEVER: u32 = u32::MAX;
+const NEVER: (u32, FuseMode) = (u32::MAX, FuseMode::Once);
 
-const SCRIPTS: [Script; 13] = [
+const SCRIPTS: [Script; 14] = [
     (
         "pages are put and lent",
         NEVER,
@@ -142,7 +160,7 @@ const SCRIPTS: [Script; 13] = [
     (
         // A sync and two reads open the file, and then page 3 is read.
         "numbers outside are damaged without a call",
-        4,
+        (4, FuseMode::Onward),
         &[
             (Page(3), Ok(3)),
             (Page(0), Err(Fault::Damaged(0))),
@@ -154,14 +172,43 @@ const SCRIPTS: [Script; 13] = [
         ],
         &[],
     ),
+    (
+        "a page whose write is refused stays held",
+        // Behind the opening, a read and the gate written and synced, the write fails.
+        (6, FuseMode::Once),
+        &[
+            (Page(3), Ok(3)),
+            (Put(3, 1), DONE),
+            (Flush, Err(Fault::Device)),
+            (Page(3), Ok(1)),
+            (Settle, DONE),
+            (Page(3), Ok(1)),
+        ],
+        &[(Page(3), Ok(1)), (Page(4), Ok(4))],
+    ),
     // A sync and a read of gate and header each open the file, then page 3 is read, and so they check it
     // again. Then the page is read anew.
-    ("a cache is checked again by a sync", 4, CHECK_REFUSED, &[]),
-    ("and a read of the gate", 5, CHECK_REFUSED, &[]),
-    ("and a read of the header", 6, CHECK_REFUSED, &[]),
+    (
+        "a cache is checked again by a sync",
+        (4, FuseMode::Onward),
+        CHECK_REFUSED,
+        &[],
+    ),
+    (
+        "and a read of the gate",
+        (5, FuseMode::Onward),
+        CHECK_REFUSED,
+        &[],
+    ),
+    (
+        "and a read of the header",
+        (6, FuseMode::Onward),
+        CHECK_REFUSED,
+        &[],
+    ),
     (
         "and by no more than that",
-        7,
+        (7, FuseMode::Onward),
         &[
             (Page(3), Ok(3)),
             (CheckAgain, DONE),
@@ -171,7 +218,7 @@ const SCRIPTS: [Script; 13] = [
     ),
     (
         "a cache checked again lends as before",
-        8,
+        (8, FuseMode::Onward),
         &[(Page(3), Ok(3)), (CheckAgain, DONE), (Page(3), Ok(3))],
         &[],
     ),
@@ -185,12 +232,9 @@ const CHECK_REFUSED: Steps = &[
 
 #[test]
 fn calls_of_a_cache_have_their_answers(rt: HostRuntime) -> Result<(), Fail> {
-    for (about, passes, steps, again) in SCRIPTS {
-        let fuse = two_pages(rt.alloc(), passes, FuseMode::Onward)?;
-        let (fuse, other) = played(fuse, rt.alloc(), steps)?;
-        assert_eq!(rt; other, None, "{about}");
-        let (_, other) = played(fuse.into_inner(), rt.alloc(), again)?;
-        assert_eq!(rt; other, None, "{about}, opened again");
+    for (about, fails, steps, again) in SCRIPTS {
+        let (other, _, after) = played_twice(rt.alloc(), fails, steps, again)?;
+        assert_eq!(rt; (other, after), (None, None), "{about}");
     }
     Ok(())
 }
@@ -205,28 +249,9 @@ const HELD: Steps = &[
 #[test]
 fn a_held_page_needs_no_call(rt: HostRuntime) -> Result<(), Fail> {
     // A sync and two reads open the file, and then the page is read once.
-    let fuse = two_pages(rt.alloc(), 4, FuseMode::Onward)?;
-    let (fuse, other) = played(fuse, rt.alloc(), HELD)?;
-    assert_eq!(rt; other, None);
-    assert_eq!(rt; fuse.calls(), 4);
-    Ok(())
-}
-
-// Behind the opening, a read and the gate written and synced, the write fails.
-const WRITE_REFUSED: Steps = &[
-    (Page(3), Ok(3)),
-    (Put(3, 1), DONE),
-    (Flush, Err(Fault::Device)),
-    (Page(3), Ok(1)),
-    (Settle, DONE),
-    (Page(3), Ok(1)),
-];
-
-#[test]
-fn a_page_whose_write_is_refused_stays_held(rt: HostRuntime) -> Result<(), Fail> {
-    let fuse = two_pages(rt.alloc(), 6, FuseMode::Once)?;
-    let (_, other) = played(fuse, rt.alloc(), WRITE_REFUSED)?;
-    assert_eq!(rt; other, None);
+    let fails = (4, FuseMode::Onward);
+    let done = played_twice(rt.alloc(), fails, HELD, STILL_THERE)?;
+    assert_eq!(rt; done, (None, 4, None));
     Ok(())
 }
 
