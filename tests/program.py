@@ -79,7 +79,7 @@ class Runs(unittest.TestCase):
 
     def run_on(self, stdin, words, **ways):
         """A run with these words, in one text with blanks between them."""
-        ways = {"stdout": subprocess.PIPE, "stderr": subprocess.PIPE, "timeout": 60, **ways}
+        ways = {"stdout": subprocess.PIPE, "stderr": subprocess.PIPE, "timeout": 300, **ways}
         return subprocess.run([self.program, *words.split()], stdin=stdin, cwd=self.folder, **ways)
 
     def result(self, words, given, **ways):
@@ -691,7 +691,7 @@ class AtATerminal(Runs):
         return said[:-1].decode()
 
     def test_how_much_of_a_long_text_was_read(self):
-        text = "id,x,y\n" + "\n" * 2_500_000
+        text = "id,x,y\n" + (" " * 99 + "\n") * 25_000
         told = self.told(0, "--create --import a store", text)
         self.assertEqual(told, "\rrstore: 1 MB read\rrstore: 2 MB read\n")
         os.remove(self.path("store"))
