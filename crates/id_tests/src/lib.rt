@@ -1,6 +1,12 @@
-//! Tests of identifier tables in pages, by their public calls: worked rows, many identifiers beside a map,
+//! Tests of identifier tables in pages, by their public calls: worked steps, many identifiers beside a map,
 //! and damaged pages.
 #![tactic(auto)]
 
 #[cfg(test)]
-mod tables;
+mod damaged;
+#[cfg(test)]
+mod many;
+#[cfg(test)]
+mod scripts;
+#[cfg(test)]
+mod steps;
