@@ -1,59 +1,74 @@
-//! Changes of a table, each in the place that a search finds.
+//! Changes of a table. Each opens the gate first.
 
-ghost use Rattle.std.specs.Prelude.{◌≡◌};
 ghost use Rattle.box_math.specs.Bounds.{IsDims};
-ghost use Rattle.page_file.specs.declared.gate.Gate.TheVariants.{Open};
-ghost use Rattle.page_cache.specs.Cache.{gate_of};
 
 use block_device::BlockDevice;
 use box_math::BBox;
-use id_tree::{add, find, remove, update};
+use id_tree::{LeafPlace, add, fill, find, free_all, remove, update};
 use page_cache::PageCache;
 use page_file::Fault;
 use std::alloc::Allocator;
 
-pub(crate) fn put<const D: usize, B: BlockDevice, A: Allocator + Copy>(
+/// The first page of the table.
+pub const TABLE: u32 = 3;
+
+/// A change of an object.
+#[derive(Clone, Copy)]
+pub enum Call {
+    Add,
+    /// It gets another box, and keeps its tag.
+    Update,
+    Remove,
+}
+
+/// Changes an object in the place that a search finds.
+pub fn change<const D: usize, B: BlockDevice, A: Allocator + Copy>(
     cache: &mut PageCache<B, A>,
-    table: u32,
+    call: Call,
     id: u64,
     bounds: &BBox<D>,
     tag: u32,
 ) -> Result<(), Fault>
-    requires dims { IsDims D }
-    requires open { gate_of cache.old ≡ Open }
-    ensures open { gate_of cache.new ≡ Open }
+    requires { IsDims D }
 {
-    let at = find::<D, B, A>(cache, table, id)?.at;
-    add(cache, table, at, id, bounds, tag)
+    let at = find::<D, B, A>(cache, TABLE, id)?.at;
+    change_at(cache, call, at, id, bounds, tag)
 }
 
-// The object gets another box, and keeps its tag. A table without it is `Damaged`.
-pub(crate) fn shift<const D: usize, B: BlockDevice, A: Allocator + Copy>(
+/// Changes an object in a place.
+pub fn change_at<const D: usize, B: BlockDevice, A: Allocator + Copy>(
     cache: &mut PageCache<B, A>,
-    table: u32,
+    call: Call,
+    at: LeafPlace,
     id: u64,
     bounds: &BBox<D>,
+    tag: u32,
 ) -> Result<(), Fault>
-    requires dims { IsDims D }
-    requires open { gate_of cache.old ≡ Open }
-    ensures open { gate_of cache.new ≡ Open }
+    requires { IsDims D }
 {
-    let sought = find::<D, B, A>(cache, table, id)?;
-    let Some((_, tag)) = sought.kept else {
-        return Err(Fault::Damaged(table));
-    };
-    update(cache, table, sought.at, id, bounds, tag)
+    cache.begin_change()?;
+    match call {
+        Call::Add => add(cache, TABLE, at, id, bounds, tag),
+        Call::Update => update(cache, TABLE, at, id, bounds, tag),
+        Call::Remove => remove::<D, B, A>(cache, TABLE, at, id),
+    }
 }
 
-pub(crate) fn take<const D: usize, B: BlockDevice, A: Allocator + Copy>(
+/// Adds objects together.
+pub fn add_together<const D: usize, B: BlockDevice, A: Allocator + Copy>(
     cache: &mut PageCache<B, A>,
-    table: u32,
-    id: u64,
+    objects: &[(u64, (BBox<D>, u32))],
 ) -> Result<(), Fault>
-    requires dims { IsDims D }
-    requires open { gate_of cache.old ≡ Open }
-    ensures open { gate_of cache.new ≡ Open }
+    requires { IsDims D }
 {
-    let at = find::<D, B, A>(cache, table, id)?.at;
-    remove::<D, B, A>(cache, table, at, id)
+    cache.begin_change()?;
+    fill::<D, B, A>(cache, TABLE, objects)
+}
+
+/// Gives the table up.
+pub fn give_up<B: BlockDevice, A: Allocator + Copy>(
+    cache: &mut PageCache<B, A>,
+) -> Result<(), Fault> {
+    cache.begin_change()?;
+    free_all::<2, B, A>(cache, TABLE)
 }

@@ -1,26 +1,21 @@
-//! Objects added in several orders are found again and moved, in pages as full as they are to be.
+//! Objects added in several orders are found again, moved and removed, in pages as full as they are to be.
 
-ghost use Rattle.std.specs.Prelude.{◌≡◌, ◌≤◌, IfOk};
 ghost use Rattle.box_math.specs.Bounds.{IsDims};
-ghost use Rattle.page_file.specs.declared.gate.Gate.TheVariants.{Open};
-ghost use Rattle.page_cache.specs.Cache.{gate_of};
 
-use crate::changes::{put, shift, take};
-use block_device::MemoryDevice;
+use crate::changes::{Call, TABLE, add_together, change, give_up};
 use box_math::BBox;
-use id_tree::{check_table, fill, find, free_all, make};
+use id_tree::{check_table, find, make};
 use page_file::Fault;
 use std::alloc::Global;
 use std::collections::BTreeMap;
 use std::test::Fail;
 use test_caches::{Cache, bare};
 
-// The coordinate of the point that each object is, by its identifier. Its tag follows from the first one that
-// it had.
+// The coordinate of the point that each object is, and its tag, by its identifier.
 type Plain = BTreeMap<u64, (i32, u32)>;
 
 // How the identifiers come.
-#[derive(Clone, Copy, Drop)]
+#[derive(Clone, Copy)]
 enum Order {
     Ascending,
     Descending,
@@ -53,257 +48,241 @@ fn tag_of(number: u32) -> u32 {
     number.wrapping_mul(2_654_435_761)
 }
 
-fn new_table<const D: usize>(cache: &mut Cache) -> Result<u32, Fault>
-    requires dims { IsDims D }
-    requires open { gate_of cache.old ≡ Open }
-    ensures open { gate_of cache.new ≡ Open }
-{
-    make::<D, _, _>(cache)
+// What becomes of objects.
+#[derive(Clone, Copy)]
+enum Fate {
+    // They come, at 7.
+    Come,
+    // Every third one moves, to -9.
+    Move,
+    // They go, but for every so many. Where that is 0, none stays.
+    Go(u32),
 }
 
-// Adds so many objects, and notes them in a plain map.
-fn add_all<const D: usize>(
+// What becomes of the object that comes as that one, and its coordinate then.
+fn call_for(fate: Fate, number: u32) -> Option<(Call, i32)> {
+    match fate {
+        Fate::Come => Some((Call::Add, 7)),
+        Fate::Move => (number % 3 == 0).then_some((Call::Update, -9)),
+        Fate::Go(every) => (every == 0 || number % every != 0).then_some((Call::Remove, 0)),
+    }
+}
+
+// Changes so many objects in their order, and notes it in the plain map.
+fn change_all<const D: usize>(
     cache: &mut Cache,
-    table: u32,
     plain: &mut Plain,
     order: Order,
     count: u32,
+    fate: Fate,
 ) -> Result<(), Fault>
-    requires dims { IsDims D }
-    requires open { gate_of cache.old ≡ Open }
-    ensures open { gate_of cache.new ≡ Open }
+    requires { IsDims D }
 {
     for number in 0..count {
         let id = id_of(order, number);
-        put(cache, table, id, &point::<D>(7)?, tag_of(number))?;
-        let _ = plain
-            .insert(id, (7, tag_of(number)))
-            .map_err(|_| Fault::Memory)?;
-    }
-    Ok(())
-}
-
-// So many objects in that order, which are noted in a plain map.
-fn objects_of<const D: usize>(
-    alloc: Global,
-    plain: &mut Plain,
-    order: Order,
-    count: u32,
-) -> Result<Vec<(u64, (BBox<D>, u32))>, Fault>
-    requires dims { IsDims D }
-{
-    let mut objects = Vec::new(alloc);
-    for number in 0..count {
-        let id = id_of(order, number);
-        objects.push((id, (point::<D>(7)?, tag_of(number))))?;
-        let _ = plain
-            .insert(id, (7, tag_of(number)))
-            .map_err(|_| Fault::Memory)?;
-    }
-    Ok(objects)
-}
-
-// Moves every third object, and notes where to.
-fn move_all<const D: usize>(
-    cache: &mut Cache,
-    table: u32,
-    plain: &mut Plain,
-    order: Order,
-    count: u32,
-) -> Result<(), Fault>
-    requires dims { IsDims D }
-    requires open { gate_of cache.old ≡ Open }
-    ensures open { gate_of cache.new ≡ Open }
-{
-    for number in 0..count {
-        if number % 3 == 0 {
-            let id = id_of(order, number);
-            shift(cache, table, id, &point::<D>(-9)?)?;
-            let _ = plain
-                .insert(id, (-9, tag_of(number)))
-                .map_err(|_| Fault::Memory)?;
+        if let Some((call, at)) = call_for(fate, number) {
+            change(cache, call, id, &point::<D>(at)?, tag_of(number))?;
+            note(plain, call, id, (at, tag_of(number)))?;
         }
     }
     Ok(())
 }
 
-// Removes the objects but for every so many, and takes them from the plain map. Where that is 0, none stays.
-fn remove_all_but<const D: usize>(
-    cache: &mut Cache,
-    table: u32,
-    plain: &mut Plain,
-    order: Order,
-    count: u32,
-    every: u32,
-) -> Result<(), Fault>
-    requires dims { IsDims D }
-    requires open { gate_of cache.old ≡ Open }
-    ensures open { gate_of cache.new ≡ Open }
-{
-    for number in 0..count {
-        if every == 0 || number % every != 0 {
-            let id = id_of(order, number);
-            take::<D, _, _>(cache, table, id)?;
-            let _ = plain.remove(&id);
-        }
+fn note(plain: &mut Plain, call: Call, id: u64, kept: (i32, u32)) -> Result<(), Fault> {
+    let _ = plain.remove(&id);
+    if matches!(call, Call::Add | Call::Update) {
+        let _ = plain.insert(id, kept).map_err(|_| Fault::Memory)?;
     }
     Ok(())
 }
 
-// How many of the identifiers, and of as many that are not there, the table answers as the plain map does.
-fn count_alike<const D: usize>(
+// How many of so many identifiers the table answers otherwise than the plain map does.
+fn count_wrong<const D: usize>(
     cache: &mut Cache,
-    table: u32,
     plain: &Plain,
     order: Order,
     count: u32,
 ) -> Result<u32, Fault>
-    requires dims { IsDims D }
-    ensures { gate_of cache.new ≡ gate_of cache.old }
+    requires { IsDims D }
 {
-    let mut alike = 0u32;
+    let mut wrong = 0u32;
     for number in 0..count {
         let id = id_of(order, number);
-        let found = find::<D, _, _>(cache, table, id)?.kept;
+        let found = find::<D, _, _>(cache, TABLE, id)?.kept;
         let wanted = match plain.get(&id) {
             Some(kept) => Some((point::<D>(kept.0)?, kept.1)),
             None => None,
         };
-        if found == wanted {
-            alike = alike.saturating_add(1);
+        if found != wanted {
+            wrong = wrong.saturating_add(1);
         }
     }
-    Ok(alike)
+    Ok(wrong)
 }
 
-// Adds so many objects, moves some, looks for these and as many more, and checks the table. Answers how many
-// are answered right, and how many pages there are.
-fn round<const D: usize>(alloc: Global, order: Order, count: u32) -> Result<(u32, u32), Fault>
-    requires dims { IsDims D }
-    requires few { count ≤ 100000 }
+fn make_table<const D: usize>(cache: &mut Cache) -> Result<(), Fault>
+    requires { IsDims D }
 {
-    let mut cache = bare(alloc)?;
-    let table = new_table::<D>(&mut cache)?;
-    let mut plain = BTreeMap::new(alloc);
-    add_all::<D>(&mut cache, table, &mut plain, order, count)?;
-    move_all::<D>(&mut cache, table, &mut plain, order, count)?;
-    let alike = count_alike::<D>(&mut cache, table, &plain, order, 2 * count)?;
-    let facts = check_table::<D, _, _, _>(alloc, &mut cache, table)?;
-    if facts.pairs.len() != plain.len() {
-        return Err(Fault::Damaged(table));
-    }
-    Ok((alike, cache.next_number()))
-}
-
-#[test]
-fn ascending_identifiers_leave_full_leaves(rt: HostRuntime) -> Result<(), Fail> {
-    let (alike, pages) = round::<2>(rt.alloc(), Order::Ascending, 12000)?;
-    assert_eq!(rt; alike, 24000);
-    assert!(rt; pages <= 90, "{pages}");
+    cache.begin_change()?;
+    let _table = make::<D, _, _>(cache)?;
     Ok(())
 }
 
-#[test]
-fn descending_identifiers_are_found(rt: HostRuntime) -> Result<(), Fail> {
-    let (alike, pages) = round::<3>(rt.alloc(), Order::Descending, 8000)?;
-    assert_eq!(rt; alike, 16000);
-    assert!(rt; pages <= 150, "{pages}");
-    Ok(())
-}
-
-#[test]
-fn random_identifiers_fill_their_pages(rt: HostRuntime) -> Result<(), Fail> {
-    let (alike, pages) = round::<2>(rt.alloc(), Order::Random, 12000)?;
-    assert_eq!(rt; alike, 24000);
-    assert!(rt; pages <= 152, "{pages}");
-    Ok(())
-}
-
-#[test]
-fn clustered_identifiers_are_found(rt: HostRuntime) -> Result<(), Fail> {
-    let (alike, pages) = round::<3>(rt.alloc(), Order::Clustered, 8000)?;
-    assert_eq!(rt; alike, 16000);
-    assert!(rt; pages <= 150, "{pages}");
-    Ok(())
-}
-
-// Adds so many objects, and removes all but every so many. Answers how many identifiers are answered right
-// then, and how many pages are live, the catalog aside.
-fn shrink<const D: usize>(
-    alloc: Global,
-    order: Order,
-    count: u32,
-    every: u32,
-) -> Result<(u32, u32), Fault>
-    requires dims { IsDims D }
-    requires few { count ≤ 100000 }
-{
-    let mut cache = bare(alloc)?;
-    let table = new_table::<D>(&mut cache)?;
-    let mut plain = BTreeMap::new(alloc);
-    add_all::<D>(&mut cache, table, &mut plain, order, count)?;
-    remove_all_but::<D>(&mut cache, table, &mut plain, order, count, every)?;
-    let alike = count_alike::<D>(&mut cache, table, &plain, order, count)?;
-    let live = cache
+// How many pages are live, the catalog aside.
+fn live(cache: &Cache) -> u32 {
+    cache
         .next_number()
         .saturating_sub(3)
-        .saturating_sub(cache.free_count());
-    let facts = check_table::<D, _, _, _>(alloc, &mut cache, table)?;
-    if facts.pages.len() as u64 != u64::from(live) {
-        return Err(Fault::Damaged(table));
-    }
-    if facts.pairs.len() != plain.len() {
-        return Err(Fault::Damaged(table));
-    }
-    Ok((alike, live))
+        .saturating_sub(cache.free_count())
 }
 
-#[test]
-fn a_tenth_that_stays_has_few_pages(rt: HostRuntime) -> Result<(), Fail> {
-    let (alike, pages) = shrink::<2>(rt.alloc(), Order::Random, 12000, 10)?;
-    assert_eq!(rt; alike, 12000);
-    assert!(rt; pages <= 22, "{pages}");
+// Refuses a table of other pages than are live, or of another number of objects.
+fn check<const D: usize>(alloc: Global, cache: &mut Cache, count: usize) -> Result<(), Fault>
+    requires { IsDims D }
+{
+    let facts = check_table::<D, _, _, _>(alloc, cache, TABLE)?;
+    if facts.pages.len() as u64 != u64::from(live(cache)) || facts.pairs.len() != count {
+        return Err(Fault::Damaged(TABLE));
+    }
     Ok(())
 }
 
+// Adds so many objects to a new table, changes them, looks for so many, and checks the table. Answers how
+// many of these are answered wrong, and how many pages are live, or how long the file is where none goes.
+fn come_and_go<const D: usize>(
+    alloc: Global,
+    cache: &mut Cache,
+    plain: &mut Plain,
+    order: Order,
+    counts: (u32, u32),
+    fate: Fate,
+) -> Result<(u32, u32), Fault>
+    requires { IsDims D }
+{
+    let (count, looked) = counts;
+    make_table::<D>(cache)?;
+    for fate in [Fate::Come, fate] {
+        change_all::<D>(cache, plain, order, count, fate)?;
+    }
+    let wrong = count_wrong::<D>(cache, plain, order, looked)?;
+    check::<D>(alloc, cache, plain.len())?;
+    match fate {
+        Fate::Go(_) => Ok((wrong, live(cache))),
+        _ => Ok((wrong, cache.next_number())),
+    }
+}
+
+// A round: its axes, how the identifiers come, how many and how many are looked for, what becomes of them,
+// and how many pages there are at most then.
+type Round = (u8, Order, (u32, u32), Fate, u32);
+
+// What a round comes to: how many answers are wrong, and how many pages there are.
+fn round(alloc: Global, (axes, order, counts, fate, _): Round) -> Result<(u32, u32), Fault> {
+    let mut cache = bare(alloc)?;
+    let mut plain = BTreeMap::new(alloc);
+    if axes == 3 {
+        come_and_go::<3>(alloc, &mut cache, &mut plain, order, counts, fate)
+    } else {
+        come_and_go::<2>(alloc, &mut cache, &mut plain, order, counts, fate)
+    }
+}
+
+// The first round that answers wrong or leaves more pages: its place, and what it comes to.
+fn first_wrong(alloc: Global, rounds: &[Round]) -> Result<Option<(usize, (u32, u32))>, Fault> {
+    for (place, &case) in rounds.iter().enumerate() {
+        let (wrong, pages) = round(alloc, case)?;
+        if wrong > 0 || pages > case.4 {
+            return Ok(Some((place, (wrong, pages))));
+        }
+    }
+    Ok(None)
+}
+
+// As many identifiers are looked for that are not there. Those that ascend leave full leaves.
+const MOVED: &[Round] = &[
+    (2, Order::Ascending, (12000, 24000), Fate::Move, 90),
+    (3, Order::Descending, (8000, 16000), Fate::Move, 150),
+    (2, Order::Random, (12000, 24000), Fate::Move, 152),
+    (3, Order::Clustered, (8000, 16000), Fate::Move, 150),
+];
+
 #[test]
-fn what_descends_and_is_clustered_shrinks(rt: HostRuntime) -> Result<(), Fail> {
-    let (alike, pages) = shrink::<3>(rt.alloc(), Order::Descending, 8000, 20)?;
-    assert_eq!(rt; alike, 8000);
-    assert!(rt; pages <= 10, "{pages}");
-    let (alike, pages) = shrink::<3>(rt.alloc(), Order::Clustered, 8000, 5)?;
-    assert_eq!(rt; alike, 8000);
-    assert!(rt; pages <= 36, "{pages}");
+fn objects_in_each_order_are_found_and_move(rt: HostRuntime) -> Result<(), Fail> {
+    assert_eq!(rt; first_wrong(rt.alloc(), MOVED)?, None);
     Ok(())
 }
+
+const THINNED: &[Round] = &[
+    (2, Order::Random, (12000, 12000), Fate::Go(10), 22),
+    (3, Order::Descending, (8000, 8000), Fate::Go(20), 10),
+    (3, Order::Clustered, (8000, 8000), Fate::Go(5), 36),
+];
+
+#[test]
+fn what_stays_has_few_pages(rt: HostRuntime) -> Result<(), Fail> {
+    assert_eq!(rt; first_wrong(rt.alloc(), THINNED)?, None);
+    Ok(())
+}
+
+const EMPTIED: &[Round] = &[
+    (3, Order::Ascending, (39000, 39000), Fate::Go(0), 1),
+    (2, Order::Random, (6000, 6000), Fate::Go(0), 1),
+];
 
 #[test]
 fn a_table_of_which_all_went_is_its_root(rt: HostRuntime) -> Result<(), Fail> {
-    let (alike, pages) = shrink::<3>(rt.alloc(), Order::Ascending, 39000, 0)?;
-    assert_eq!(rt; alike, 39000);
-    assert_eq!(rt; pages, 1);
-    let (alike, pages) = shrink::<2>(rt.alloc(), Order::Random, 6000, 0)?;
-    assert_eq!(rt; alike, 6000);
-    assert_eq!(rt; pages, 1);
+    assert_eq!(rt; first_wrong(rt.alloc(), EMPTIED)?, None);
     Ok(())
+}
+
+// So many objects in ascending order, which are noted in a plain map.
+fn ascending(
+    alloc: Global,
+    plain: &mut Plain,
+    count: u32,
+) -> Result<Vec<(u64, (BBox<2>, u32))>, Fault> {
+    let mut objects = Vec::new(alloc);
+    for number in 0..count {
+        let id = id_of(Order::Ascending, number);
+        objects.push((id, (point::<2>(7)?, tag_of(number))))?;
+        note(plain, Call::Add, id, (7, tag_of(number)))?;
+    }
+    Ok(objects)
+}
+
+// Adds the objects together, and answers how many looks there were so far.
+fn fill_all(alloc: Global, cache: &mut Cache, plain: &mut Plain) -> Result<u64, Fault> {
+    let objects = ascending(alloc, plain, 6000)?;
+    add_together(cache, objects.as_slice())?;
+    Ok(cache.looks())
+}
+
+// Adds the objects together to a new table, looks for them and as many more, and gives the table up. Answers
+// how many looks there were before the search, how many answers are wrong, how long the file is, and how many
+// pages are live at the end.
+fn fill_and_free(
+    alloc: Global,
+    cache: &mut Cache,
+    plain: &mut Plain,
+) -> Result<(u64, u32, u32, u32), Fault> {
+    make_table::<2>(cache)?;
+    let looks = fill_all(alloc, cache, plain)?;
+    let wrong = count_wrong::<2>(cache, plain, Order::Ascending, 12000)?;
+    let next = cache.next_number();
+    give_up(cache)?;
+    Ok((looks, wrong, next, live(cache)))
 }
 
 #[test]
 fn many_objects_are_added_at_once(rt: HostRuntime) -> Result<(), Fail> {
     let mut cache = bare(rt.alloc())?;
-    let table = new_table::<2>(&mut cache)?;
     let mut plain = BTreeMap::new(rt.alloc());
-    let objects = objects_of::<2>(rt.alloc(), &mut plain, Order::Ascending, 6000)?;
-    fill(&mut cache, table, objects.as_slice())?;
+    let (looks, wrong, next, live) = fill_and_free(rt.alloc(), &mut cache, &mut plain)?;
     // one look for each object, and some for each leaf
-    assert!(rt; cache.looks() < 6600);
-    let alike = count_alike::<2>(&mut cache, table, &plain, Order::Ascending, 12000)?;
-    assert_eq!(rt; alike, 12000);
-    assert!(rt; cache.next_number() <= 48);
-    free_all::<2, _, _>(&mut cache, table)?;
-    assert_eq!(rt;
-        u64::from(cache.free_count()) + 3,
-        u64::from(cache.next_number())
+    let few = looks < 6600 && next <= 48;
+    assert!(rt;
+        few && wrong == 0 && live == 0,
+        "{looks} {wrong} {next} {live}"
     );
     Ok(())
 }

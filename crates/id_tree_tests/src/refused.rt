@@ -1,141 +1,178 @@
-//! Growths and calls of the device refused in turn: a change that cuts, joins, fills or frees pages says why it
-//! broke off, and leaves the table as it was where the cache says that no page was touched.
+//! Growths and calls of the device refused in turn: a change that cuts, joins, fills or frees pages says why
+//! it broke off, and leaves the table as it was where the cache says that no page was touched.
 
-ghost use Rattle.std.specs.Prelude.{◌≡◌, IfOk};
-ghost use Rattle.page_cache.specs.Cache.{gate_of};
-ghost use Rattle.page_file.specs.declared.gate.Gate.TheVariants.{Open};
-
-use crate::changes::{put, take};
+use crate::changes::{Call, TABLE, add_together, change as change_object, give_up};
+use crate::steps::Step::{Each, Fill, Make};
+use crate::steps::{Run, Step, objects_of, play};
 use block_device::{BlockDevice, FuseDevice, FuseMode, MemoryDevice};
 use box_math::BBox;
-use id_tree::{check_table, fill, free_all, make};
+use id_tree::check_table;
 use page_cache::PageCache;
 use page_file::{Fault, open_pages};
 use refusing::Refusing;
 use std::alloc::{Allocator, Global};
 use std::test::Fail;
-use test_caches::{Cache, bare};
-
-// The first page of the table.
-const TABLE: u32 = 3;
+use test_caches::bare;
 
 // Many times as many growths, and calls of the device, as a change makes.
 const MOST: u32 = 1000;
 
-type Objects<A> = Vec<(u64, (BBox<2>, u32)), A>;
+// A cache whose growths and whose device's calls may be refused.
+type Frail<'a> = PageCache<FuseDevice<MemoryDevice>, &'a Refusing<Global>>;
 
-// A change of a table.
-#[derive(Clone, Copy, Debug)]
+// What is changed.
+#[derive(Clone, Copy)]
 enum Change {
-    // A full leaf is cut, below a root that is one above leaves.
-    Cut,
-    // A leaf falls below two fifths, and is joined with its neighbour.
-    Join,
+    // An object with this identifier comes or goes.
+    Object(Call, u64),
     // Objects are added together.
     Fill,
     FreeAll,
 }
 
-// How many objects the table has before the change.
-fn count_before(change: Change) -> u32 {
-    match change {
-        Change::Cut => 145,
-        // cut in the middle into 73 and 73 once, of which the first lost all but 57
-        Change::Join => 130,
-        Change::Fill | Change::FreeAll => 300,
-    }
+// Objects with every second identifier from 0 on.
+const MANY: Run = Run {
+    first: 0,
+    low: [0, 0],
+    high: [0, 0],
+    tag: 5,
+    count: 300,
+};
+
+const FULL_LEAF: Run = Run { count: 145, ..MANY };
+
+const ONE: Run = Run {
+    first: 1,
+    count: 1,
+    ..MANY
+};
+
+const FIRST: Run = Run { count: 15, ..MANY };
+
+// The objects that are added together.
+const FURTHER: Run = Run {
+    first: 1,
+    count: 1000,
+    ..MANY
+};
+
+const ONE_LEAF: &[Step] = &[Make, Fill(FULL_LEAF)];
+
+const THREE_LEAVES: &[Step] = &[Make, Fill(MANY)];
+
+// Cut in the middle into 73 and 73 once, of which the first lost all but 57.
+const TWO_LEAVES: &[Step] = &[
+    Make,
+    Fill(FULL_LEAF),
+    Each(Call::Add, ONE),
+    Each(Call::Remove, ONE),
+    Each(Call::Remove, FIRST),
+];
+
+// A change of a table.
+#[derive(Clone, Copy)]
+struct Case {
+    what: &'static str,
+    change: Change,
+    // The steps before it, and how many objects the table has then.
+    steps: &'static [Step],
+    objects: usize,
+    // Whether some growths that are refused leave a page touched, and whether some calls of the device do.
+    growths_touch: bool,
+    calls_touch: bool,
 }
 
-// Objects with every second identifier of so many from the first on.
-fn objects_from<A: Allocator>(alloc: A, first: u64, count: u32) -> Result<Objects<A>, Fault> {
-    let mut objects = Vec::new(alloc);
-    for number in 0..count {
-        let id = first.wrapping_add(2 * u64::from(number));
-        objects.push((id, (BBox::default(), 5)))?;
-    }
-    Ok(objects)
-}
-
-// Fills the table with that many objects.
-fn fill_with(alloc: Global, cache: &mut Cache, count: u32) -> Result<(), Fault>
-    requires { gate_of cache.old ≡ Open }
-    ensures { gate_of cache.new ≡ Open }
-{
-    let objects = objects_from(alloc, 0, count)?;
-    fill(cache, TABLE, objects.as_slice())
-}
-
-// Removes the objects with these identifiers.
-fn remove_range(cache: &mut Cache, first: u32, count: u32) -> Result<(), Fault>
-    requires { gate_of cache.old ≡ Open }
-    ensures { gate_of cache.new ≡ Open }
-{
-    for number in 0..count {
-        let id = 2 * u64::from(first.wrapping_add(number));
-        take::<2, _, _>(cache, TABLE, id)?;
-    }
-    Ok(())
-}
-
-// A table of two leaves, of 57 and 73 objects.
-fn two_leaves(alloc: Global, cache: &mut Cache) -> Result<(), Fault>
-    requires { gate_of cache.old ≡ Open }
-    ensures { gate_of cache.new ≡ Open }
-{
-    fill_with(alloc, cache, 145)?;
-    put(cache, TABLE, 1, &BBox::<2>::default(), 5)?;
-    take::<2, _, _>(cache, TABLE, 1)?;
-    remove_range(cache, 0, 15)
-}
+const CASES: [Case; 4] = [
+    // A full leaf is cut, below a root that is one above leaves.
+    Case {
+        what: "a cut",
+        change: Change::Object(Call::Add, 7),
+        steps: ONE_LEAF,
+        objects: 145,
+        growths_touch: true,
+        calls_touch: false,
+    },
+    // A leaf falls below two fifths, and is joined with its neighbour.
+    Case {
+        what: "a joining",
+        change: Change::Object(Call::Remove, 100),
+        steps: TWO_LEAVES,
+        objects: 130,
+        growths_touch: false,
+        calls_touch: false,
+    },
+    Case {
+        what: "a fill",
+        change: Change::Fill,
+        steps: THREE_LEAVES,
+        objects: 300,
+        growths_touch: true,
+        calls_touch: true,
+    },
+    Case {
+        what: "a freeing",
+        change: Change::FreeAll,
+        steps: THREE_LEAVES,
+        objects: 300,
+        growths_touch: false,
+        calls_touch: false,
+    },
+];
 
 // The device of a file with the table before the change.
-fn device_for(alloc: Global, change: Change) -> Result<MemoryDevice, Fault> {
+fn device_for(alloc: Global, steps: &[Step]) -> Result<MemoryDevice, Fault> {
     let mut cache = bare(alloc)?;
-    let _table = make::<2, _, _>(&mut cache)?;
-    match change {
-        Change::Join => two_leaves(alloc, &mut cache)?,
-        _ => fill_with(alloc, &mut cache, count_before(change))?,
+    if play(alloc, &mut cache, steps).is_some() {
+        return Err(Fault::Damaged(TABLE));
     }
     cache.close().map_err(|(fault, _)| fault)
 }
 
-// A cache of eight pages with an open gate over the file on a device.
-fn open_cache<B: BlockDevice + Drop, A: Allocator + Copy>(
-    alloc: A,
-    device: B,
-) -> Result<PageCache<B, A>, Fault>
-    ensures { IfOk result (λ cache. gate_of cache ≡ Open) }
-{
-    let file = open_pages(device).map_err(|(fault, _)| fault)?;
-    let mut cache = PageCache::over(alloc, file, 8).map_err(|(fault, _)| fault)?;
-    cache.begin_change()?;
-    Ok(cache)
-}
-
-// Makes the change, with these objects where it fills.
-fn make_change<B: BlockDevice, A: Allocator + Copy>(
-    cache: &mut PageCache<B, A>,
-    change: Change,
-    objects: &Objects<Global>,
-) -> Result<(), Fault>
-    requires { gate_of cache.old ≡ Open }
-{
-    match change {
-        Change::Cut => put(cache, TABLE, 7, &BBox::<2>::default(), 5),
-        Change::Join => take::<2, _, _>(cache, TABLE, 100),
-        Change::Fill => fill(cache, TABLE, objects.as_slice()),
-        Change::FreeAll => free_all::<2, _, _>(cache, TABLE),
+// A cache of eight pages with an open gate over the file on a device, if it can be opened.
+fn open_cache<'a>(
+    alloc: &'a Refusing<Global>,
+    device: FuseDevice<MemoryDevice>,
+) -> Option<Frail<'a>> {
+    let Ok(file) = open_pages(device) else {
+        return None;
+    };
+    let Ok(mut cache) = PageCache::over(alloc, file, 8) else {
+        return None;
+    };
+    match cache.begin_change() {
+        Ok(()) => Some(cache),
+        Err(_) => None,
     }
 }
 
-// Whether the table has as many objects as before the change.
-fn is_as_it_was<B: BlockDevice, A: Allocator + Copy>(
+fn add_further<B: BlockDevice, A: Allocator + Copy>(
+    alloc: Global,
+    cache: &mut PageCache<B, A>,
+) -> Result<(), Fault> {
+    let objects = objects_of(alloc, FURTHER)?;
+    add_together(cache, objects.as_slice())
+}
+
+// Makes the change. The gate is open.
+fn make_change<B: BlockDevice, A: Allocator + Copy>(
     alloc: Global,
     cache: &mut PageCache<B, A>,
     change: Change,
-) -> Result<bool, Fault> {
-    let facts = check_table::<2, _, _, _>(alloc, cache, TABLE)?;
-    Ok(facts.pairs.len() == count_before(change) as usize)
+) -> Result<(), Fault> {
+    match change {
+        Change::Object(call, id) => change_object(cache, call, id, &BBox::<2>::default(), 5),
+        Change::Fill => add_further(alloc, cache),
+        Change::FreeAll => give_up(cache),
+    }
+}
+
+// What is refused.
+#[derive(Clone, Copy)]
+enum Refused {
+    // All growths from one on.
+    Growths,
+    // One call of the device.
+    Device,
 }
 
 // How many refusals of a change touched no page, and how many some.
@@ -145,101 +182,119 @@ struct Refusals {
     touched: u32,
 }
 
-impl Refusals {
-    // Counts a refusal, if it has this cause, and left the table as it was where it touched no page.
-    fn count<B: BlockDevice, A: Allocator + Copy>(
-        &mut self,
-        alloc: Global,
-        cache: &mut PageCache<B, A>,
-        change: Change,
-        is_of_cause: bool,
-    ) -> Result<bool, Fault> {
-        if cache.is_touched() {
-            self.touched = self.touched.wrapping_add(1);
-            return Ok(is_of_cause);
-        }
-        self.untouched = self.untouched.wrapping_add(1);
-        let is_as_it_was = is_as_it_was(alloc, cache, change)?;
-        Ok(is_as_it_was && is_of_cause)
+// Counts a refusal by whether a page was touched. Where none was, the table has to have as many objects as
+// before.
+fn count<B: BlockDevice, A: Allocator + Copy>(
+    alloc: Global,
+    refusals: &mut Refusals,
+    cache: &mut PageCache<B, A>,
+    before: usize,
+) -> Result<bool, Fault> {
+    if cache.is_touched() {
+        refusals.touched = refusals.touched.wrapping_add(1);
+        return Ok(true);
     }
+    refusals.untouched = refusals.untouched.wrapping_add(1);
+    let facts = check_table::<2, _, _, _>(alloc, cache, TABLE)?;
+    Ok(facts.pairs.len() == before)
 }
 
-// The refusals until the change is made, where all growths from the first on are refused, then all from the
-// second on, and so on; or `None` if one is not as it must be.
-fn refused_growths(alloc: Global, change: Change) -> Result<Option<Refusals>, Fault> {
+// What a change came to.
+enum End {
+    // The file could not be opened.
+    Unopened,
+    Made,
+    // It was refused as it must be.
+    Refused,
+    Wrong,
+}
+
+// Makes the change where what is refused is the growth or the call of that number.
+fn attempt(
+    alloc: Global,
+    refusals: &mut Refusals,
+    case: Case,
+    refused: Refused,
+    number: u32,
+) -> Result<End, Fault> {
+    let passes = match refused {
+        Refused::Growths => u64::MAX,
+        Refused::Device => u64::from(number),
+    };
+    let fuse = FuseDevice::new(device_for(alloc, case.steps)?, passes, FuseMode::Once);
     let heap = Refusing::new(alloc);
-    let objects = objects_from(alloc, 1, 1000)?;
-    let mut refusals = Refusals {
-        untouched: 0,
-        touched: 0,
+    let Some(mut cache) = open_cache(&heap, fuse) else {
+        return Ok(End::Unopened);
     };
-    for k in 0..MOST {
-        let mut cache = open_cache(&heap, device_for(alloc, change)?)?;
-        heap.refuse_from(k);
-        let answer = make_change(&mut cache, change, &objects);
-        let refused = heap.relent();
-        let Err(fault) = answer else {
-            return Ok(Some(refusals));
-        };
-        let is_of_cause = refused && fault == Fault::Memory;
-        if !refusals.count(alloc, &mut cache, change, is_of_cause)? {
-            return Ok(None);
-        }
+    if matches!(refused, Refused::Growths) {
+        heap.refuse_from(number);
     }
-    Ok(None)
+    let answer = make_change(alloc, &mut cache, case.change);
+    let was_refused = heap.relent();
+    end_of(
+        alloc,
+        refusals,
+        &mut cache,
+        case.objects,
+        (refused, was_refused),
+        answer,
+    )
 }
 
-// The same where one call of the device fails.
-fn failed_calls(alloc: Global, change: Change) -> Result<Option<Refusals>, Fault> {
-    let objects = objects_from(alloc, 1, 1000)?;
+// What that change came to, of a table of so many objects before, by what was to be refused and whether a
+// growth was.
+fn end_of<B: BlockDevice, A: Allocator + Copy>(
+    alloc: Global,
+    refusals: &mut Refusals,
+    cache: &mut PageCache<B, A>,
+    before: usize,
+    (refused, was_refused): (Refused, bool),
+    answer: Result<(), Fault>,
+) -> Result<End, Fault> {
+    let Err(fault) = answer else {
+        return Ok(End::Made);
+    };
+    let is_told = match refused {
+        Refused::Growths => was_refused && fault == Fault::Memory,
+        Refused::Device => fault == Fault::Device,
+    };
+    if is_told && count(alloc, refusals, cache, before)? {
+        return Ok(End::Refused);
+    }
+    Ok(End::Wrong)
+}
+
+// The refusals until the change is made, where the first growth or call is refused, then the second, and so
+// on; or `None` if one is not as it must be.
+fn refusals_of(alloc: Global, case: Case, refused: Refused) -> Result<Option<Refusals>, Fault> {
     let mut refusals = Refusals {
         untouched: 0,
         touched: 0,
     };
-    for passes in 0..MOST {
-        let device = device_for(alloc, change)?;
-        let fuse = FuseDevice::new(device, u64::from(passes), FuseMode::Once);
-        let Ok(mut cache) = open_cache(alloc, fuse) else {
-            continue;
-        };
-        let Err(fault) = make_change(&mut cache, change, &objects) else {
-            return Ok(Some(refusals));
-        };
-        if !refusals.count(alloc, &mut cache, change, fault == Fault::Device)? {
-            return Ok(None);
+    for number in 0..MOST {
+        match attempt(alloc, &mut refusals, case, refused, number)? {
+            End::Unopened | End::Refused => {}
+            End::Made => return Ok(Some(refusals)),
+            End::Wrong => return Ok(None),
         }
     }
     Ok(None)
 }
 
 #[test]
-fn refused_growths_are_told(rt: HostRuntime) -> Result<(), Fail> {
-    for change in [Change::Cut, Change::Join, Change::Fill, Change::FreeAll] {
-        let Some(refusals) = refused_growths(rt.alloc(), change)? else {
-            return Err(Fail::from("a refusal is not as it must be"));
-        };
-        let Refusals { untouched, touched } = refusals;
-        assert!(rt; untouched > 0, "{change:?}");
-        assert!(rt;
-            touched > 0 || matches!(change, Change::Join | Change::FreeAll),
-            "{change:?}"
-        );
-    }
-    Ok(())
-}
-
-#[test]
-fn failed_calls_are_told(rt: HostRuntime) -> Result<(), Fail> {
-    for change in [Change::Cut, Change::Join, Change::Fill, Change::FreeAll] {
-        let Some(refusals) = failed_calls(rt.alloc(), change)? else {
-            return Err(Fail::from("a refusal is not as it must be"));
-        };
-        let Refusals { untouched, touched } = refusals;
-        assert!(rt; untouched > 0, "{change:?}");
-        assert!(rt;
-            touched > 0 || !matches!(change, Change::Fill),
-            "{change:?}"
-        );
+fn refusals_are_told(rt: HostRuntime) -> Result<(), Fail> {
+    for case in CASES {
+        for (refused, touch) in [
+            (Refused::Growths, case.growths_touch),
+            (Refused::Device, case.calls_touch),
+        ] {
+            let Some(refusals) = refusals_of(rt.alloc(), case, refused)? else {
+                return Err(Fail::new(case.what));
+            };
+            let Refusals { untouched, touched } = refusals;
+            let enough = untouched > 0 && (touched > 0 || !touch);
+            assert!(rt; enough, "{}: {untouched} {touched}", case.what);
+        }
     }
     Ok(())
 }
