@@ -21,6 +21,17 @@ pub enum Call {
     Remove,
 }
 
+/// Where an object is or would come, and what the table keeps of it.
+pub fn look<const D: usize, B: BlockDevice, A: Allocator + Copy>(
+    cache: &mut PageCache<B, A>,
+    id: u64,
+) -> Result<(LeafPlace, Option<(BBox<D>, u32)>), Fault>
+    requires { IsDims D }
+{
+    let sought = find::<D, B, A>(cache, TABLE, id)?;
+    Ok((sought.at, sought.kept))
+}
+
 /// Changes an object in the place that a search finds.
 pub fn change<const D: usize, B: BlockDevice, A: Allocator + Copy>(
     cache: &mut PageCache<B, A>,

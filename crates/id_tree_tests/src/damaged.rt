@@ -1,12 +1,12 @@
 //! Trees that are checked: one that stands, each damage that leaves none, and calls that survive it.
 
-use crate::changes::{Call, TABLE, add_together, change_at, give_up};
+use crate::changes::{Call, TABLE, add_together, change_at, give_up, look};
 use Change::{Head, Id, Nothing, OutsideIn};
 use Page::{Fork, FullOf, Leaf, Second, Zeros};
 use block_bytes::{write_head, write_i32, write_u8, write_u32, write_u64};
 use block_device::MemoryDevice;
 use box_math::BBox;
-use id_tree::{LeafPlace, check_table, find};
+use id_tree::{LeafPlace, check_table};
 use page_file::Fault;
 use std::alloc::Global;
 use std::test::Fail;
@@ -257,7 +257,8 @@ fn change_one(cache: &mut Cache, call: Call, at: LeafPlace) -> Result<LeafPlace,
 }
 
 fn place_of(cache: &mut Cache) -> Result<LeafPlace, Fault> {
-    Ok(find::<2, _, _>(cache, TABLE, ID)?.at)
+    let (at, _) = look::<2, _, _>(cache, ID)?;
+    Ok(at)
 }
 
 fn add_two(cache: &mut Cache) -> Result<LeafPlace, Fault> {

@@ -17,6 +17,9 @@ use test_caches::bare;
 // Many times as many growths, and calls of the device, as a change makes.
 const MOST: u32 = 1000;
 
+// More calls of the device than there are.
+const NEVER: u32 = u32::MAX;
+
 // A cache whose growths and whose device's calls may be refused.
 type Frail<'a> = PageCache<FuseDevice<MemoryDevice>, &'a Refusing<Global>>;
 
@@ -218,10 +221,11 @@ fn attempt(
     number: u32,
 ) -> Result<End, Fault> {
     let passes = match refused {
-        Refused::Growths => u64::MAX,
-        Refused::Device => u64::from(number),
+        Refused::Growths => NEVER,
+        Refused::Device => number,
     };
-    let fuse = FuseDevice::new(device_for(alloc, case.steps)?, passes, FuseMode::Once);
+    let device = device_for(alloc, case.steps)?;
+    let fuse = FuseDevice::new(device, u64::from(passes), FuseMode::Once);
     let heap = Refusing::new(alloc);
     let Some(mut cache) = open_cache(&heap, fuse) else {
         return Ok(End::Unopened);

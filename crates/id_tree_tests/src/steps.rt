@@ -1,6 +1,6 @@
 //! Calls of a table of two axes as data: steps, each of which ends as it should or not, and what plays them.
 
-use crate::changes::{Call, TABLE, add_together, change, change_at};
+use crate::changes::{self, Call, TABLE, add_together, change, change_at};
 use box_math::BBox;
 use id_tree::{LeafPlace, check_table, find, make};
 use page_file::Fault;
@@ -124,7 +124,7 @@ fn look(cache: &mut Cache, run: Run, there: bool) -> Answer {
 }
 
 fn note(cache: &mut Cache, places: &mut [LeafPlace; 2], which: usize, id: u64) -> Answer {
-    let at = find::<2, _, _>(cache, TABLE, id)?.at;
+    let (at, _) = changes::look::<2, _, _>(cache, id)?;
     match places.get_mut(which) {
         Some(place) => *place = at,
         None => return Ok(false),
