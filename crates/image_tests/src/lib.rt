@@ -1,18 +1,9 @@
-//! Tests of what a store leaves in its file and finds in one: files byte by byte, stops, and files with
-//! damage.
+//! Tests of what a store leaves in its file where it is stopped, of how many blocks a refused command writes, and
+//! of what is asked of a cache. Files byte by byte and files with damage are tried by the program (tests/images.py,
+//! tests/damaged.py).
 #![tactic(auto)]
 
 #[cfg(test)]
-mod blocks;
-#[cfg(test)]
-mod files;
-#[cfg(test)]
-mod fuzz;
-#[cfg(test)]
-mod hostile;
-#[cfg(test)]
-mod language;
-#[cfg(test)]
-mod old_files;
+mod refused;
 #[cfg(test)]
 mod stops;
