@@ -13,8 +13,6 @@ import pty
 import shutil
 import socket
 import struct
-import subprocess
-import tempfile
 import tty
 
 from runs import FIRST, NO_JOURNAL, NOT_A_STORE, UNCLOSED, Runs, main
