@@ -8,7 +8,7 @@ ghost use Rattle.page_cache.specs.Cache.{Grows, IsPageMap, gate_of, pages};
 ghost use Rattle.page_cache.specs.Calls.{Changes};
 ghost use Rattle.tree_node.specs.Boxes.{least_box};
 ghost use Rattle.tree_node.specs.Nodes.{items_of};
-ghost use Rattle.node_page.specs.Layout.{IsOfLevel, IsSpellable};
+ghost use Rattle.node_bytes.specs.Layout.{IsOfLevel, IsSpellable};
 ghost use Rattle.node_page.specs.Standing.{node_in};
 ghost use Rattle.node_page.specs.Faults.{IsNoDamage};
 

@@ -11,7 +11,7 @@ ghost use Rattle.page_cache.specs.Calls.{Changes};
 ghost use Rattle.tree_node.specs.Nodes.{items_of};
 ghost use Rattle.tree_node.specs.Positions.{total};
 ghost use Rattle.tree_node.specs.Trees.{Branch};
-ghost use Rattle.node_page.specs.Layout.{IsOfLevel};
+ghost use Rattle.node_bytes.specs.Layout.{IsOfLevel};
 ghost use Rattle.node_page.specs.Faults.{IsNoDamage};
 ghost use Rattle.bulk_load.specs.Levels.{AreSizes, LevelPacked, LevelWritten, PackedAt, WaitFor};
 ghost use Rattle.bulk_load.specs.Loads.{Loads};

@@ -3,7 +3,7 @@
 ghost use Rattle.std.specs.Prelude.{◌≡◌, ℕ, ◌<◌, ◌≤◌, All, length};
 ghost use Rattle.box_math.specs.Bounds.{IsBox, IsDims};
 ghost use Rattle.choose_subtree.specs.Choice.{area_key, overlap_key, IsChosenChild};
-ghost use Rattle.node_page.specs.Views.{content_in};
+ghost use Rattle.node_bytes.specs.Views.{content_in};
 ghost use Rattle.tree_node.specs.Keys.{IsFirstLeast};
 
 use crate::holder::least_holder;

@@ -3,7 +3,7 @@
 ghost use Rattle.std.specs.Prelude.{◌≡◌, ℕ, ◌<◌, ◌≤◌, false, length, true};
 ghost use Rattle.box_math.specs.Bounds.{IsBox};
 ghost use Rattle.box_math.specs.Masks.{has_bit};
-ghost use Rattle.node_page.specs.Views.{content_in};
+ghost use Rattle.node_bytes.specs.Views.{content_in};
 ghost use Rattle.tree_node.specs.Boxes.{box_at};
 
 use box_math::BBox;

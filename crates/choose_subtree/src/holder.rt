@@ -3,7 +3,7 @@
 ghost use Rattle.std.specs.Prelude.{◌≡◌, ◌⊎◌, ◌<◌, ◌≤◌, ℕ, All, IfNone, IfSome, IsTrue, length};
 ghost use Rattle.box_math.specs.Bounds.{IsBox, IsDims, Within};
 ghost use Rattle.choose_subtree.specs.Choice.{IsChosenChild, growth_of};
-ghost use Rattle.node_page.specs.Views.{content_in};
+ghost use Rattle.node_bytes.specs.Views.{content_in};
 ghost use Rattle.tree_node.specs.Boxes.{box_at};
 
 use crate::entries::{box_in, next_of};

@@ -5,7 +5,7 @@ ghost use Rattle.std.specs.Prelude.{◌≡◌, ℕ, ◌+◌, ◌^◌, ◌<◌, �
 ghost use Rattle.box_math.specs.Bounds.{IsDims, IsBox, Within};
 ghost use Rattle.box_math.specs.Measures.{overlap_of};
 ghost use Rattle.choose_subtree.specs.Choice.{overlap_growth};
-ghost use Rattle.node_page.specs.Views.{content_in};
+ghost use Rattle.node_bytes.specs.Views.{content_in};
 
 use crate::entries::{box_in, next_of};
 use box_math::BBox;

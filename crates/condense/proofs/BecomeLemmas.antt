@@ -7,7 +7,7 @@ use Rattle.tree_node.specs.Nodes.{Item, NodeContent, content_of, item_of}
 use Rattle.tree_node.specs.Shape.{least_entries}
 use Rattle.tree_node.specs.declared.node.Node.{Node}
 use Rattle.tree_node.specs.declared.node.Root.{Root}
-use Rattle.node_page.specs.Enlarged.{set_box}
+use Rattle.node_bytes.specs.Enlarged.{set_box}
 use Rattle.node_page.specs.Standing.{PageMap, node_in}
 use Rattle.condense.specs.Becoming.{IfFew, IsFewInHand, IsNow, IsSettledAs, IsWrittenWith, is_written}
 use Rattle.condense.specs.Taken.{IsCut}

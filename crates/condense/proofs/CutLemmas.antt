@@ -12,7 +12,7 @@ use Rattle.tree_node.specs.Rows.{branches_of, occurs_on, row_of}
 use Rattle.tree_node.specs.Shape.{least_entries}
 use Rattle.tree_node.specs.Trees.{Row, end, more, Branch, object, child, occurs, row_items, row_length}
 use Rattle.tree_node.proofs.RowLemmas.{occurs-branches_of}
-use Rattle.node_page.specs.Layout.{IsOfLevel, IsSpellable}
+use Rattle.node_bytes.specs.Layout.{IsOfLevel, IsSpellable}
 use Rattle.node_page.specs.Standing.{PageMap, RowStands}
 use Rattle.reinsert.specs.Children.{Child, child_at, occurs_at}
 use Rattle.condense.specs.Taken.{IsCut, items_without}

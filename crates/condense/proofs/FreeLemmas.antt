@@ -19,7 +19,7 @@ use Rattle.tree_node.specs.Positions.{total}
 use Rattle.tree_node.specs.Rows.{branches_of, item_in, occurs_on}
 use Rattle.tree_node.specs.Trees.{Tree, Row, end, more, object, child, row_items, occurs, occurs_in}
 use Rattle.tree_node.proofs.RowLemmas.{items-branches_of, occurs-branches_of, occurs_here, same_tree}
-use Rattle.node_page.specs.Layout.{IsOfLevel}
+use Rattle.node_bytes.specs.Layout.{IsOfLevel}
 use Rattle.node_page.specs.Parts.{Moves, no_page}
 use Rattle.node_page.specs.Standing.{PageMap, HasNode, node_in, RowStands, Stands}
 use Rattle.node_page.proofs.PartLemmas.{moves_in_turn, moves_same, none_or_some, one_page_moves}

@@ -10,7 +10,7 @@ use Rattle.box_math.specs.Masks.{has_bit}
 use Rattle.box_math.proofs.BoxLaws.{Within-refl}
 use Rattle.tree_node.specs.Boxes.{no_item}
 use Rattle.tree_node.specs.Nodes.{Item, NodeContent}
-use Rattle.node_page.specs.Layout.{IsOfLevel, IsSpellable}
+use Rattle.node_bytes.specs.Layout.{IsOfLevel, IsSpellable}
 use Rattle.choose_subtree.proofs.MaskLaws.{unset_holds_not}
 
 -- an entry whose bit is not set is not the object's

@@ -24,7 +24,7 @@ use Rattle.node_page.specs.Standing.{PageMap, HasNode, RowStands, Stands, node_i
 use Rattle.node_page.proofs.PartLemmas.{moves_in_turn, moves_same}
 use Rattle.node_page.proofs.StandingLemmas.{below_there, page_of_node, row_stays}
 use Rattle.reinsert.specs.Children.{Child, child_at, occurs_at, with_child}
-use Rattle.node_page.specs.Enlarged.{set_box}
+use Rattle.node_bytes.specs.Enlarged.{set_box}
 use Rattle.reinsert.specs.Placed.{Held, held_in, held_with}
 use Rattle.reinsert.specs.Placing.{waiting_on}
 use Rattle.reinsert.proofs.ChildLemmas.{HasChild, RowStands-with_child, has_child, items-with_child}

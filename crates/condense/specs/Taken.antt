@@ -9,7 +9,7 @@ use Rattle.tree_node.specs.Nodes.{Item, NodeContent, item_of}
 use Rattle.tree_node.specs.Rows.{occurs_waiting}
 use Rattle.tree_node.specs.Trees.{Row, end, more, object, child, Tree, occurs, row_items}
 use Rattle.node_page.specs.Changes.{AllWait}
-use Rattle.node_page.specs.Layout.{IsOfLevel}
+use Rattle.node_bytes.specs.Layout.{IsOfLevel}
 use Rattle.node_page.specs.Parts.{Moves}
 use Rattle.node_page.specs.Standing.{PageMap, RowStands, Stands}
 use Rattle.reinsert.specs.Children.{Child, child_at}

@@ -3,7 +3,7 @@
 ghost use Rattle.std.specs.Prelude.{◌≡◌, ◌-◌, ◌^◌, ◌<◌, ◌≤◌, slice_index_or, map};
 ghost use Rattle.arrayvec.specs.ArrayVec.{array_vec_len};
 ghost use Rattle.tree_node.specs.Nodes.{Item, content_of, item_of};
-ghost use Rattle.node_page.specs.Layout.{IsSpellable};
+ghost use Rattle.node_bytes.specs.Layout.{IsSpellable};
 
 use tree_node::{Node, Root};
 

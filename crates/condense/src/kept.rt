@@ -1,7 +1,7 @@
 //! The entries that a removal keeps to insert them again: their types, and what their fields keep.
 
 ghost use Rattle.std.specs.Prelude.{All};
-ghost use Rattle.node_page.specs.Layout.{IsOfLevel};
+ghost use Rattle.node_bytes.specs.Layout.{IsOfLevel};
 
 mod list;
 

@@ -5,7 +5,7 @@ ghost use Rattle.box_math.specs.Bounds.{IsDims};
 ghost use Rattle.page_file.specs.declared.gate.Gate.TheVariants.{Open};
 ghost use Rattle.page_cache.specs.Cache.{gate_of};
 ghost use Rattle.tree_node.specs.Nodes.{Item};
-ghost use Rattle.node_page.specs.Views.{content_in};
+ghost use Rattle.node_bytes.specs.Views.{content_in};
 ghost use Rattle.condense.specs.Steps.{FindsHere, TakesOutBelow};
 ghost use Rattle.condense.specs.declared.kept.Kept.{Kept};
 

@@ -3,7 +3,7 @@
 ghost use Rattle.std.specs.Prelude.{◌<◌, ◌≤◌, ℕ, length};
 ghost use Rattle.box_math.specs.Bounds.{IsDims, Within};
 ghost use Rattle.tree_node.specs.Boxes.{box_at};
-ghost use Rattle.node_page.specs.Views.{content_in};
+ghost use Rattle.node_bytes.specs.Views.{content_in};
 ghost use Rattle.condense.specs.Steps.{FindsNext};
 
 use crate::hand::Next;

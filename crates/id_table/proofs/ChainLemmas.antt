@@ -8,7 +8,7 @@ use Rattle.block_bytes.specs.Kinds.{directory_kind}
 use Rattle.bucket_page.specs.Layout.{BucketContent, Entry}
 use Rattle.bucket_page.proofs.Reading.{spells}
 use Rattle.page_file.specs.Layout.{kind_of}
-use Rattle.node_page.specs.Layout.{IsNodeKind}
+use Rattle.node_bytes.specs.Layout.{IsNodeKind}
 use Rattle.node_page.specs.Standing.{PageMap}
 use Rattle.id_words.specs.Objects.{times_in}
 use Rattle.id_words.proofs.ObjectLemmas.{none_times, not_there, occurs_here, times-append}

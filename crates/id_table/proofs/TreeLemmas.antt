@@ -3,7 +3,7 @@ use Rattle.std.proofs.Common.{◌≡◌, ◌∙◌, ℕ, ◌-◌, ◌<◌, Optio
 use Rattle.std.proofs.Common.{sym, ap, subst, ⊎_elim, inl, inr, arith}
 use Rattle.std.proofs.lemmas.Bool.{cases_eq}
 use Rattle.bucket_page.specs.Layout.{Entry}
-use Rattle.node_page.specs.Layout.{IsNodeKind}
+use Rattle.node_bytes.specs.Layout.{IsNodeKind}
 use Rattle.node_page.specs.Standing.{PageMap}
 use Rattle.id_page.specs.Fork.{ForkContent, Link}
 use Rattle.id_page.proofs.ForkReading.{fork_spells}

@@ -29,11 +29,11 @@ use Rattle.tree_node.specs.declared.node.Root.{Root}
 use Rattle.tree_node.proofs.PositionLemmas.{total-append}
 use Rattle.tree_node.proofs.RowLemmas.{occurs_here}
 use Rattle.node_page.specs.Checked.{IsCheckedTree, named_pages}
-use Rattle.node_page.specs.Layout.{IsNodeKind}
+use Rattle.node_bytes.specs.Layout.{IsNodeKind}
 use Rattle.node_page.specs.Standing.{PageMap, Stands, node_in}
 use Rattle.node_page.proofs.GivenLemmas.{live_tree_is_given, tree_carried}
 use Rattle.node_page.proofs.PartLemmas.{none_or_some}
-use Rattle.node_page.proofs.Reading.{spells as node_spells}
+use Rattle.node_bytes.proofs.Reading.{spells as node_spells}
 use Rattle.node_page.proofs.StandingLemmas.{one_tree_stands, pages_are_there}
 use Rattle.id_table.specs.Checked.{ComesInTable, IsCheckedTable}
 use Rattle.id_words.specs.Objects.{kept_in, times_in}

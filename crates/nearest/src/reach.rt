@@ -6,7 +6,7 @@ ghost use Rattle.box_math.specs.Bounds.{Bounds, IsBox, meets_test};
 ghost use Rattle.box_math.specs.Masks.{has_bit};
 ghost use Rattle.box_math.specs.Measures.{point_dist2_of};
 ghost use Rattle.tree_node.specs.Nodes.{Item};
-ghost use Rattle.node_page.specs.Views.{content_in};
+ghost use Rattle.node_bytes.specs.Views.{content_in};
 ghost use Rattle.nearest.specs.Candidates.{Past};
 
 use crate::best::Best;

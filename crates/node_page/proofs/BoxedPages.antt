@@ -7,11 +7,11 @@ use Rattle.page_cache.specs.Laws.{a_live_page_is_given}
 use Rattle.page_cache.specs.PageSteps.{Edits}
 use Rattle.page_cache.specs.declared.cache.PageCache.{PageCache}
 use Rattle.tree_node.specs.Nodes.{NodeContent}
-use Rattle.node_page.specs.Enlarged.{IsBoxed, with_box_at}
-use Rattle.node_page.specs.Layout.{IsTidy}
+use Rattle.node_bytes.specs.Enlarged.{IsBoxed, with_box_at}
+use Rattle.node_bytes.specs.Layout.{IsTidy}
 use Rattle.node_page.specs.Standing.{HasPageOf, IsTidyAt, node_in}
 use Rattle.node_page.proofs.NodeLemmas.{bytes_of_node, node_of_page}
-use Rattle.node_page.proofs.TidyLemmas.{Left, at_page}
+use Rattle.node_bytes.proofs.TidyLemmas.{Left, at_page}
 
 module _ {D A : Type 0} {m : _} {T : Type 0} (dims place n : ℕ) (b : Bounds) (old mid new : PageCache D A m)
     (x : T) (stays : pages mid n ≡ pages old n) (honest : IsHonest mid)

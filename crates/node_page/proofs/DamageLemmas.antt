@@ -10,7 +10,7 @@ use Rattle.tree_node.specs.Nodes.{Item, NodeContent, references_of}
 use Rattle.node_page.specs.Checked.{ComesBelow, ComesTo, ComesToNone, Leads, Names}
 use Rattle.node_page.specs.Standing.{PageMap, node_in}
 use Rattle.node_page.proofs.NodeLemmas.{bytes_of_node}
-use Rattle.node_page.proofs.Reading.{spellable, spells}
+use Rattle.node_bytes.proofs.Reading.{spellable, spells}
 
 -- the only page that a fault can name
 pub damaged_visit : (f : Fault) (page n : ℕ) → (f ≡ fault.Memory) ⊎ (f ≡ fault.Damaged page)

@@ -8,9 +8,9 @@ use Rattle.page_file.specs.Given.{given_is}
 use Rattle.page_file.specs.Layout.{kind_of}
 use Rattle.tree_node.specs.Nodes.{NodeContent}
 use Rattle.tree_node.specs.Trees.{Row, Tree, end, more, object, child}
-use Rattle.node_page.specs.Layout.{node_at}
+use Rattle.node_bytes.specs.Layout.{node_at}
 use Rattle.node_page.specs.Standing.{PageMap, RowStands, Stands, StandsAt, node_in}
-use Rattle.node_page.proofs.Reading.{spells}
+use Rattle.node_bytes.proofs.Reading.{spells}
 
 -- nodes of one map are nodes of the other
 module _ (dims : ℕ) (old new : PageMap)

@@ -11,7 +11,7 @@ use Rattle.page_cache.specs.Calls.{AsksUntil, asks_in_turn}
 use Rattle.page_cache.specs.declared.cache.PageCache.{PageCache}
 use Rattle.tree_node.specs.declared.node.Entry.{Entry}
 use Rattle.tree_node.specs.Nodes.{NodeContent, Item, item_of, references_of}
-use Rattle.node_page.specs.Layout.{IsOfLevel}
+use Rattle.node_bytes.specs.Layout.{IsOfLevel}
 use Rattle.tree_node.specs.Searches.{counted, passing}
 use Rattle.tree_node.specs.Trees.{Row, end, more, object, child, ids_in, leaf_ids, row_items}
 use Rattle.node_page.specs.Standing.{PageMap, RowStands, StandsAt, node_in}

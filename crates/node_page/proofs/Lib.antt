@@ -1,20 +1,5 @@
 -- The files of lemmas.
-pub mod Places
 pub mod ReadLemmas
-pub mod Reading
-pub mod HeadWritten
-pub mod Writing
-pub mod Editing
-pub mod Named
-pub mod OnePage
-pub mod TidyLemmas
-pub mod BoxedLemmas
-pub mod ClosedLemmas
-pub mod ClosedEntries
-pub mod TakenLemmas
-pub mod BesideLemmas
-pub mod ColumnLemmas
-pub mod Examples
 pub mod StandingLemmas
 pub mod StandingBoxes
 pub mod RootedLemmas
@@ -24,12 +9,9 @@ pub mod StandingExamples
 pub mod NodeLemmas
 pub mod BoxedPages
 pub mod LeafLemmas
-pub mod MaskLemmas
-pub mod LeastLemmas
 pub mod RowEnds
 pub mod GivenLemmas
 pub mod VisitLemmas
-pub mod BoxTests
 pub mod CheckLemmas
 pub mod CountLemmas
 pub mod DamageLemmas

@@ -9,7 +9,7 @@ use Rattle.page_file.specs.Fault.{IsOfDevice}
 use Rattle.page_file.specs.declared.fault.Fault.{Fault}
 use Rattle.page_file.specs.declared.fault.Fault.TheVariants as fault
 use Rattle.tree_node.specs.Nodes.{NodeContent, Item, content_of, item_of}
-use Rattle.node_page.specs.Layout.{IsOfLevel, IsSpellable, node_at}
+use Rattle.node_bytes.specs.Layout.{IsOfLevel, IsSpellable, node_at}
 use Rattle.node_page.specs.Standing.{node_in}
 use Rattle.tree_node.specs.declared.node.Node.{Node}
 

@@ -10,7 +10,7 @@ use Rattle.tree_node.specs.Trees.{Row, end, more, object, child, Tree, row_items
 use Rattle.tree_node.specs.declared.node.Root.{Root}
 use Rattle.node_page.specs.Rooted.{IsTreeAt}
 use Rattle.node_page.specs.Standing.{PageMap, RowStands, StandsAt, node_in}
-use Rattle.node_page.proofs.Reading.{item_of_node, size_of, spells}
+use Rattle.node_bytes.proofs.Reading.{item_of_node, size_of, spells}
 
 -- a tree at a root stands there
 pub tree_at : (dims most : ℕ) (m : PageMap) (root : Root) (t : Tree) → IsTreeAt dims most m root t

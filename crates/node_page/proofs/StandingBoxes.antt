@@ -10,12 +10,12 @@ use Rattle.box_math.specs.Objects.{bounds_of, tag_of}
 use Rattle.tree_node.specs.Boxes.{RowHasBoxes}
 use Rattle.tree_node.specs.Nodes.{Item}
 use Rattle.tree_node.specs.Trees.{Row, end, more, object, child, occurs, row_items}
-use Rattle.node_page.specs.Layout.{IsOfLevel, IsSpellable}
+use Rattle.node_bytes.specs.Layout.{IsOfLevel, IsSpellable}
 use Rattle.node_page.specs.Standing.{PageMap, HasNode, RowStands, node_in}
 use Rattle.node_page.specs.StandingLaws.{BoxesAreBoxes, ChildPagesAreReferences}
-use Rattle.node_page.proofs.Named.{spells_nodes}
+use Rattle.node_bytes.proofs.Named.{spells_nodes}
 use Rattle.node_page.proofs.PartLemmas.{none_or_some}
-use Rattle.node_page.proofs.Reading.{spellable, spells}
+use Rattle.node_bytes.proofs.Reading.{spellable, spells}
 
 node_boxes : (dims : ℕ) (pages : PageMap) (page level : ℕ) (row : Row)
     → ((n : ℕ) (bytes : List ℕ) → pages n ≡ Some bytes → AreBytes bytes) → HasNode dims pages page level row

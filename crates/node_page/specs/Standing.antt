@@ -2,7 +2,7 @@
 use Rattle.std.specs.Prelude.{◌≡◌, ℕ, ◌-◌, ◌<◌, ◌≤◌, List, Option, Some, None, IsSomeAnd, ⊤}
 use Rattle.tree_node.specs.Nodes.{NodeContent}
 use Rattle.tree_node.specs.Trees.{Row, end, more, object, child, Tree, occurs_in, row_items}
-use Rattle.node_page.specs.Layout.{IsPageOfNode, IsTidy, node_at}
+use Rattle.node_bytes.specs.Layout.{IsPageOfNode, IsTidy, node_at}
 
 -- the bytes of each page that is there
 abbrev pub PageMap : Type 0

@@ -12,7 +12,7 @@ ghost use Rattle.tree_node.specs.Nodes.{content_of};
 ghost use Rattle.tree_node.specs.Shape.{HasShape, RowHasShape, least_entries};
 ghost use Rattle.tree_node.specs.Trees.{Row, Tree, occurs, row_items};
 ghost use Rattle.node_page.specs.Checked.{AddsTree, ComesBelow, ComesTo, IsCheckedTree, pairs_of};
-ghost use Rattle.node_page.specs.Layout.{IsSpellable};
+ghost use Rattle.node_bytes.specs.Layout.{IsSpellable};
 ghost use Rattle.node_page.specs.Standing.{RowStands, Stands};
 ghost use Rattle.node_page.specs.Visits.{times_in};
 

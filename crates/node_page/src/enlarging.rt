@@ -13,10 +13,10 @@ ghost use Rattle.page_cache.specs.Calls.{Asks, AsksUntil, Changes};
 ghost use Rattle.page_cache.specs.PageSteps.{Edits};
 ghost use Rattle.tree_node.specs.Boxes.{least_box};
 ghost use Rattle.tree_node.specs.Nodes.{NodeContent};
-ghost use Rattle.node_page.specs.Enlarged.{CanEnlarge, IsBoxed, set_box, with_box_at};
+ghost use Rattle.node_bytes.specs.Enlarged.{CanEnlarge, IsBoxed, set_box, with_box_at};
 ghost use Rattle.node_page.specs.Standing.{HasPageOf, IsTidyAt, node_in};
 
-use crate::edits::write_box_at;
+use node_bytes::write_box_at;
 use crate::lending::view_node;
 use block_device::BlockDevice;
 use box_math::BBox;

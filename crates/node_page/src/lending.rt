@@ -7,12 +7,12 @@ ghost use Rattle.page_file.specs.Fault.{IsDamage, IsOfDevice};
 ghost use Rattle.page_file.specs.declared.fault.Fault.TheVariants as fault;
 ghost use Rattle.page_cache.specs.Cache.{IsHeld, IsHonest, IsLive, given, next_of, pages};
 ghost use Rattle.tree_node.specs.Nodes.{NodeContent};
-ghost use Rattle.node_page.specs.Layout.{IsSpellable};
+ghost use Rattle.node_bytes.specs.Layout.{IsSpellable};
 ghost use Rattle.node_page.specs.Loan.{EndsReadAt};
 ghost use Rattle.node_page.specs.Standing.{node_in};
-ghost use Rattle.node_page.specs.Views.{content_in};
+ghost use Rattle.node_bytes.specs.Views.{content_in};
 
-use crate::view::NodeView;
+use node_bytes::NodeView;
 use block_device::BlockDevice;
 use page_cache::PageCache;
 use page_file::Fault;

@@ -4,21 +4,12 @@
 
 mod adding;
 mod check;
-mod closing;
-mod columns;
-mod edits;
 mod enlarging;
-mod entries;
-mod head;
 pub mod laws;
 mod leaves;
 mod lending;
-mod masks;
 mod nodes;
-mod page;
-mod tags;
 mod taking;
-mod view;
 mod visits;
 
 pub use adding::add_entry;
@@ -26,10 +17,8 @@ pub use check::{TreeFacts, check_tree};
 pub use enlarging::{enlarge_entry, set_entry_box};
 pub use leaves::leaf_lists;
 pub use lending::view_node;
-pub use masks::next_set;
+pub use node_bytes::{NodeView, decode, decode_into, encode, next_set};
 pub use nodes::{read_into, read_node, write_node};
-pub use page::{decode, decode_into, encode};
 pub use taking::take_entry;
 pub use tree_node::{Entry, Node, Root};
-pub use view::NodeView;
 pub use visits::Visits;

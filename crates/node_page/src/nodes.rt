@@ -11,10 +11,10 @@ ghost use Rattle.page_cache.specs.Cache.{Grows, IsHeld, IsHonest, IsLive, IsPage
 ghost use Rattle.page_cache.specs.Cache.{device_of, gate_of, given, looks_of, next_of, pages};
 ghost use Rattle.page_cache.specs.Calls.{Asks, Changes};
 ghost use Rattle.tree_node.specs.Nodes.{NodeContent, content_of};
-ghost use Rattle.node_page.specs.Layout.{IsPageOfNode, IsSpellable, node_at};
+ghost use Rattle.node_bytes.specs.Layout.{IsPageOfNode, IsSpellable, node_at};
 ghost use Rattle.node_page.specs.Standing.{HasPageOf, node_in};
 
-use crate::page::{decode, decode_into, encode};
+use node_bytes::{decode, decode_into, encode};
 use block_device::BlockDevice;
 use page_cache::PageCache;
 use page_file::Fault;

@@ -12,11 +12,11 @@ ghost use Rattle.page_cache.specs.Cache.{pages};
 ghost use Rattle.page_cache.specs.Calls.{Asks, AsksUntil, Changes};
 ghost use Rattle.tree_node.specs.Boxes.{least_box};
 ghost use Rattle.tree_node.specs.Nodes.{NodeContent};
-ghost use Rattle.node_page.specs.Layout.{IsPageOfNode, IsTidy, node_at};
+ghost use Rattle.node_bytes.specs.Layout.{IsPageOfNode, IsTidy, node_at};
 ghost use Rattle.node_page.specs.Standing.{HasPageOf, IsTidyAt, node_in};
-ghost use Rattle.node_page.specs.Taken.{without_entry};
+ghost use Rattle.node_bytes.specs.Taken.{without_entry};
 
-use crate::edits::drop_where_there;
+use node_bytes::drop_where_there;
 use crate::lending::view_node;
 use block_device::BlockDevice;
 use box_math::BBox;

@@ -10,10 +10,10 @@ use Rattle.box_math.specs.Bounds.{Bounds}
 use Rattle.tree_node.specs.Boxes.{box_at}
 use Rattle.tree_node.specs.declared.node.Entry.{Entry}
 use Rattle.tree_node.specs.Nodes.{Item, item_of}
-use Rattle.node_page.specs.Layout.{IsOfLevel}
+use Rattle.node_bytes.specs.Layout.{IsOfLevel}
 use Rattle.reinsert.specs.declared.settled.Settled.{Settled}
-use Rattle.node_page.proofs.BoxedLemmas.{length-set_box}
-use Rattle.node_page.specs.Enlarged.{set_box}
+use Rattle.node_bytes.proofs.BoxedLemmas.{length-set_box}
+use Rattle.node_bytes.specs.Enlarged.{set_box}
 use Rattle.reinsert.specs.Placed.{items_after, items_beside}
 use Rattle.reinsert.specs.Steps.{HasLower}
 use Rattle.reinsert.proofs.WaitLemmas.{All-one}

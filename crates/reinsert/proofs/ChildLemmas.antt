@@ -9,7 +9,7 @@ use Rattle.tree_node.proofs.RowLemmas.{occurs_here}
 use Rattle.node_page.specs.Standing.{PageMap, HasNode, RowStands}
 use Rattle.node_page.proofs.StandingLemmas.{row_stays, node_stays}
 use Rattle.reinsert.specs.Children.{Child, child_at, with_child, occurs_at}
-use Rattle.node_page.specs.Enlarged.{set_box}
+use Rattle.node_bytes.specs.Enlarged.{set_box}
 
 pub record HasChild (dims : ℕ) (m : PageMap) (level : ℕ) (row : Row) (at : ℕ) : Type 0 where
   pub from : Child

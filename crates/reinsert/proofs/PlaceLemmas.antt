@@ -34,7 +34,7 @@ use Rattle.reinsert.specs.Placing.{Outcome, Settles, Places, beside_branches, af
 use Rattle.reinsert.specs.Steps.{SettlesThere}
 use Rattle.reinsert.specs.Placed.{held_of, held_in, BesideStands, occurs_beside, occurs_after, HasFewEntries}
 use Rattle.reinsert.specs.Placed.{CanSettle, SettlesTo, Shows, CanPlace, PlacesTo, items_after, items_beside}
-use Rattle.node_page.specs.Enlarged.{set_box}
+use Rattle.node_bytes.specs.Enlarged.{set_box}
 use Rattle.reinsert.proofs.StandLemmas.{RowStands-append, zero_there, moves_with, rest_same, rest_once}
 use Rattle.reinsert.proofs.SettledLemmas.{AllWait_frame, waiting_live}
 use Rattle.reinsert.proofs.ChildLemmas.{HasChild, has_child, items-with_child, occurs-with_child}

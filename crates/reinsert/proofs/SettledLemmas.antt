@@ -19,7 +19,7 @@ use Rattle.tree_node.proofs.PositionLemmas.{map-pick, parts_have_all, All-pick}
 use Rattle.rstar_split.specs.Cuts.{Splits}
 use Rattle.rstar_split.specs.Divided.{IsDividedBySplit}
 use Rattle.rstar_split.proofs.SplitParts.{split_parts}
-use Rattle.node_page.specs.Layout.{IsOfLevel, IsSpellable}
+use Rattle.node_bytes.specs.Layout.{IsOfLevel, IsSpellable}
 use Rattle.node_page.specs.Standing.{PageMap, HasNode, RowStands, node_in}
 use Rattle.node_page.proofs.StandingLemmas.{row_stays, below_there, page_of_node}
 use Rattle.node_page.specs.Parts.{Moves}

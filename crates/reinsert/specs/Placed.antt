@@ -11,7 +11,7 @@ use Rattle.tree_node.specs.Boxes.{box_at, least_box, reference_at}
 use Rattle.tree_node.specs.Shape.{RowHasShape}
 use Rattle.node_page.specs.Changes.{AllWait}
 use Rattle.node_page.specs.Standing.{PageMap, HasNode, RowStands, node_in}
-use Rattle.node_page.specs.Enlarged.{set_box}
+use Rattle.node_bytes.specs.Enlarged.{set_box}
 use Rattle.node_page.specs.Parts.{Moves}
 use Rattle.choose_subtree.specs.Choice.{IsChosenChild}
 use Rattle.reinsert.specs.declared.settled.Settled.{Settled}

@@ -19,7 +19,7 @@ use Rattle.tree_node.specs.declared.node.Node.{Node}
 use Rattle.tree_node.specs.declared.node.Root.{Root}
 use Rattle.node_page.specs.Checked.{ComesTo}
 use Rattle.node_page.specs.Faults.{IsChangeFault, IsNoDamage, NamesInRange}
-use Rattle.node_page.specs.Layout.{IsOfLevel}
+use Rattle.node_bytes.specs.Layout.{IsOfLevel}
 use Rattle.node_page.specs.Standing.{node_in}
 use Rattle.reinsert.specs.Inserted.{CanInsert, InsertsTo, IsAt, IsRootFrom, StepsTo, most_new_pages}
 use Rattle.reinsert.specs.Inserted.{most_placing_pages}

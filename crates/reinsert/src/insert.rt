@@ -5,7 +5,7 @@ ghost use Rattle.box_math.specs.Bounds.{IsDims};
 ghost use Rattle.page_file.specs.declared.fault.Fault.TheVariants as fault;
 ghost use Rattle.page_file.specs.declared.gate.Gate.TheVariants.{Open};
 ghost use Rattle.page_cache.specs.Cache.{IsUnchanged, gate_of};
-ghost use Rattle.node_page.specs.Layout.{IsOfLevel};
+ghost use Rattle.node_bytes.specs.Layout.{IsOfLevel};
 ghost use Rattle.reinsert.specs.Steps.{Inserts, PlacesOne};
 
 use crate::grow::grow;

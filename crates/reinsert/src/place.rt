@@ -12,7 +12,7 @@ ghost use Rattle.tree_node.specs.Nodes.{item_of};
 ghost use Rattle.tree_node.specs.Rows.{item_in};
 ghost use Rattle.tree_node.specs.Trees.{Row, Branch};
 ghost use Rattle.node_page.specs.Checked.{ComesTo};
-ghost use Rattle.node_page.specs.Layout.{IsOfLevel};
+ghost use Rattle.node_bytes.specs.Layout.{IsOfLevel};
 ghost use Rattle.node_page.specs.Faults.{IsChangeFault, IsNoDamage};
 ghost use Rattle.reinsert.specs.Placed.{CanPlace, HasFewEntries, PlacesTo, items_after, measure_of};
 ghost use Rattle.reinsert.specs.Steps.{HasLower, ReadsFitting, SettlesThere};

@@ -9,7 +9,7 @@ ghost use Rattle.page_file.specs.declared.gate.Gate.TheVariants.{Open};
 ghost use Rattle.page_cache.specs.Cache.{Grows, IsLive, IsPageMap, gate_of, pages};
 ghost use Rattle.page_cache.specs.Calls.{Changes};
 ghost use Rattle.tree_node.specs.Nodes.{content_of, item_of};
-ghost use Rattle.node_page.specs.Layout.{IsOfLevel, IsSpellable};
+ghost use Rattle.node_bytes.specs.Layout.{IsOfLevel, IsSpellable};
 ghost use Rattle.node_page.specs.Standing.{PageMap, node_in};
 ghost use Rattle.reinsert.specs.Called.{is_called};
 ghost use Rattle.reinsert.specs.Far;

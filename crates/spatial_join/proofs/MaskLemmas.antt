@@ -22,7 +22,7 @@ use Rattle.tree_node.specs.Boxes.{box_at, no_item}
 use Rattle.tree_node.specs.declared.node.Entry.{Entry}
 use Rattle.tree_node.specs.Nodes.{Item, item_of}
 use Rattle.tree_node.proofs.RowLemmas.{entry_item}
-use Rattle.node_page.specs.Columns.{cell}
+use Rattle.node_bytes.specs.Columns.{cell}
 use Rattle.spatial_join.specs.Masks.{HaveBoxes, Tells}
 
 pub same_tests : (a b : Bool) → (a ≡ true → b ≡ true) → (b ≡ true → a ≡ true) → a ≡ b

@@ -10,7 +10,7 @@ use Rattle.box_math.specs.Measures.{near_test}
 use Rattle.tree_node.specs.Joins.{boxes_below, count_passing, near_pairs}
 use Rattle.tree_node.specs.Nodes.{Item, NodeContent}
 use Rattle.tree_node.specs.Trees.{Row, end, more, child, objects_in, row_items}
-use Rattle.node_page.specs.Layout.{IsSpellable}
+use Rattle.node_bytes.specs.Layout.{IsSpellable}
 use Rattle.node_page.specs.Standing.{PageMap, HasNode, RowStands, StandsAt}
 use Rattle.spatial_join.specs.Opening.{Encloses, HasPages, alone, lone, node_box, opened, opened_level}
 use Rattle.spatial_join.specs.Opening.{opened_root}

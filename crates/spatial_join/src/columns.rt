@@ -5,7 +5,7 @@ ghost use Rattle.box_math.specs.Bounds.{IsDims, on_axis};
 ghost use Rattle.box_math.specs.Masks.{has_bit};
 ghost use Rattle.tree_node.specs.Boxes.{box_at};
 ghost use Rattle.tree_node.specs.Nodes.{items_of};
-ghost use Rattle.node_page.specs.Columns.{cell};
+ghost use Rattle.node_bytes.specs.Columns.{cell};
 ghost use Rattle.spatial_join.specs.Masks.{HaveBoxes};
 
 use node_page::Node;

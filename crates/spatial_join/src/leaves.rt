@@ -9,9 +9,9 @@ ghost use Rattle.page_cache.specs.Cache.{IsHonest, looks_of, pages};
 ghost use Rattle.page_cache.specs.Calls.{Asks};
 ghost use Rattle.tree_node.specs.Boxes.{box_at};
 ghost use Rattle.tree_node.specs.Nodes.{NodeContent, item_of, items_of};
-ghost use Rattle.node_page.specs.Columns.{cell};
+ghost use Rattle.node_bytes.specs.Columns.{cell};
 ghost use Rattle.node_page.specs.Standing.{node_in};
-ghost use Rattle.node_page.specs.Views.{content_in};
+ghost use Rattle.node_bytes.specs.Views.{content_in};
 ghost use Rattle.spatial_join.specs.Masks.{HaveBoxes};
 ghost use Rattle.spatial_join.specs.Pairs.{GainsItems, pairs_of};
 

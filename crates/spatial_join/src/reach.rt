@@ -5,8 +5,8 @@ ghost use Rattle.box_math.specs.Bounds.{IsBox, IsDims, meets_test, on_axis, wide
 ghost use Rattle.box_math.specs.Measures.{near_test};
 ghost use Rattle.tree_node.specs.Boxes.{box_at};
 ghost use Rattle.tree_node.specs.Nodes.{items_of};
-ghost use Rattle.node_page.specs.Columns.{cell};
-ghost use Rattle.node_page.specs.Views.{content_in};
+ghost use Rattle.node_bytes.specs.Columns.{cell};
+ghost use Rattle.node_bytes.specs.Views.{content_in};
 ghost use Rattle.spatial_join.specs.Masks.{HaveBoxes, Tells};
 
 use crate::columns::next_place;

@@ -11,7 +11,7 @@ ghost use Rattle.tree_node.specs.Nodes.{NodeContent, content_of};
 ghost use Rattle.tree_node.specs.Searches.{counted, nodes_in};
 ghost use Rattle.tree_node.specs.Trees.{Row, Tree};
 ghost use Rattle.node_page.specs.Checked.{ComesTo};
-ghost use Rattle.node_page.specs.Layout.{IsSpellable};
+ghost use Rattle.node_bytes.specs.Layout.{IsSpellable};
 ghost use Rattle.node_page.specs.Standing.{Stands, StandsAt, node_in};
 ghost use Rattle.tree_outline.specs.Outlines.{outline_at, outline_of, outlined};
 

@@ -78,6 +78,7 @@ impl<D: BlockDevice, A: Allocator + Copy> PageCache<D, A> {
         let frame = Frame {
             bytes,
             changed: true,
+            axes: 0,
         };
         let held = self.hold(n, frame);
         self.touched |= held.is_ok();
@@ -104,6 +105,7 @@ impl<D: BlockDevice, A: Allocator + Copy> PageCache<D, A> {
         match self.frames.peek_mut(&n) {
             Some(frame) => {
                 frame.changed = true;
+                frame.axes = 0;
                 self.touched = true;
                 let answer = change(&mut frame.bytes);
                 see_block(&frame.bytes);

@@ -4,7 +4,7 @@ ghost use Rattle.std.specs.Prelude.{◌≡◌, ◌+◌, ◌<◌, ◌≤◌, ◌+
 ghost use Rattle.std.specs.Prelude.{IsNone, IfSome, IfErr};
 ghost use Rattle.arrayvec.specs.ArrayVec.{array_vec_len};
 ghost use Rattle.page_file.specs.declared.fault.Fault.TheVariants as fault;
-ghost use Rattle.node_page.specs.Layout.{IsOfLevel};
+ghost use Rattle.node_bytes.specs.Layout.{IsOfLevel};
 ghost use Rattle.reinsert.specs.Called;
 ghost use Rattle.reinsert.specs.Called.{none_called};
 ghost use Rattle.reinsert.specs.Placed.{held_of, held_with, measure_of};

@@ -9,7 +9,7 @@ use Rattle.page_cache.specs.Calls.{changes_in_turn, fault_in}
 use Rattle.tree_node.specs.Nodes.{Item, item_of, items_of}
 use Rattle.tree_node.specs.Rows.{item_in}
 use Rattle.tree_node.specs.declared.node.Entry.{Entry}
-use Rattle.node_page.specs.Layout.{IsOfLevel}
+use Rattle.node_bytes.specs.Layout.{IsOfLevel}
 use Rattle.bulk_load.specs.Levels.{PackedAt, WaitFor}
 use Rattle.bulk_load.proofs.LevelLemmas.{level_packed, root_written}
 use Rattle.bulk_load.proofs.SizeLemmas.{next_fits}

@@ -5,7 +5,7 @@ use Rattle.page_cache.specs.Cache.{pages}
 use Rattle.page_cache.proofs.Results.{if_ok_map}
 use Rattle.tree_node.specs.Nodes.{Item, item_of, items_of}
 use Rattle.tree_node.specs.Positions.{total}
-use Rattle.node_page.specs.Layout.{IsOfLevel}
+use Rattle.node_bytes.specs.Layout.{IsOfLevel}
 use Rattle.node_page.proofs.PartLemmas.{moves_same}
 use Rattle.bulk_load.specs.Levels.{AreSizes, pages_below}
 use Rattle.bulk_load.specs.Tiling.{joined}

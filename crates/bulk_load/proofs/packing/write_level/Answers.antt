@@ -11,7 +11,7 @@ use Rattle.tree_node.specs.Boxes.{least_box}
 use Rattle.tree_node.specs.Nodes.{Item, item_of, items_of}
 use Rattle.tree_node.specs.Trees.{Branch}
 use Rattle.tree_node.specs.declared.node.Entry.{Entry}
-use Rattle.node_page.specs.Layout.{IsOfLevel}
+use Rattle.node_bytes.specs.Layout.{IsOfLevel}
 use Rattle.node_page.specs.Standing.{node_in}
 use Rattle.node_page.proofs.NodeLemmas.{at_error}
 use Rattle.node_page.specs.Faults.{IsNoDamage}

@@ -5,7 +5,7 @@ use Rattle.page_cache.specs.Calls.{ChangesUntil}
 use Rattle.tree_node.specs.Nodes.{items_of}
 use Rattle.tree_node.specs.Positions.{total}
 use Rattle.tree_node.specs.Trees.{Branch}
-use Rattle.node_page.specs.Layout.{IsOfLevel}
+use Rattle.node_bytes.specs.Layout.{IsOfLevel}
 use Rattle.bulk_load.specs.Levels.{WaitFor}
 use Rattle.bulk_load.specs.Tiling.{joined}
 use Rattle.bulk_load.proofs.LevelLemmas.{Written}

@@ -1,6 +1,6 @@
 use Rattle.std.proofs.Common.{length, arith}
 use Rattle.tree_node.specs.Nodes.{NodeContent}
-use Rattle.node_page.specs.Views.{content_in}
+use Rattle.node_bytes.specs.Views.{content_in}
 use Rattle.choose_subtree.proofs.ChoiceLaws.{chosen_above, chosen_first}
 use Rattle.choose_subtree.proofs.choice.choose.Goals as goal
 

@@ -1,6 +1,6 @@
 use Rattle.std.proofs.Common.{rules, refl, ◌≡◌, ◌+◌, length, arith, subst, sym, ap}
 use Rattle.tree_node.specs.Keys.{AtMost}
-use Rattle.node_page.specs.Views.{content_in}
+use Rattle.node_bytes.specs.Views.{content_in}
 use Rattle.choose_subtree.specs.declared.key.Key.{Key}
 use Rattle.choose_subtree.specs.Choice.{numbers_with, numbers_of}
 use Rattle.choose_subtree.proofs.ChoiceLaws.{IsBest, best_of_one, best_keeps, best_takes}

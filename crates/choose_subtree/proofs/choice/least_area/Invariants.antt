@@ -1,5 +1,5 @@
 use Rattle.std.proofs.Common.{length}
-use Rattle.node_page.specs.Views.{content_in}
+use Rattle.node_bytes.specs.Views.{content_in}
 use Rattle.choose_subtree.specs.Choice.{numbers_with, numbers_of}
 use Rattle.choose_subtree.proofs.ChoiceLaws.{IsBest}
 use Rattle.choose_subtree.proofs.choice.least_area.Given as goal

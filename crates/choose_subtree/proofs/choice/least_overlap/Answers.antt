@@ -1,7 +1,7 @@
 use Rattle.std.proofs.Common.{rules, refl, ◌≡◌, ℕ, ◌+◌, ◌<◌, List, length, arith, subst, sym, ap}
 use Rattle.tree_node.specs.Keys.{AtMost}
 use Rattle.tree_node.proofs.KeyLemmas.{AtMost-itself, AtMost-other, AtMost-trans}
-use Rattle.node_page.specs.Views.{content_in}
+use Rattle.node_bytes.specs.Views.{content_in}
 use Rattle.choose_subtree.specs.declared.key.Key.{Key}
 use Rattle.choose_subtree.specs.Choice.{overlap_growth, area_key, numbers_with, numbers_of}
 use Rattle.choose_subtree.proofs.ChoiceLaws.{IsBest, best_of_none, best_keeps, best_takes, numbers_of-is}

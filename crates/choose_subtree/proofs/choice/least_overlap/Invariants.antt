@@ -1,6 +1,6 @@
 use Rattle.std.proofs.Common.{length}
 use Rattle.tree_node.specs.Keys.{AtMost}
-use Rattle.node_page.specs.Views.{content_in}
+use Rattle.node_bytes.specs.Views.{content_in}
 use Rattle.choose_subtree.specs.Choice.{overlap_growth, numbers_with, numbers_of}
 use Rattle.choose_subtree.proofs.ChoiceLaws.{IsBest}
 use Rattle.choose_subtree.proofs.choice.least_overlap.Given as goal

@@ -3,7 +3,7 @@ use Rattle.std.proofs.Common.{List, arith, get_or}
 use Rattle.std.proofs.lemmas.Option.{slice_get-get_or}
 use Rattle.tree_node.specs.Boxes.{box_at, no_item}
 use Rattle.tree_node.specs.Nodes.{Item}
-use Rattle.node_page.specs.Views.{content_in}
+use Rattle.node_bytes.specs.Views.{content_in}
 use Rattle.choose_subtree.proofs.HolderLaws.{grows_or_holds, grows_round_volume, wide_has_volume}
 use Rattle.choose_subtree.proofs.holder.all_grow.Goals as goal
 

@@ -4,7 +4,7 @@ use Rattle.box_math.specs.Bounds.{Within}
 use Rattle.box_math.specs.Measures.{volume_of}
 use Rattle.tree_node.specs.Boxes.{box_at}
 use Rattle.tree_node.specs.Nodes.{Item}
-use Rattle.node_page.specs.Views.{content_in}
+use Rattle.node_bytes.specs.Views.{content_in}
 use Rattle.choose_subtree.proofs.HolderSteps.{IsLeastHolder, holder_passes, holder_takes, least_is_chosen}
 use Rattle.choose_subtree.proofs.MaskLaws.{unset_holds_not}
 use Rattle.choose_subtree.proofs.holder.least_holder.Goals as goal

@@ -1,6 +1,6 @@
 -- The least holder so far, and that the loop ends.
 use Rattle.std.proofs.Common.{◌-◌}
-use Rattle.node_page.specs.Views.{content_in}
+use Rattle.node_bytes.specs.Views.{content_in}
 use Rattle.choose_subtree.proofs.HolderSteps.{IsLeastHolder}
 use Rattle.choose_subtree.proofs.holder.least_holder.Given as goal
 

@@ -1,7 +1,7 @@
 use Rattle.std.proofs.Common.{ℕ, ◌+◌, arith, refl, rules}
 use Rattle.box_math.proofs.BoxLaws.{join_of-encloses}
 use Rattle.tree_node.specs.Boxes.{no_item}
-use Rattle.node_page.specs.Views.{content_in}
+use Rattle.node_bytes.specs.Views.{content_in}
 use Rattle.choose_subtree.proofs.OverlapLaws.{GrewBy, overlap_more, overlap_more-same, overlap_growth-is}
 use Rattle.choose_subtree.proofs.OverlapLaws.{overlap_growth-le, overlap_growth-part}
 use Rattle.choose_subtree.proofs.MaskLaws.{passes}

@@ -1,5 +1,5 @@
 use Rattle.std.proofs.Common.{◌*◌, ◌^◌, ◌-◌, ◌≤◌, length}
-use Rattle.node_page.specs.Views.{content_in}
+use Rattle.node_bytes.specs.Views.{content_in}
 use Rattle.choose_subtree.proofs.OverlapLaws.{GrewBy}
 use Rattle.choose_subtree.proofs.overlap.overlap_growth_up_to.Given as goal
 

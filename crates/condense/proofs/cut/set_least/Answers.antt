@@ -8,10 +8,10 @@ use Rattle.page_cache.specs.Calls.{AsksUntil, asks_and_gives_up, asks_changes, a
 use Rattle.page_cache.specs.Calls.{changes_in_turn, fault_in, no_call_asks}
 use Rattle.tree_node.specs.Boxes.{least_box}
 use Rattle.tree_node.specs.Nodes.{Item, NodeContent}
-use Rattle.node_page.specs.Enlarged.{set_box, with_box_at}
+use Rattle.node_bytes.specs.Enlarged.{set_box, with_box_at}
 use Rattle.node_page.specs.Standing.{node_in}
-use Rattle.node_page.specs.Views.{content_in}
-use Rattle.node_page.proofs.BoxedLemmas.{length-set_box}
+use Rattle.node_bytes.specs.Views.{content_in}
+use Rattle.node_bytes.proofs.BoxedLemmas.{length-set_box}
 use Rattle.node_page.proofs.NodeLemmas.{at_error}
 use Rattle.node_page.proofs.StandingLemmas.{page_of_node, same_content}
 use Rattle.reinsert.proofs.FaultLemmas.{at_none, damaged_asks, no_answer, no_success}

@@ -9,7 +9,7 @@ use Rattle.page_cache.specs.Cache.{pages}
 use Rattle.page_cache.specs.Calls.{AsksUntil, asks_and_gives_up, asks_changes, asks_in_turn}
 use Rattle.tree_node.specs.Boxes.{least_box}
 use Rattle.tree_node.specs.Nodes.{NodeContent, content_of, item_of}
-use Rattle.node_page.specs.Taken.{without_entry}
+use Rattle.node_bytes.specs.Taken.{without_entry}
 use Rattle.node_page.specs.Standing.{node_in}
 use Rattle.node_page.proofs.NodeLemmas.{at_error}
 use Rattle.node_page.proofs.StandingLemmas.{page_of_node, same_content}

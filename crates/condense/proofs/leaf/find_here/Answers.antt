@@ -7,7 +7,7 @@ use Rattle.page_cache.specs.Cache.{pages}
 use Rattle.page_cache.specs.Calls.{AsksUntil, fault_in}
 use Rattle.tree_node.specs.Nodes.{Item, NodeContent}
 use Rattle.node_page.specs.Standing.{PageMap}
-use Rattle.node_page.specs.Views.{content_in}
+use Rattle.node_bytes.specs.Views.{content_in}
 use Rattle.node_page.proofs.NodeLemmas.{at_error}
 use Rattle.node_page.proofs.StandingLemmas.{page_of_node, same_content}
 use Rattle.reinsert.proofs.FaultLemmas.{asks_refused, no_answer}

@@ -5,7 +5,7 @@ use Rattle.std.proofs.lemmas.Bool.{true≢false}
 use Rattle.std.proofs.lemmas.Bool.Decides.{Decides-and}
 use Rattle.box_math.specs.Bounds.{Bounds}
 use Rattle.tree_node.specs.Nodes.{Item, item_of}
-use Rattle.node_page.specs.Views.{content_in}
+use Rattle.node_bytes.specs.Views.{content_in}
 use Rattle.condense.proofs.CutLemmas.{same_box}
 use Rattle.condense.proofs.HoldLemmas.{found_at, is_at, unset_is_not, up_to}
 use Rattle.condense.proofs.leaf.position_of.Goals.{else-entry-id-via-then-entry-id+then-entry-tag+else-eq}

@@ -1,7 +1,7 @@
 -- What holds at each turn of the loop of `position_of`, and that it ends.
 use Rattle.std.proofs.Common.{◌≡◌, ℕ, ◌-◌, ◌<◌, get_or, length}
 use Rattle.tree_node.specs.Nodes.{Item}
-use Rattle.node_page.specs.Views.{content_in}
+use Rattle.node_bytes.specs.Views.{content_in}
 use Rattle.condense.proofs.leaf.position_of.Given as goal
 
 -- no entry so far is the object's

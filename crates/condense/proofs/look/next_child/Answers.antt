@@ -7,7 +7,7 @@ use Rattle.box_math.specs.Bounds.{Within}
 use Rattle.tree_node.specs.Boxes.{box_at, no_item}
 use Rattle.tree_node.specs.Nodes.{Item, NodeContent, item_of}
 use Rattle.node_page.specs.Standing.{PageMap}
-use Rattle.node_page.specs.Views.{content_in}
+use Rattle.node_bytes.specs.Views.{content_in}
 use Rattle.node_page.proofs.StandingLemmas.{page_of_node, same_content}
 use Rattle.reinsert.proofs.FaultLemmas.{asks_refused, no_answer}
 use Rattle.node_page.proofs.NodeLemmas.{at_error}

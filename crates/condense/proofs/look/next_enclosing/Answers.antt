@@ -5,7 +5,7 @@ use Rattle.std.proofs.lemmas.List.{get_or_default}
 use Rattle.box_math.specs.Bounds.{Within}
 use Rattle.tree_node.specs.Boxes.{box_at, no_item}
 use Rattle.tree_node.specs.Nodes.{Item, item_of}
-use Rattle.node_page.specs.Views.{content_in}
+use Rattle.node_bytes.specs.Views.{content_in}
 use Rattle.choose_subtree.proofs.MaskLaws.{unset_holds_not}
 use Rattle.condense.proofs.HoldLemmas.{up_to}
 use Rattle.condense.proofs.look.next_enclosing.Goals as goal

@@ -2,7 +2,7 @@
 use Rattle.std.proofs.Common.{ℕ, ◌-◌, ◌<◌, ◌≤◌, length}
 use Rattle.box_math.specs.Bounds.{Within}
 use Rattle.tree_node.specs.Boxes.{box_at}
-use Rattle.node_page.specs.Views.{content_in}
+use Rattle.node_bytes.specs.Views.{content_in}
 use Rattle.condense.proofs.look.next_enclosing.Given as goal
 
 -- no entry so far encloses the object's box

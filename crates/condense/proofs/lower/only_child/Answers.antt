@@ -4,7 +4,7 @@ use Rattle.std.proofs.lemmas.List.{get_or_default}
 use Rattle.page_cache.specs.Cache.{pages}
 use Rattle.tree_node.specs.Nodes.{Item, NodeContent, item_of}
 use Rattle.node_page.specs.Standing.{PageMap}
-use Rattle.node_page.specs.Views.{content_in}
+use Rattle.node_bytes.specs.Views.{content_in}
 use Rattle.node_page.proofs.StandingLemmas.{page_of_node, same_content}
 use Rattle.condense.proofs.lower.only_child.Goals as goal
 

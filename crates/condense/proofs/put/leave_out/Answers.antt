@@ -7,7 +7,7 @@ use Rattle.page_cache.specs.Cache.{pages}
 use Rattle.page_cache.specs.Calls.{changes_in_turn, fault_in}
 use Rattle.page_cache.specs.Laws.{a_live_page_was_given_out}
 use Rattle.tree_node.specs.declared.node.Entry.{Entry}
-use Rattle.node_page.specs.Layout.{IsOfLevel}
+use Rattle.node_bytes.specs.Layout.{IsOfLevel}
 use Rattle.node_page.specs.Standing.{PageMap}
 use Rattle.node_page.proofs.NodeLemmas.{at_error}
 use Rattle.node_page.proofs.StandingLemmas.{page_of_node}

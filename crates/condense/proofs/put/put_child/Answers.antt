@@ -4,7 +4,7 @@ use Rattle.std.proofs.lemmas.Result.{IfOk-weaker}
 use Rattle.page_cache.specs.Cache.{pages}
 use Rattle.box_math.specs.Bounds.{Bounds}
 use Rattle.tree_node.specs.Nodes.{NodeContent}
-use Rattle.node_page.specs.Enlarged.{set_box}
+use Rattle.node_bytes.specs.Enlarged.{set_box}
 use Rattle.node_page.proofs.StandingLemmas.{page_of_node}
 use Rattle.condense.specs.Becoming.{IsNow}
 use Rattle.condense.specs.Steps.{PutsChild}

@@ -2,7 +2,7 @@
 use Rattle.std.proofs.Common.{◌≡◌, ◌∙◌, ℕ, ap}
 use Rattle.box_math.specs.Bounds.{Bounds}
 use Rattle.box_math.specs.Objects.{Object, bounds_of, tag_of}
-use Rattle.node_page.proofs.BoxTests.{same_box}
+use Rattle.node_bytes.proofs.BoxTests.{same_box}
 use Rattle.layer_pages.proofs.checking.is_same_kept.Goals as goal
 
 all_same : (x y : Object) → tag_of x ≡ tag_of y → bounds_of x ≡ bounds_of y → x ≡ y

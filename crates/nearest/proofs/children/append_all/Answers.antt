@@ -3,7 +3,7 @@ use Rattle.std.proofs.Common.{◌≡◌, ℕ, ◌++◌, ◌∷◌, [], ◌<◌, 
 use Rattle.box_math.specs.Bounds.{Bounds}
 use Rattle.box_math.specs.Measures.{point_dist2_of}
 use Rattle.tree_node.specs.Nodes.{item_of}
-use Rattle.node_page.specs.Views.{content_in}
+use Rattle.node_bytes.specs.Views.{content_in}
 use Rattle.nearest.specs.declared.candidate.Candidate.{Candidate}
 use Rattle.nearest.specs.Candidates.{Past}
 use Rattle.nearest.proofs.ChildLemmas.{all_appended, child_at, none_appended, one_appended, one_left}

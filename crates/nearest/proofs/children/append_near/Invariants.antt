@@ -1,7 +1,7 @@
 -- What holds at each turn of the loop of `append_near`, and that it ends.
 use Rattle.std.proofs.Common.{◌-◌}
 use Rattle.box_math.specs.Measures.{point_dist2_of}
-use Rattle.node_page.specs.Views.{content_in}
+use Rattle.node_bytes.specs.Views.{content_in}
 use Rattle.nearest.proofs.ChildLemmas.{Appending}
 use Rattle.nearest.proofs.children.append_near.Given as goal
 

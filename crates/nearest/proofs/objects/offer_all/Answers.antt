@@ -3,7 +3,7 @@ use Rattle.std.proofs.Common.{ℕ, ◌<◌, length, arith, subst}
 use Rattle.box_math.specs.Bounds.{Bounds}
 use Rattle.box_math.specs.Measures.{point_dist2_of}
 use Rattle.tree_node.specs.Nodes.{item_of}
-use Rattle.node_page.specs.Views.{content_in}
+use Rattle.node_bytes.specs.Views.{content_in}
 use Rattle.nearest.specs.Candidates.{Past}
 use Rattle.nearest.proofs.OfferLemmas.{all_offered, object_at, one_beyond, one_offered}
 use Rattle.nearest.proofs.QueueLemmas.{row_of}

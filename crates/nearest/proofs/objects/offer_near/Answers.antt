@@ -3,7 +3,7 @@ use Rattle.std.proofs.Common.{ℕ, ◌+◌, ◌<◌, length, arith}
 use Rattle.box_math.specs.Bounds.{Bounds}
 use Rattle.box_math.specs.Measures.{point_dist2_of}
 use Rattle.tree_node.specs.Nodes.{item_of}
-use Rattle.node_page.specs.Views.{content_in}
+use Rattle.node_bytes.specs.Views.{content_in}
 use Rattle.nearest.proofs.OfferLemmas.{all_offered, masked_to, none_masked, object_in, one_masked}
 use Rattle.nearest.proofs.QueueLemmas.{row_of}
 use Rattle.nearest.proofs.objects.offer_near.Goals as goal

@@ -3,7 +3,7 @@ use Rattle.std.proofs.Common.{ℕ, All, map, arith, subst}
 use Rattle.box_math.specs.Bounds.{Bounds}
 use Rattle.box_math.specs.Measures.{point_dist2_of}
 use Rattle.node_page.specs.Checked.{Names}
-use Rattle.node_page.specs.Views.{content_in}
+use Rattle.node_bytes.specs.Views.{content_in}
 use Rattle.node_page.proofs.NodeLemmas.{on_ok}
 use Rattle.nearest.specs.Candidates.{Appends, candidate_at}
 use Rattle.nearest.proofs.ChildLemmas.{kept_so, less_appended}

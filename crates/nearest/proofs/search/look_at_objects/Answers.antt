@@ -5,7 +5,7 @@ use Rattle.box_math.specs.Measures.{point_dist2_of}
 use Rattle.page_cache.specs.Cache.{pages}
 use Rattle.tree_node.specs.Nodes.{NodeContent, Item}
 use Rattle.node_page.specs.Standing.{PageMap}
-use Rattle.node_page.specs.Views.{content_in}
+use Rattle.node_bytes.specs.Views.{content_in}
 use Rattle.node_page.proofs.NodeLemmas.{on_ok}
 use Rattle.node_page.proofs.StandingLemmas.{page_of_node, same_content}
 use Rattle.nearest.specs.Candidates.{offered, row_at}

@@ -10,11 +10,11 @@ use Rattle.page_cache.specs.Calls.{AsksUntil, asks_changes, asks_in_turn, change
 use Rattle.page_cache.specs.Laws.{a_live_page_is_given, a_live_page_was_given_out}
 use Rattle.tree_node.specs.Boxes.{least_box}
 use Rattle.tree_node.specs.Nodes.{NodeContent, item_of}
-use Rattle.node_page.specs.Layout.{IsOfLevel, IsPageOfNode, IsTidy, node_at, pushed}
+use Rattle.node_bytes.specs.Layout.{IsOfLevel, IsPageOfNode, IsTidy, node_at, pushed}
 use Rattle.node_page.proofs.GivenLemmas.{node_was_given_out}
 use Rattle.node_page.proofs.NodeLemmas.{at_error, bytes_of_node, node_of_page}
 use Rattle.node_page.proofs.ReadLemmas.{edit_refused}
-use Rattle.node_page.proofs.TidyLemmas.{Left, at_page}
+use Rattle.node_bytes.proofs.TidyLemmas.{Left, at_page}
 use Rattle.node_page.proofs.adding.add_entry.Goals as goal
 
 -- the bytes that the edit left at the page

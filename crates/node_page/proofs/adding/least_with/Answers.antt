@@ -5,9 +5,9 @@ use Rattle.box_math.specs.Bounds.{Bounds, join_of}
 use Rattle.tree_node.specs.Nodes.{NodeContent, item_of}
 use Rattle.tree_node.proofs.LeastBoxes.{least_box-more}
 use Rattle.tree_node.specs.Boxes.{least_box}
-use Rattle.node_page.specs.Layout.{pushed}
+use Rattle.node_bytes.specs.Layout.{pushed}
 use Rattle.node_page.specs.Standing.{PageMap}
-use Rattle.node_page.specs.Views.{content_in}
+use Rattle.node_bytes.specs.Views.{content_in}
 use Rattle.node_page.proofs.StandingLemmas.{page_of_node, same_content}
 use Rattle.node_page.proofs.adding.least_with.Goals as goal
 use Rattle.node_page.proofs.adding.least_with.Goals.{then-len-eq0-via-then-len-eq0}

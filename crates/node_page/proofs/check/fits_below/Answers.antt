@@ -4,7 +4,7 @@ use Rattle.std.proofs.lemmas.List.{length-map}
 use Rattle.tree_node.specs.Boxes.{least_box}
 use Rattle.tree_node.specs.declared.node.Entry.{Entry}
 use Rattle.tree_node.specs.Nodes.{item_of}
-use Rattle.node_page.proofs.BoxTests.{same_box}
+use Rattle.node_bytes.proofs.BoxTests.{same_box}
 use Rattle.node_page.proofs.check.fits_below.Goals as goal
 
 pub returns : goal.returns

@@ -1,6 +1,6 @@
 -- What the closure left of the bytes is what the edit did.
 use Rattle.std.proofs.Common.{subst}
-use Rattle.node_page.specs.Enlarged.{IsBoxed}
+use Rattle.node_bytes.specs.Enlarged.{IsBoxed}
 use Rattle.node_page.proofs.ReadLemmas.{edits_as}
 use Rattle.node_page.proofs.enlarging.edit_box.Goals as goal
 

@@ -1,7 +1,7 @@
 -- The node is that of the page, with the greater box in its place.
 use Rattle.std.proofs.Common.{◌≡◌, ap, IfSome, is_some, subst, true}
 use Rattle.tree_node.specs.Boxes.{least_box}
-use Rattle.node_page.specs.Enlarged.{CanEnlarge, set_box}
+use Rattle.node_bytes.specs.Enlarged.{CanEnlarge, set_box}
 use Rattle.node_page.proofs.BoxedPages.{node_boxed, page_boxed}
 use Rattle.node_page.proofs.enlarging.enlarge_entry.Goals as goal
 

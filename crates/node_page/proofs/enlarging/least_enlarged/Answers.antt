@@ -4,10 +4,10 @@ use Rattle.box_math.specs.Bounds.{Bounds, Within, join_of}
 use Rattle.page_cache.specs.Cache.{pages}
 use Rattle.tree_node.specs.Boxes.{box_at, least_box}
 use Rattle.tree_node.specs.Nodes.{NodeContent, item_of}
-use Rattle.node_page.specs.Enlarged.{CanEnlarge, set_box}
+use Rattle.node_bytes.specs.Enlarged.{CanEnlarge, set_box}
 use Rattle.node_page.specs.Standing.{PageMap}
-use Rattle.node_page.specs.Views.{content_in}
-use Rattle.node_page.proofs.BoxedLemmas.{box_read, least_box-set_box}
+use Rattle.node_bytes.specs.Views.{content_in}
+use Rattle.node_bytes.proofs.BoxedLemmas.{box_read, least_box-set_box}
 use Rattle.node_page.proofs.StandingLemmas.{page_of_node, same_content}
 use Rattle.node_page.proofs.enlarging.least_enlarged.Goals as goal
 

@@ -1,7 +1,7 @@
 -- The node is that of the page, with the other box in its place.
 use Rattle.std.proofs.Common.{◌≡◌, ap, IfSome, is_some, subst}
 use Rattle.tree_node.specs.Boxes.{least_box}
-use Rattle.node_page.specs.Enlarged.{set_box}
+use Rattle.node_bytes.specs.Enlarged.{set_box}
 use Rattle.node_page.proofs.BoxedPages.{node_boxed, page_boxed}
 use Rattle.node_page.proofs.enlarging.set_entry_box.Goals as goal
 

@@ -3,9 +3,9 @@ use Rattle.std.proofs.Common.{◌∙◌, Some, ap, subst, sym}
 use Rattle.page_cache.specs.Cache.{pages}
 use Rattle.page_cache.specs.Laws.{a_live_page_was_given_out}
 use Rattle.tree_node.specs.Nodes.{content_of}
-use Rattle.node_page.specs.Layout.{IsPageOfNode, node_at}
+use Rattle.node_bytes.specs.Layout.{IsPageOfNode, node_at}
 use Rattle.node_page.proofs.NodeLemmas.{node_of_page, on_ok}
-use Rattle.node_page.proofs.TidyLemmas.{at_page}
+use Rattle.node_bytes.proofs.TidyLemmas.{at_page}
 use Rattle.node_page.proofs.nodes.write_node.Goals as goal
 
 pub returns-clause-written : goal.returns-clause-written

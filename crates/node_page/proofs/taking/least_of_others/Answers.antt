@@ -3,7 +3,7 @@ use Rattle.std.proofs.Common.{ap, arith, length, refl}
 use Rattle.page_cache.specs.Cache.{pages}
 use Rattle.tree_node.specs.Nodes.{NodeContent}
 use Rattle.node_page.specs.Standing.{PageMap}
-use Rattle.node_page.specs.Views.{content_in}
+use Rattle.node_bytes.specs.Views.{content_in}
 use Rattle.node_page.proofs.StandingLemmas.{page_of_node, same_content}
 use Rattle.node_page.proofs.taking.least_of_others.Goals as goal
 

@@ -5,10 +5,10 @@ use Rattle.page_cache.specs.Cache.{IsHonest, pages}
 use Rattle.page_cache.specs.Laws.{a_live_page_is_given}
 use Rattle.tree_node.specs.Boxes.{least_box}
 use Rattle.tree_node.specs.Nodes.{NodeContent}
-use Rattle.node_page.specs.Layout.{IsPageOfNode, IsTidy, node_at}
-use Rattle.node_page.specs.Taken.{without_entry}
+use Rattle.node_bytes.specs.Layout.{IsPageOfNode, IsTidy, node_at}
+use Rattle.node_bytes.specs.Taken.{without_entry}
 use Rattle.node_page.proofs.NodeLemmas.{bytes_of_node, node_of_page}
-use Rattle.node_page.proofs.TidyLemmas.{Left, at_page}
+use Rattle.node_bytes.proofs.TidyLemmas.{Left, at_page}
 use Rattle.node_page.proofs.taking.take_entry.Goals as goal
 
 -- the bytes that the edit left at the page

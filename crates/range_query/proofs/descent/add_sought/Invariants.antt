@@ -1,6 +1,6 @@
 -- What holds at each turn of the loop of `add_sought`, and that it ends.
 use Rattle.std.proofs.Common.{◌-◌}
-use Rattle.node_page.specs.Views.{content_in}
+use Rattle.node_bytes.specs.Views.{content_in}
 use Rattle.range_query.specs.Entries.{object_of, wanted}
 use Rattle.box_math.specs.Queries.{seeks}
 use Rattle.range_query.proofs.EntryLemmas.{Taken}

@@ -1,6 +1,6 @@
 -- What holds at each turn of the loop of `admitted_children`, and that it ends.
 use Rattle.std.proofs.Common.{[], ◌-◌, ◌≤◌, length}
-use Rattle.node_page.specs.Views.{content_in}
+use Rattle.node_bytes.specs.Views.{content_in}
 use Rattle.range_query.specs.Entries.{reference_of}
 use Rattle.box_math.specs.Queries.{admits}
 use Rattle.range_query.proofs.EntryLemmas.{Taken}

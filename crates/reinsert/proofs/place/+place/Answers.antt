@@ -10,7 +10,7 @@ use Rattle.tree_node.specs.Nodes.{Item}
 use Rattle.tree_node.specs.Trees.{row_items}
 use Rattle.choose_subtree.specs.Choice.{IsChosenChild}
 use Rattle.node_page.specs.Checked.{ComesTo}
-use Rattle.node_page.specs.Layout.{IsOfLevel}
+use Rattle.node_bytes.specs.Layout.{IsOfLevel}
 use Rattle.node_page.specs.Standing.{PageMap}
 use Rattle.node_page.proofs.DamageLemmas.{comes_below_so, comes_on, damaged_read}
 use Rattle.node_page.proofs.NodeLemmas.{at_error, if_error}

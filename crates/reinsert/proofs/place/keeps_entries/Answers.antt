@@ -1,7 +1,7 @@
 -- The goal of `keeps_entries` that is proved by hand.
 use Rattle.std.proofs.Common.{◌∙◌, ap}
 use Rattle.std.specs.Prelude.{not}
-use Rattle.node_page.proofs.BoxTests.{same_box}
+use Rattle.node_bytes.proofs.BoxTests.{same_box}
 use Rattle.reinsert.proofs.AboveLemmas.{nothing_beside}
 use Rattle.reinsert.proofs.place.keeps_entries.Goals as goal
 

@@ -9,10 +9,10 @@ use Rattle.page_cache.specs.Calls.{AsksUntil}
 use Rattle.tree_node.specs.Boxes.{least_box}
 use Rattle.tree_node.specs.Nodes.{Item, NodeContent}
 use Rattle.tree_node.specs.Rows.{item_in}
-use Rattle.node_page.specs.Enlarged.{set_box, with_box_at}
+use Rattle.node_bytes.specs.Enlarged.{set_box, with_box_at}
 use Rattle.node_page.specs.Faults.{IsChangeFault, IsNoDamage}
 use Rattle.node_page.specs.Standing.{PageMap, node_in}
-use Rattle.node_page.proofs.BoxedLemmas.{length-set_box}
+use Rattle.node_bytes.proofs.BoxedLemmas.{length-set_box}
 use Rattle.node_page.proofs.GivenLemmas.{given_node_is_live}
 use Rattle.node_page.proofs.NodeLemmas.{at_error}
 use Rattle.node_page.proofs.StandingLemmas.{page_of_node}

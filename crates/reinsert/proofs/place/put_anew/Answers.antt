@@ -12,7 +12,7 @@ use Rattle.tree_node.specs.declared.node.Entry.{Entry}
 use Rattle.tree_node.specs.Nodes.{Item, NodeContent, content_of, item_of}
 use Rattle.node_page.specs.Faults.{IsChangeFault}
 use Rattle.node_page.specs.Faults.{IsNoDamage}
-use Rattle.node_page.specs.Layout.{IsOfLevel}
+use Rattle.node_bytes.specs.Layout.{IsOfLevel}
 use Rattle.node_page.specs.Standing.{PageMap}
 use Rattle.node_page.proofs.GivenLemmas.{given_node_is_live}
 use Rattle.node_page.proofs.NodeLemmas.{at_error, if_error}

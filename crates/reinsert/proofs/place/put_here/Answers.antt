@@ -11,7 +11,7 @@ use Rattle.page_cache.specs.Calls.{AsksUntil, asks_and_changes, asks_and_gives_u
 use Rattle.tree_node.specs.Boxes.{least_box}
 use Rattle.tree_node.specs.declared.node.Entry.{Entry}
 use Rattle.tree_node.specs.Nodes.{Item, NodeContent, content_of, item_of}
-use Rattle.node_page.specs.Layout.{IsOfLevel, pushed}
+use Rattle.node_bytes.specs.Layout.{IsOfLevel, pushed}
 use Rattle.node_page.specs.Standing.{PageMap, node_in}
 use Rattle.node_page.proofs.StandingLemmas.{page_of_node, same_content}
 use Rattle.node_page.proofs.GivenLemmas.{given_node_is_live}

@@ -1,7 +1,7 @@
 -- The goals of `settle` that are proved by hand.
 use Rattle.std.proofs.Common.{rules, ◌≡◌, ◌+◌, ◌<◌, true, sym, arith}
 use Rattle.tree_node.specs.declared.node.Entry.{Entry}
-use Rattle.node_page.specs.Layout.{IsOfLevel}
+use Rattle.node_bytes.specs.Layout.{IsOfLevel}
 use Rattle.reinsert.specs.Called.{is_called}
 use Rattle.reinsert.proofs.SettledLemmas.{none_refers}
 use Rattle.reinsert.proofs.settle.settle.Goals as goal

@@ -5,7 +5,7 @@ use Rattle.page_cache.specs.Cache.{pages}
 use Rattle.tree_node.specs.Boxes.{no_item}
 use Rattle.tree_node.specs.Nodes.{Item, NodeContent, item_of}
 use Rattle.node_page.specs.Standing.{PageMap}
-use Rattle.node_page.specs.Views.{content_in}
+use Rattle.node_bytes.specs.Views.{content_in}
 use Rattle.node_page.proofs.DamageLemmas.{entry_names}
 use Rattle.node_page.proofs.StandingLemmas.{page_of_node, same_content}
 use Rattle.choose_subtree.specs.Choice.{IsChosenChild}

@@ -3,7 +3,7 @@ use Rattle.std.proofs.Common.{◌≡◌, ℕ, ◌<◌, length}
 use Rattle.box_math.specs.Bounds.{on_axis}
 use Rattle.tree_node.specs.Boxes.{box_at}
 use Rattle.tree_node.specs.Nodes.{items_of}
-use Rattle.node_page.specs.Columns.{cell}
+use Rattle.node_bytes.specs.Columns.{cell}
 use Rattle.spatial_join.specs.Masks.{HaveBoxes}
 use Rattle.spatial_join.proofs.columns.columns_of.Given as goal
 

@@ -4,7 +4,7 @@ use Rattle.box_math.specs.Bounds.{Within}
 use Rattle.page_cache.specs.Cache.{pages}
 use Rattle.tree_node.specs.Nodes.{Item, items_of}
 use Rattle.node_page.specs.Standing.{PageMap}
-use Rattle.node_page.specs.Views.{content_in}
+use Rattle.node_bytes.specs.Views.{content_in}
 use Rattle.node_page.proofs.StandingLemmas.{page_of_node, same_content}
 use Rattle.spatial_join.specs.Pairs.{GainsItems}
 use Rattle.spatial_join.proofs.DescentLemmas.{asks_and_runs_out}

@@ -2,7 +2,7 @@
 use Rattle.std.proofs.Common.{ap, length, arith}
 use Rattle.std.proofs.lemmas.List.{length-map}
 use Rattle.tree_node.specs.Nodes.{item_of, items_of}
-use Rattle.node_page.specs.Views.{content_in}
+use Rattle.node_bytes.specs.Views.{content_in}
 use Rattle.spatial_join.proofs.LeafJoin.{all_joined, joining_begins, next_joined}
 use Rattle.spatial_join.proofs.MaskLemmas.{entry_named, place_within}
 use Rattle.spatial_join.proofs.leaves.push_near.Goals as goal

@@ -1,7 +1,7 @@
 -- The pairs of the objects that the mask names so far are added.
 use Rattle.std.proofs.Common.{◌-◌, ◌≤◌, length}
 use Rattle.tree_node.specs.Nodes.{items_of}
-use Rattle.node_page.specs.Views.{content_in}
+use Rattle.node_bytes.specs.Views.{content_in}
 use Rattle.spatial_join.proofs.LeafJoin.{Joined}
 use Rattle.spatial_join.proofs.leaves.push_near.Given as goal
 

@@ -1,7 +1,7 @@
 -- The goals of `push_pairs_with` that are proved by hand.
 use Rattle.std.proofs.Common.{arith}
 use Rattle.tree_node.specs.Nodes.{item_of}
-use Rattle.node_page.specs.Views.{content_in}
+use Rattle.node_bytes.specs.Views.{content_in}
 use Rattle.spatial_join.proofs.LeafJoin.{item_read}
 use Rattle.spatial_join.proofs.LeafPairs.{all_pushed, next_pushed}
 use Rattle.spatial_join.proofs.leaves.push_pairs_with.Goals as goal

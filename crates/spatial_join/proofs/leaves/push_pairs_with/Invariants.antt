@@ -1,7 +1,7 @@
 -- The pairs of the places that the mask names so far are pushed.
 use Rattle.std.proofs.Common.{◌-◌, ◌≤◌, length}
 use Rattle.tree_node.specs.Nodes.{item_of}
-use Rattle.node_page.specs.Views.{content_in}
+use Rattle.node_bytes.specs.Views.{content_in}
 use Rattle.spatial_join.proofs.LeafPairs.{Pushed}
 use Rattle.spatial_join.proofs.leaves.push_pairs_with.Given as goal
 

@@ -1,6 +1,6 @@
 -- What holds at each turn of the loop over the places.
 use Rattle.box_math.specs.Measures.{point_dist2_of}
-use Rattle.node_page.specs.Views.{content_in}
+use Rattle.node_bytes.specs.Views.{content_in}
 use Rattle.nearest.proofs.DistanceLemmas.{Measuring}
 use Rattle.nearest.proofs.distances.Distances.of.Given as goal
 

@@ -1,7 +1,7 @@
 -- The goals of `Reach::mask_in` that are proved by hand.
 use Rattle.std.proofs.Common.{rules, subst}
 use Rattle.box_math.specs.Bounds.{Bounds, meets_test}
-use Rattle.node_page.specs.Views.{content_in}
+use Rattle.node_bytes.specs.Views.{content_in}
 use Rattle.spatial_join.specs.Masks.{Tells}
 use Rattle.spatial_join.proofs.LeafJoin.{tells_viewed}
 use Rattle.spatial_join.proofs.MaskLemmas.{near_where_they_meet}

@@ -5,7 +5,7 @@ use Rattle.std.proofs.lemmas.Nat.Bits.{bit_at_clear_same}
 use Rattle.box_math.specs.Bounds.{meets_test, widened_of}
 use Rattle.box_math.specs.Measures.{near_test}
 use Rattle.tree_node.specs.Nodes.{item_of}
-use Rattle.node_page.specs.Views.{content_in}
+use Rattle.node_bytes.specs.Views.{content_in}
 use Rattle.spatial_join.proofs.LeafJoin.{bounds_read, have_boxes}
 use Rattle.spatial_join.proofs.MaskLemmas.{all_sifted, cleared_elsewhere, near_meets_widened, one_cleared}
 use Rattle.spatial_join.proofs.MaskLemmas.{one_kept}

@@ -1,7 +1,7 @@
 -- Of the entries so far those are left that are in the reach.
 use Rattle.std.proofs.Common.{◌-◌, ◌≤◌, length}
 use Rattle.box_math.specs.Measures.{near_test}
-use Rattle.node_page.specs.Views.{content_in}
+use Rattle.node_bytes.specs.Views.{content_in}
 use Rattle.spatial_join.proofs.MaskLemmas.{Sifted}
 use Rattle.spatial_join.proofs.reach.Reach.nearer_in.Given as goal
 

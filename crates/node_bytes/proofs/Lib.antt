@@ -1,0 +1,19 @@
+-- The files of lemmas.
+pub mod Places
+pub mod Reading
+pub mod HeadWritten
+pub mod Writing
+pub mod Editing
+pub mod Named
+pub mod OnePage
+pub mod TidyLemmas
+pub mod BoxedLemmas
+pub mod ClosedLemmas
+pub mod ClosedEntries
+pub mod TakenLemmas
+pub mod BesideLemmas
+pub mod ColumnLemmas
+pub mod Examples
+pub mod MaskLemmas
+pub mod LeastLemmas
+pub mod BoxTests

@@ -1,0 +1,8 @@
+-- The least number so far.
+use Rattle.std.proofs.Common.{◌+◌, ◌*◌}
+use Rattle.block_bytes.specs.Numbers.{signed_at}
+use Rattle.node_bytes.specs.Columns.{IsLeastOf}
+use Rattle.node_bytes.proofs.columns.least_of.Given as goal
+
+abbrev pub invariant-loop-place : goal.invariant-loop-place
+invariant-loop-place l = IsLeastOf (λ k. signed_at (l.first + 4 * k) l.page) l.place l.least

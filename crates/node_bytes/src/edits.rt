@@ -1,0 +1,100 @@
+//! A node page changed in place.
+
+ghost use Rattle.std.specs.Prelude.{◌≡◌, ◌<◌, ◌≤◌, Some, length};
+ghost use Rattle.block_bytes.specs.Numbers.{number_at};
+ghost use Rattle.block_bytes.specs.Kinds.{node_kind};
+ghost use Rattle.box_math.specs.Bounds.{IsDims};
+ghost use Rattle.tree_node.specs.Nodes.{NodeContent, item_of};
+ghost use Rattle.node_bytes.specs.Enlarged.{IsBoxed};
+ghost use Rattle.node_bytes.specs.Layout.{IsOfLevel, IsPageOfNode, IsTidy, node_at, pushed};
+ghost use Rattle.node_bytes.specs.Taken.{without_entry};
+
+use crate::closing::close_entry;
+use crate::entries::write_entry;
+use crate::head::{count_at, is_tagged};
+use crate::tags::add_tags;
+use block_bytes::write_u16;
+use box_bytes::write_box;
+use box_math::BBox;
+use tree_node::Entry;
+
+/// Adds an entry to a node page whose count is below 100: it is written in the place after the last one, and
+/// counted. A page of format 1 becomes one with tags. One with zeros in all bytes that it does not name stays
+/// one.
+pub(crate) fn push_entry<const D: usize>(page: &mut [u8; 4096], entry: &Entry<D>)
+    requires dims { IsDims D }
+    requires room { number_at 2 2 page.old < 100 }
+    ensures pushed { (c : NodeContent) → node_at D page.old ≡ Some c →
+        IsOfLevel c.level entry.now.reference entry.now.tag
+        → node_at D page.new ≡ Some (pushed c (item_of entry.now)) }
+    ensures kind { (c : NodeContent) → node_at D page.old ≡ Some c → number_at 1 0 page.new ≡ node_kind }
+    ensures tidy { IsTidy D page.old → IsTidy D page.new }
+{
+    add_tags::<D>(page);
+    let tagged = is_tagged(page);
+    let count = count_at(page);
+    write_entry(page, count, entry, tagged);
+    write_u16(page, 2, count as u16 + 1);
+}
+
+/// Gives the entry in a place of a node page another box. A page of format 1 becomes one with tags. One with
+/// zeros in all bytes that it does not name stays one.
+pub fn write_box_at<const D: usize>(page: &mut [u8; 4096], place: usize, bounds: &BBox<D>)
+    requires dims { IsDims D }
+    requires within { place < 100 }
+    ensures { IsBoxed D place bounds.now page.old page.new }
+{
+    add_tags::<D>(page);
+    write_box(page, 16 + 4 * place, 416 + 4 * place, 800, bounds);
+}
+
+/// Adds an entry to a node page as `push_entry` does, where its count is below 100.
+pub fn push_where_room<const D: usize>(page: &mut [u8; 4096], entry: &Entry<D>)
+    requires { IsDims D }
+    ensures pushed { (c : NodeContent) → node_at D page.old ≡ Some c → length c.entries < 100
+        → IsOfLevel c.level entry.now.reference entry.now.tag
+        → node_at D page.new ≡ Some (pushed c (item_of entry.now)) }
+    ensures is_page { IsTidy D page.old → (c : NodeContent) → node_at D page.old ≡ Some c
+        → length c.entries < 100 → IsOfLevel c.level entry.now.reference entry.now.tag
+        → IsPageOfNode D page.new (pushed c (item_of entry.now)) }
+{
+    if count_at(page) < 100 {
+        push_entry(page, entry);
+    }
+}
+
+/// Takes the entry in a place out of a node page: those behind it move up by one place, the bytes of the last
+/// one become zeros, and the count falls. A page of format 1 becomes one with tags. One with zeros in all bytes
+/// that it does not name stays one. A node above the leaves has to keep an entry.
+pub(crate) fn drop_entry<const D: usize>(page: &mut [u8; 4096], place: usize)
+    requires dims { IsDims D }
+    requires within { place < number_at 2 2 page.old }
+    requires few { number_at 2 2 page.old ≤ 100 }
+    ensures taken { (c : NodeContent) → node_at D page.old ≡ Some c → 1 < length c.entries
+        → node_at D page.new ≡ Some (without_entry c place) }
+    ensures kind { (c : NodeContent) → node_at D page.old ≡ Some c → number_at 1 0 page.new ≡ node_kind }
+    ensures tidy { IsTidy D page.old → IsTidy D page.new }
+{
+    add_tags::<D>(page);
+    let tagged = is_tagged(page);
+    let count = count_at(page);
+    close_entry::<D>(page, place, count, tagged);
+    write_u16(page, 2, count as u16 - 1);
+}
+
+/// Takes the entry in a place out of a node page as `drop_entry` does, where it has such an entry.
+pub fn drop_where_there<const D: usize>(page: &mut [u8; 4096], place: usize)
+    requires { IsDims D }
+    ensures taken { (c : NodeContent) → node_at D page.old ≡ Some c → place < length c.entries
+        → 1 < length c.entries → node_at D page.new ≡ Some (without_entry c place) }
+    ensures is_page { IsTidy D page.old → (c : NodeContent) → node_at D page.old ≡ Some c
+        → place < length c.entries → 1 < length c.entries → IsPageOfNode D page.new (without_entry c place) }
+{
+    let count = count_at(page);
+    if place >= count {
+        return;
+    }
+    if count <= 100 {
+        drop_entry::<D>(page, place);
+    }
+}

@@ -1,6 +1,0 @@
--- The law is the lemma of its name.
-use Rattle.node_page.proofs.OnePage.{one_page}
-use Rattle.node_page.proofs.laws.a_node_has_one_page.Goals as goal
-
-pub returns : goal.returns
-returns c = one_page
