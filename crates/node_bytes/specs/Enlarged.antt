@@ -3,7 +3,7 @@ use Rattle.std.specs.Prelude.{◌≡◌, ℕ, zero, suc, ◌<◌, ◌≤◌, Lis
 use Rattle.box_math.specs.Bounds.{Bounds, Within}
 use Rattle.tree_node.specs.Boxes.{box_at}
 use Rattle.tree_node.specs.Nodes.{Item, NodeContent}
-use Rattle.node_bytes.specs.Layout.{IsPageOfNode, IsTidy, node_at}
+use Rattle.node_bytes.specs.Layout.{IsPageOfNode, IsTidy, StaysNode, node_at}
 
 -- the entries with another box at a place
 abbrev pub set_box : List Item → ℕ → Bounds → List Item
@@ -21,9 +21,11 @@ pub record CanEnlarge (dims most place : ℕ) (b : Bounds) (c : NodeContent) : T
   pub there : place < length c.entries
   pub grows : Within dims (box_at c.entries place) b
 
--- the entry in a place got another box on a page that spells a node with such an entry
+-- the entry in a place got another box on a page that spells a node with such an entry, and one that spells a
+-- node spells one still
 pub record IsBoxed (dims place : ℕ) (b : Bounds) (old new : List ℕ) : Type 0 where
   pub spelled : (c : NodeContent) → node_at dims old ≡ Some c → place < length c.entries
       → node_at dims new ≡ Some (with_box_at c place b)
   pub is_page : IsTidy dims old → (c : NodeContent) → node_at dims old ≡ Some c → place < length c.entries
       → IsPageOfNode dims new (with_box_at c place b)
+  pub stays : StaysNode dims old new

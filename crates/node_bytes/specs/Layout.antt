@@ -144,6 +144,10 @@ node_test dims page =
     && (number_at 1 4 page == 0 || nat_le 1 (number_at 2 2 page))
     && all_over (number_at 2 2 page) (λ place. entry_test dims (number_at 1 4 page) (item_at dims page place))
 
+-- a page that spelled a node spells one still
+abbrev pub StaysNode : ℕ → List ℕ → List ℕ → Type 0
+StaysNode dims old new = node_test dims old ≡ true → node_test dims new ≡ true
+
 -- the node that the page spells, if it spells one
 unfoldable pub node_at : ℕ → List ℕ → Option NodeContent
 node_at dims page =

@@ -1,16 +1,19 @@
--- The page is that with the other box in its place.
+-- The page is that with the other box in its place; a page that has no such entry spells no node with it.
 use Rattle.std.proofs.Common.{◌≡◌, ◌∙◌, ◌<◌, arith, false, length, Some}
 use Rattle.tree_node.specs.Nodes.{NodeContent}
 use Rattle.node_bytes.specs.Enlarged.{with_box_at}
 use Rattle.node_bytes.specs.Layout.{node_at}
 use Rattle.node_bytes.proofs.BoxedLemmas.{spells_boxed, tidy_boxed}
 use Rattle.node_bytes.proofs.Places.{head_clear}
-use Rattle.node_bytes.proofs.Reading.{size_of, spells}
+use Rattle.node_bytes.proofs.Reading.{node_of_test, size_of, spells, test_of_node}
 use Rattle.node_bytes.proofs.TidyLemmas.{page_of_node}
 use Rattle.node_bytes.proofs.edits.write_box_at.Goals as goal
+use Rattle.node_bytes.proofs.edits.write_box_at.Goals.{Joined-else-place-lt100}
+use Rattle.node_bytes.proofs.edits.write_box_at.Goals.{else-place-lt100-via-else-place-lt100}
+use Rattle.node_bytes.proofs.edits.write_box_at.Goals.{else-place-lt100-via-then-place-lt100+else-place-count_at}
 
-pub returns : goal.returns
-returns g c =
+pub returns-then-place-count_at : goal.returns-then-place-count_at
+returns-then-place-count_at g c =
     let D = g.row.D in
     let place = c.args.place in
     let b = c.args.bounds.now in
@@ -29,4 +32,28 @@ returns g c =
           (others 1 0 (head_clear D false place 1 0 (omega arith)).bounds ∙ c.add_tags.ensures.kind content is)
           (tidy_boxed D place mid new b others (omega (arith, size_of D mid content here, within))
           (c.add_tags.ensures.tidy tidy));
+      stays = λ test.
+          let is = node_of_test D c.args.page.now test in
+          let size = size_of D c.args.page.now _ (spells D c.args.page.now _ is) in
+          test_of_node D new _
+          (spelled _ is (omega (arith, size, c.if-place-count_at.true, c.count_at.ensures)));
     }
+
+none_there : (g : _) (c : Joined-else-place-lt100 g) (content : NodeContent)
+    → node_at g.row.D c.args.page.now ≡ Some content → c.args.place < length content.entries → ⊥
+none_there g c content is within =
+    let here = spells g.row.D c.args.page.now content is in
+    let size = size_of g.row.D c.args.page.now content here in
+    elim c.else-place-lt100.branch [
+      | else-place-lt100-via-then-place-lt100+else-place-count_at w ↦
+          omega (arith, size, within, w.if-place-count_at.false, w.count_at.ensures)
+      | else-place-lt100-via-else-place-lt100 w ↦
+          omega (arith, size, within, here.head.few, w.if-place-lt100.false)
+    ]
+
+pub returns-else-place-lt100 : goal.returns-else-place-lt100
+returns-else-place-lt100 g c = record {
+  spelled = λ content is within. absurd (none_there g c content is within);
+  is_page = λ tidy content is within. absurd (none_there g c content is within);
+  stays = λ test. test;
+}

@@ -1,5 +1,4 @@
 -- What the tests of the head and of the entries tell of the page.
-use Rattle.std.proofs.Common.{sym, ◌∙◌}
 use Rattle.node_bytes.proofs.Reading.{entries_tell, head_tells}
 use Rattle.node_bytes.proofs.view.spells_node.Goals as goal
 

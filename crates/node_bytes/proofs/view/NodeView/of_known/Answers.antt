@@ -1,5 +1,5 @@
 -- A page that is known to spell a node spells that of its places.
-use Rattle.std.proofs.Common.{sym, ◌∙◌, ℕ, ◌≡◌}
+use Rattle.std.proofs.Common.{sym, ◌∙◌, ◌≡◌}
 use Rattle.block_bytes.specs.Numbers.{number_at}
 use Rattle.tree_node.specs.Nodes.{NodeContent}
 use Rattle.node_bytes.specs.Layout.{items_at}
