@@ -6,6 +6,5 @@ pub mod Parts
 pub mod Changes
 pub mod Lists
 pub mod Faults
-pub mod Loan
 pub mod Visits
 pub mod Checked

@@ -14,7 +14,6 @@ use Rattle.std.proofs.lemmas.List.{length-take}
 use Rattle.lru.specs.LruCache.{last_entry, promoted}
 use Rattle.lru.proofs.CallerLemmas.{Contains-lookup_entry}
 use Rattle.lru.proofs.Pairs.{lookup-lookup_entry}
-use Rattle.page_cache.specs.Frames.{clean}
 use Rattle.page_cache.specs.declared.frame.Frame.{Frame}
 use Rattle.page_cache.proofs.Lookups.{lookup-last, lookup-set}
 use Rattle.page_cache.proofs.Uses.{last_removed}
@@ -63,16 +62,16 @@ module _ {X : Type 0} where
 
 module _ {A : Type 0} (n : ℕ) (es new : List (ℕ × Frame A)) where
   -- the last one is made the first, and written
-  pub turned_round : (x : Frame A) (mid : List (ℕ × Frame A)) → IsDistinct nat_eq (keys_of es)
+  pub turned_round : (x y : Frame A) (mid : List (ℕ × Frame A)) → IsDistinct nat_eq (keys_of es)
       → Some (n, x) ≡ last_entry es → mid ≡ promoted (nat_eq n) es
-      → new ≡ set_value (nat_eq n) mid (clean x) → new ≡ (n, clean x) ∷ take (length es - 1) es
-  turned_round x mid apart last is written =
+      → new ≡ set_value (nat_eq n) mid y → new ≡ (n, y) ∷ take (length es - 1) es
+  turned_round x y mid apart last is written =
       let at_front : mid ≡ (n, x) ∷ take (length es - 1) es =
       is ∙ front n x es (lookup_entry (nat_eq n) es) refl (lookup-last n x es apart last)
       ∙ ap (λ l. (n, x) ∷ l) (last_removed n x es apart (sym last)) in
-      written ∙ ap (λ l. set_value (nat_eq n) l (clean x)) at_front
-      ∙ ap (λ y. cond y ((n, clean x) ∷ take (length es - 1) es)
-      ((n, x) ∷ set_value (nat_eq n) (take (length es - 1) es) (clean x))) (eq-eqb n n refl)
+      written ∙ ap (λ l. set_value (nat_eq n) l y) at_front
+      ∙ ap (λ t. cond t ((n, y) ∷ take (length es - 1) es)
+      ((n, x) ∷ set_value (nat_eq n) (take (length es - 1) es) y)) (eq-eqb n n refl)
 
   module _ (f : Frame A) (is : new ≡ (n, f) ∷ take (length es - 1) es) (some : 0 < length es) where
     pub length_turned : length new ≡ length es

@@ -2,13 +2,14 @@
 -- change.
 use Rattle.std.proofs.Common.{◌≡◌, ◌∙◌, ℕ, ◌≤◌, Bool, true, false, Option, None, Some, ap, refl, subst, sym}
 use Rattle.std.proofs.Common.{arith}
-use Rattle.std.specs.Prelude.{◌⊎◌, ◌<◌, Result, Ok, Err, IsErrAnd, OnOk}
+use Rattle.std.specs.Prelude.{◌⊎◌, ◌<◌, Result, Ok, Err, IsErrAnd, OnErr, OnOk}
 use Rattle.block_device.specs.Device.{one_more}
 use Rattle.page_file.specs.Fault.{HasCause, faults_after}
 use Rattle.page_file.specs.declared.fault.Fault.{Fault}
-use Rattle.page_cache.specs.Cache.{IsHeld, KeepsGate, KeepsMap, capacity_of, device_of, looks_of, next_of}
+use Rattle.page_cache.specs.Cache.{IsHeld, KeepsGate, KeepsMap, capacity_of, device_of, held_pages}
+use Rattle.page_cache.specs.Cache.{looks_of, next_of}
 use Rattle.page_cache.specs.Cache.{touched_of}
-use Rattle.page_cache.specs.Uses.{Uses}
+use Rattle.page_cache.specs.Uses.{Uses, used}
 use Rattle.page_cache.specs.Laws.{no_call_keeps_the_gate, no_call_keeps_the_map, the_gate_is_kept_in_turn}
 use Rattle.page_cache.specs.Laws.{the_map_is_kept_in_turn}
 use Rattle.page_cache.specs.declared.cache.PageCache.{PageCache}
@@ -71,6 +72,17 @@ pub record IsLookedAt {D A : Type 0} {m : _} {T : Type 0} (old new : PageCache D
   pub uses : Uses old new n result
   pub held : IsHeld old n → device_of new ≡ device_of old
   pub outside : (n < 2) ⊎ (next_of old ≤ n) → device_of new ≡ device_of old
+
+-- What a page spells was read at page n, which is held then, as the one used last, or refused, in one look, or at
+-- most one where it is refused; a number of no page given out needs no call of the device.
+pub record IsReadAt {D A : Type 0} {m : _} {T : Type 0} (old new : PageCache D A m) (n : ℕ)
+    (result : Result T Fault) : Type 0 where
+  pub asks : Asks old new result
+  pub looks : OnOk result (looks_of new ≡ one_more (looks_of old))
+  pub refused_looks : OnErr result ((looks_of new ≡ looks_of old) ⊎ (looks_of new ≡ one_more (looks_of old)))
+  pub holds : OnOk result (IsHeld new n)
+  pub used : OnOk result (held_pages new ≡ used (capacity_of old) n (held_pages old))
+  pub quiet : (n < 2) ⊎ (next_of old ≤ n) → device_of new ≡ device_of old
 
 -- a call that hands on a fault ends as the one that answered it
 pub ends_so : {T : Type 0} (result : Result T Fault) (f : Fault) → IsErrAnd result (λ e. e ≡ f)

@@ -4,6 +4,8 @@ ghost use Rattle.std.specs.Prelude.{OnErr};
 ghost use Rattle.std.specs.Prelude.{if◌then◌else◌, ◌==◌, ◌||◌, is_ok, true};
 ghost use Rattle.std.specs.Fn.{FnOnceReturnsAtMut};
 ghost use Rattle.block_device.specs.Device.{IsBlock};
+ghost use Rattle.box_math.specs.Bounds.{IsDims};
+ghost use Rattle.node_bytes.specs.Layout.{StaysNode};
 ghost use Rattle.page_file.specs.Fault.{IsOfDevice, IsDamage};
 ghost use Rattle.page_file.specs.Pages.{SameBut};
 ghost use Rattle.page_file.specs.declared.fault.Fault.TheVariants as fault;
@@ -17,17 +19,10 @@ ghost use Rattle.page_cache.specs.Uses.{Uses};
 ghost use Rattle.page_cache.specs.PageSteps.{Edits, Refills};
 
 use crate::cache::PageCache;
-use crate::frame::Frame;
+use crate::frame::{Frame, see_block};
 use block_device::BlockDevice;
 use page_file::Fault;
 use std::alloc::Allocator;
-
-// The bytes of a page are those of a block.
-fn see_block(page: &[u8; 4096])
-    ensures { IsBlock page.now }
-{
-    let _first = page[0];
-}
 
 impl<D: BlockDevice, A: Allocator + Copy> PageCache<D, A> {
     /// Changes a live page where it lies in memory, and holds it: `change` gets its bytes, and its answer is
@@ -47,8 +42,46 @@ impl<D: BlockDevice, A: Allocator + Copy> PageCache<D, A> {
         ensures { Edits n (λ page answer after. FnOnceReturnsAtMut F.FnOnce change page answer after)
             self.old self.new result }
     {
+        self.edit_known(n, 0, change)
+    }
+
+    /// Changes a live page as `edit` does, where `change` leaves a page that spells a node of so many axes one
+    /// that does: what is known of it is known still.
+    #[tactic(auto, using(crate::specs::Calls::counted_by_end))]
+    pub fn edit_node<const AXES: usize, T, F: FnOnce(&mut [u8; 4096]) -> T>(
+        &mut self,
+        n: u32,
+        change: F,
+    ) -> Result<T, Fault>
+        requires dims { IsDims AXES }
+        requires open { gate_of self.old ≡ Open }
+        requires change { F.IsAlwaysCallable change }
+        requires stays { (page after : List ℕ) (answer : T) →
+            FnOnceReturnsAtMut F.FnOnce change page answer after → StaysNode AXES page after }
+        ensures { Edits n (λ page answer after. FnOnceReturnsAtMut F.FnOnce change page answer after)
+            self.old self.new result }
+    {
+        self.edit_known(n, AXES as u8, change)
+    }
+
+    // Changes a live page where it lies, of which it stays known that it spells a node of so many axes; of 0 axes
+    // nothing is known.
+    #[tactic(auto, using(crate::specs::Calls::counted_by_end))]
+    fn edit_known<T, F: FnOnce(&mut [u8; 4096]) -> T>(
+        &mut self,
+        n: u32,
+        axes: u8,
+        change: F,
+    ) -> Result<T, Fault>
+        requires open { gate_of self.old ≡ Open }
+        requires change { F.IsAlwaysCallable change }
+        requires stays { 0 < axes → (page after : List ℕ) (answer : T) →
+            FnOnceReturnsAtMut F.FnOnce change page answer after → StaysNode axes page after }
+        ensures { Edits n (λ page answer after. FnOnceReturnsAtMut F.FnOnce change page answer after)
+            self.old self.new result }
+    {
         self.load(n)?;
-        Ok(self.change_held(n, change))
+        Ok(self.change_held(n, axes, change))
     }
 
     /// Fills a live page in memory, and holds it: `fill` gets a page of any bytes, which is that page where
@@ -65,7 +98,7 @@ impl<D: BlockDevice, A: Allocator + Copy> PageCache<D, A> {
             self.old self.new result }
     {
         if self.promote(n) {
-            self.change_held(n, fill);
+            self.change_held(n, 0, fill);
             return Ok(());
         }
         if n < 2 || n >= self.file.next_number() {
@@ -85,11 +118,14 @@ impl<D: BlockDevice, A: Allocator + Copy> PageCache<D, A> {
         held
     }
 
-    // Changes the bytes of a page that is held.
-    fn change_held<T, F: FnOnce(&mut [u8; 4096]) -> T>(&mut self, n: u32, change: F) -> T
+    // Changes the bytes of a page that is held, of which it stays known that they spell a node of so many axes;
+    // of 0 axes nothing is known.
+    fn change_held<T, F: FnOnce(&mut [u8; 4096]) -> T>(&mut self, n: u32, axes: u8, change: F) -> T
         requires held { IsHeld self.old n }
         requires open { gate_of self.old ≡ Open }
         requires change { F.IsAlwaysCallable change }
+        requires stays { 0 < axes → (page after : List ℕ) (answer : T) →
+            FnOnceReturnsAtMut F.FnOnce change page answer after → StaysNode axes page after }
         ensures frames { (old : Frame A) → frame_at self.old.frames.entries n ≡ Some old
             → (new : Frame A) × (new.changed ≡ true) × IsBlock new.bytes.value
             × FnOnceReturnsAtMut F.FnOnce change old.bytes.value result new.bytes.value
@@ -104,12 +140,8 @@ impl<D: BlockDevice, A: Allocator + Copy> PageCache<D, A> {
         let _count = self.frames.len();
         match self.frames.peek_mut(&n) {
             Some(frame) => {
-                frame.changed = true;
-                frame.axes = 0;
                 self.touched = true;
-                let answer = change(&mut frame.bytes);
-                see_block(&frame.bytes);
-                answer
+                frame.change(axes, change)
             }
             None => unreachable!(),
         }

@@ -1,24 +1,27 @@
 //! The pages: given out, put, freed and lent.
-ghost use Rattle.std.specs.Prelude.{◌≡◌, ◌⊎◌, ◌≤◌, ◌<◌, ◌+◌, ◌^◌, ℕ, Some, None, Err, IsErrOf, IsOk, IfOk};
-ghost use Rattle.std.specs.Prelude.{IfErr};
+ghost use Rattle.std.specs.Prelude.{◌≡◌, ◌⊎◌, ◌≤◌, ◌<◌, ◌+◌, ◌^◌, ℕ, List, Some, None, Err, IsErrOf, IsOk};
+ghost use Rattle.std.specs.Prelude.{IfOk, IfErr, IsTrue};
 ghost use Rattle.std.specs.Prelude.{OnOk, OnErr, option_map, slice_get, ◌||◌, is_ok, true};
 ghost use Rattle.std.specs.Borrow.{sem};
 ghost use Rattle.block_bytes.specs.Numbers.{zeros};
+ghost use Rattle.box_math.specs.Bounds.{IsDims};
+ghost use Rattle.node_bytes.specs.Layout.{node_test};
 ghost use Rattle.page_file.specs.Fault.{HasCause, IsOfDevice, IsDamage};
 ghost use Rattle.page_file.specs.Pages.{SameBut, TakesFirst};
 ghost use Rattle.page_file.specs.declared.fault.Fault.TheVariants as fault;
 ghost use Rattle.page_file.specs.declared.gate.Gate.TheVariants.{Open};
 ghost use Rattle.page_cache.specs.Cache.{Grows, BreaksAt, IsBroken, IsFull, IsHeld, IsHonest, IsLive};
 ghost use Rattle.page_cache.specs.Cache.{IsPageMap, IsUnchanged, KeepsMap};
-ghost use Rattle.page_cache.specs.Cache.{device_of, free_count_of, free_of, gate_of, given, looks_of};
+ghost use Rattle.page_cache.specs.Cache.{device_of, free_count_of, free_of, gate_of, given, held_pages, looks_of};
 ghost use Rattle.page_cache.specs.Cache.{next_of, pages, touched_of};
 ghost use Rattle.page_cache.specs.Calls.{Asks, Changes, IsLookedAt};
 ghost use Rattle.page_cache.specs.Keeps.{KeepsBlocks};
-ghost use Rattle.page_cache.specs.Loan.{EndsLookedAt};
+ghost use Rattle.page_cache.specs.Loan.{EndsLookedAt, EndsReadAt};
 ghost use Rattle.page_cache.specs.Uses.{Uses};
 ghost use Rattle.page_cache.specs.PageSteps.{Allocates, Frees, Puts};
 
 use crate::cache::PageCache;
+use crate::frame::Frame;
 use block_device::BlockDevice;
 use page_file::Fault;
 use std::alloc::Allocator;
@@ -43,6 +46,67 @@ impl<D: BlockDevice, A: Allocator + Copy> PageCache<D, A> {
         match self.frames.peek_mru() {
             Some((_, frame)) => Ok(&frame.bytes),
             None => unreachable!(),
+        }
+    }
+
+    /// Lends a page as `page` does, where it spells a node of so many axes. Another page is `Damaged` with its
+    /// number, in one look. That a page spells a node is asked of its bytes once, and then known until they
+    /// change, or leave memory.
+    pub fn node_page<const AXES: usize>(&mut self, n: u32) -> Result<&[u8; 4096], Fault>
+        requires { IsDims AXES }
+        ensures* read_at { sem 𝓛 (EndsReadAt D.row A.row D.BlockDevice A.Allocator self.entry n result) }
+        ensures bytes { IsHonest self.old → IsLive self.old n →
+            IfOk result (λ page. pages self.old n ≡ Some page.now) }
+        ensures given_bytes { IsHonest self.old → IfOk result (λ page. given self.old n ≡ Some page.now) }
+        ensures spells { IfOk result (λ page. node_test AXES page.now ≡ true) }
+        ensures held { IsHeld self.old n → IfErr result (λ f. f ≡ fault.Damaged n) }
+        ensures outside { (n < 2) ⊎ (next_of self.old ≤ n) → IsErrOf result (fault.Damaged n) }
+        ensures there { IsHonest self.old → (page : List ℕ) → given self.old n ≡ Some page
+            → node_test AXES page ≡ true → IfErr result IsOfDevice }
+        ensures faults { IsHonest self.old → IfErr result (λ f. IsOfDevice f ⊎ (f ≡ fault.Damaged n)) }
+        ensures other_faults { IfErr result (λ f. IsOfDevice f ⊎ IsDamage f) }
+    {
+        self.look(n)?;
+        if !self.is_node::<AXES>(n) {
+            return Err(Fault::Damaged(n));
+        }
+        match self.frames.peek_mru() {
+            Some((_, frame)) => Ok(&frame.bytes),
+            None => unreachable!(),
+        }
+    }
+
+    // Whether the page used last spells a node of so many axes.
+    fn is_node<const AXES: usize>(&mut self, n: u32) -> bool
+        requires dims { IsDims AXES }
+        requires held { IsHeld self.old n }
+        ensures kept { KeepsBlocks self.old self.new }
+        ensures file { self.new.file ≡ self.old.file }
+        ensures held { held_pages self.new ≡ held_pages self.old }
+        ensures holds { (k : ℕ) → IsHeld self.old k → IsHeld self.new k }
+        ensures first { (f : Frame A) → slice_get self.old.frames.entries 0 ≡ Some (n, f)
+            → (g : Frame A) × (slice_get self.new.frames.entries 0 ≡ Some (n, g)) × (g.bytes ≡ f.bytes)
+            × (result ≡ node_test AXES f.bytes.value) }
+    {
+        let _count = self.frames.len();
+        if self.is_known_node::<AXES>() {
+            return true;
+        }
+        match self.frames.peek_mut(&n) {
+            Some(frame) => frame.learn_node::<AXES>(),
+            None => unreachable!(),
+        }
+    }
+
+    // Whether the page used last is known to spell a node of so many axes.
+    fn is_known_node<const AXES: usize>(&self) -> bool
+        requires { IsDims AXES }
+        ensures { IsTrue result → (n : ℕ) (f : Frame A) → slice_get self.now.frames.entries 0 ≡ Some (n, f)
+            → node_test AXES f.bytes.value ≡ true }
+    {
+        match self.frames.peek_mru() {
+            Some((_, frame)) => frame.is_known_node::<AXES>(),
+            None => false,
         }
     }
 

@@ -1,6 +1,5 @@
 -- The goals of `PageCache::allocate` that are proved by hand.
 use Rattle.std.proofs.Common.{inl, inr, ◌≡◌, ◌∙◌, ℕ, ◌≤◌, ◌<◌, length, Option, Some, None, is_some, IsSome}
-use Rattle.std.specs.Prelude.{◌↔◌}
 use Rattle.std.proofs.Common.{◌||◌, ap, eqb, rules, not, refl, sym, subst, arith, ⊎_elim}
 use Rattle.block_bytes.specs.Numbers.{zeros}
 use Rattle.block_device.specs.Device.{Blocks, block_at}

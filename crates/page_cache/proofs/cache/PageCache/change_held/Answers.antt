@@ -1,7 +1,6 @@
 -- The goals of `PageCache::change_held` that are proved by hand.
-use Rattle.std.proofs.Common.{◌≡◌, ◌∙◌, Some, nat_eq, true, false, ap, refl, subst}
-use Rattle.std.specs.Box.{with_value}
-use Rattle.block_device.specs.Device.{IsBlock}
+use Rattle.std.proofs.Common.{◌≡◌, ◌∙◌, Some, nat_eq, true, false, subst, sym}
+use Rattle.std.specs.Fn.{FnOnceReturnsAtMut}
 use Rattle.page_cache.specs.Frames.{frame_at}
 use Rattle.page_cache.specs.declared.frame.Frame.{Frame}
 use Rattle.page_cache.proofs.Kept.{kept_put}
@@ -12,11 +11,10 @@ use Rattle.page_cache.proofs.cache.PageCache.change_held.Goals as goal
 pub invariant_of-self : goal.invariant_of-self
 invariant_of-self g c =
     let cache = c.args.self.now in
-    let after : Frame _ =
-    record { bytes = with_value c.in-Some.frame.now.bytes c.change-answer.new.arg2; changed = true } in
+    let after = c.change.new.self in
     let kept = kept_put cache.file (frame_at cache.frames.entries) _ c.args.n after
     (λ k. lookup-set c.args.n k cache.frames.entries after c.requires.held)
-    (cache.within c.args.n c.requires.held) (λ h e. let bad : true ≡ false = e in absurd (cc))
+    (cache.within c.args.n c.requires.held) (λ h e. let bad : true ≡ false = sym c.change.ensures.changed ∙ e in absurd (cc))
     (λ _. c.requires.open)
     (record { within = cache.within; true_to = cache.true_to; behind_the_gate = cache.behind_the_gate }) in
     record {
@@ -28,20 +26,14 @@ invariant_of-self g c =
 
 pub returns-clause-frames : goal.returns-clause-frames
 returns-clause-frames g c = λ old is.
-    let after : Frame _ =
-    record { bytes = with_value c.in-Some.frame.now.bytes c.change-answer.new.arg2; changed = true } in
+    let after = c.change.new.self in
     let same : Some c.in-Some.frame.now ≡ Some old = c.in-Some.ensures.value ∙ is in
     let found : c.in-Some.frame.now ≡ old = cc in (
       after,
-      refl,
-      subst (λ b. IsBlock b) c.deref.ensures c.see_block.ensures,
-      record {
-        shown = _;
-        shows = c.deref_mut.ensures.value ∙ ap (λ (f : Frame _). f.bytes.value) found;
-        left = _;
-        met = c.change-answer.ensures;
-        leaves = refl;
-      },
+      c.change.ensures.changed,
+      c.change.ensures.block,
+      subst (λ (f : Frame _). FnOnceReturnsAtMut g.F.FnOnce c.args.change f.bytes.value c.change.result
+          after.bytes.value) found c.change.ensures.did,
       λ k. lookup-set c.args.n k c.args.self.now.frames.entries after c.requires.held,
     )
 

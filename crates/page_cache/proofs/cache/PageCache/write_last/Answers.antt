@@ -1,6 +1,5 @@
 -- The goals of `PageCache::write_last` that are proved by hand.
-use Rattle.std.proofs.Common.{◌∙◌, refl}
-use Rattle.page_cache.specs.Frames.{clean}
+use Rattle.std.proofs.Common.{◌∙◌}
 use Rattle.page_cache.proofs.Lookups.{lookup-last}
 use Rattle.page_cache.proofs.Results.{on_ok_map}
 use Rattle.page_cache.proofs.Turned.{turned_round}
@@ -15,9 +14,9 @@ returns-clause-turned g c =
     (c.write_held.ensures.entries c.in-Some._frame.now (c.promote.ensures.same.frames n ∙ here))
     (λ written. (
       n,
-      clean c.in-Some._frame.now,
-      refl,
+      written.0,
+      written.1.changed,
       turned_round n es c.write_held.new.self.frames.entries
-          c.in-Some._frame.now c.promote.new.self.frames.entries apart c.in-Some.ensures c.promote.ensures.entries
-          written,
+          c.in-Some._frame.now written.0 c.promote.new.self.frames.entries apart c.in-Some.ensures c.promote.ensures.entries
+          written.2,
     ))

@@ -1,4 +1,4 @@
--- The goals of `PageCache::edit` that are proved by hand.
+-- The goals of `PageCache::edit_known` that are proved by hand.
 use Rattle.std.proofs.Common.{◌≡◌, ◌∙◌, Some, is_some, ap, refl, rules, subst, sym}
 use Rattle.std.specs.Fn.{FnOnceReturnsAtMut}
 use Rattle.page_file.specs.File as below
@@ -7,7 +7,7 @@ use Rattle.page_cache.specs.Calls.{counted_by_end}
 use Rattle.page_cache.proofs.Lookups.{first-found}
 use Rattle.page_cache.proofs.Putting.{given_others_there, given_there, held_after, held_bytes, held_within}
 use Rattle.page_cache.proofs.Putting.{held_written, live_there, others_there, sound_there, there}
-use Rattle.page_cache.proofs.cache.PageCache.edit.Goals as goal
+use Rattle.page_cache.proofs.cache.PageCache.edit_known.Goals as goal
 
 pub change_held-requires-clause-held : goal.change_held-requires-clause-held
 change_held-requires-clause-held g c =
