@@ -121,8 +121,8 @@ test_of_node dims page c h =
 
 pub node_of_test : (dims : ℕ) (page : List ℕ) → node_test dims page ≡ true
     → node_at dims page ≡ Some (record {
-    level = number_at 1 4 page;
-    entries = items_at dims page (number_at 2 2 page);
+      level = number_at 1 4 page;
+      entries = items_at dims page (number_at 2 2 page);
     })
 unfolding node_at
 node_of_test dims page h = rw h refl

@@ -15,6 +15,6 @@ mod view;
 
 pub use edits::{drop_where_there, push_where_room, write_box_at};
 pub use masks::next_set;
-pub use page::{decode, decode_into, encode};
+pub use page::{decode, encode};
 pub use tree_node::{Entry, Node};
 pub use view::{NodeView, spells_node};

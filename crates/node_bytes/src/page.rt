@@ -8,7 +8,6 @@ ghost use Rattle.node_bytes.specs.Layout.{node_at, IsSpellable, IsNamed, IsPageO
 
 use crate::entries::{read_entry, write_entry};
 use crate::head::{count_at, has_node_head, is_tagged, write_head};
-use crate::view::NodeView;
 use arrayvec::ArrayVec;
 use tree_node::Node;
 
@@ -36,23 +35,6 @@ pub fn decode<const D: usize>(page: &[u8; 4096], level: u8) -> Option<Node<D>>
         }
     }
     Some(Node { level, entries })
-}
-
-/// Makes the node the one of that level that the page spells, or answers `false` where it spells none, as
-/// `decode` tells; the node may then be any. Nothing is copied but the entries.
-pub fn decode_into<const D: usize>(page: &[u8; 4096], level: u8, node: &mut Node<D>) -> bool
-    requires { IsDims D }
-    ensures spelled { IsTrue result → node_at D page.now ≡ Some (content_of node.new) }
-    ensures level { IsTrue result → node.new.level ≡ level }
-    ensures spellable { IsTrue result → IsSpellable (content_of node.new) }
-    ensures boxes { IsTrue result → All (λ item. IsBox D item.bounds) (content_of node.new).entries }
-    ensures none { result ≡ false → (c : NodeContent) → node_at D page.now ≡ Some c → c.level ≢ level }
-{
-    let Some(view) = NodeView::of(page, level) else {
-        return false;
-    };
-    view.decode_into(node);
-    true
 }
 
 /// Makes the page the one that spells the node, with zeros in all bytes that it does not name. The node has

@@ -153,7 +153,7 @@ impl<'a, const D: usize> NodeView<'a, D> {
     }
 
     /// The least box round the entries but the one in a place, of which there is another.
-    pub(crate) fn least_beside(&self, place: usize) -> BBox<D>
+    pub fn least_beside(&self, place: usize) -> BBox<D>
         requires within { place < length (content_in self.now).entries }
         requires others { 1 < length (content_in self.now).entries }
         ensures { result ≡ least_box D (without_entry (content_in self.now) place).entries }
@@ -170,7 +170,7 @@ impl<'a, const D: usize> NodeView<'a, D> {
     }
 
     /// The least box round the entries where the one in a place has that box.
-    pub(crate) fn least_boxed(&self, place: usize, bounds: &BBox<D>) -> BBox<D>
+    pub fn least_boxed(&self, place: usize, bounds: &BBox<D>) -> BBox<D>
         requires { place < length (content_in self.now).entries }
         ensures { result ≡ least_box D (with_box_at (content_in self.now) place bounds.now).entries }
     {

@@ -1,26 +1,50 @@
--- A look at a page, as the reading of a node there that is refused.
-use Rattle.std.proofs.Common.{◌≡◌, ◌∙◌, ℕ, List, Bool, true, false, ◌||◌, Some, refl, inl, inr, subst, sym}
+-- A page that is lent where it spells a node, as the reading of that node.
+use Rattle.std.proofs.Common.{◌≡◌, ◌∙◌, ℕ, List, Bool, true, false, ◌||◌, Some, refl, inr, subst, sym}
 use Rattle.std.specs.Prelude.{Result, Ok, Err, IsErrAnd}
 use Rattle.page_file.specs.declared.fault.Fault.{Fault}
 use Rattle.page_file.specs.declared.fault.Fault.TheVariants as fault
 use Rattle.page_cache.specs.Cache.{touched_of}
-use Rattle.page_cache.specs.Calls.{AsksUntil, IsLookedAt}
+use Rattle.page_cache.specs.Calls.{AsksUntil, IsReadAt}
 use Rattle.page_cache.specs.PageSteps.{Edits}
 use Rattle.page_cache.specs.declared.cache.PageCache.{PageCache}
-use Rattle.node_page.specs.Loan.{IsReadAt}
 
 module _ {D A : Type 0} {m : _} {S T : Type 0} (old new : PageCache D A m) (n : ℕ) where
-  -- the page was not lent, and its fault is handed on
-  pub not_lent : (f : Fault) (result : Result T Fault) → IsErrAnd result (λ e. e ≡ f)
-      → IsLookedAt {T = S} old new n (Err f) → IsReadAt old new n result
-  not_lent f (Ok x) is look = elim is [ ]
-  not_lent f (Err e) is look = subst (λ (e : Fault). IsReadAt {T = T} old new n (Err e)) (sym is)
-      (record { asks = look.asks; looks = tt; refused_looks = inl look.looks; holds = tt; quiet = look.outside })
+  -- the page was lent, and is read as the node that it spells
+  pub node_read : (x : S) (y : T) → IsReadAt {T = S} old new n (Ok x) → IsReadAt {T = T} old new n (Ok y)
+  node_read x y read = let a = read.asks in record {
+    asks = record {
+      gate = a.gate;
+      map = a.map;
+      capacity = a.capacity;
+      looks = a.looks;
+      touched = a.touched;
+      faults = a.faults;
+    };
+    looks = read.looks;
+    refused_looks = tt;
+    holds = read.holds;
+    used = read.used;
+    quiet = read.quiet;
+  }
 
-  -- it was lent, and spells no such node
-  pub no_node : (x : S) → IsLookedAt {T = S} old new n (Ok x)
+  -- it was not lent, and its fault is handed on
+  pub not_read : (f : Fault) (result : Result T Fault) → IsErrAnd result (λ e. e ≡ f)
+      → IsReadAt {T = S} old new n (Err f) → IsReadAt old new n result
+  not_read f (Ok x) is read = elim is [ ]
+  not_read f (Err e) is read = subst (λ (e : Fault). IsReadAt {T = T} old new n (Err e)) (sym is)
+      (record {
+        asks = read.asks;
+        looks = tt;
+        refused_looks = read.refused_looks;
+        holds = tt;
+        used = tt;
+        quiet = read.quiet;
+      })
+
+  -- it was lent, and spells a node of another level
+  pub no_node : (x : S) → IsReadAt {T = S} old new n (Ok x)
       → IsReadAt {T = T} old new n (Err (fault.Damaged n))
-  no_node x look = let a = look.asks in record {
+  no_node x read = let a = read.asks in record {
     asks = record {
       gate = a.gate;
       map = a.map;
@@ -30,9 +54,10 @@ module _ {D A : Type 0} {m : _} {S T : Type 0} (old new : PageCache D A m) (n : 
       faults = a.faults;
     };
     looks = tt;
-    refused_looks = inr look.looks;
+    refused_looks = inr read.looks;
     holds = tt;
-    quiet = look.outside;
+    used = tt;
+    quiet = read.quiet;
   }
 
 or_not : (b : Bool) → (b || false) ≡ b

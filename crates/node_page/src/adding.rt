@@ -12,13 +12,13 @@ ghost use Rattle.page_cache.specs.Cache.{pages};
 ghost use Rattle.page_cache.specs.Calls.{Asks, AsksUntil, Changes};
 ghost use Rattle.tree_node.specs.Boxes.{least_box};
 ghost use Rattle.tree_node.specs.Nodes.{NodeContent, item_of};
-ghost use Rattle.node_bytes.specs.Layout.{IsOfLevel, IsPageOfNode, IsTidy, node_at, pushed};
+ghost use Rattle.node_bytes.specs.Layout.{IsOfLevel, IsPageOfNode, IsTidy, StaysNode, node_at, pushed};
 ghost use Rattle.node_page.specs.Standing.{HasPageOf, IsTidyAt, node_in};
 
-use node_bytes::push_where_room;
 use crate::lending::view_node;
 use block_device::BlockDevice;
 use box_math::BBox;
+use node_bytes::push_where_room;
 use page_cache::PageCache;
 use page_file::Fault;
 use std::alloc::Allocator;
@@ -72,7 +72,7 @@ pub fn add_entry<const D: usize, B: BlockDevice, A: Allocator + Copy>(
     let Some(bounds) = least_with(cache, page, level, entry, most)? else {
         return Ok(None);
     };
-    cache.edit(
+    cache.edit_node::<D, _, _>(
         page,
         |bytes: &mut [u8; 4096]|
             requires { IsDims D }
@@ -83,6 +83,7 @@ pub fn add_entry<const D: usize, B: BlockDevice, A: Allocator + Copy>(
                 → length c.entries < 100
                 → IsOfLevel c.level entry.entry.now.reference entry.entry.now.tag
                 → IsPageOfNode D bytes.new (pushed c (item_of entry.entry.now)) }
+            ensures stays { StaysNode D bytes.old bytes.new }
         { push_where_room(bytes, entry) },
     )?;
     Ok(Some(bounds))

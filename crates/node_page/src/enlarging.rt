@@ -16,10 +16,10 @@ ghost use Rattle.tree_node.specs.Nodes.{NodeContent};
 ghost use Rattle.node_bytes.specs.Enlarged.{CanEnlarge, IsBoxed, set_box, with_box_at};
 ghost use Rattle.node_page.specs.Standing.{HasPageOf, IsTidyAt, node_in};
 
-use node_bytes::write_box_at;
 use crate::lending::view_node;
 use block_device::BlockDevice;
 use box_math::BBox;
+use node_bytes::write_box_at;
 use page_cache::PageCache;
 use page_file::Fault;
 use std::alloc::Allocator;
@@ -83,13 +83,12 @@ fn edit_box<const D: usize, B: BlockDevice, A: Allocator + Copy>(
 ) -> Result<(), Fault>
     requires dims { IsDims D }
     requires open { gate_of cache.old ≡ Open }
-    requires within { place < 100 }
     ensures { Edits page (λ was answer now. IsBoxed D place bounds.now was now) cache.old cache.new result }
 {
-    cache.edit(
+    cache.edit_node::<D, _, _>(
         page,
         |bytes: &mut [u8; 4096]|
-            requires { IsDims D × place < 100 }
+            requires { IsDims D }
             ensures { IsBoxed D place bounds.entry.now bytes.old bytes.new }
         { write_box_at(bytes, place, bounds) },
     )
@@ -109,7 +108,6 @@ fn least_enlarged<const D: usize, B: BlockDevice, A: Allocator + Copy>(
     ensures asks { Asks cache.old cache.new result }
     ensures room { IsHonest cache.old → (c : NodeContent) → node_in D (pages cache.old page) ≡ Some c
         → IfOk result (λ least. IsSome least ↔ CanEnlarge D most place bounds.now c) }
-    ensures within { IfOk result (λ least. IsSome least → place < 100) }
     ensures least { IsHonest cache.old → (c : NodeContent) → node_in D (pages cache.old page) ≡ Some c
         → IfOk result (λ some. IfSome some (λ least.
         least ≡ least_box D (set_box c.entries place bounds.now))) }
@@ -195,7 +193,6 @@ fn least_with_box<const D: usize, B: BlockDevice, A: Allocator + Copy>(
     ensures asks { Asks cache.old cache.new result }
     ensures room { IsHonest cache.old → (c : NodeContent) → node_in D (pages cache.old page) ≡ Some c
         → IfOk result (λ least. IsSome least ↔ (place < length c.entries)) }
-    ensures within { IfOk result (λ least. IsSome least → place < 100) }
     ensures least { IsHonest cache.old → (c : NodeContent) → node_in D (pages cache.old page) ≡ Some c
         → IfOk result (λ some. IfSome some (λ least.
         least ≡ least_box D (set_box c.entries place bounds.now))) }

@@ -8,12 +8,12 @@ ghost use Rattle.page_file.specs.declared.fault.Fault.TheVariants as fault;
 ghost use Rattle.page_cache.specs.Cache.{IsHeld, IsHonest, IsLive, given, next_of, pages};
 ghost use Rattle.tree_node.specs.Nodes.{NodeContent};
 ghost use Rattle.node_bytes.specs.Layout.{IsSpellable};
-ghost use Rattle.node_page.specs.Loan.{EndsReadAt};
+ghost use Rattle.page_cache.specs.Loan.{EndsReadAt};
 ghost use Rattle.node_page.specs.Standing.{node_in};
 ghost use Rattle.node_bytes.specs.Views.{content_in};
 
-use node_bytes::NodeView;
 use block_device::BlockDevice;
+use node_bytes::NodeView;
 use page_cache::PageCache;
 use page_file::Fault;
 use std::alloc::Allocator;
@@ -43,8 +43,8 @@ pub fn view_node<'a, const D: usize, B: BlockDevice, A: Allocator + Copy>(
     ensures held { IsHeld cache.old page → IfErr result (λ f. f ≡ fault.Damaged page) }
     ensures other_faults { IfErr result (λ f. IsOfDevice f ⊎ IsDamage f) }
 {
-    let bytes = cache.page(page)?;
-    match NodeView::of(bytes, level) {
+    let bytes = cache.node_page::<D>(page)?;
+    match NodeView::of_known(bytes, level) {
         Some(view) => Ok(view),
         None => Err(Fault::Damaged(page)),
     }

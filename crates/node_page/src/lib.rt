@@ -17,7 +17,7 @@ pub use check::{TreeFacts, check_tree};
 pub use enlarging::{enlarge_entry, set_entry_box};
 pub use leaves::leaf_lists;
 pub use lending::view_node;
-pub use node_bytes::{NodeView, decode, decode_into, encode, next_set};
+pub use node_bytes::{NodeView, decode, encode, next_set};
 pub use nodes::{read_into, read_node, write_node};
 pub use taking::take_entry;
 pub use tree_node::{Entry, Node, Root};

@@ -14,8 +14,10 @@ ghost use Rattle.tree_node.specs.Nodes.{NodeContent, content_of};
 ghost use Rattle.node_bytes.specs.Layout.{IsPageOfNode, IsSpellable, node_at};
 ghost use Rattle.node_page.specs.Standing.{HasPageOf, node_in};
 
-use node_bytes::{decode, decode_into, encode};
+use crate::lending::view_node;
+use arrayvec::ArrayVec;
 use block_device::BlockDevice;
+use node_bytes::encode;
 use page_cache::PageCache;
 use page_file::Fault;
 use std::alloc::Allocator;
@@ -55,10 +57,13 @@ pub fn read_node<const D: usize, B: BlockDevice, A: Allocator + Copy>(
     ensures held { IsHeld cache.old page → IfErr result (λ f. f ≡ fault.Damaged page) }
     ensures other_faults { IfErr result (λ f. IsOfDevice f ⊎ IsDamage f) }
 {
-    match decode(cache.page(page)?, level) {
-        Some(node) => Ok(node),
-        None => Err(Fault::Damaged(page)),
-    }
+    let view = view_node::<D, B, A>(cache, page, level)?;
+    let mut node = Node {
+        level,
+        entries: ArrayVec::new(),
+    };
+    view.decode_into(&mut node);
+    Ok(node)
 }
 
 /// Reads the node of that level at a page as `read_node` does, into a node that may be any after a refusal.
@@ -88,11 +93,9 @@ pub fn read_into<const D: usize, B: BlockDevice, A: Allocator + Copy>(
     ensures held { IsHeld cache.old page → IfErr result (λ f. f ≡ fault.Damaged page) }
     ensures other_faults { IfErr result (λ f. IsOfDevice f ⊎ IsDamage f) }
 {
-    if decode_into(cache.page(page)?, level, node) {
-        Ok(())
-    } else {
-        Err(Fault::Damaged(page))
-    }
+    let view = view_node::<D, B, A>(cache, page, level)?;
+    view.decode_into(node);
+    Ok(())
 }
 
 /// Writes a node into a live page, which becomes the one that `encode` makes of it, whatever was there

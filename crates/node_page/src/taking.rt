@@ -12,14 +12,14 @@ ghost use Rattle.page_cache.specs.Cache.{pages};
 ghost use Rattle.page_cache.specs.Calls.{Asks, AsksUntil, Changes};
 ghost use Rattle.tree_node.specs.Boxes.{least_box};
 ghost use Rattle.tree_node.specs.Nodes.{NodeContent};
-ghost use Rattle.node_bytes.specs.Layout.{IsPageOfNode, IsTidy, node_at};
+ghost use Rattle.node_bytes.specs.Layout.{IsPageOfNode, IsTidy, StaysNode, node_at};
 ghost use Rattle.node_page.specs.Standing.{HasPageOf, IsTidyAt, node_in};
 ghost use Rattle.node_bytes.specs.Taken.{without_entry};
 
-use node_bytes::drop_where_there;
 use crate::lending::view_node;
 use block_device::BlockDevice;
 use box_math::BBox;
+use node_bytes::drop_where_there;
 use page_cache::PageCache;
 use page_file::Fault;
 use std::alloc::Allocator;
@@ -70,7 +70,7 @@ pub fn take_entry<const D: usize, B: BlockDevice, A: Allocator + Copy>(
     let Some(least) = least_of_others(cache, page, level, place, fewest)? else {
         return Ok(None);
     };
-    cache.edit(
+    cache.edit_node::<D, _, _>(
         page,
         |bytes: &mut [u8; 4096]|
             requires { IsDims D }
@@ -79,6 +79,7 @@ pub fn take_entry<const D: usize, B: BlockDevice, A: Allocator + Copy>(
             ensures is_page { IsTidy D bytes.old → (c : NodeContent) → node_at D bytes.old ≡ Some c
                 → place < length c.entries → 1 < length c.entries
                 → IsPageOfNode D bytes.new (without_entry c place) }
+            ensures stays { StaysNode D bytes.old bytes.new }
         { drop_where_there::<D>(bytes, place) },
     )?;
     Ok(Some(least))

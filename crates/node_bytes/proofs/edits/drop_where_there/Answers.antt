@@ -52,5 +52,10 @@ returns-then-count-le100-clause-stays g c = λ test.
     let is = node_of_test g.row.D page test in
     let size = size_of g.row.D page _ (spells g.row.D page _ is) in
     test_of_node g.row.D c.drop_entry.new.page _
-    (c.drop_entry.ensures.taken _ is (omega (arith, size, c.if-place-count.false, c.if-count-eq1.false,
-    c.count_at-count.ensures)))
+    (c.drop_entry.ensures.taken _ is (omega (
+      arith,
+      size,
+      c.if-place-count.false,
+      c.if-count-eq1.false,
+      c.count_at-count.ensures,
+    )))

@@ -18,9 +18,9 @@ use Rattle.node_bytes.proofs.TidyLemmas.{Left, at_page}
 use Rattle.node_page.proofs.adding.add_entry.Goals as goal
 
 -- the bytes that the edit left at the page
-left : (g : _) (c : goal.In_ok-edit g) → IsHonest c.args.cache.now → (content : NodeContent) (was : List ℕ)
+left : (g : _) (c : goal.In_ok-edit_node g) → IsHonest c.args.cache.now → (content : NodeContent) (was : List ℕ)
     → pages c.args.cache.now c.args.page ≡ Some was → node_at g.row.D was ≡ Some content
-    → Left g.row.D (pages c.edit.new.self c.args.page) was (pushed content (item_of c.args.entry.now))
+    → Left g.row.D (pages c.edit_node.new.self c.args.page) was (pushed content (item_of c.args.entry.now))
 left g c h content was at is =
     let D = g.row.D in
     let page = c.args.page in
@@ -30,7 +30,7 @@ left g c h content was at is =
     let there = node_of_page D (pages c.args.cache.now page) was (Some content) at is in
     let live : pages mid page ≡ Some was = asks.map.pages_stay h page ∙ at in
     let did =
-    c.in_ok-edit.ensures.edited (asks.gate.honest.0 h) was (a_live_page_is_given mid page was live) in
+    c.in_ok-edit_node.ensures.edited (asks.gate.honest.0 h) was (a_live_page_is_given mid page was live) in
     let room = (c.in_ok-bounds.ensures.room h content there) in
     let level = c.in_ok-bounds.ensures.level h content there in
     let ran = did.3 in
@@ -46,7 +46,7 @@ left g c h content was at is =
       spelled = ap (node_at D) (sym ran.leaves) ∙ ran.met.0 content spelled few refers;
       is_page =
           λ tidy. subst (λ bytes. IsPageOfNode D bytes after) {y = did.0} ran.leaves
-          (ran.met.1 (subst (IsTidy D) (sym ran.shows) tidy) content spelled few refers);
+          (ran.met.1.0 (subst (IsTidy D) (sym ran.shows) tidy) content spelled few refers);
     }
 
 pub returns-clause-added : goal.returns-clause-added
@@ -55,7 +55,7 @@ returns-clause-added g c = λ h content there.
     let item = item_of c.args.entry.now in
     let was = bytes_of_node D (pages c.args.cache.now c.args.page) content there in
     let l = left g c h content was.0 was.1 was.2 in (
-      node_of_page D (pages c.edit.new.self c.args.page) l.now (Some (pushed content item)) l.there l.spelled,
+      node_of_page D (pages c.edit_node.new.self c.args.page) l.now (Some (pushed content item)) l.there l.spelled,
       subst (λ o. IfSome o (λ bounds. bounds ≡ least_box D (pushed content item).entries)) c.in-Some.is
           (c.in_ok-bounds.ensures.least h content there),
     )
@@ -65,31 +65,31 @@ returns-clause-is_page g c = λ h content there tidy.
     let D = g.row.D in
     let was = bytes_of_node D (pages c.args.cache.now c.args.page) content there in
     let l = left g c h content was.0 was.1 was.2 in
-    at_page D (pages c.edit.new.self c.args.page) l.now (pushed content (item_of c.args.entry.now)) l.there
+    at_page D (pages c.edit_node.new.self c.args.page) l.now (pushed content (item_of c.args.entry.now)) l.there
     (l.is_page (subst (λ (o : Option (List ℕ)). IsSomeAnd o (IsTidy D)) was.1 tidy))
 
 pub returns-clause-changes : goal.returns-clause-changes
 returns-clause-changes g c =
-    changes_in_turn c.args.cache.now c.least_with.new.cache c.edit.new.self None
+    changes_in_turn c.args.cache.now c.least_with.new.cache c.edit_node.new.self None
     (asks_changes c.args.cache.now c.least_with.new.cache None c.in_ok-bounds.ensures.asks)
-    c.in_ok-edit.ensures.changes
+    c.in_ok-edit_node.ensures.changes
 
-pub returns-in_err-edit-clause-faults : goal.returns-in_err-edit-clause-faults
-returns-in_err-edit-clause-faults g c = λ h content there level.
+pub returns-in_err-edit_node-clause-faults : goal.returns-in_err-edit_node-clause-faults
+returns-in_err-edit_node-clause-faults g c = λ h content there level.
     let asks = c.in_ok-bounds.ensures.asks in
     let was = bytes_of_node g.row.D (pages c.args.cache.now c.args.page) content there in
     let live : pages c.least_with.new.cache c.args.page ≡ Some was.0 = asks.map.pages_stay h c.args.page
     ∙ was.1 in
     let out = a_live_page_was_given_out c.least_with.new.cache c.args.page (ap is_some live) in
-    at_error c.from_residual-in_err-edit.result c.in_err-edit.field-0.0 IsOfDevice
-    c.from_residual-in_err-edit.ensures.1 (c.in_err-edit.ensures.faults (asks.gate.honest.0 h) out.0 out.1)
+    at_error c.from_residual-in_err-edit_node.result c.in_err-edit_node.field-0.0 IsOfDevice
+    c.from_residual-in_err-edit_node.ensures.1 (c.in_err-edit_node.ensures.faults (asks.gate.honest.0 h) out.0 out.1)
 
-pub returns-in_err-edit-clause-changes : goal.returns-in_err-edit-clause-changes
-returns-in_err-edit-clause-changes g c =
-    changes_and_refuses c.args.cache.now c.least_with.new.cache c.edit.new.self c.in_err-edit.field-0.0
-    c.from_residual-in_err-edit.result c.from_residual-in_err-edit.ensures.1
+pub returns-in_err-edit_node-clause-changes : goal.returns-in_err-edit_node-clause-changes
+returns-in_err-edit_node-clause-changes g c =
+    changes_and_refuses c.args.cache.now c.least_with.new.cache c.edit_node.new.self c.in_err-edit_node.field-0.0
+    c.from_residual-in_err-edit_node.result c.from_residual-in_err-edit_node.ensures.1
     (asks_changes c.args.cache.now c.least_with.new.cache None c.in_ok-bounds.ensures.asks)
-    c.in_err-edit.ensures.changes
+    c.in_err-edit_node.ensures.changes
 
 pub returns-clause-room : goal.returns-clause-room
 returns-clause-room g c = λ h content there level.
@@ -100,7 +100,7 @@ returns-clause-room g c = λ h content there level.
 pub returns-clause-others : goal.returns-clause-others
 returns-clause-others g c = λ h live k other.
     let asks = c.in_ok-bounds.ensures.asks in
-    c.in_ok-edit.ensures.others (asks.gate.honest.0 h) (ap is_some (asks.map.pages_stay h c.args.page) ∙ live) k
+    c.in_ok-edit_node.ensures.others (asks.gate.honest.0 h) (ap is_some (asks.map.pages_stay h c.args.page) ∙ live) k
     other ∙ asks.map.pages_stay h k
 
 pub returns-in_default-clause-given_node : goal.returns-in_default-clause-given_node
@@ -109,24 +109,24 @@ returns-in_default-clause-given_node g c = λ h. c.in_ok-bounds.ensures.given_no
 pub returns-clause-given_node : goal.returns-clause-given_node
 returns-clause-given_node g c = λ h. c.in_ok-bounds.ensures.given_node h
 
-pub returns-in_err-edit-clause-named : goal.returns-in_err-edit-clause-named
-returns-in_err-edit-clause-named g c = λ h.
+pub returns-in_err-edit_node-clause-named : goal.returns-in_err-edit_node-clause-named
+returns-in_err-edit_node-clause-named g c = λ h.
     let asks = c.in_ok-bounds.ensures.asks in
     let node = c.in_ok-bounds.ensures.given_node h in
     let out = node_was_given_out g.row.D c.args.cache.now c.args.page node.0 node.1 in
-    at_error c.from_residual-in_err-edit.result c.in_err-edit.field-0.0
-    (λ f. IsOfDevice f ⊎ (f ≡ fault.Damaged c.args.page)) c.from_residual-in_err-edit.ensures.1
-    (inl (c.in_err-edit.ensures.faults (asks.gate.honest.0 h) out.0 (omega (arith, out.1, asks.map.next))))
+    at_error c.from_residual-in_err-edit_node.result c.in_err-edit_node.field-0.0
+    (λ f. IsOfDevice f ⊎ (f ≡ fault.Damaged c.args.page)) c.from_residual-in_err-edit_node.ensures.1
+    (inl (c.in_err-edit_node.ensures.faults (asks.gate.honest.0 h) out.0 (omega (arith, out.1, asks.map.next))))
 
-pub returns-in_err-edit-clause-refused : goal.returns-in_err-edit-clause-refused
-returns-in_err-edit-clause-refused g c =
+pub returns-in_err-edit_node-clause-refused : goal.returns-in_err-edit_node-clause-refused
+returns-in_err-edit_node-clause-refused g c =
     let mid = c.least_with.new.cache in
-    let f = c.in_err-edit.field-0.0 in
-    at_error c.from_residual-in_err-edit.result f
-    (λ e. AsksUntil c.args.cache.now c.edit.new.self (Some e)) c.from_residual-in_err-edit.ensures.1
-    (asks_in_turn c.args.cache.now mid c.edit.new.self (Some f) c.in_ok-bounds.ensures.asks
-    (edit_refused mid c.edit.new.self c.args.page f c.in_err-edit.ensures))
+    let f = c.in_err-edit_node.field-0.0 in
+    at_error c.from_residual-in_err-edit_node.result f
+    (λ e. AsksUntil c.args.cache.now c.edit_node.new.self (Some e)) c.from_residual-in_err-edit_node.ensures.1
+    (asks_in_turn c.args.cache.now mid c.edit_node.new.self (Some f) c.in_ok-bounds.ensures.asks
+    (edit_refused mid c.edit_node.new.self c.args.page f c.in_err-edit_node.ensures))
 
-pub returns-in_err-edit-clause-held : goal.returns-in_err-edit-clause-held
-returns-in_err-edit-clause-held g c = λ held.
-    let no = c.in_err-edit.ensures.held c.in_ok-bounds.ensures.holds in absurd (cc)
+pub returns-in_err-edit_node-clause-held : goal.returns-in_err-edit_node-clause-held
+returns-in_err-edit_node-clause-held g c = λ held.
+    let no = c.in_err-edit_node.ensures.held c.in_ok-bounds.ensures.holds in absurd (cc)

@@ -12,9 +12,9 @@ use Rattle.node_bytes.proofs.TidyLemmas.{Left, at_page}
 use Rattle.node_page.proofs.taking.take_entry.Goals as goal
 
 -- the bytes that the edit left at the page
-left : (g : _) (c : goal.In_ok-edit g) → IsHonest c.args.cache.now → (content : NodeContent) (was : List ℕ)
+left : (g : _) (c : goal.In_ok-edit_node g) → IsHonest c.args.cache.now → (content : NodeContent) (was : List ℕ)
     → pages c.args.cache.now c.args.page ≡ Some was → node_at g.row.D was ≡ Some content
-    → Left g.row.D (pages c.edit.new.self c.args.page) was (without_entry content c.args.place)
+    → Left g.row.D (pages c.edit_node.new.self c.args.page) was (without_entry content c.args.place)
 left g c h content was at is =
     let D = g.row.D in
     let page = c.args.page in
@@ -24,7 +24,7 @@ left g c h content was at is =
     let there = node_of_page D (pages c.args.cache.now page) was (Some content) at is in
     let live : pages mid page ≡ Some was = asks.map.pages_stay h page ∙ at in
     let did =
-    c.in_ok-edit.ensures.edited (asks.gate.honest.0 h) was (a_live_page_is_given mid page was live) in
+    c.in_ok-edit_node.ensures.edited (asks.gate.honest.0 h) was (a_live_page_is_given mid page was live) in
     let ran = did.3 in
     let spelled : node_at D ran.shown.now ≡ Some content = ap (node_at D) ran.shows ∙ is in
     let room = (c.in_ok-least.ensures.room h content there).0 (ap is_some c.in-Some.is) in
@@ -35,7 +35,7 @@ left g c h content was at is =
       spelled = ap (node_at D) (sym ran.leaves) ∙ ran.met.0 content spelled room.0 more;
       is_page =
           λ tidy. subst (λ bytes. IsPageOfNode D bytes after) {y = did.0} ran.leaves
-          (ran.met.1 (subst (IsTidy D) (sym ran.shows) tidy) content spelled room.0 more);
+          (ran.met.1.0 (subst (IsTidy D) (sym ran.shows) tidy) content spelled room.0 more);
     }
 
 pub returns-clause-taken : goal.returns-clause-taken
@@ -44,7 +44,7 @@ returns-clause-taken g c = λ h content there.
     let after = without_entry content c.args.place in
     let was = bytes_of_node D (pages c.args.cache.now c.args.page) content there in
     let l = left g c h content was.0 was.1 was.2 in (
-      node_of_page D (pages c.edit.new.self c.args.page) l.now (Some after) l.there l.spelled,
+      node_of_page D (pages c.edit_node.new.self c.args.page) l.now (Some after) l.there l.spelled,
       subst (λ o. IfSome o (λ least. least ≡ least_box D after.entries)) c.in-Some.is
           (c.in_ok-least.ensures.least h content there),
     )
@@ -54,5 +54,5 @@ returns-clause-is_page g c = λ h content there tidy.
     let D = g.row.D in
     let was = bytes_of_node D (pages c.args.cache.now c.args.page) content there in
     let l = left g c h content was.0 was.1 was.2 in
-    at_page D (pages c.edit.new.self c.args.page) l.now (without_entry content c.args.place) l.there
+    at_page D (pages c.edit_node.new.self c.args.page) l.now (without_entry content c.args.place) l.there
     (l.is_page (subst (λ (o : Option (List ℕ)). IsSomeAnd o (IsTidy D)) was.1 tidy))

@@ -98,6 +98,9 @@ returns-clause-holds g c = λ k held.
 pub returns-clause-entries : goal.returns-clause-entries
 returns-clause-entries g c = λ f is.
     let same : Some c.in-Some.frame.now ≡ Some f = c.in-Some.ensures.value ∙ is in
-    let found : c.in-Some.frame.now ≡ f = cc in
-    (c.clean.new.self, subst (λ x. IsCleaned x c.clean.new.self) found
-    (record { bytes = c.clean.ensures.bytes; changed = c.clean.ensures.changed }), refl)
+    let found : c.in-Some.frame.now ≡ f = cc in (
+      c.clean.new.self,
+      subst (λ x. IsCleaned x c.clean.new.self) found
+          (record { bytes = c.clean.ensures.bytes; changed = c.clean.ensures.changed }),
+      refl,
+    )
