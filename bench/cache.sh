@@ -8,11 +8,8 @@ work=$(mktemp -d)
 trap 'rm -rf "$work"' EXIT
 g++ -O2 -std=c++17 -o "$work/reference" "$here/cache_times.cpp"
 mkdir -p "$work/crates/cache_times/src"
-crates='refusing block_device block_bytes page_file page_cache'
-for crate in $crates; do
-    cp -a "$here/../crates/$crate" "$work/crates/$crate"
-    grep -E "^$crate:" "$here/../crates.txt" >>"$work/crates.txt"
-done
+. "$here/below.sh"
+copy_crates page_cache
 cp "$here/cache_times.rattle" "$work/crates/cache_times/src/main.rt"
 for loop in scene put_all; do
     mkdir -p "$work/crates/cache_times/proofs/$loop"

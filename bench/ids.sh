@@ -10,13 +10,8 @@ work=$(mktemp -d)
 trap 'rm -rf "$work"' EXIT
 g++ -O2 -std=c++17 -o "$work/reference" "$here/ids_times.cpp"
 mkdir -p "$work/crates/ids_times/src"
-below() { sed -n "s/^$1: //p" "$here/../crates.txt" | tr ' ' '\n' | while read -r crate; do
-    [ ! -e "$here/../crates/$crate" ] || { below "$crate"; echo "$crate"; }
-done; }
-for crate in $(below id_table | awk '!seen[$0]++') id_table; do
-    cp -a "$here/../crates/$crate" "$work/crates/$crate"
-    grep -E "^$crate:" "$here/../crates.txt" >>"$work/crates.txt"
-done
+. "$here/below.sh"
+copy_crates id_table
 cp "$here/ids_times.rattle" "$work/crates/ids_times/src/main.rt"
 for loop in add_all remove_all sum_of; do
     mkdir -p "$work/crates/ids_times/proofs/$loop"

@@ -7,13 +7,10 @@ here=$(cd "$(dirname "$0")" && pwd)
 work=$(mktemp -d)
 trap 'rm -rf "$work"' EXIT
 mkdir -p "$work/crates/insert_times/src" "$work/crates/insert_times/proofs/insert_boxes"
-below='refusing|block_device|block_bytes|page_file|page_cache|box_math|box_bytes|tree_node|choose_subtree|rstar_split|node_page|reinsert'
-for crate in ${below//|/ }; do
-    cp -a "$here/../crates/$crate" "$work/crates/$crate"
-done
+. "$here/below.sh"
+copy_crates reinsert
 cp "$here/insert_times.rattle" "$work/crates/insert_times/src/main.rt"
 cp "$here/insert_times.invariants" "$work/crates/insert_times/proofs/insert_boxes/Invariants.antt"
-grep -E "^($below):" "$here/../crates.txt" >"$work/crates.txt"
 echo 'insert_times: reinsert tree_node node_page page_cache page_file block_device box_math arrayvec' >>"$work/crates.txt"
 git -C "$work" init -q
 (cd "$work/crates/insert_times" && rt run) >"$work/log" 2>&1 || grep -q '^level' "$work/log" || { cat "$work/log" >&2; exit 1; }

@@ -8,10 +8,8 @@ here=$(cd "$(dirname "$0")" && pwd)
 work=$(mktemp -d)
 trap 'rm -rf "$work"' EXIT
 mkdir -p "$work/crates/query_times/src" "$work/crates/query_times/proofs/tree"
-for crate in box_math refusing block_device block_bytes page_file page_cache box_bytes tree_node node_page range_query; do
-    cp -a "$here/../crates/$crate" "$work/crates/$crate"
-    grep "^$crate:" "$here/../crates.txt" >>"$work/crates.txt"
-done
+. "$here/below.sh"
+copy_crates range_query
 cp "$here/query_times.rattle" "$work/crates/query_times/src/main.rt"
 cp "$here/query_times.invariants" "$work/crates/query_times/proofs/tree/Invariants.antt"
 echo 'query_times: range_query node_page page_cache page_file block_device block_bytes box_math' >>"$work/crates.txt"

@@ -8,12 +8,9 @@ work=$(mktemp -d)
 trap 'rm -rf "$work"' EXIT
 g++ -O2 -std=c++17 -o "$work/reference" "$here/rules.cpp"
 mkdir -p "$work/crates/rule_times/src"
-for crate in refusing block_device block_bytes page_file page_cache box_math box_bytes tree_node choose_subtree \
-    rstar_split node_page reinsert; do
-    cp -a "$here/../crates/$crate" "$work/crates/$crate"
-done
+. "$here/below.sh"
+copy_crates reinsert
 cp "$here/rule_times.rattle" "$work/crates/rule_times/src/main.rt"
-grep -E "^(refusing|block_device|block_bytes|page_file|page_cache|box_math|box_bytes|tree_node|choose_subtree|rstar_split|node_page|reinsert):" "$here/../crates.txt" >"$work/crates.txt"
 echo 'rule_times: choose_subtree rstar_split reinsert node_page tree_node box_math arrayvec' >>"$work/crates.txt"
 git -C "$work" init -q
 (cd "$work/crates/rule_times" && rt run) >"$work/log" 2>&1 || { cat "$work/log" >&2; exit 1; }

@@ -1,18 +1,16 @@
 #!/usr/bin/env bash
 # Measures a node of a hundred entries of two axes read in its page (view_times.rattle, proved and built over a copy of
-# the crates below node_page): the view alone, and with the mask of a window, on level 0 and above it. Prints the
+# node_bytes and the crates below it): the view alone, and with the mask of a window, on level 0 and above it. Prints the
 # nanoseconds of one, the least of five runs each, without what the making of the windows takes.
 set -eu
 here=$(cd "$(dirname "$0")" && pwd)
 work=$(mktemp -d)
 trap 'rm -rf "$work"' EXIT
 mkdir -p "$work/crates/view_times/src"
-for crate in box_math refusing block_device block_bytes page_file page_cache box_bytes tree_node node_page; do
-    cp -a "$here/../crates/$crate" "$work/crates/$crate"
-    grep "^$crate:" "$here/../crates.txt" >>"$work/crates.txt"
-done
+. "$here/below.sh"
+copy_crates node_bytes
 cp "$here/view_times.rattle" "$work/crates/view_times/src/main.rt"
-echo 'view_times: node_page block_bytes box_math' >>"$work/crates.txt"
+echo 'view_times: node_bytes block_bytes box_math' >>"$work/crates.txt"
 git -C "$work" init -q
 (cd "$work/crates/view_times" && rt run) >"$work/log" 2>&1 || { cat "$work/log" >&2; exit 1; }
 
