@@ -66,6 +66,10 @@ pub record FindsHere {B A : Type 0} {m : _} (dims page id : ℕ) (object : Objec
       → IfOk result (λ found. IfSome found (λ at. (d : Item) → (at < length c.entries)
       × (slice_index_or c.entries at d
       ≡ record { bounds = bounds_of object; reference = id; tag = tag_of object })))
+  pub first : IsHonest old → (c : NodeContent) → node_in dims (pages old page) ≡ Some c
+      → IfOk result (λ found. IfSome found (λ at. (k : ℕ) → k < at → (d : Item)
+      → ¬ (slice_index_or c.entries k d
+      ≡ record { bounds = bounds_of object; reference = id; tag = tag_of object })))
   pub none : IsHonest old → (c : NodeContent) → node_in dims (pages old page) ≡ Some c
       → IfOk result (λ found. IfNone found ((at : ℕ) (d : Item) → at < length c.entries
       → ¬ (slice_index_or c.entries at d

@@ -1,14 +1,17 @@
 //! A node changed where it lies: an entry taken out, or a box made least.
 
-ghost use Rattle.std.specs.Prelude.{◌≡◌, ◌<◌, ◌≤◌, false, true, length};
+ghost use Rattle.std.specs.Prelude.{◌≡◌, ◌<◌, ◌≤◌, Some, false, true, length};
 ghost use Rattle.arrayvec.specs.ArrayVec.{array_vec_len};
 ghost use Rattle.box_math.specs.Bounds.{IsDims};
 ghost use Rattle.page_file.specs.declared.gate.Gate.TheVariants.{Open};
-ghost use Rattle.page_cache.specs.Cache.{gate_of};
+ghost use Rattle.page_cache.specs.Cache.{IsHonest, gate_of, pages};
+ghost use Rattle.page_cache.specs.Calls.{Asks};
 ghost use Rattle.tree_node.specs.declared.node.Node.{Node};
+ghost use Rattle.tree_node.specs.Nodes.{NodeContent};
 ghost use Rattle.tree_node.specs.Boxes.{box_at};
 ghost use Rattle.node_bytes.specs.Enlarged.{set_box};
 ghost use Rattle.node_bytes.specs.Views.{content_in};
+ghost use Rattle.node_page.specs.Standing.{node_in};
 ghost use Rattle.condense.specs.Steps.{Alters};
 ghost use Rattle.condense.specs.Becoming.{IsWrittenWith};
 ghost use Rattle.condense.specs.Taken.{items_without};
@@ -67,8 +70,10 @@ pub(crate) fn set_least<const D: usize, B: BlockDevice, A: Allocator + Copy>(
 ) -> Result<Became<D>, Fault>
     requires dims { IsDims D }
     requires open { gate_of cache.old ≡ Open }
-    ensures { (hand : Node D) → Alters fanout.most place (λ items. set_box items place least.now) at
+    ensures alters { (hand : Node D) → Alters fanout.most place (λ items. set_box items place least.now) at
         cache.old cache.new hand result }
+    ensures same { IsHonest cache.old → (c : NodeContent) → node_in D (pages cache.old at.page) ≡ Some c
+        → place < length c.entries → box_at c.entries place ≡ least.now → Asks cache.old cache.new result }
 {
     let node = view_node::<D, B, A>(cache, at.page, at.level)?;
     let count = node.len();
@@ -83,8 +88,10 @@ pub(crate) fn set_least<const D: usize, B: BlockDevice, A: Allocator + Copy>(
 
 // Whether the node has an entry of this box in the place.
 fn has_box<const D: usize>(node: &NodeView<D>, place: usize, bounds: &BBox<D>) -> bool
-    ensures { result ≡ true → (place < length (content_in node.now).entries)
+    ensures yes { result ≡ true → (place < length (content_in node.now).entries)
         × (box_at (content_in node.now).entries place ≡ bounds.now) }
+    ensures no { result ≡ false → place < length (content_in node.now).entries
+        → ¬ (box_at (content_in node.now).entries place ≡ bounds.now) }
 {
     place < node.len() && node.entry(place).bounds == *bounds
 }

@@ -29,6 +29,9 @@ fn position_of<const D: usize>(
     ensures within { IfSome result (λ at. at < length (content_in leaf.now).entries) }
     ensures found { IfSome result (λ at. (d : Item) → slice_index_or (content_in leaf.now).entries at d
         ≡ record { bounds = bounds.now; reference = id; tag = tag }) }
+    ensures first { IfSome result (λ at. (k : ℕ) → k < at → (d : Item)
+        → ¬ (slice_index_or (content_in leaf.now).entries k d
+        ≡ record { bounds = bounds.now; reference = id; tag = tag })) }
     ensures none { IfNone result ((at : ℕ) (d : Item) → at < length (content_in leaf.now).entries
         → ¬ (slice_index_or (content_in leaf.now).entries at d
         ≡ record { bounds = bounds.now; reference = id; tag = tag })) }

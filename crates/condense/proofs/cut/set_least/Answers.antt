@@ -1,12 +1,12 @@
 -- The goals of `set_least` that are proved by hand.
-use Rattle.std.proofs.Common.{rules, ◌≡◌, ◌∙◌, ℕ, List, None, Some, IfSome, length, refl, sym, ap, subst, inr}
+use Rattle.std.proofs.Common.{rules, ◌≡◌, ◌∙◌, ◌<◌, ℕ, List, None, Some, IfSome, length, refl, sym, ap, subst, inr}
 use Rattle.std.specs.Prelude.{◌⊎◌, IsSome}
 use Rattle.page_file.specs.Fault.{IsDamage, IsOfDevice}
 use Rattle.page_file.specs.declared.fault.Fault.TheVariants as fault
 use Rattle.page_cache.specs.Cache.{IsHonest, IsLive, pages}
 use Rattle.page_cache.specs.Calls.{AsksUntil, asks_and_gives_up, asks_changes, asks_in_turn}
 use Rattle.page_cache.specs.Calls.{changes_in_turn, fault_in, no_call_asks}
-use Rattle.tree_node.specs.Boxes.{least_box}
+use Rattle.tree_node.specs.Boxes.{box_at, least_box}
 use Rattle.tree_node.specs.Nodes.{Item, NodeContent}
 use Rattle.node_bytes.specs.Enlarged.{set_box, with_box_at}
 use Rattle.node_page.specs.Standing.{node_in}
@@ -14,13 +14,13 @@ use Rattle.node_bytes.specs.Views.{content_in}
 use Rattle.node_bytes.proofs.BoxedLemmas.{length-set_box}
 use Rattle.node_page.proofs.NodeLemmas.{at_error}
 use Rattle.node_page.proofs.StandingLemmas.{page_of_node, same_content}
-use Rattle.reinsert.proofs.FaultLemmas.{at_none, damaged_asks, no_answer, no_success}
+use Rattle.reinsert.proofs.FaultLemmas.{asks_refused, at_none, damaged_asks, no_answer, no_success}
 use Rattle.condense.proofs.BecomeLemmas.{cut_written, few_written, now_written, set_box_same}
 use Rattle.condense.proofs.RemoveLemmas.{never_some, on_err}
 use Rattle.condense.proofs.cut.set_least.Goals as goal
 
-pub returns-in_err-node : goal.returns-in_err-node
-returns-in_err-node g c = λ hand.
+pub returns-in_err-node-clause-alters : goal.returns-in_err-node-clause-alters
+returns-in_err-node-clause-alters g c = λ hand.
     let old = c.args.cache.now in
     let new = c.view_node.follows.lender-at-none in
     let f = c.in_err-node.field-0.0 in
@@ -44,8 +44,8 @@ returns-in_err-node g c = λ hand.
       other_faults = at_error r f (λ f. IsOfDevice f ⊎ IsDamage f) is err.other_faults;
     }
 
-pub returns-then-has_box : goal.returns-then-has_box
-returns-then-has_box g c = λ hand.
+pub returns-then-has_box-clause-alters : goal.returns-then-has_box-clause-alters
+returns-then-has_box-clause-alters g c = λ hand.
     let D = g.row.D in
     let old = c.args.cache.now in
     let new = c.view_node.follows.lender-at-none in
@@ -53,7 +53,7 @@ returns-then-has_box g c = λ hand.
     let view : NodeContent = content_in c.in_ok-node.node in
     let first : AsksUntil old new None =
     subst (λ x. AsksUntil old new (fault_in x)) c.in_ok-node.was (search rules) in
-    let has = c.has_box.ensures c.if-has_box.true in
+    let has = c.has_box.ensures.yes c.if-has_box.true in
     let same_box = set_box_same view.entries c.args.place c.args.least.now has.0 has.1 in
     record {
       changes = asks_changes old new None first;
@@ -101,8 +101,8 @@ returns-then-has_box g c = λ hand.
       other_faults = tt;
     }
 
-pub returns-in_err-round : goal.returns-in_err-round
-returns-in_err-round g c = λ hand.
+pub returns-in_err-round-clause-alters : goal.returns-in_err-round-clause-alters
+returns-in_err-round-clause-alters g c = λ hand.
     let old = c.args.cache.now in
     let mid = c.view_node.follows.lender-at-none in
     let new = c.set_entry_box.new.cache in
@@ -131,8 +131,8 @@ returns-in_err-round g c = λ hand.
       other_faults = at_error r f (λ f. IsOfDevice f ⊎ IsDamage f) is err.other_faults;
     }
 
-pub returns-in_default : goal.returns-in_default
-returns-in_default g c = λ hand.
+pub returns-in_default-clause-alters : goal.returns-in_default-clause-alters
+returns-in_default-clause-alters g c = λ hand.
     let old = c.args.cache.now in
     let mid = c.view_node.follows.lender-at-none in
     let new = c.set_entry_box.new.cache in
@@ -160,8 +160,8 @@ returns-in_default g c = λ hand.
       other_faults = search rules;
     }
 
-pub returns : goal.returns
-returns g c = λ hand.
+pub returns-clause-alters : goal.returns-clause-alters
+returns-clause-alters g c = λ hand.
     let D = g.row.D in
     let old = c.args.cache.now in
     let mid = c.view_node.follows.lender-at-none in
@@ -221,3 +221,52 @@ returns g c = λ hand.
       named = λ h. tt;
       other_faults = tt;
     }
+
+-- ---- a page that has the box stays
+
+pub returns-in_err-node-clause-same : goal.returns-in_err-node-clause-same
+returns-in_err-node-clause-same g c = λ h x there within has.
+    asks_refused c.args.cache.now c.view_node.follows.lender-at-none c.in_err-node.field-0.0
+    c.from_residual.result c.from_residual.ensures.1
+    (subst (λ x. AsksUntil c.args.cache.now c.view_node.follows.lender-at-none (fault_in x))
+    c.in_err-node.was (search rules))
+
+pub returns-then-has_box-clause-same : goal.returns-then-has_box-clause-same
+returns-then-has_box-clause-same g c = λ h x there within has.
+    subst (λ x. AsksUntil c.args.cache.now c.view_node.follows.lender-at-none (fault_in x)) c.in_ok-node.was
+    (search rules)
+
+pub returns-in_err-round-clause-same : goal.returns-in_err-round-clause-same
+returns-in_err-round-clause-same g c = λ h x there within has.
+    let old = c.args.cache.now in
+    let mid = c.view_node.follows.lender-at-none in
+    let new = c.set_entry_box.new.cache in
+    let f = c.in_err-round.field-0.0 in
+    let first : AsksUntil old mid None =
+    subst (λ x. AsksUntil old mid (fault_in x)) c.in_ok-node.was (search rules) in
+    asks_refused old new f c.from_residual-in_err-round.result c.from_residual-in_err-round.ensures.1
+    (asks_in_turn old mid new (Some f) first c.in_err-round.ensures.refused)
+
+pub returns-in_default-clause-same : goal.returns-in_default-clause-same
+returns-in_default-clause-same g c = λ h x there within has.
+    let old = c.args.cache.now in
+    let mid = c.view_node.follows.lender-at-none in
+    let new = c.set_entry_box.new.cache in
+    let first : AsksUntil old mid None =
+    subst (λ x. AsksUntil old mid (fault_in x)) c.in_ok-node.was (search rules) in
+    let then : AsksUntil mid new None =
+    at_none c.in_ok-round.field-0 (AsksUntil mid new None) c.in_ok-round.ensures.cannot c.in_default.not-Some in
+    damaged_asks old new c.args.at.page (asks_in_turn old mid new None first then)
+
+pub returns-clause-same : goal.returns-clause-same
+returns-clause-same g c = λ h x there within has.
+    let D = g.row.D in
+    let old = c.args.cache.now in
+    let page = c.args.at.page in
+    let place = c.args.place in
+    let view : NodeContent = content_in c.in_ok-node.node in
+    let same = same_content D (pages old) page view x
+    (c.in_ok-node.ensures.node h (page_of_node D (pages old page) x there)) there in
+    absurd (c.has_box.ensures.no c.if-has_box.false
+    (subst (λ (k : NodeContent). place < length k.entries) (sym same) within)
+    (ap (λ (k : NodeContent). box_at k.entries place) same ∙ has))

@@ -25,6 +25,7 @@ returns-in_err-leaf g c =
           (subst (λ x. AsksUntil c.args.cache.now c.view_node.follows.lender-at-none (fault_in x))
           c.in_err-leaf.was (search rules));
       found = λ h x there. no_answer r f _ is;
+      first = λ h x there. no_answer r f _ is;
       none = λ h x there. no_answer r f _ is;
       given_leaf = λ h. no_answer r f _ is;
       there = λ h x there level. at_error r f IsOfDevice is (err.there h x there level);
@@ -51,6 +52,11 @@ returns g c =
           subst (λ (y : NodeContent). IfSome c.position_of.result (λ at. (d : Item) → (at < length y.entries)
           × (get_or y.entries at d ≡ object))) same
           (some_both c.position_of.result _ _ _ found.within found.found (λ at within is d. (within, is d)));
+      first = λ h x there.
+          let same = same_content D m c.args.page view x
+          (c.in_ok-leaf.ensures.node h (page_of_node D (m c.args.page) x there)) there in
+          subst (λ (y : NodeContent). IfSome c.position_of.result (λ at. (k : ℕ) → k < at → (d : Item)
+          → ¬ (get_or y.entries k d ≡ object))) same found.first;
       none = λ h x there.
           let same = same_content D m c.args.page view x
           (c.in_ok-leaf.ensures.node h (page_of_node D (m c.args.page) x there)) there in

@@ -31,6 +31,10 @@ returns-then-eq-clause-found g c = λ d.
     c.if-entry-tag.true
     (same_box e.bounds b both.0 both.1)
 
+pub returns-then-eq-clause-first : goal.returns-then-eq-clause-first
+returns-then-eq-clause-first g c = λ k below d is. c.entries.invariant k below d
+    (omega (arith, below, c.entries-test.true, c.len.ensures.count)) is
+
 pub entries-preserved : goal.entries-preserved
 entries-preserved g c =
     let e = c.entry-entry.result in

@@ -24,7 +24,7 @@ returns-in-Settled g c =
     let page = next.below.page in
     let least = c.in-Settled.least in
     let hand = c.args.hand.now in
-    let a = c.set_least.ensures hand in
+    let a = c.set_least.ensures.alters hand in
     let settled : PutsChild c.args.fanout.most at next (became.Settled least) old new hand hand
     c.args.kept.now
     c.args.kept.now c.set_least.result = record {
