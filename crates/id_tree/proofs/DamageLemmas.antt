@@ -1,8 +1,8 @@
 -- The page that a search or a change names as damaged is one that a walk down the forks comes to.
 use Rattle.std.proofs.Common.{◌≡◌, ◌∙◌, ◌⊎◌, ℕ, List, ◌∷◌, Option, Some, None, Result, Ok, Err, IfErr, ap}
 use Rattle.std.proofs.Common.{refl, sym, subst, ⊎_elim}
-use Rattle.std.proofs.Common.{inl, inr, Bool, true, false, IsSome, ◌<◌, ◌≤◌}
-use Rattle.std.specs.Prelude.{IfSome}
+use Rattle.std.proofs.Common.{inl, inr, Bool, true, false, IsSome, ◌-◌, ◌<◌, ◌≤◌}
+use Rattle.std.specs.Prelude.{IfOk, IfSome, OnOk}
 use Rattle.block_bytes.specs.Numbers.{number_at}
 use Rattle.block_bytes.specs.Places.{first_places}
 use Rattle.page_file.specs.Fault.{IsOfDevice}
@@ -16,8 +16,9 @@ use Rattle.node_page.specs.Standing.{PageMap}
 use Rattle.node_page.proofs.DamageLemmas.{damaged_read}
 use Rattle.id_page.specs.Fork.{ForkContent, HasForkHead, fork_at, link_at}
 use Rattle.id_page.proofs.ForkReading.{fork_spelled}
-use Rattle.id_tree.specs.Checked.{ComesInTree, Names, NamesChild}
+use Rattle.id_tree.specs.Checked.{BeginsAsLeaf, ComesDown, ComesInTree, IsReached, Names, NamesChild, SpellsFork}
 use Rattle.id_tree.specs.Tree.{fork_in}
+use Rattle.id_tree.specs.declared.search.Sought.{Sought}
 use Rattle.id_tree.proofs.GivenLemmas.{comes_here, comes_so}
 
 -- a page that begins as a fork spells one
@@ -59,6 +60,25 @@ pub comes_under : (dims : ℕ) (old mid : PageMap) (page child : ℕ) → ((n : 
 comes_under dims old mid page p same names None comes = tt
 comes_under dims old mid page p same names (Some leaf) comes =
     comes_down dims old page p leaf names (comes_so dims old mid p leaf same comes)
+
+-- down from a fork by way of a child
+pub down_by : (dims : ℕ) (old mid : PageMap) (page child level count : ℕ) → ((n : ℕ) → mid n ≡ old n)
+    → 0 < level → SpellsFork dims old page level count → NamesChild dims old page child → (leaf : Option ℕ)
+    → ComesDown dims mid child (level - 1) leaf → ComesDown dims old page level leaf
+down_by dims old mid page p level count same high fork names leaf comes =
+    let now : ComesDown dims old p (level - 1) leaf =
+    subst (λ (m : PageMap). ComesDown dims m p (level - 1) leaf) (λ i n. same n i) comes in
+    (p ∷ now.0, (high, (count, fork), names, now.1))
+
+-- a search that came down to a leaf and was answered there
+pub reached : {D : ℕ} (r : Result (Sought D) Fault) (dims : ℕ) (old mid : PageMap) (root leaf : ℕ)
+    → ((n : ℕ) → mid n ≡ old n) → (level : ℕ) × ComesDown dims old root level (Some leaf)
+    → IfOk r (λ sought. sought.at.leaf ≡ leaf) → OnOk r (BeginsAsLeaf dims mid leaf)
+    → IfOk r (λ sought. IsReached dims old root sought.at.leaf)
+reached (Ok sought) dims old mid root leaf same down here begins =
+    subst (IsReached dims old root) (sym here)
+    (down.0, inr (down.1, (begins.0, sym (same leaf) ∙ begins.1, begins.2)))
+reached (Err e) dims old mid root leaf same down here begins = tt
 
 -- ---- what is said where no page is touched
 

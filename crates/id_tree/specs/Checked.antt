@@ -1,10 +1,10 @@
 -- What a check of an identifier tree finds.
-use Rattle.std.specs.Prelude.{◌≡◌, ◌⊎◌, ◌&&◌, ◌==◌, ℕ, Bool, false, ◌+◌, ◌<◌, ◌≤◌, List, [], ◌∷◌, ◌++◌}
-use Rattle.std.specs.Prelude.{All, Some, length, slice_index_or, take}
+use Rattle.std.specs.Prelude.{◌≡◌, ◌⊎◌, ◌&&◌, ◌==◌, ℕ, Bool, false, ◌+◌, ◌-◌, ◌<◌, ◌≤◌, List, [], ◌∷◌, ◌++◌}
+use Rattle.std.specs.Prelude.{All, Option, Some, None, length, slice_index_or, take}
 use Rattle.std.specs.BTreeSet.{BTreeSet}
 use Rattle.bucket_page.specs.Layout.{Entry}
 use Rattle.id_page.specs.Fork.{ForkContent, Link, fork_at}
-use Rattle.id_page.specs.Leaf.{leaf_at}
+use Rattle.id_page.specs.Leaf.{HasLeafHead, leaf_at}
 use Rattle.id_words.specs.Seen.{seen_times}
 use Rattle.id_words.specs.Objects.{times_in}
 use Rattle.node_page.specs.Checked.{named_pages}
@@ -143,6 +143,11 @@ Names c page = (place : ℕ) × (place < length c.links)
 abbrev pub NamesChild : ℕ → PageMap → ℕ → ℕ → Type 0
 NamesChild dims pages page child = (c : ForkContent) × (fork_in dims (pages page) ≡ Some c) × Names c child
 
+-- the page spells a fork of this level with so many children
+abbrev pub SpellsFork : ℕ → PageMap → ℕ → ℕ → ℕ → Type 0
+SpellsFork dims pages page level count =
+    (c : ForkContent) × (fork_in dims (pages page) ≡ Some c) × (c.level ≡ level) × (length c.links ≡ count)
+
 -- a walk leads from one page to another, each time to a page that the fork of the one before names
 abbrev pub Leads : ℕ → PageMap → ℕ → List ℕ → ℕ → Type 0
 Leads dims pages page [] last = last ≡ page
@@ -156,3 +161,25 @@ ComesInTree dims pages page last = (walk : List ℕ) × Leads dims pages page wa
 -- the place of an identifier that a search found is in no leaf, or in one that a walk from the root comes to
 abbrev pub IsMet : ℕ → PageMap → ℕ → ℕ → Type 0
 IsMet dims pages root leaf = (leaf ≡ 0) ⊎ ComesInTree dims pages root leaf
+
+-- A walk goes down from a page by forks, each one level below the one before it, to a page of level 0, or to
+-- a fork of no children.
+abbrev pub GoesDown : ℕ → PageMap → ℕ → ℕ → List ℕ → Option ℕ → Type 0
+GoesDown dims pages page level [] None = SpellsFork dims pages page level 0
+GoesDown dims pages page level [] (Some leaf) = (level ≡ 0) × (leaf ≡ page)
+GoesDown dims pages page level (next ∷ walk) leaf =
+    (0 < level) × ((count : ℕ) × SpellsFork dims pages page level count) × NamesChild dims pages page next
+    × GoesDown dims pages next (level - 1) walk leaf
+
+abbrev pub ComesDown : ℕ → PageMap → ℕ → ℕ → Option ℕ → Type 0
+ComesDown dims pages page level leaf = (walk : List ℕ) × GoesDown dims pages page level walk leaf
+
+-- the page begins as a leaf
+abbrev pub BeginsAsLeaf : ℕ → PageMap → ℕ → Type 0
+BeginsAsLeaf dims pages page = (bytes : List ℕ) × (pages page ≡ Some bytes) × HasLeafHead dims bytes
+
+-- a search came down from the root to a page that begins as a leaf, or, for leaf 0, to a fork of no children
+abbrev pub IsReached : ℕ → PageMap → ℕ → ℕ → Type 0
+IsReached dims pages root leaf =
+    (level : ℕ) × (((leaf ≡ 0) × ComesDown dims pages root level None)
+    ⊎ (ComesDown dims pages root level (Some leaf) × BeginsAsLeaf dims pages leaf))

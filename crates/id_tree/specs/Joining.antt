@@ -1,6 +1,6 @@
 -- Two neighbouring nodes made one, or cut in two again elsewhere.
-use Rattle.std.specs.Prelude.{◌≡◌, ℕ, ◌+◌, ◌-◌, ◌<◌, ◌≤◌, Bool, true, false, List, [], ◌∷◌, ◌++◌, length}
-use Rattle.std.specs.Prelude.{remove, slice_index_or, slice_set, All, Some, None, IsSome}
+use Rattle.std.specs.Prelude.{◌≡◌, ℕ, ◌+◌, ◌-◌, ◌*◌, ◌/◌, ◌<◌, ◌≤◌, Bool, true, false, List, [], ◌∷◌, ◌++◌}
+use Rattle.std.specs.Prelude.{length, remove, slice_index_or, slice_set, All, Some, None, IsSome}
 use Rattle.block_bytes.specs.Numbers.{number_at}
 use Rattle.id_page.specs.Fork.{ForkContent, Link, fork_at, route_place, with_links}
 use Rattle.id_page.specs.Leaf.{most_objects}
@@ -22,7 +22,12 @@ pub record HasSpare (dims level : ℕ) (edge : Bool) (row : Row) : Type 0 where
   pub large_leaf : level ≡ 0 → edge ≡ false → least_objects dims < length (objects_in row)
   pub large_fork : 0 < level → edge ≡ false → least_children < length (links_of row)
 
--- such a node, without an identifier twice
+-- a node that has two fifths of what fits, or more
+pub record IsAmple (dims level : ℕ) (row : Row) : Type 0 where
+  pub leaf : level ≡ 0 → most_objects dims * 2 / 5 ≤ length (objects_in row)
+  pub fork : 0 < level → 136 ≤ length (links_of row)
+
+-- a node with spare, without an identifier twice
 pub record MayShrink (dims : ℕ) (pages : PageMap) (page level : ℕ) (edge : Bool) (row : Row) : Type 0 where
   pub stands : NodeStands dims pages page level edge row
   pub spare : HasSpare dims level edge row

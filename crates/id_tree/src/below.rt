@@ -1,7 +1,7 @@
 //! The child of a fork where an identifier is.
 
 ghost use Rattle.std.specs.Prelude.{◌≡◌, ◌<◌, ◌≤◌, ◌+◌, ◌⊎◌, ◌&&◌, ◌==◌, Bool, true, false, length, IfErr};
-ghost use Rattle.std.specs.Prelude.{IfOk, ℕ};
+ghost use Rattle.std.specs.Prelude.{IfOk, OnOk, ℕ};
 ghost use Rattle.page_file.specs.Fault.{IsDamage, IsOfDevice};
 ghost use Rattle.page_file.specs.declared.fault.Fault.TheVariants as fault;
 ghost use Rattle.page_cache.specs.Cache.{IsHonest, pages, given};
@@ -9,7 +9,7 @@ ghost use Rattle.page_cache.specs.Calls.{Asks};
 ghost use Rattle.id_tree.specs.Rows.{HasRoom, IsFull, NodeStands};
 ghost use Rattle.id_tree.specs.Steps.{IsBeneath};
 ghost use Rattle.id_tree.specs.Tree.{HasNode, Row, links_of};
-ghost use Rattle.id_tree.specs.Checked.{ComesInTree, NamesChild};
+ghost use Rattle.id_tree.specs.Checked.{ComesInTree, NamesChild, SpellsFork};
 
 use crate::looks::{count_in, step};
 use block_device::BlockDevice;
@@ -46,6 +46,8 @@ pub(crate) fn look_below<const D: usize, B: BlockDevice, A: Allocator + Copy>(
         → 0 < length (links_of row) → IfErr result IsOfDevice }
     ensures names { IsHonest cache.old → IfOk result
         (λ below. NamesChild D (given cache.old) page below.child) }
+    ensures fork { IsHonest cache.old
+        → OnOk result ((count : ℕ) × SpellsFork D (given cache.old) page level count) }
     ensures damage { IsHonest cache.old → IfErr result (λ f. (n : ℕ) → f ≡ fault.Damaged n
         → ComesInTree D (given cache.old) page n) }
     ensures other_faults { IfErr result (λ f. IsOfDevice f ⊎ IsDamage f) }

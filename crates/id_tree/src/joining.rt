@@ -9,7 +9,8 @@ ghost use Rattle.page_file.specs.declared.fault.Fault.TheVariants as fault;
 ghost use Rattle.page_file.specs.declared.gate.Gate.TheVariants.{Open};
 ghost use Rattle.page_cache.specs.Cache.{Grows, IsHonest, IsPageMap, gate_of, pages, given, touched_of};
 ghost use Rattle.page_cache.specs.Calls.{Asks, Changes};
-ghost use Rattle.id_tree.specs.Joining.{AreTooMany, FitTogether, HasSpare, MakesSpare, MayJoin, MayMeet};
+ghost use Rattle.id_tree.specs.Joining.{AreTooMany, FitTogether, HasSpare, IsAmple, MakesSpare, MayJoin};
+ghost use Rattle.id_tree.specs.Joining.{MayMeet};
 ghost use Rattle.id_tree.specs.Tree.{HasNode, Row, fork_in};
 ghost use Rattle.id_tree.specs.Tidy.{IsAsTidy, KeepsTidy};
 ghost use Rattle.id_tree.specs.Checked.{ComesInTree};
@@ -35,6 +36,10 @@ pub(crate) fn is_ample<const D: usize, B: BlockDevice, A: Allocator + Copy>(
     ensures ample { IsHonest cache.old → (edge : Bool) (row : Row)
         → HasNode D (pages cache.old) number level row
         → IfOk result (λ ample. ample ≡ true → HasSpare D level edge row) }
+    ensures much { IsHonest cache.old → (row : Row) → HasNode D (pages cache.old) number level row
+        → IfOk result (λ ample. ample ≡ true → IsAmple D level row) }
+    ensures little { IsHonest cache.old → (row : Row) → HasNode D (pages cache.old) number level row
+        → IfOk result (λ ample. ample ≡ false → ¬ (IsAmple D level row)) }
     ensures there { IsHonest cache.old → (row : Row) → HasNode D (pages cache.old) number level row
         → IfErr result IsOfDevice }
     ensures damage { IsHonest cache.old → IfErr result (λ f. IsOfDevice f ⊎ (f ≡ fault.Damaged number)) }
@@ -50,7 +55,8 @@ pub(crate) fn is_ample<const D: usize, B: BlockDevice, A: Allocator + Copy>(
 // Whether so many are two fifths of so many or more.
 fn are_two_fifths(count: usize, most: usize) -> bool
     requires { most ≤ 340 }
-    ensures { result ≡ true → most * 2 / 5 ≤ count }
+    ensures yes { result ≡ true → most * 2 / 5 ≤ count }
+    ensures no { result ≡ false → count < most * 2 / 5 }
 {
     count >= most * 2 / 5
 }

@@ -1,7 +1,7 @@
 //! Looks at the pages of a tree.
 
 ghost use Rattle.std.specs.Prelude.{◌≡◌, ℕ, ◌≤◌, ◌<◌, ◌⊎◌, Some, None, List, length, IfErr, IfOk, IsSomeAnd};
-ghost use Rattle.std.specs.Prelude.{IfSome, ◌+◌};
+ghost use Rattle.std.specs.Prelude.{IfSome, IsSome, OnOk, ◌+◌};
 ghost use Rattle.block_bytes.specs.Numbers.{number_at};
 ghost use Rattle.box_math.specs.Bounds.{IsDims};
 ghost use Rattle.bucket_page.specs.Layout.{Entry};
@@ -11,11 +11,11 @@ ghost use Rattle.page_cache.specs.Cache.{IsHonest, IsLive, pages, given};
 ghost use Rattle.page_cache.specs.Calls.{Asks};
 ghost use Rattle.id_words.specs.Objects.{kept_in};
 ghost use Rattle.id_page.specs.Fork.{AreAscending, ForkContent, fork_at, link_at, route, route_place};
-ghost use Rattle.id_page.specs.Leaf.{leaf_at, most_objects};
+ghost use Rattle.id_page.specs.Leaf.{HasLeafHead, leaf_at, most_objects};
 ghost use Rattle.id_tree.specs.Rows.{IsFoundAt};
 ghost use Rattle.id_tree.specs.Runs.{IsUpto};
 ghost use Rattle.id_tree.specs.Tree.{fork_in, leaf_in};
-ghost use Rattle.id_tree.specs.Checked.{Names, NamesChild};
+ghost use Rattle.id_tree.specs.Checked.{BeginsAsLeaf, Names, NamesChild, SpellsFork};
 
 use block_device::BlockDevice;
 use box_math::BBox;
@@ -52,6 +52,7 @@ fn way_on(page: &[u8; 4096], id: u64) -> Way
         → IsUpto c.links result.place result.upto }
     ensures named { (dims : ℕ) (c : ForkContent) → fork_at dims page.now ≡ Some c
         → IfSome result.child (Names c) }
+    ensures none { result.child ≡ None → result.count ≡ 0 }
     ensures within { result.place ≤ result.count }
     ensures few { result.count ≤ 340 }
 {
@@ -111,6 +112,9 @@ pub(crate) fn step<const D: usize, B: BlockDevice, A: Allocator + Copy>(
         → IfOk result (λ way. IsUpto c.links way.place way.upto) }
     ensures names { IsHonest cache.old → IfOk result
         (λ way. IfSome way.child (NamesChild D (given cache.old) number)) }
+    ensures fork { IsHonest cache.old → IfOk result
+        (λ way. SpellsFork D (given cache.old) number way.level way.count) }
+    ensures none { IfOk result (λ way. way.child ≡ None → way.count ≡ 0) }
     ensures within { IfOk result (λ way. way.place ≤ way.count) }
     ensures few { IfOk result (λ way. way.count ≤ 340) }
     ensures there { IsHonest cache.old → (c : ForkContent) → fork_in D (pages cache.old number) ≡ Some c
@@ -131,6 +135,7 @@ fn found_on<const D: usize>(page: &[u8; 4096], id: u64) -> Option<Option<(usize,
     requires dims { IsDims D }
     ensures of_leaf { (objects : List Entry) → leaf_at D page.now ≡ Some objects
         → IsSomeAnd result (IsFoundAt id objects) }
+    ensures head { IsSome result → HasLeafHead D page.now }
 {
     if !has_leaf_head::<D>(page) {
         return None;
@@ -156,6 +161,7 @@ pub(crate) fn look<const D: usize, B: BlockDevice, A: Allocator + Copy>(
     ensures found { IsHonest cache.old → (objects : List Entry)
         → leaf_in D (pages cache.old number) ≡ Some objects
         → IfOk result (IsFoundAt id objects) }
+    ensures leaf { IsHonest cache.old → OnOk result (BeginsAsLeaf D (given cache.old) number) }
     ensures there { IsHonest cache.old → (objects : List Entry)
         → leaf_in D (pages cache.old number) ≡ Some objects
         → IfErr result IsOfDevice }

@@ -1,7 +1,7 @@
 //! The objects of a leaf page on both sides of a key, and the children of a fork page on both sides of a
 //! place, as pages of their own.
 
-ghost use Rattle.std.specs.Prelude.{◌≡◌, ℕ, ◌+◌, ◌<◌, ◌-◌, ◌≤◌, Some, List, [], ◌∷◌, ◌++◌, length, take};
+ghost use Rattle.std.specs.Prelude.{◌≡◌, ℕ, ◌+◌, ◌*◌, ◌<◌, ◌-◌, ◌≤◌, Some, List, [], ◌∷◌, ◌++◌, length, take};
 ghost use Rattle.std.specs.Prelude.{drop};
 ghost use Rattle.std.specs.Prelude.{slice_index_or};
 ghost use Rattle.block_bytes.specs.Numbers.{number_at};
@@ -99,6 +99,7 @@ fn half_with<const D: usize>(page: &[u8; 4096], many: usize, low: u64, high: u64
     requires two { low + 1 < high }
     ensures some { result.0 < result.1 }
     ensures fewer { result.1 - result.0 < high - low }
+    ensures half { 2 * (result.1 - result.0) ≤ high - low + 1 }
     ensures low { (objects : List Entry) → leaf_at D page.now ≡ Some objects
         → length (under_key low objects) < many → length (under_key result.0 objects) < many }
     ensures high { (objects : List Entry) → leaf_at D page.now ≡ Some objects

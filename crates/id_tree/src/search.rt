@@ -1,6 +1,6 @@
 //! The search for an identifier.
 
-ghost use Rattle.std.specs.Prelude.{◌≡◌, ◌⊎◌, ℕ, Bool, List, Some, IfOk, IfErr, IfSome};
+ghost use Rattle.std.specs.Prelude.{◌≡◌, ◌⊎◌, ℕ, Bool, List, Some, IfOk, IfErr, IfSome, OnOk};
 ghost use Rattle.std.specs.FinMap as map;
 ghost use Rattle.box_math.specs.Bounds.{IsDims};
 ghost use Rattle.bucket_page.specs.Layout.{Entry};
@@ -8,7 +8,7 @@ ghost use Rattle.page_file.specs.Fault.{IsDamage, IsOfDevice};
 ghost use Rattle.page_file.specs.declared.fault.Fault.TheVariants as fault;
 ghost use Rattle.page_cache.specs.Cache.{IsHonest, given, pages};
 ghost use Rattle.page_cache.specs.Calls.{Asks};
-ghost use Rattle.id_tree.specs.Checked.{ComesInTree, IsMet};
+ghost use Rattle.id_tree.specs.Checked.{BeginsAsLeaf, ComesDown, ComesInTree, IsMet, IsReached};
 ghost use Rattle.id_tree.specs.Rows.{IsLeafPlace, IsSoughtIn, LeadsBelow, MaySeek};
 ghost use Rattle.id_tree.specs.Tree.{IdTree, Row, TreeStands, leaf_in, objects_of};
 
@@ -44,6 +44,9 @@ pub struct Sought<const D: usize> {
 /// On an honest device, where the pages stand for a table at that root, a refusal is `Memory` or `Device`. On
 /// other pages it may be `Damaged` too, with the number of a page that a walk down the forks comes to. Map
 /// and gate stay, also after a refusal.
+///
+/// On any pages of such a device it answers only where a walk down forks, each one level below the one before
+/// it, came to a page that begins as a leaf, or to a fork of no children.
 pub fn find<const D: usize, B: BlockDevice, A: Allocator + Copy>(
     cache: &mut PageCache<B, A>,
     root: u32,
@@ -59,6 +62,8 @@ pub fn find<const D: usize, B: BlockDevice, A: Allocator + Copy>(
         → IfErr result IsOfDevice }
     ensures comes { IsHonest cache.old
         → IfOk result (λ sought. IsMet D (given cache.old) root sought.at.leaf) }
+    ensures reached { IsHonest cache.old
+        → IfOk result (λ sought. IsReached D (given cache.old) root sought.at.leaf) }
     ensures damage { IsHonest cache.old → IfErr result (λ f. (n : ℕ) → f ≡ fault.Damaged n
         → ComesInTree D (given cache.old) root n) }
     ensures other_faults { IfErr result (λ f. IsOfDevice f ⊎ IsDamage f) }
@@ -85,6 +90,8 @@ fn leaf_below<const D: usize, B: BlockDevice, A: Allocator + Copy>(
         → IfErr result IsOfDevice }
     ensures comes { IsHonest cache.old
         → IfOk result (λ leaf. IfSome leaf (ComesInTree D (given cache.old) root)) }
+    ensures down { IsHonest cache.old
+        → IfOk result (λ leaf. (level : ℕ) × ComesDown D (given cache.old) root level leaf) }
     ensures damage { IsHonest cache.old → IfErr result (λ f. (n : ℕ) → f ≡ fault.Damaged n
         → ComesInTree D (given cache.old) root n) }
     ensures other_faults { IfErr result (λ f. IsOfDevice f ⊎ IsDamage f) }
@@ -115,6 +122,7 @@ fn descend<const D: usize, B: BlockDevice, A: Allocator + Copy>(
         → IfErr result IsOfDevice }
     ensures comes { IsHonest cache.old
         → IfOk result (λ leaf. IfSome leaf (ComesInTree D (given cache.old) page)) }
+    ensures down { IsHonest cache.old → IfOk result (ComesDown D (given cache.old) page level) }
     ensures damage { IsHonest cache.old → IfErr result (λ f. (n : ℕ) → f ≡ fault.Damaged n
         → ComesInTree D (given cache.old) page n) }
     ensures other_faults { IfErr result (λ f. IsOfDevice f ⊎ IsDamage f) }
@@ -148,6 +156,7 @@ fn seek_in<const D: usize, B: BlockDevice, A: Allocator + Copy>(
         → leaf_in D (pages cache.old leaf) ≡ Some objects
         → IfErr result IsOfDevice }
     ensures here { IfOk result (λ sought. sought.at.leaf ≡ leaf) }
+    ensures leaf { IsHonest cache.old → OnOk result (BeginsAsLeaf D (given cache.old) leaf) }
     ensures damage { IsHonest cache.old → IfErr result (λ f. IsOfDevice f ⊎ (f ≡ fault.Damaged leaf)) }
     ensures other_faults { IfErr result (λ f. IsOfDevice f ⊎ IsDamage f) }
 {

@@ -1,5 +1,5 @@
 -- The child that the page names is the one on the way.
-use Rattle.std.proofs.Common.{◌∙◌, ◌-◌, sym, arith, ◌≡◌, ℕ}
+use Rattle.std.proofs.Common.{◌∙◌, ◌-◌, sym, arith, ◌≡◌, ℕ, subst}
 use Rattle.page_file.specs.Fault.{IsOfDevice}
 use Rattle.page_cache.specs.Cache.{pages, given}
 use Rattle.node_page.proofs.NodeLemmas.{at_error}
@@ -8,7 +8,7 @@ use Rattle.id_tree.proofs.NodeLemmas.{node_stays}
 use Rattle.id_tree.proofs.SeekLemmas.{keys_ascend, no_route}
 use Rattle.id_tree.proofs.WayLemmas.{child_stands, last_here, way_of}
 use Rattle.page_file.specs.declared.fault.Fault.TheVariants as fault
-use Rattle.id_tree.specs.Checked.{ComesInTree, NamesChild}
+use Rattle.id_tree.specs.Checked.{ComesInTree, NamesChild, SpellsFork}
 use Rattle.id_tree.proofs.DamageLemmas.{comes_at, comes_down, damaged_is, named_some}
 use Rattle.id_tree.proofs.GivenLemmas.{comes_here}
 use Rattle.id_tree.proofs.below.look_below.Goals as goal
@@ -104,3 +104,12 @@ returns-clause-names g c = λ h.
     named_some (NamesChild g.row.D (given c.args.cache.now) c.args.page) c.in_ok-way.way.child c.in-Some.child
     c.in-Some.is
     (c.in_ok-way.ensures.names h)
+
+pub returns-clause-fork : goal.returns-clause-fork
+returns-clause-fork g c = λ h.
+    let way = c.in_ok-way.way in
+    let level : way.level ≡ c.args.level = omega (arith, c.if-way-level.false) in (
+      way.count,
+      subst (λ l. SpellsFork g.row.D (given c.args.cache.now) c.args.page l way.count) level
+          (c.in_ok-way.ensures.fork h),
+    )

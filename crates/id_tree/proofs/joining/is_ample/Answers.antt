@@ -21,7 +21,7 @@ returns-then-level-eq0-clause-ample g c = λ h edge row node yes.
     let count = c.in_ok-count.ensures.count h there.0 there.1 in
     let long = leaf_counted D old c.args.number c.args.level row there.0 node low there.1 in
     let size = sizes D in
-    let many = c.are_two_fifths.ensures yes in
+    let many = c.are_two_fifths.ensures.yes yes in
     record {
       leaf = λ is. omega (arith, many, count, long, c.objects_that_fit.ensures, size.ample, size.some);
       fork = λ up. absurd (omega (arith, up, low));
@@ -37,13 +37,63 @@ returns-clause-ample g c = λ h edge row node yes.
     let there = there_bytes D old c.args.number c.args.level row node in
     let count = c.in_ok-count.ensures.count h there.0 there.1 in
     let long = fork_counted D old c.args.number c.args.level row there.0 node up there.1 in
-    let many = c.are_two_fifths-2.ensures yes in
+    let many = c.are_two_fifths-2.ensures.yes yes in
     record {
       leaf = λ low. absurd (omega (arith, low, up));
       fork = λ high. omega (arith, many, count, long);
       large_leaf = λ low off. absurd (omega (arith, low, up));
       large_fork = λ high off. omega (arith, many, count, long);
     }
+
+pub returns-then-level-eq0-clause-much : goal.returns-then-level-eq0-clause-much
+returns-then-level-eq0-clause-much g c = λ h row node yes.
+    let D = g.row.D in
+    let old = pages c.args.cache.now in
+    let low = c.if-level-eq0.true in
+    let there = there_bytes D old c.args.number c.args.level row node in
+    let count = c.in_ok-count.ensures.count h there.0 there.1 in
+    let long = leaf_counted D old c.args.number c.args.level row there.0 node low there.1 in
+    let many = c.are_two_fifths.ensures.yes yes in
+    record {
+      leaf = λ is. omega (arith, many, count, long, c.objects_that_fit.ensures);
+      fork = λ up. absurd (omega (arith, up, low));
+    }
+
+pub returns-clause-much : goal.returns-clause-much
+returns-clause-much g c = λ h row node yes.
+    let D = g.row.D in
+    let old = pages c.args.cache.now in
+    let up : 0 < c.args.level = omega (arith, c.if-level-eq0.false) in
+    let there = there_bytes D old c.args.number c.args.level row node in
+    let count = c.in_ok-count.ensures.count h there.0 there.1 in
+    let long = fork_counted D old c.args.number c.args.level row there.0 node up there.1 in
+    let many = c.are_two_fifths-2.ensures.yes yes in
+    record {
+      leaf = λ low. absurd (omega (arith, low, up));
+      fork = λ high. omega (arith, many, count, long);
+    }
+
+pub returns-then-level-eq0-clause-little : goal.returns-then-level-eq0-clause-little
+returns-then-level-eq0-clause-little g c = λ h row node no ample.
+    let D = g.row.D in
+    let old = pages c.args.cache.now in
+    let low = c.if-level-eq0.true in
+    let there = there_bytes D old c.args.number c.args.level row node in
+    let count = c.in_ok-count.ensures.count h there.0 there.1 in
+    let long = leaf_counted D old c.args.number c.args.level row there.0 node low there.1 in
+    let few = c.are_two_fifths.ensures.no no in
+    omega (arith, few, count, long, c.objects_that_fit.ensures, ample.leaf low)
+
+pub returns-clause-little : goal.returns-clause-little
+returns-clause-little g c = λ h row node no ample.
+    let D = g.row.D in
+    let old = pages c.args.cache.now in
+    let up : 0 < c.args.level = omega (arith, c.if-level-eq0.false) in
+    let there = there_bytes D old c.args.number c.args.level row node in
+    let count = c.in_ok-count.ensures.count h there.0 there.1 in
+    let long = fork_counted D old c.args.number c.args.level row there.0 node up there.1 in
+    let few = c.are_two_fifths-2.ensures.no no in
+    omega (arith, few, count, long, ample.fork up)
 
 pub returns-in_err-count-clause-damage : goal.returns-in_err-count-clause-damage
 returns-in_err-count-clause-damage g c = λ h.

@@ -1,5 +1,5 @@
 -- A page that is refused is the one that was asked for.
-use Rattle.std.proofs.Common.{◌≡◌, ◌⊎◌}
+use Rattle.std.proofs.Common.{◌≡◌, ◌⊎◌, IsSome, refl, subst, sym}
 use Rattle.page_file.specs.Fault.{IsOfDevice}
 use Rattle.page_file.specs.declared.fault.Fault.TheVariants as fault
 use Rattle.page_cache.specs.Cache.{next_of}
@@ -13,3 +13,10 @@ returns-in_err-page-clause-damage g c = λ h.
     c.from_residual.ensures.1
     (page_refused n (next_of c.args.cache.now) c.in_err-page.field-0.0 (c.in_err-page.ensures.faults h)
     (λ outside. let is = c.in_err-page.ensures.outside outside in cc))
+
+pub returns-in-Some-clause-leaf : goal.returns-in-Some-clause-leaf
+returns-in-Some-clause-leaf g c = λ h. (
+  c.in_ok-page.page.now,
+  c.in_ok-page.ensures.given_bytes h,
+  c.found_on.ensures.head (subst IsSome (sym c.in-Some.is) refl),
+)

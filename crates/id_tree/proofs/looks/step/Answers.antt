@@ -2,11 +2,12 @@
 use Rattle.page_cache.specs.Cache.{pages, next_of, given}
 use Rattle.id_page.proofs.ForkReading.{no_fork}
 use Rattle.id_tree.proofs.NodeLemmas.{fork_bytes, there_of_fork}
-use Rattle.std.proofs.Common.{◌≡◌, ◌⊎◌}
+use Rattle.std.proofs.Common.{◌≡◌, ◌∙◌, ◌⊎◌, ap, sym}
 use Rattle.page_file.specs.Fault.{IsOfDevice}
 use Rattle.page_file.specs.declared.fault.Fault.TheVariants as fault
 use Rattle.node_page.proofs.NodeLemmas.{at_error, page_refused}
 use Rattle.id_tree.proofs.DamageLemmas.{fork_of_head, names_in}
+use Rattle.id_tree.specs.Tree.{fork_in}
 use Rattle.id_tree.proofs.looks.step.Goals as goal
 
 pub returns-then-not-has_fork_head-clause-there : goal.returns-then-not-has_fork_head-clause-there
@@ -68,3 +69,13 @@ returns-clause-upto g c = λ h content there.
     c.way_on.ensures.upto g.row.D content
     (fork_bytes g.row.D page _ content
     (c.in_ok-page.ensures.bytes h (there_of_fork g.row.D page content there)) there)
+
+pub returns-clause-fork : goal.returns-clause-fork
+returns-clause-fork g c = λ h.
+    let is = fork_of_head g.row.D c.in_ok-page.page.now
+    (c.has_fork_head.ensures.0 c.if-not-has_fork_head.false) in (
+      is.0,
+      ap (fork_in g.row.D) (c.in_ok-page.ensures.given_bytes h) ∙ is.1,
+      sym (c.way_on.ensures.level g.row.D is.0 is.1),
+      sym (c.way_on.ensures.count g.row.D is.0 is.1),
+    )

@@ -1,5 +1,5 @@
 -- A way goes on in the child where the identifier is.
-use Rattle.std.proofs.Common.{◌∙◌, ◌-◌, ◌<◌, ℕ, refl, sym, arith, ◌≡◌}
+use Rattle.std.proofs.Common.{◌∙◌, ◌-◌, ◌<◌, ℕ, [], refl, sym, arith, ◌≡◌, subst}
 use Rattle.std.specs.Prelude.{IfSome}
 use Rattle.page_cache.specs.Cache.{pages, given}
 use Rattle.page_cache.specs.Calls.{asks_in_turn, fault_in}
@@ -10,8 +10,8 @@ use Rattle.id_tree.proofs.SeekLemmas.{keys_ascend, leads_below, leads_here, may_
 use Rattle.id_tree.proofs.WayLemmas.{way_of}
 use Rattle.page_file.specs.declared.fault.Fault.TheVariants as fault
 use Rattle.node_page.proofs.NodeLemmas.{at_error}
-use Rattle.id_tree.proofs.DamageLemmas.{comes_at, comes_down, comes_under, named_some}
-use Rattle.id_tree.specs.Checked.{ComesInTree, NamesChild}
+use Rattle.id_tree.proofs.DamageLemmas.{comes_at, comes_down, comes_under, down_by, named_some}
+use Rattle.id_tree.specs.Checked.{ComesDown, ComesInTree, NamesChild, SpellsFork}
 use Rattle.id_tree.proofs.GivenLemmas.{comes_here, comes_so}
 use Rattle.id_tree.proofs.search.+descend.Goals as goal
 
@@ -106,3 +106,37 @@ returns-in-Some-clause-damage g t c = λ h.
     (comes_so g.row.D (given c.args.cache.now) (given c.step.new.cache) c.in-Some.child n same
     (comes n damaged)))
     (c.descend.ensures.damage honest)
+
+-- ---- the levels of the way
+
+pub returns-then-level-eq0-clause-down : goal.returns-then-level-eq0-clause-down
+returns-then-level-eq0-clause-down g t c = λ h. ([], (c.if-level-eq0.true, refl))
+
+pub returns-in-Some-clause-down : goal.returns-in-Some-clause-down
+returns-in-Some-clause-down g t c = λ h.
+    let D = g.row.D in
+    let old = given c.args.cache.now in
+    let mid = given c.step.new.cache in
+    let page = c.args.page in
+    let way = c.in_ok-way.way in
+    let high : 0 < c.args.level = omega (arith, c.if-level-eq0.false) in
+    let level : way.level ≡ c.args.level = omega (arith, c.if-way-level.false) in
+    let fork = subst (λ l. SpellsFork D old page l way.count) level (c.in_ok-way.ensures.fork h) in
+    let names = named_some (NamesChild D old page) way.child c.in-Some.child c.in-Some.is
+    (c.in_ok-way.ensures.names h) in
+    if_ok c.descend.result (ComesDown D mid c.in-Some.child (c.args.level - 1))
+    (ComesDown D old page c.args.level)
+    (down_by D old mid page c.in-Some.child c.args.level way.count (c.in_ok-way.ensures.asks.map.given_stay h)
+    high fork names) (c.descend.ensures.down (c.in_ok-way.ensures.asks.gate.honest.0 h))
+
+pub returns-in-None-clause-down : goal.returns-in-None-clause-down
+returns-in-None-clause-down g t c = λ h.
+    let D = g.row.D in
+    let old = given c.args.cache.now in
+    let way = c.in_ok-way.way in
+    let level : way.level ≡ c.args.level = omega (arith, c.if-way-level.false) in
+    let none = c.in_ok-way.ensures.none c.in-None.is in (
+      [],
+      subst (λ n. SpellsFork D old c.args.page c.args.level n) none
+          (subst (λ l. SpellsFork D old c.args.page l way.count) level (c.in_ok-way.ensures.fork h)),
+    )

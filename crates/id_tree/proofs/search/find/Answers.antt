@@ -1,5 +1,5 @@
 -- The leaf to which the way leads, and what a search finds there.
-use Rattle.std.proofs.Common.{◌≡◌, ◌⊎◌, ℕ, refl, sym, subst, inr}
+use Rattle.std.proofs.Common.{◌≡◌, ◌⊎◌, ℕ, Option, refl, sym, subst, inl, inr}
 use Rattle.std.specs.FinMap as map
 use Rattle.page_file.specs.Fault.{IsOfDevice}
 use Rattle.page_file.specs.declared.fault.Fault.TheVariants as fault
@@ -7,10 +7,10 @@ use Rattle.page_cache.specs.Cache.{pages, given}
 use Rattle.page_cache.specs.Calls.{asks_in_turn, fault_in}
 use Rattle.node_page.proofs.DamageLemmas.{damaged_read}
 use Rattle.id_words.proofs.Results.{if_both}
-use Rattle.id_tree.specs.Checked.{ComesInTree, IsMet}
+use Rattle.id_tree.specs.Checked.{ComesDown, ComesInTree, IsMet}
 use Rattle.id_tree.specs.Rows.{IsLeafPlace, IsSoughtIn, LeadsBelow}
 use Rattle.id_tree.specs.Tree.{objects_in, objects_of}
-use Rattle.id_tree.proofs.DamageLemmas.{named_some}
+use Rattle.id_tree.proofs.DamageLemmas.{named_some, reached}
 use Rattle.id_tree.proofs.PlaceLemmas.{is_last, nowhere_at, nowhere_is, sought_at, sought_is}
 use Rattle.id_tree.proofs.ResultLemmas.{if_ok, if_err}
 use Rattle.id_tree.proofs.RootLemmas.{tree_same}
@@ -104,3 +104,24 @@ returns-in-None-clause-place g c = λ h t at stands.
     nowhere_at t c.args.id 0
     (subst (LeadsBelow c.args.root t.level c.args.id t.row) c.in-None.is
     (c.in_ok-leaf.ensures.found h t at stands))
+
+-- ---- how the leaf was reached
+
+pub returns-in-Some-clause-reached : goal.returns-in-Some-clause-reached
+returns-in-Some-clause-reached g c = λ h.
+    let D = g.row.D in
+    let old = given c.args.cache.now in
+    let mid = given c.leaf_below.new.cache in
+    let root = c.args.root in
+    let leaf = c.in-Some.leaf in
+    let asks = c.in_ok-leaf.ensures.asks in
+    let down = subst (λ (o : Option ℕ). (level : ℕ) × ComesDown D old root level o) c.in-Some.is
+    (c.in_ok-leaf.ensures.down h) in
+    reached c.seek_in.result D old mid root leaf (asks.map.given_stay h) down c.seek_in.ensures.here
+    (c.seek_in.ensures.leaf (asks.gate.honest.0 h))
+
+pub returns-in-None-clause-reached : goal.returns-in-None-clause-reached
+returns-in-None-clause-reached g c = λ h.
+    let down = subst (λ (o : Option ℕ). (level : ℕ) × ComesDown g.row.D (given c.args.cache.now) c.args.root level o)
+    c.in-None.is (c.in_ok-leaf.ensures.down h) in
+    (down.0, inl (refl, down.1))

@@ -1,5 +1,5 @@
 -- A way begins at the root.
-use Rattle.std.proofs.Common.{◌≡◌, ◌∙◌, ◌-◌, ℕ, true, ap, subst, sym}
+use Rattle.std.proofs.Common.{◌≡◌, ◌∙◌, ◌-◌, ◌<◌, ℕ, [], true, ap, arith, subst, sym}
 use Rattle.std.specs.Prelude.{IfOk, IfSome}
 use Rattle.page_cache.specs.Cache.{pages, given}
 use Rattle.page_cache.specs.Calls.{asks_in_turn, fault_in}
@@ -12,8 +12,8 @@ use Rattle.id_tree.proofs.SeekLemmas.{seek_same}
 use Rattle.id_tree.proofs.WayLemmas.{way_of}
 use Rattle.page_file.specs.declared.fault.Fault.TheVariants as fault
 use Rattle.node_page.proofs.NodeLemmas.{at_error}
-use Rattle.id_tree.proofs.DamageLemmas.{comes_at, comes_down, comes_under, damaged_is, named_some}
-use Rattle.id_tree.specs.Checked.{ComesInTree, NamesChild}
+use Rattle.id_tree.proofs.DamageLemmas.{comes_at, comes_down, comes_under, damaged_is, down_by, named_some}
+use Rattle.id_tree.specs.Checked.{ComesDown, ComesInTree, NamesChild, SpellsFork}
 use Rattle.id_tree.proofs.GivenLemmas.{comes_here, comes_so}
 use Rattle.id_tree.proofs.search.leaf_below.Goals as goal
 
@@ -122,3 +122,35 @@ returns-in-Some-clause-damage g c = λ h.
     (comes_so g.row.D (given c.args.cache.now) (given c.step.new.cache) c.in-Some.child n same
     (comes n damaged)))
     (c.descend.ensures.damage honest)
+
+-- ---- the levels of the way
+
+pub returns-in-Some-clause-down : goal.returns-in-Some-clause-down
+returns-in-Some-clause-down g c = λ h.
+    let D = g.row.D in
+    let old = given c.args.cache.now in
+    let mid = given c.step.new.cache in
+    let root = c.args.root in
+    let way = c.in_ok-way.way in
+    let high : 0 < way.level = omega (arith, c.if-way-eq0.false) in
+    let names = named_some (NamesChild D old root) way.child c.in-Some.child c.in-Some.is
+    (c.in_ok-way.ensures.names h) in
+    if_ok c.descend.result (ComesDown D mid c.in-Some.child (way.level - 1))
+    (λ leaf. (level : ℕ) × ComesDown D old root level leaf)
+    (λ leaf comes. (
+      way.level,
+      down_by D old mid root c.in-Some.child way.level way.count
+          (c.in_ok-way.ensures.asks.map.given_stay h) high (c.in_ok-way.ensures.fork h) names leaf comes,
+    ))
+    (c.descend.ensures.down (c.in_ok-way.ensures.asks.gate.honest.0 h))
+
+pub returns-in-None-clause-down : goal.returns-in-None-clause-down
+returns-in-None-clause-down g c = λ h.
+    let way = c.in_ok-way.way in (
+      way.level,
+      (
+        [],
+        subst (SpellsFork g.row.D (given c.args.cache.now) c.args.root way.level)
+            (c.in_ok-way.ensures.none c.in-None.is) (c.in_ok-way.ensures.fork h),
+      ),
+    )
