@@ -90,6 +90,11 @@ pub on_ok : {T E X Y : Type 0} (r : Result T E) → (X → Y) → OnOk r X → O
 on_ok (Ok x) f p = f p
 on_ok (Err e) f p = tt
 
+-- what holds however a call ended
+pub so_on_ok : {T E : Type 0} (r : Result T E) (X : Type 0) → X → OnOk r X
+so_on_ok (Ok x) X h = h
+so_on_ok (Err e) X h = tt
+
 -- pages that a look left as they were change as they did
 pub moves_on : {old mid new : PageMap} {was now : Part} → mid ≡ old → Moves mid new was now
     → Moves old new was now

@@ -2,8 +2,10 @@
 -- "Identifier tables").
 use Rattle.std.specs.Prelude.{◌≡◌, ℕ, ◌+◌, ◌/◌, List}
 use Rattle.std.specs.FinMap as map
+use Rattle.std.specs.List.Sorted.{IsNonDecreasingBy}
 use Rattle.box_math.specs.Objects.{Object}
 use Rattle.bucket_page.specs.Layout.{Entry}
+use Rattle.id_chains.specs.Table.{class_of}
 use Rattle.id_chains.specs.Tidy as chains
 use Rattle.id_tree.specs.Tidy as trees
 use Rattle.id_words.specs.Objects.{with_all}
@@ -49,6 +51,11 @@ pub record Fills (dims : ℕ) (old new : PageMap) (t : IdTable) (added : List En
   pub stands : IdsStand dims new table
   pub objects : objects_of table ≡ with_all (objects_of t) added
   pub moves : Moves old new (part_of t) (part_of table)
+
+-- the order of objects that a table of this kind takes best: chain after chain, or by identifier
+abbrev pub AreInOrder : TableKind → List Entry → Type 0
+AreInOrder Chains = IsNonDecreasingBy (λ object. class_of object.0)
+AreInOrder Tree = IsNonDecreasingBy (λ object. object.0)
 
 -- where the pages of a table of this kind have zeros in all bytes that they do not name, they have so still
 abbrev pub KeepsTidy : ℕ → TableKind → PageMap → PageMap → Type 0

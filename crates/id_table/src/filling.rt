@@ -13,7 +13,7 @@ ghost use Rattle.std.specs.List.Sorted.{IsNonDecreasingBy};
 ghost use Rattle.id_chains.specs.Table.{class_of};
 ghost use Rattle.id_words.specs.Damage.{MayBreakAt};
 ghost use Rattle.id_words.specs.Objects.{AreNew};
-ghost use Rattle.id_table.specs.Changes.{Fills, KeepsTidy, most_filled_pages};
+ghost use Rattle.id_table.specs.Changes.{AreInOrder, Fills, KeepsTidy, most_filled_pages};
 ghost use Rattle.id_table.specs.Checked.{MeetsInTable};
 ghost use Rattle.id_table.specs.Table.{IdTable, IdsStand, kind_of, objects_of, page_of};
 
@@ -25,8 +25,8 @@ use page_file::Fault;
 use std::alloc::Allocator;
 
 /// Adds objects to the table that begins at a page, none of which has an identifier that is there or that
-/// another of them has. They are left in some order, that in which the table takes them best. The gate has to
-/// be open.
+/// another of them has. Where they were added, they are left in the order that the table takes best: by
+/// identifier, or chain after chain. The gate has to be open.
 ///
 /// With a sound map, where the pages stand for a table there, a refusal is `Memory` or `Device`, or `NoPages`
 /// where each page number is live; also after a refusal at most `most_filled_pages` of the objects that are
@@ -42,6 +42,8 @@ pub fn fill<const D: usize, B: BlockDevice, A: Allocator + Copy>(
     requires open { gate_of cache.old ≡ Open }
     ensures changes { Changes cache.old cache.new result }
     ensures same { IsPermutation objects.old objects.new }
+    ensures ordered { IsHonest cache.old → (t : IdTable) → page_of t ≡ page → IdsStand D (pages cache.old) t
+        → OnOk result (AreInOrder (kind_of t) objects.new) }
     ensures sound { IsPageMap cache.old → (t : IdTable) → page_of t ≡ page → IdsStand D (pages cache.old) t
         → AreNew (objects_of t) objects.new → IsPageMap cache.new }
     ensures filled { IsPageMap cache.old → (t : IdTable) → page_of t ≡ page → IdsStand D (pages cache.old) t
@@ -88,6 +90,7 @@ fn sort_by_chain<const D: usize>(objects: &mut [(u64, (BBox<D>, u32))])
 // Puts the objects in the order of identifiers, so that they leave full leaves.
 fn sort_by_identifier<const D: usize>(objects: &mut [(u64, (BBox<D>, u32))])
     ensures same { IsPermutation objects.old objects.new }
+    ensures ordered { IsNonDecreasingBy (λ object. object.0) objects.new }
 {
     objects.sort_unstable_by_key(
         |object| -> u64

@@ -5,11 +5,11 @@ use Rattle.page_cache.specs.Cache.{IsPageMap, given, pages}
 use Rattle.page_cache.specs.Cache.{Grows}
 use Rattle.node_page.specs.Faults.{IsNoDamage}
 use Rattle.id_words.specs.Objects.{AreNew}
-use Rattle.id_table.specs.Changes.{Fills, KeepsTidy, most_filled_pages}
+use Rattle.id_table.specs.Changes.{AreInOrder, Fills, KeepsTidy, most_filled_pages}
 use Rattle.id_table.specs.Table.{kind_of, objects_of}
 use Rattle.id_table.specs.Table.IdTable.{treed}
 use Rattle.id_table.specs.declared.kind.TableKind.TheVariants.{Chains, Tree}
-use Rattle.id_table.proofs.StepLemmas.{chains_filled, of_chains, of_tree, on_ok, same_pages, tree_filled}
+use Rattle.id_table.proofs.StepLemmas.{chains_filled, of_chains, of_tree, on_ok, same_pages, so_on_ok, tree_filled}
 use Rattle.page_file.specs.declared.fault.Fault.TheVariants as fault
 use Rattle.node_page.proofs.NodeLemmas.{at_error, if_error}
 use Rattle.id_table.specs.Checked.{MeetsInTable}
@@ -84,6 +84,24 @@ returns-in-Tree-clause-grows_few g c = λ sound t at s new.
     let few : Grows ((map.len (objects_of (treed ch)) + length c.sort_by_identifier.new.objects) / 28 + 14) c.kind_at.new.cache c.fill-in-Tree.new.cache =
     c.fill-in-Tree.ensures.grows_few (c.in_ok-kind_at.ensures.asks.map.sound.0 sound) ch there stands new in
     omega (arith, few, c.in_ok-kind_at.ensures.asks.map.next, c.in_ok-kind_at.ensures.asks.map.free_count)) new
+
+-- ---- the order in which they are left
+
+pub returns-in-Chains-clause-ordered : goal.returns-in-Chains-clause-ordered
+returns-in-Chains-clause-ordered g c = λ h t at s.
+    of_chains g.row.D c.args.page c.args.cache.now c.kind_at.new.cache c.in_ok-kind_at.ensures.asks
+    (λ t. OnOk c.fill.result (AreInOrder (kind_of t) c.sort_by_chain.new.objects)) h t at s
+    c.in_ok-kind_at.field-0 (c.in_ok-kind_at.ensures.kind h t at s) c.in-Chains.is
+    (λ ch there stands. so_on_ok c.fill.result (AreInOrder Chains c.sort_by_chain.new.objects)
+    c.sort_by_chain.ensures.ordered)
+
+pub returns-in-Tree-clause-ordered : goal.returns-in-Tree-clause-ordered
+returns-in-Tree-clause-ordered g c = λ h t at s.
+    of_tree g.row.D c.args.page c.args.cache.now c.kind_at.new.cache c.in_ok-kind_at.ensures.asks
+    (λ t. OnOk c.fill-in-Tree.result (AreInOrder (kind_of t) c.sort_by_identifier.new.objects)) h t at s
+    c.in_ok-kind_at.field-0 (c.in_ok-kind_at.ensures.kind h t at s) c.in-Tree.is
+    (λ ch there stands. so_on_ok c.fill-in-Tree.result (AreInOrder Tree c.sort_by_identifier.new.objects)
+    c.sort_by_identifier.ensures.ordered)
 
 -- ---- what stays zero
 
