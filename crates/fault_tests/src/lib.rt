@@ -3,6 +3,10 @@
 #![tactic(auto)]
 
 #[cfg(test)]
+mod commands;
+#[cfg(test)]
 mod refused;
 #[cfg(test)]
 mod refused_changes;
+#[cfg(test)]
+mod scripts;

@@ -1,18 +1,21 @@
 //! Changes of a store that was opened, in which each growth, or each call of the device, is refused in turn.
 //! One that is refused before it wrote a page leaves a store that goes on.
 
-use crate::refused::{Ending, Heap, check_failed, put};
+use crate::commands::{Ending, Heap, has_failed, put};
+use crate::refused::Refused;
 use block_device::{BlockDevice, FuseDevice, FuseMode, MemoryDevice};
 use layer_store::{RawBox, Refusal, Store, Version, create_store};
 use list_table::ListTable;
 use refusing::Refusing;
 use std::alloc::Global;
-use std::process::Abort;
 use std::test::Fail;
-use store_commands::{Command, FIVE, TWO, answer, device_of, listed, opened};
+use store_commands::{Command, FIVE, TWO, answer, closed, listed, opened};
 
 // More growths, and more calls of the device, than a change makes.
 const MOST: u32 = 1000;
+
+// More growths, and more calls of the device, than there are.
+const NEVER: u32 = u32::MAX;
 
 // An opening makes four calls of the device: a sync, and the reads of gate, header and catalog.
 const OPENING: u32 = 4;
@@ -33,18 +36,21 @@ const CHANGES: [Command; 6] = [
     Command::Drop(b"l"),
 ];
 
-// Puts commands to a store and the plain list.
+// Puts commands to a store and the plain list, and answers whether both took them.
 fn make<D: BlockDevice>(
     alloc: Global,
     store: &mut Store<D, &Heap>,
     table: &mut ListTable<Global>,
-    commands: &[Command<'_>],
-) -> Result<(), Refusal> {
-    for &command in commands {
-        answer(alloc, store, command)?;
-        listed(alloc, table, command)?;
+) -> bool {
+    for commands in MADE {
+        for &command in commands {
+            let is_made = answer(alloc, store, command).is_ok();
+            if !is_made || listed(alloc, table, command).is_err() {
+                return false;
+            }
+        }
     }
-    Ok(())
+    true
 }
 
 // The device of a new store with layers, closed, and their plain list.
@@ -52,20 +58,31 @@ fn made<'a>(
     alloc: Global,
     heap: &'a Heap,
     table: &mut ListTable<Global>,
-) -> Result<MemoryDevice<&'a Heap>, Refusal> {
-    let mut store = match create_store(heap, MemoryDevice::new(heap), 8, Version::Two) {
-        Ok(store) => store,
-        Err((refusal, _)) => return Err(refusal),
-    };
-    for commands in MADE {
-        make(alloc, &mut store, table, commands)?;
+) -> Option<MemoryDevice<&'a Heap>> {
+    match create_store(heap, MemoryDevice::new(heap), 8, Version::Two) {
+        Ok(store) => filled(alloc, store, table),
+        Err(_) => None,
     }
-    device_of(store)
+}
+
+// The device of the store once the layers are made, closed.
+fn filled<'a>(
+    alloc: Global,
+    store: Store<MemoryDevice<&'a Heap>, &'a Heap>,
+    table: &mut ListTable<Global>,
+) -> Option<MemoryDevice<&'a Heap>> {
+    let mut store = store;
+    let is_made = make(alloc, &mut store, table);
+    let (refusal, device) = closed(store);
+    if is_made && refusal.is_none() {
+        Some(device)
+    } else {
+        None
+    }
 }
 
 // What becomes of a change.
 fn change<'a, D: BlockDevice + Drop>(
-    rt: &impl Abort,
     alloc: Global,
     store: Store<D, &'a Heap>,
     table: &mut ListTable<Global>,
@@ -74,107 +91,92 @@ fn change<'a, D: BlockDevice + Drop>(
     cause: Refusal,
 ) -> Ending {
     let mut store = store;
-    let ending = put(rt, alloc, &mut store, table, heap, command, cause);
-    if ending == Ending::Failed {
-        check_failed(rt, alloc, store, table, heap, command);
+    let ending = put(alloc, &mut store, table, heap, command, cause);
+    if ending != Ending::Failed {
+        return ending;
     }
-    ending
+    if has_failed(alloc, store, table, heap, command) {
+        Ending::Failed
+    } else {
+        Ending::Wrong
+    }
 }
 
-// What becomes of the change where each of its growths is refused in turn, with all later ones, and at last
-// none.
-fn refuse_growths(
-    rt: &impl Abort,
-    alloc: Global,
-    command: Command<'_>,
-) -> Result<Vec<Ending>, Refusal> {
-    let heap = Refusing::new(alloc);
-    let mut endings = Vec::new(alloc);
-    for k in 0..MOST {
-        let mut table = ListTable::new(alloc);
-        let store = opened(&heap, made(alloc, &heap, &mut table)?, 8)?;
-        heap.refuse_from(k);
-        let ending = change(
-            rt,
-            alloc,
-            store,
-            &mut table,
-            &heap,
-            command,
-            Refusal::Memory,
-        );
-        endings.push(ending)?;
-        if ending == Ending::Answered {
-            break;
-        }
+// How many growths are granted, and how many calls of the device, and why the change is refused then.
+fn granted(refused: Refused, number: u32) -> (u32, u32, Refusal) {
+    match refused {
+        Refused::Growths => (number, NEVER, Refusal::Memory),
+        Refused::Call => (NEVER, number, Refusal::Device),
     }
-    Ok(endings)
 }
 
-// What becomes of the change where each of its calls of the device fails in turn, and at last none.
-fn fail_calls(
-    rt: &impl Abort,
+// What becomes of a change of a store that was opened, while its growth of that number is refused, or the
+// call of the device, counted from the opening on; or why the opening is refused.
+fn attempt(
     alloc: Global,
     command: Command<'_>,
-) -> Result<Vec<Ending>, Refusal> {
+    refused: Refused,
+    number: u32,
+) -> Result<Ending, Refusal> {
     let heap = Refusing::new(alloc);
-    let mut endings = Vec::new(alloc);
-    for passes in OPENING..MOST {
-        let mut table = ListTable::new(alloc);
-        let device = made(alloc, &heap, &mut table)?;
-        let store = opened(
-            &heap,
-            FuseDevice::new(device, u64::from(passes), FuseMode::Once),
-            8,
-        )?;
-        let ending = change(
-            rt,
-            alloc,
-            store,
-            &mut table,
-            &heap,
-            command,
-            Refusal::Device,
-        );
-        endings.push(ending)?;
-        if ending == Ending::Answered {
-            break;
+    let mut table = ListTable::new(alloc);
+    let Some(device) = made(alloc, &heap, &mut table) else {
+        return Ok(Ending::Wrong);
+    };
+    let (growths, calls, cause) = granted(refused, number);
+    let fuse = FuseDevice::new(device, u64::from(calls), FuseMode::Once);
+    match opened(&heap, fuse, 8) {
+        Ok(store) => {
+            heap.refuse_from(growths);
+            Ok(change(alloc, store, &mut table, &heap, command, cause))
+        }
+        Err(refusal) => Err(refusal),
+    }
+}
+
+// Whether a change goes on whose first growth, or first call of the device, is refused; goes on or fails where
+// a later one is; and is answered in the end. Some calls have to let it fail, and those of the opening are
+// answered by that.
+fn goes_on(alloc: Global, command: Command<'_>, refused: Refused) -> bool {
+    let first = match refused {
+        Refused::Growths => 0,
+        Refused::Call => OPENING,
+    };
+    let mut fails = first == 0;
+    for number in 0..MOST {
+        match attempt(alloc, command, refused, number) {
+            Err(Refusal::Device) if number < first => {}
+            Ok(Ending::Refused) if number >= first => {}
+            Ok(Ending::Failed) if number > first => fails = true,
+            Ok(Ending::Answered) => return fails && number > first,
+            _ => return false,
         }
     }
-    Ok(endings)
+    false
+}
+
+// The place of the first change that does not.
+fn first_other(alloc: Global, changes: &[Command<'_>], refused: Refused) -> Option<usize> {
+    for (place, &command) in changes.iter().enumerate() {
+        if !goes_on(alloc, command, refused) {
+            return Some(place);
+        }
+    }
+    None
 }
 
 // All but the creation of a layer, which takes memory only for pages that it has written.
 #[test]
 fn a_change_whose_first_growth_is_refused_goes_on(rt: HostRuntime) -> Result<(), Fail> {
-    for &command in CHANGES[1..].iter() {
-        let endings = refuse_growths(&rt, rt.alloc(), command)?;
-        assert_eq!(rt; endings.first(), Some(&Ending::Refused), "{command:?}");
-        assert_eq!(rt; endings.last(), Some(&Ending::Answered), "{command:?}");
-    }
+    assert_eq!(rt;
+        first_other(rt.alloc(), &CHANGES[1..], Refused::Growths),
+        None
+    );
     Ok(())
 }
 
 #[test]
 fn a_change_whose_first_call_of_the_device_fails_goes_on(rt: HostRuntime) -> Result<(), Fail> {
-    for command in CHANGES {
-        let endings = fail_calls(&rt, rt.alloc(), command)?;
-        assert_eq!(rt; endings.first(), Some(&Ending::Refused), "{command:?}");
-        assert!(rt; endings.contains(&Ending::Failed), "{command:?}");
-        assert_eq!(rt; endings.last(), Some(&Ending::Answered), "{command:?}");
-    }
-    Ok(())
-}
-
-#[test]
-fn a_fault_in_opening_is_answered(rt: HostRuntime) -> Result<(), Fail> {
-    let heap = Refusing::new(rt.alloc());
-    for passes in 0..OPENING {
-        let mut table = ListTable::new(rt.alloc());
-        let device = made(rt.alloc(), &heap, &mut table)?;
-        let fuse = FuseDevice::new(device, u64::from(passes), FuseMode::Once);
-        let refusal = opened(&heap, fuse, 8).err();
-        assert_eq!(rt; refusal, Some(Refusal::Device), "{passes}");
-    }
+    assert_eq!(rt; first_other(rt.alloc(), &CHANGES, Refused::Call), None);
     Ok(())
 }
