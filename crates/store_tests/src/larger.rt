@@ -1,12 +1,12 @@
-//! Stores with many objects, and with many layers.
+//! Stores with many objects, and with many layers, and joins that look at few nodes.
 
-use crate::rows::ask_thrice;
+use crate::scripts::{Script, Step, first_other};
 use layer_store::{RawBox, RawPoint, Refusal};
 use std::test::Fail;
-use store_commands::{Command, PLANE, Row, answer, answer_all, device_of, new_store, opened};
+use store_commands::{Command, FIVE, PLANE, Row, Scene, TWO};
 
 // Of a thousand objects, object i with the box from (i,2i) to (i+1,2i+1).
-const THOUSAND: [Row; 6] = [
+const THOUSAND: &[Row] = &[
     (
         Command::Window(b"b", RawBox::Two([10, 20], [12, 24])),
         Ok(&[10, 10, 20, 11, 21, 11, 11, 22, 12, 23, 12, 12, 24, 13, 25]),
@@ -32,7 +32,7 @@ const THOUSAND: [Row; 6] = [
 ];
 
 // Of sixty layers, each with one object.
-const SIXTY: [Row; 5] = [
+const SIXTY: &[Row] = &[
     (
         Command::Create(b"z", 2, 4),
         Err(Refusal::TooManyLayers),
@@ -52,88 +52,89 @@ const SIXTY: [Row; 5] = [
     (Command::Window(b"l60", PLANE), Err(Refusal::NoLayer), None),
 ];
 
+// Of sixty layers, of which one went and another came.
+const STILL_SIXTY: &[Row] = &[
+    (Command::Count(b"l00"), Err(Refusal::NoLayer), None),
+    (Command::Count(b"b"), Ok(&[0]), None),
+    (Command::Count(b"l59"), Ok(&[1]), None),
+    (
+        Command::Create(b"z", 2, 4),
+        Err(Refusal::TooManyLayers),
+        None,
+    ),
+    (Command::Check, Ok(&[]), None),
+];
+
 // Two axes, four to a node.
 const CREATE: Command = Command::Create(b"b", 2, 4);
 
-// The object of a number.
-fn object(number: u16) -> (u64, RawBox) {
-    let x = i32::from(number);
-    let y = 2 * x;
-    (u64::from(number), RawBox::Two([x, y], [x + 1, y + 1]))
-}
+const A_THOUSAND: Scene = Scene {
+    made: &[],
+    asked: THOUSAND,
+};
 
-#[test]
-fn a_thousand_objects_come_back(rt: HostRuntime) -> Result<(), Fail> {
-    let mut store = new_store(rt.alloc(), 8)?;
-    answer(rt.alloc(), &mut store, CREATE)?;
-    for number in 1..=1000u16 {
-        let (id, bounds) = object(number);
-        answer(rt.alloc(), &mut store, Command::Insert(b"b", id, bounds))?;
-    }
-    ask_thrice(&rt, rt.alloc(), store, 8, &THOUSAND)?;
-    Ok(())
-}
-
-// Two thousand are loaded, and the second half is taken out again.
-#[test]
-fn a_thousand_objects_are_left(rt: HostRuntime) -> Result<(), Fail> {
-    let mut store = new_store(rt.alloc(), 8)?;
-    let mut objects = Vec::new(rt.alloc());
-    for number in 1..=2000u16 {
-        let (id, bounds) = object(number);
-        objects.push((id, bounds, 0))?;
-    }
-    let load = Command::Load(b"b", &objects);
-    answer_all(rt.alloc(), &mut store, &[CREATE, load, Command::Check])?;
-    for number in 1001..=2000u16 {
-        answer(
-            rt.alloc(),
-            &mut store,
-            Command::Delete(b"b", u64::from(number)),
-        )?;
-    }
-    answer(rt.alloc(), &mut store, Command::Check)?;
-    ask_thrice(&rt, rt.alloc(), store, 8, &THOUSAND)?;
-    Ok(())
-}
-
-// The name of the layer of a number below a hundred.
-fn name_of(number: u8) -> [u8; 3] {
-    let tens = b'0' + number / 10 % 10;
-    let units = b'0' + number % 10;
-    [b'l', tens, units]
-}
-
-#[test]
-fn sixty_layers_come_back(rt: HostRuntime) -> Result<(), Fail> {
-    let mut store = new_store(rt.alloc(), 64)?;
-    for number in (0..60u8).rev() {
-        let name = name_of(number);
-        let id = u64::from(number);
-        let i = i32::from(number);
-        let create = Command::Create(&name, 2, 4 + id);
-        let insert = Command::Insert(&name, id, RawBox::Two([-i; 2], [i; 2]));
-        answer_all(rt.alloc(), &mut store, &[create, insert])?;
-    }
-    ask_thrice(&rt, rt.alloc(), store, 64, &SIXTY)?;
-    Ok(())
-}
+const ALL_SIXTY: Scene = Scene {
+    made: &[],
+    asked: SIXTY,
+};
 
 // A layer more than there may be, once another is gone.
+const ONE_FOR_ANOTHER: Scene = Scene {
+    made: &[Command::Drop(b"l00"), CREATE],
+    asked: STILL_SIXTY,
+};
+
+const NOTHING: Scene = Scene {
+    made: &[],
+    asked: &[],
+};
+
+// Two thousand are loaded, and the second half is taken out again.
+const HALF_OF_MORE: &[Step] = &[
+    Step::Make(&[CREATE]),
+    Step::Load(2000),
+    Step::Make(&[Command::Check]),
+    Step::Delete(1001, 2000),
+    Step::Make(&[Command::Check]),
+];
+
+// Three pairs of nodes meet, or are at most 1 apart, at most two looks each.
+const MEETING: &[Step] = &[
+    Step::Make(&TWO),
+    Step::Make(&FIVE),
+    Step::Looks(Command::Join(b"l", b"a", 0), 6),
+];
+
+const NEAR: &[Step] = &[
+    Step::Make(&TWO),
+    Step::Make(&FIVE),
+    Step::Looks(Command::Join(b"l", b"a", 1), 6),
+];
+
+const SCRIPTS: [Script; 6] = [
+    (
+        "a thousand objects come back",
+        8,
+        &[Step::Make(&[CREATE]), Step::Insert(1000)],
+        A_THOUSAND,
+    ),
+    ("a thousand objects are left", 8, HALF_OF_MORE, A_THOUSAND),
+    ("sixty layers come back", 64, &[Step::Layers(60)], ALL_SIXTY),
+    (
+        "a dropped layer leaves room",
+        64,
+        &[
+            Step::Layers(60),
+            Step::Ask(&[(CREATE, Err(Refusal::TooManyLayers), None)]),
+        ],
+        ONE_FOR_ANOTHER,
+    ),
+    ("a join looks at six nodes at most", 64, MEETING, NOTHING),
+    ("and one of near objects", 64, NEAR, NOTHING),
+];
+
 #[test]
-fn a_dropped_layer_leaves_room(rt: HostRuntime) -> Result<(), Fail> {
-    let mut store = new_store(rt.alloc(), 64)?;
-    for number in 0..60u8 {
-        let name = name_of(number);
-        answer(rt.alloc(), &mut store, Command::Create(&name, 2, 4))?;
-    }
-    let many = answer(rt.alloc(), &mut store, CREATE);
-    assert_eq!(rt; many, Err(Refusal::TooManyLayers));
-    answer_all(rt.alloc(), &mut store, &[Command::Drop(b"l00"), CREATE])?;
-    let gone = answer(rt.alloc(), &mut store, Command::Count(b"l00"));
-    assert_eq!(rt; gone, Err(Refusal::NoLayer));
-    let mut store = opened(rt.alloc(), device_of(store)?, 64)?;
-    assert_eq!(rt; store.layers()?.len(), 60);
-    answer(rt.alloc(), &mut store, Command::Check)?;
+fn many_objects_and_many_layers_come_back(rt: HostRuntime) -> Result<(), Fail> {
+    assert_eq!(rt; first_other(rt.alloc(), &SCRIPTS), None);
     Ok(())
 }

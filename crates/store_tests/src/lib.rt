@@ -2,10 +2,12 @@
 #![tactic(auto)]
 
 #[cfg(test)]
-mod change_rows;
-#[cfg(test)]
 mod larger;
 #[cfg(test)]
-mod rows;
+mod scenes;
+#[cfg(test)]
+mod scripts;
 #[cfg(test)]
 mod sessions;
+#[cfg(test)]
+mod writes;

@@ -1,14 +1,12 @@
 //! Worked rows: small scenes with the answers to questions and how many nodes these look at, which stay after
 //! a reopening, and after a closing and an opening.
 
-use block_device::{BlockDevice, MemoryDevice};
-use layer_store::{RawBox, RawPoint, RawQuery, Refusal, Store};
-use std::alloc::Global;
-use std::process::Abort;
+use crate::scripts::{Script, Step, first_other};
+use layer_store::{RawBox, RawPoint, RawQuery, Refusal};
 use std::test::Fail;
 use store_commands::{
-    Answer, Command, FIRST_OVERFLOW, LINE, PLANE, Row, SPACE, Scene, TOUCHING, answer, answer_all,
-    device_of, new_store, opened,
+    Command, DELETED, FIRST_OVERFLOW, FIVE, JOINED, LINE, LOADED, PLANE, SPACE, Scene, TOUCHING,
+    TWO,
 };
 
 // An empty layer, and one with the greatest identifier.
@@ -216,67 +214,89 @@ const TAGS: Scene = Scene {
     ],
 };
 
-fn is_answer(answer: &Answer, wanted: &Result<&'static [i128], Refusal>) -> bool {
-    match (answer, wanted) {
-        (Ok(numbers), Ok(wanted)) => numbers.as_slice() == *wanted,
-        (Err(refusal), Err(wanted)) => refusal == wanted,
-        _ => false,
-    }
-}
+// A move to the box that the object has, and one to another.
+const MOVED: Scene = Scene {
+    made: &[
+        Command::Move(b"a", 1, RawBox::Two([0, 0], [1, 1])),
+        Command::Move(b"a", 1, RawBox::Two([5, 5], [6, 6])),
+    ],
+    asked: &[
+        (Command::Point(b"a", RawPoint::Two([0, 0])), Ok(&[]), None),
+        (
+            Command::Point(b"a", RawPoint::Two([6, 6])),
+            Ok(&[1, 5, 5, 6, 6]),
+            Some(1),
+        ),
+        (Command::Get(b"a", 1), Ok(&[1, 5, 5, 6, 6]), None),
+        (Command::Count(b"a"), Ok(&[2]), None),
+        (
+            Command::Move(b"a", 9, RawBox::Two([0, 0], [1, 1])),
+            Err(Refusal::NoObject),
+            None,
+        ),
+        (
+            Command::Move(b"a", 9, RawBox::Two([1, 0], [0, 0])),
+            Err(Refusal::BadBox),
+            None,
+        ),
+        (
+            Command::Move(b"a", 1, RawBox::Three([1; 3], [0; 3])),
+            Err(Refusal::WrongDims),
+            None,
+        ),
+        (
+            Command::Move(b"q", 1, RawBox::Two([0, 0], [1, 1])),
+            Err(Refusal::NoLayer),
+            None,
+        ),
+        (Command::Delete(b"a", 99), Err(Refusal::NoObject), None),
+        (Command::Drop(b"A"), Err(Refusal::BadName), None),
+        (Command::Drop(b"b"), Err(Refusal::NoLayer), None),
+        (Command::Check, Ok(&[]), None),
+    ],
+};
 
-// Asks, and compares answers and looks.
-fn ask(rt: &impl Abort, alloc: Global, store: &mut Store<MemoryDevice>, asked: &[Row]) {
-    for (command, wanted, looks) in asked {
-        let before = store.looks();
-        let given = answer(alloc, store, *command);
-        let looked = store.looks().wrapping_sub(before);
-        assert!(rt; is_answer(&given, wanted), "{command:?}: {given:?}");
-        assert!(rt;
-            looks.is_none() || *looks == Some(looked),
-            "{command:?}: {looked} looks"
-        );
-    }
-}
+// An identifier that comes back with another box.
+const INSERTED_ANEW: Scene = Scene {
+    made: &[
+        Command::Delete(b"l", 1),
+        Command::Delete(b"l", 2),
+        Command::Insert(b"l", 2, RawBox::Two([7, 7], [8, 8])),
+    ],
+    asked: &[
+        (
+            Command::Window(b"l", RawBox::Two([1, 0], [1, 0])),
+            Ok(&[]),
+            Some(1),
+        ),
+        (Command::Get(b"l", 2), Ok(&[2, 7, 7, 8, 8]), None),
+        (Command::Count(b"l"), Ok(&[4]), None),
+        (Command::Check, Ok(&[]), None),
+    ],
+};
 
-/// Asks now, after a reopening, and after a closing and an opening. Closings after the first one write
-/// nothing.
-pub fn ask_thrice(
-    rt: &impl Abort,
-    alloc: Global,
-    store: Store<MemoryDevice>,
-    cache: u32,
-    asked: &[Row],
-) -> Result<(), Refusal> {
-    let mut store = store;
-    ask(rt, alloc, &mut store, asked);
-    answer(alloc, &mut store, Command::Reopen)?;
-    ask(rt, alloc, &mut store, asked);
-    let device = device_of(store)?;
-    let (blocks, writes) = (device.blocks(), device.writes());
-    let mut store = opened(alloc, device, cache)?;
-    ask(rt, alloc, &mut store, asked);
-    answer(alloc, &mut store, Command::Reopen)?;
-    let device = device_of(store)?;
-    assert_eq!(rt; (device.blocks(), device.writes()), (blocks, writes));
-    Ok(())
-}
+// What is made before some scenes.
+const CHANGED: &[Step] = &[Step::Make(&TWO), Step::Make(&FIVE)];
+
+const SCRIPTS: [Script; 14] = [
+    ("an empty layer", 64, &[], EMPTY),
+    ("extremes", 64, &[], EXTREMES),
+    ("boxes that touch", 64, &[], TOUCHING),
+    ("points on a line", 64, &[], LINE),
+    ("a first overflow", 64, &[], FIRST_OVERFLOW),
+    ("a second overflow", 64, &[], SECOND_OVERFLOW),
+    ("equal distances", 64, &[], EQUAL_DISTANCES),
+    ("few objects", 64, &[], FEW),
+    ("tags", 64, &[], TAGS),
+    ("moves", 64, CHANGED, MOVED),
+    ("removals", 64, CHANGED, DELETED),
+    ("an identifier that comes back", 64, CHANGED, INSERTED_ANEW),
+    ("loads", 64, CHANGED, LOADED),
+    ("joins", 64, CHANGED, JOINED),
+];
 
 #[test]
 fn scenes_are_answered_as_worked_out(rt: HostRuntime) -> Result<(), Fail> {
-    for scene in [
-        EMPTY,
-        EXTREMES,
-        TOUCHING,
-        LINE,
-        FIRST_OVERFLOW,
-        SECOND_OVERFLOW,
-        EQUAL_DISTANCES,
-        FEW,
-        TAGS,
-    ] {
-        let mut store = new_store(rt.alloc(), 64)?;
-        answer_all(rt.alloc(), &mut store, scene.made)?;
-        ask_thrice(&rt, rt.alloc(), store, 64, scene.asked)?;
-    }
+    assert_eq!(rt; first_other(rt.alloc(), &SCRIPTS), None);
     Ok(())
 }
