@@ -1,9 +1,9 @@
 #!/usr/bin/env python3
 """Runs the program with words, a file and a text, and looks at its replies, its standard error, its status
-and the bytes of its file (docs/COMMANDS.md, "The program"): sessions in memory and in a file, files that are
-refused or only read, runs that are cut short, strict runs, versions, what is shown of a file, imports, and
-what is told at a terminal. What tests/status.sh looks at is left to it. It tests the programs that `rt ci`
-made, by both compilers; where there is none, one is made.
+and the bytes of its file (docs/COMMANDS.md, "The program"): sessions in memory and in a file, limits, files
+that are refused or only read, runs that are cut short, strict runs, versions, what is shown of a file,
+imports, and what is told at a terminal. What tests/status.sh looks at is left to it. It tests the programs
+that `rt ci` made, by both compilers; where there is none, one is made.
 
 program.py [WORDS OF unittest, as the name of a class or Class.test]
 """
@@ -12,6 +12,7 @@ import os
 import pty
 import shutil
 import socket
+import string
 import struct
 import tty
 
@@ -21,6 +22,7 @@ UNENDED = "rstore: the last run did not end; what changed after its last closing
 FAULT = "rstore: input or output failed\n"
 NOT_EMPTY = "rstore: FILE is not empty: without --create it is opened as it is\n"
 READ_UNCLOSED = "rstore: fail 20 NotClosed: open FILE once for writing\n"
+BAD_LINE = "fail 24 BadLine\n"
 OTHER_JOURNAL = "FILE-journal is the journal of another file: move it beside its own file"
 
 ROWS = "ok 2\n1 0 0 10 10\n2 20 20 30 30\n"
@@ -87,6 +89,42 @@ class Sessions(Runs):
         with open("/dev/full", "wb") as full:
             self.ends(1, "store", "insert a 1 0 0 10 10\n", "", FAULT, stdout=full)
         self.answers("store", "window a 0 0 1 1", "ok 1\n1 0 0 10 10\n")
+
+
+class Limits(Runs):
+    """Lines up to the limit of a line and beyond, loads that lack entry lines, and layers up to the most."""
+
+    def test_a_line_has_at_most_4096_bytes(self):
+        for ending in ("", "\n", "\n# more\n#"):
+            for length, reply in (
+                (4096, ""),
+                (4097, BAD_LINE),
+                (65_535, BAD_LINE),  # about the size of a buffer
+                (65_536, BAD_LINE),
+                (200_000, BAD_LINE),
+            ):
+                self.answers("", "#" * length + ending, reply)
+        for line, reply in (
+            ("create b 2 4", "ok\n"),
+            ("count a", "ok 1\n0\n"),
+            ("# a comment", ""),
+            ("", ""),
+        ):
+            self.answers("", "create a 2 4\n" + line.ljust(4096), "ok\n" + reply)
+            self.answers("", "create a 2 4\n" + line.ljust(4097), "ok\n" + BAD_LINE)
+
+    def test_a_load_that_lacks_entry_lines_is_answered_once_at_the_end_of_the_text(self):
+        for text in (
+            "load a 3\n1 0 0 1 1\n2 0 0 1 1\n",
+            "load a 3\n1 0 0 1 1\n2 0 0 1 1",
+            "load a 1",
+        ):
+            self.answers("", "create a 2 4\n" + text, "ok\n" + BAD_LINE)
+
+    def test_sixty_layers_are_the_most(self):
+        names = [letter + digit for letter in string.ascii_lowercase for digit in string.digits]
+        text = "".join(f"create {name} 2 4\n" for name in names)
+        self.answers("", text, "ok\n" * 60 + "fail 6 TooManyLayers\n" * 200)
 
 
 class Openings(Runs):

@@ -1,0 +1,116 @@
+//! Texts of many lines: worked rows one by one and as one text, and runs whose output breaks off.
+
+use crate::fakes::{Part, Room};
+use crate::player::{End, QUIET, Script, play};
+use crate::rows::WORKED_ROWS;
+use crate::stores::{NEVER, answers, new_store};
+use command_shell::RunEnd;
+use refusing::Refusing;
+use std::alloc::{AllocError, Global};
+use std::test::Fail;
+
+// The first worked row that has another reply.
+fn first_other_row(alloc: Global) -> Option<&'static [u8]> {
+    let heap = Refusing::new(alloc);
+    let Some(mut store) = new_store(&heap, NEVER) else {
+        return Some(b"a store");
+    };
+    for rows in WORKED_ROWS {
+        for &(line, reply) in *rows {
+            if !answers(alloc, &mut store, line, reply) {
+                return Some(line);
+            }
+        }
+    }
+    None
+}
+
+#[test]
+fn worked_rows_are_answered(rt: HostRuntime) -> Result<(), Fail> {
+    assert_eq!(rt; first_other_row(rt.alloc()), None);
+    Ok(())
+}
+
+// Adds all worked rows to a text, and their replies to those before.
+fn add_rows(text: &mut Vec<u8>, replies: &mut Vec<u8>) -> Result<(), AllocError> {
+    for rows in WORKED_ROWS {
+        for (line, reply) in *rows {
+            text.extend_from_slice(line)?;
+            text.extend_from_slice(b"\n")?;
+            replies.extend_from_slice(reply)?;
+        }
+    }
+    Ok(())
+}
+
+// Whether a script ends so, with its replies.
+fn ends(alloc: Global, script: &Script<'_>) -> bool {
+    match play(alloc, script) {
+        Some(seen) => seen.end == script.end && seen.is_answered,
+        None => false,
+    }
+}
+
+// How much room there is for replies to a text where a run first ends otherwise, or writes more or less.
+// Tried are the numbers without bits of a mask, and room for all replies, where the reader gives a byte a
+// call.
+fn first_other_room(alloc: Global, text: &[u8], replies: &[u8], mask: usize) -> Option<usize> {
+    for room in 0..replies.len() {
+        if room & mask == 0 && !breaks_off(alloc, text, &replies[..room]) {
+            return Some(room);
+        }
+    }
+    if is_answered_slowly(alloc, text, replies) {
+        None
+    } else {
+        Some(replies.len())
+    }
+}
+
+// Whether a run ends with the last of these replies to a text, where there is no more room: the writer takes
+// nothing more, or fails.
+fn breaks_off(alloc: Global, text: &[u8], replies: &[u8]) -> bool {
+    let parts = [Part::Bytes(text)];
+    for room in [Room::Full(replies.len()), Room::Stuck(replies.len())] {
+        let script = Script {
+            parts: &parts,
+            room,
+            end: End::Ran(RunEnd::WriteFault),
+            replies,
+            ..QUIET
+        };
+        if !ends(alloc, &script) {
+            return false;
+        }
+    }
+    true
+}
+
+// Whether a text is answered so that is given a byte a call.
+fn is_answered_slowly(alloc: Global, text: &[u8], replies: &[u8]) -> bool {
+    let parts = [Part::Bytes(text)];
+    let script = Script {
+        parts: &parts,
+        pace: 1,
+        replies,
+        ..QUIET
+    };
+    ends(alloc, &script)
+}
+
+#[test]
+fn worked_rows_are_answered_as_one_text(rt: HostRuntime) -> Result<(), Fail> {
+    let mut text = Vec::new(rt.alloc());
+    let mut replies = Vec::new(rt.alloc());
+    add_rows(&mut text, &mut replies)?;
+    assert_eq!(rt; first_other_room(rt.alloc(), &text, &replies, 15), None);
+    Ok(())
+}
+
+#[test]
+fn a_run_ends_where_a_write_fails(rt: HostRuntime) -> Result<(), Fail> {
+    let text = b"drop\n\n# a comment\n\xff";
+    let replies = b"fail 24 BadLine\nfail 24 BadLine\n";
+    assert_eq!(rt; first_other_room(rt.alloc(), text, replies, 0), None);
+    Ok(())
+}
