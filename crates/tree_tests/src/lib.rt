@@ -2,23 +2,28 @@
 //! rows, many boxes beside plain scans of a list, and changes whose growths and calls of the device are
 //! refused in turn. They stand here, and not in the crates below, so that no crate is proved once more with
 //! its tests.
+//!
+//! Each function here is proved too, and what costs is the number of its calls. So tests are rows of tables
+//! that a loop goes through, and their helpers have no contracts: one that changes pages opens the gate.
 #![tactic(auto)]
 
 #[cfg(test)]
-mod condensed;
+mod boxes;
 #[cfg(test)]
-mod inserted;
+mod calls;
 #[cfg(test)]
-mod loaded;
+mod many;
 #[cfg(test)]
-mod packed;
-#[cfg(test)]
-mod refused_changes;
+mod refused;
 #[cfg(test)]
 mod removed;
 #[cfg(test)]
 mod rows;
 #[cfg(test)]
-mod scene;
+mod runs;
+#[cfg(test)]
+mod scenes;
 #[cfg(test)]
 mod searches;
+#[cfg(test)]
+mod steps;

@@ -1,76 +1,69 @@
 //! Many boxes inserted, moved and removed by chance, down to the empty tree, which is checked on the way.
 
-ghost use Rattle.std.specs.Prelude.{◌≡◌, ◌^◌, ◌<◌, ◌≤◌};
-ghost use Rattle.page_cache.specs.Cache.{gate_of};
-ghost use Rattle.page_file.specs.declared.gate.Gate.TheVariants.{Open};
-
-use crate::scene::{Dice, Spread, add_tree, is_whole, tag_for};
-use condense::{Kept, remove_with};
+use crate::boxes::{Dice, Spread, is_whole, tag_for};
+use crate::calls::{FOUR, HUNDRED, TEN, add_tree, insert, take_out};
+use crate::steps::Answer;
+use condense::Kept;
 use node_page::{Entry, Root};
 use page_file::Fault;
-use reinsert::{Waiting, insert_with};
+use reinsert::Waiting;
 use std::alloc::Global;
-use std::process::Abort;
-use std::test::Fail;
 use test_caches::{Cache, bare};
 use tree_node::Fanout;
 
 // How many changes are made between two checks of the tree.
 const PART: u64 = 1_000;
 
-// A tree, what its changes need, and the objects that it has to have.
+// How many such parts insert, move and remove.
+const CHANGES: u64 = 80;
+
+// How many parts there are: the others remove alone.
+const PARTS: u64 = 110;
+
+// Where a tree stands, what its changes need, and the objects that it has to have.
 #[derive(Drop)]
 struct Scene {
-    cache: Cache,
     root: Root,
     fanout: Fanout,
     waiting: Box<Waiting<2>, Global>,
     kept: Box<Kept<2>, Global>,
     objects: Vec<Entry<2>>,
     dice: Dice,
-    ghost open: { gate_of cache ≡ Open },
-    ghost begins: { (root.level ≤ 40) × (3 ≤ root.page) × (root.page < 2 ^ 31) },
 }
 
 impl Scene {
-    // A tree without objects.
+    // No tree.
     fn new(alloc: Global, fanout: Fanout) -> Result<Scene, Fault> {
-        let mut cache = bare(alloc)?;
-        let root = add_tree::<2>(&mut cache)?;
+        let waiting = Waiting::make(alloc)?;
+        let kept = Kept::make(alloc)?;
         Ok(Scene {
-            cache,
-            root,
+            root: Root { page: 0, level: 0 },
             fanout,
-            waiting: Waiting::make(alloc)?,
-            kept: Kept::make(alloc)?,
+            waiting,
+            kept,
             objects: Vec::new(alloc),
             dice: Dice::new(u64::from(fanout.most)),
         })
     }
 
     // Inserts an object.
-    fn add(&mut self, object: Entry<2>) -> Result<(), Fault> {
-        self.root = insert_with(
-            &mut self.cache,
-            self.root,
-            &object,
-            0,
-            self.fanout,
-            &mut self.waiting,
-        )?;
-        self.objects.push(object)?;
-        Ok(())
+    fn add(&mut self, cache: &mut Cache, object: Entry<2>) -> Result<(), Fault> {
+        self.root = insert(cache, self.root, &object, self.fanout, &mut self.waiting)?;
+        match self.objects.push(object) {
+            Ok(()) => Ok(()),
+            Err(_) => Err(Fault::Memory),
+        }
     }
 
     // Removes an object by chance, if there is one.
-    fn take(&mut self) -> Result<Option<Entry<2>>, Fault> {
+    fn take(&mut self, cache: &mut Cache) -> Result<Option<Entry<2>>, Fault> {
         let place = usize::try_from(self.dice.roll(0x7fff_ffff)).unwrap_or(0);
         if self.objects.is_empty() {
             return Ok(None);
         }
         let object = self.objects.swap_remove(place % self.objects.len());
-        self.root = remove_with(
-            &mut self.cache,
+        self.root = take_out(
+            cache,
             self.root,
             &object,
             self.fanout,
@@ -81,76 +74,87 @@ impl Scene {
     }
 
     // Makes a change by chance: half are insertions, and a quarter each are moves and removals.
-    fn change(&mut self, reference: u64) -> Result<(), Fault> {
+    fn change(&mut self, cache: &mut Cache, reference: u64) -> Result<(), Fault> {
         let bounds = self.dice.bounds(Spread::Uniform, 0x3ff);
-        match self.dice.roll(3) {
-            0 => match self.take()? {
-                Some(object) => self.add(Entry { bounds, ..object }),
-                None => Ok(()),
-            },
-            1 => {
-                self.take()?;
-                Ok(())
-            }
-            _ => self.add(Entry {
+        let roll = self.dice.roll(3);
+        let object = if roll < 2 {
+            self.take(cache)?
+        } else {
+            Some(Entry {
                 bounds,
                 reference,
                 tag: tag_for(reference),
-            }),
+            })
+        };
+        match object {
+            Some(object) if roll != 1 => self.add(cache, Entry { bounds, ..object }),
+            _ => Ok(()),
         }
     }
 
-    // Makes a part of the changes. New objects have references from that number on.
-    fn changes(&mut self, first: u64) -> Result<(), Fault> {
+    // Makes a part of the changes, or of the removals behind them.
+    fn make(&mut self, cache: &mut Cache, part: u64) -> Result<(), Fault> {
         for turn in 0..PART {
-            self.change(first.saturating_add(turn))?;
-        }
-        Ok(())
-    }
-
-    // Makes a part of the removals.
-    fn removals(&mut self) -> Result<(), Fault> {
-        for _ in 0..PART {
-            self.take()?;
+            if part < CHANGES {
+                self.change(cache, part.saturating_mul(PART).saturating_add(turn))?;
+            } else {
+                self.take(cache)?;
+            }
         }
         Ok(())
     }
 
     // Whether the tree has its shape and just these objects.
-    fn is_whole(&mut self, alloc: Global) -> Result<bool, Fault> {
+    fn is_whole(&self, cache: &mut Cache, alloc: Global) -> Result<bool, Fault> {
         let mut objects = Vec::from_slice(alloc, &self.objects)?;
         objects.sort_unstable_by_key(|object| object.reference);
-        is_whole(alloc, &mut self.cache, self.root, &objects, self.fanout)
+        is_whole(cache, alloc, self.root, &objects, self.fanout)
+    }
+
+    // Whether there are so many objects after a part that the tests say something: many after the last
+    // change, and in the end none, in one leaf.
+    fn is_of_size(&self, part: u64) -> bool {
+        if part == PARTS - 1 {
+            return self.objects.is_empty() && self.root.level == 0;
+        }
+        part != CHANGES - 1 || self.objects.len() > 15_000
     }
 }
 
-// Makes 80,000 changes, and then removes what is there.
-fn change_and_remove(rt: &impl Abort, alloc: Global, fanout: Fanout) -> Result<(), Fail> {
+// Makes 80,000 changes, and then removes what is there. Answers how many parts there are up to the first one
+// after which the tree is not as it must be.
+fn change_and_remove(cache: &mut Cache, alloc: Global, scene: &mut Scene) -> Answer {
+    scene.root = add_tree(cache)?;
+    for part in 0..PARTS {
+        scene.make(cache, part)?;
+        if !(scene.is_of_size(part) && scene.is_whole(cache, alloc)?) {
+            return Ok(part);
+        }
+    }
+    Ok(PARTS)
+}
+
+// The same in a new cache.
+fn changed_and_emptied(alloc: Global, fanout: Fanout) -> Answer {
     let mut scene = Scene::new(alloc, fanout)?;
-    for part in 0..80u64 {
-        scene.changes(part.saturating_mul(PART))?;
-        assert!(rt; scene.is_whole(alloc)?, "{part}");
-    }
-    assert!(rt; scene.objects.len() > 15_000, "{}", scene.objects.len());
-    for part in 0..30u64 {
-        scene.removals()?;
-        assert!(rt; scene.is_whole(alloc)?, "{part}");
-    }
-    assert!(rt; scene.objects.is_empty() && scene.root.level == 0);
-    Ok(())
+    let mut cache = bare(alloc)?;
+    change_and_remove(&mut cache, alloc, &mut scene)
 }
 
 #[test]
-fn changed_and_emptied_four_to_a_node(rt: HostRuntime) -> Result<(), Fail> {
-    change_and_remove(&rt, rt.alloc(), Fanout { most: 4 })
+fn changed_and_emptied_four_to_a_node(rt: HostRuntime) {
+    let answer = changed_and_emptied(rt.alloc(), FOUR);
+    assert!(rt; answer == Ok(PARTS), "{answer:?}");
 }
 
 #[test]
-fn changed_and_emptied_ten_to_a_node(rt: HostRuntime) -> Result<(), Fail> {
-    change_and_remove(&rt, rt.alloc(), Fanout { most: 10 })
+fn changed_and_emptied_ten_to_a_node(rt: HostRuntime) {
+    let answer = changed_and_emptied(rt.alloc(), TEN);
+    assert!(rt; answer == Ok(PARTS), "{answer:?}");
 }
 
 #[test]
-fn changed_and_emptied_a_hundred_to_a_node(rt: HostRuntime) -> Result<(), Fail> {
-    change_and_remove(&rt, rt.alloc(), Fanout { most: 100 })
+fn changed_and_emptied_a_hundred_to_a_node(rt: HostRuntime) {
+    let answer = changed_and_emptied(rt.alloc(), HUNDRED);
+    assert!(rt; answer == Ok(PARTS), "{answer:?}");
 }
