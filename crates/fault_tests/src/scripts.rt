@@ -3,8 +3,8 @@
 use layer_store::{RawBox, RawPoint};
 use std::alloc::{AllocError, Global};
 use store_commands::{
-    Command, DELETED, FIRST_OVERFLOW, FIVE, JOINED, LINE, LOADED, PLANE, SPACE, Scene, TOUCHING,
-    TWO,
+    Command, DELETED, FIRST_OVERFLOW, FIVE, JOINED, LINE, LOADED, PLANE, Row, SPACE, Scene,
+    TOUCHING, TWO,
 };
 
 // Insertions and queries, on the trees of worked rows, with pages held, changed and read anew.
@@ -131,20 +131,17 @@ pub fn row_script(
     row: Scene,
 ) -> Result<Vec<Command<'static>>, AllocError> {
     let mut script = Vec::new(alloc);
-    add_row(&mut script, before, row)?;
-    Ok(script)
-}
-
-fn add_row(
-    script: &mut Vec<Command<'static>>,
-    before: &[&[Command<'static>]],
-    row: Scene,
-) -> Result<(), AllocError> {
     for made in before {
         script.extend_from_slice(made)?;
     }
     script.extend_from_slice(row.made)?;
-    for (command, _, _) in row.asked {
+    ask_anew(&mut script, row.asked)?;
+    Ok(script)
+}
+
+// Adds the questions, each after a reopening.
+fn ask_anew(script: &mut Vec<Command<'static>>, asked: &[Row]) -> Result<(), AllocError> {
+    for (command, _, _) in asked {
         script.extend_from_slice(&[Command::Reopen, *command])?;
     }
     Ok(())

@@ -2,8 +2,8 @@
 
 use crate::fakes::{Part, Room};
 use crate::player::{End, QUIET, Script, play};
-use crate::rows::WORKED_ROWS;
-use crate::stores::{NEVER, answers, new_store};
+use crate::rows::{Row, worked_rows};
+use crate::stores::{FrailStore, NEVER, answers, new_store};
 use command_shell::RunEnd;
 use refusing::Refusing;
 use std::alloc::{AllocError, Global};
@@ -15,11 +15,23 @@ fn first_other_row(alloc: Global) -> Option<&'static [u8]> {
     let Some(mut store) = new_store(&heap, NEVER) else {
         return Some(b"a store");
     };
-    for rows in WORKED_ROWS {
-        for &(line, reply) in *rows {
-            if !answers(alloc, &mut store, line, reply) {
-                return Some(line);
-            }
+    for rows in worked_rows() {
+        if let Some(line) = first_other_in(alloc, &mut store, rows) {
+            return Some(line);
+        }
+    }
+    None
+}
+
+// The first of these rows that has another reply.
+fn first_other_in(
+    alloc: Global,
+    store: &mut FrailStore<'_>,
+    rows: &'static [Row],
+) -> Option<&'static [u8]> {
+    for &(line, reply) in rows {
+        if !answers(alloc, store, line, reply) {
+            return Some(line);
         }
     }
     None
@@ -33,12 +45,17 @@ fn worked_rows_are_answered(rt: HostRuntime) -> Result<(), Fail> {
 
 // Adds all worked rows to a text, and their replies to those before.
 fn add_rows(text: &mut Vec<u8>, replies: &mut Vec<u8>) -> Result<(), AllocError> {
-    for rows in WORKED_ROWS {
-        for (line, reply) in *rows {
-            text.extend_from_slice(line)?;
-            text.extend_from_slice(b"\n")?;
-            replies.extend_from_slice(reply)?;
-        }
+    for rows in worked_rows() {
+        add_lines(text, replies, rows)?;
+    }
+    Ok(())
+}
+
+fn add_lines(text: &mut Vec<u8>, replies: &mut Vec<u8>, rows: &[Row]) -> Result<(), AllocError> {
+    for (line, reply) in rows {
+        text.extend_from_slice(line)?;
+        text.extend_from_slice(b"\n")?;
+        replies.extend_from_slice(reply)?;
     }
     Ok(())
 }

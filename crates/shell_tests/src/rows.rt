@@ -325,8 +325,8 @@ const LONGEST_ROWS: &[Row] = &[
     ),
 ];
 
-/// All of these rows, in this order. Layers `a`, `b` and `n` have two axes, `c` has three.
-pub const WORKED_ROWS: &[&[Row]] = &[
+// All of these rows.
+const WORKED_ROWS: &[&[Row]] = &[
     FIRST_ROWS,
     EXTREME_ROWS,
     NEAREST_ROWS,
@@ -340,3 +340,8 @@ pub const WORKED_ROWS: &[&[Row]] = &[
     KEPT_TAG_ROWS,
     LONGEST_ROWS,
 ];
+
+/// All of these rows, in their order. Layers `a`, `b` and `n` have two axes, `c` has three.
+pub fn worked_rows() -> &'static [&'static [Row]] {
+    WORKED_ROWS
+}
