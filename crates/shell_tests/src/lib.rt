@@ -1,22 +1,21 @@
 //! Tests of what no contract of the shell says: that the definitions are those of docs/COMMANDS.md, and that
-//! a run goes on while it can. Texts and replies that want no fake are tested by tests/program.py too.
+//! a run goes on while it can. `lines`, `replies` and `faults` need only the shell, `sessions` the store's
+//! commands too.
 #![tactic(auto)]
 
 #[cfg(test)]
-mod breaks;
-#[cfg(test)]
 mod fakes;
+#[cfg(test)]
+mod faults;
 #[cfg(test)]
 mod lines;
 #[cfg(test)]
-mod memory;
-#[cfg(test)]
-mod player;
+mod programs;
 #[cfg(test)]
 mod replies;
 #[cfg(test)]
-mod rows;
-#[cfg(test)]
-mod runs;
+mod sessions;
 #[cfg(test)]
 mod stores;
+#[cfg(test)]
+mod strict;
