@@ -49,7 +49,6 @@ pub fn a_node_comes_back<const D: usize>(node: &Node<D>, page: &mut [u8; 4096]) 
 /// The page that is written of a node is the one that `encode` makes: decoded and encoded again it has the
 /// same bytes.
 pub fn a_written_page_comes_back<const D: usize>(page: &[u8; 4096], level: u8) -> Option<[u8; 4096]>
-    requires { IsDims D }
     ensures { (c : NodeContent) → c.level ≡ level → IsPageOfNode D page.now c → result ≡ Some page.now }
 {
     let node = decode::<D>(page, level)?;

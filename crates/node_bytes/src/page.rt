@@ -15,7 +15,6 @@ use tree_node::Node;
 /// is neither 6 nor 2, its dimension or its level is another, its count is above 100, or 0 above the leaves,
 /// some entry has a low above its high, or some reference above the leaves is below 3, or 2^31 or more.
 pub fn decode<const D: usize>(page: &[u8; 4096], level: u8) -> Option<Node<D>>
-    requires { IsDims D }
     ensures spelled { IfSome result (λ node. node_at D page.now ≡ Some (content_of node)) }
     ensures level { IfSome result (λ node. node.level ≡ level) }
     ensures spellable { IfSome result (λ node. IsSpellable (content_of node)) }

@@ -61,7 +61,7 @@ returns-clause-spelled g c =
     length-map node.entries.items item_of in
     spelled g.row.D c.loop-place.page (content_of node)
     (written_spells g.row.D node.level (map item_of node.entries.items) c.loop-place.place c.loop-place.page
-    c.loop-place.invariant (omega arith) c.requires.spellable)
+    c.requires.dims c.loop-place.invariant (omega arith) c.requires.spellable)
 
 pub returns-clause-rest : goal.returns-clause-rest
 returns-clause-rest g c =
@@ -78,4 +78,4 @@ returns-clause-is_page g c =
     let many : length (map item_of node.entries.items) ≡ length node.entries.items =
     length-map node.entries.items item_of in
     written_page g.row.D node.level (map item_of node.entries.items) c.loop-place.place c.loop-place.page
-    c.loop-place.invariant (omega arith) c.requires.spellable
+    c.requires.dims c.loop-place.invariant (omega arith) c.requires.spellable
