@@ -37,8 +37,9 @@ pub(crate) fn push_entry<const D: usize>(page: &mut [u8; 4096], entry: &Entry<D>
     write_u16(page, 2, count as u16 + 1);
 }
 
-/// Gives the entry in a place of a node page another box, where it has such an entry. A page of format 1 becomes
-/// one with tags. One with zeros in all bytes that it does not name stays one.
+/// Gives the entry in a place of a node page another box, where it has such an entry. A page of format 1
+/// becomes one with tags. One with zeros in all bytes that it does not name stays one, and so does one that
+/// spells a node.
 pub fn write_box_at<const D: usize>(page: &mut [u8; 4096], place: usize, bounds: &BBox<D>)
     requires { IsDims D }
     ensures { IsBoxed D place bounds.now page.old page.new }
@@ -49,8 +50,8 @@ pub fn write_box_at<const D: usize>(page: &mut [u8; 4096], place: usize, bounds:
     }
 }
 
-/// Adds an entry to a node page as `push_entry` does, where its count is below 100 and the entry is one of the
-/// page's level. A page that spells a node spells one still.
+/// Adds an entry to a node page as `push_entry` does, where its count is below 100 and the entry is one of
+/// the page's level. A page that spells a node spells one still.
 pub fn push_where_room<const D: usize>(page: &mut [u8; 4096], entry: &Entry<D>)
     requires { IsDims D }
     ensures pushed { (c : NodeContent) → node_at D page.old ≡ Some c → length c.entries < 100

@@ -9,25 +9,7 @@ use Rattle.page_cache.specs.PageSteps.{Edits}
 use Rattle.page_cache.specs.declared.cache.PageCache.{PageCache}
 
 module _ {D A : Type 0} {m : _} {S T : Type 0} (old new : PageCache D A m) (n : ℕ) where
-  -- the page was lent, and is read as the node that it spells
-  pub node_read : (x : S) (y : T) → IsReadAt {T = S} old new n (Ok x) → IsReadAt {T = T} old new n (Ok y)
-  node_read x y read = let a = read.asks in record {
-    asks = record {
-      gate = a.gate;
-      map = a.map;
-      capacity = a.capacity;
-      looks = a.looks;
-      touched = a.touched;
-      faults = a.faults;
-    };
-    looks = read.looks;
-    refused_looks = tt;
-    holds = read.holds;
-    used = read.used;
-    quiet = read.quiet;
-  }
-
-  -- it was not lent, and its fault is handed on
+  -- the page was not lent, and its fault is handed on
   pub not_read : (f : Fault) (result : Result T Fault) → IsErrAnd result (λ e. e ≡ f)
       → IsReadAt {T = S} old new n (Err f) → IsReadAt old new n result
   not_read f (Ok x) is read = elim is [ ]
