@@ -138,6 +138,7 @@ module _ (dims place : ℕ) (old new : List ℕ) (b : Bounds)
         let was = (spells dims old c is).head in
         let counted : number_at 2 2 new ≡ length c.entries = head_stays 2 2 (omega arith) ∙ count_is in
         let head : HasNodeHead dims c.level new = record {
+          axes = was.axes;
           kind = subst IsNodeKind (sym (head_stays 1 0 (omega arith))) was.kind;
           dims_is = head_stays 1 1 (omega arith) ∙ was.dims_is;
           level_is = head_stays 1 4 (omega arith) ∙ was.level_is;

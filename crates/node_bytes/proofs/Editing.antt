@@ -65,6 +65,7 @@ entry_pushed dims tagged count old mid item c is count_is size few written box r
     ∙ item_stays dims tagged count k old mid lt few keeps in
     let last : item_at dims new count ≡ item = same count ∙ written in
     let head : HasNodeHead dims c.level new = record {
+      axes = was.head.axes;
       kind = subst IsNodeKind
           (sym (head_stays dims tagged count (count + 1) 1 0 old mid size (omega arith) keeps
           (inl (omega arith)))) was.head.kind;
@@ -140,6 +141,7 @@ tags_added dims old mid c size kind cleared others is =
     → item_at dims new place ≡ item_at dims old place =
     λ place lt. item_kept dims place old new lt stays (tag place lt) in
     let head : HasNodeHead dims c.level new = record {
+      axes = was.head.axes;
       kind = inl (number_at-put 1 0 node_kind mid (omega (arith, size)) (omega arith));
       dims_is = stays 1 1 (omega arith) (omega arith) ∙ was.head.dims_is;
       level_is = stays 1 4 (omega arith) (omega arith) ∙ was.head.level_is;

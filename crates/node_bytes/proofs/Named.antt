@@ -32,6 +32,7 @@ module _ (dims count : ℕ) (a b : List ℕ)
       let few = s.head.few in
       record {
         head = record {
+          axes = s.head.axes;
           kind = subst IsNodeKind (head_same 1 0 (omega arith)) s.head.kind;
           dims_is = sym (head_same 1 1 (omega arith)) ∙ s.head.dims_is;
           level_is = sym (head_same 1 4 (omega arith)) ∙ s.head.level_is;

@@ -7,7 +7,7 @@ use Rattle.std.proofs.lemmas.Bool.Decides.{nat_tests}
 use Rattle.std.proofs.lemmas.Option.{cond_some}
 use Rattle.block_bytes.specs.Numbers.{number_at}
 use Rattle.block_bytes.specs.PlaceLaws.{get_or-first_places, length-first_places}
-use Rattle.box_math.specs.Bounds.{all_over, ordered_test}
+use Rattle.box_math.specs.Bounds.{IsDims, all_over, dims_test, ordered_test}
 use Rattle.box_bytes.specs.Laws.{all_over-each, all_over-from}
 use Rattle.box_math.proofs.TestLaws.{ordered_test_true}
 use Rattle.tree_node.specs.declared.node.Node.{Node}
@@ -63,6 +63,12 @@ head_test kind d dims n zero b node is few some holds = grind (arith, nat_tests)
 head_test kind d dims n (suc l) b node is few some holds = let more = some (omega arith) in
     grind (arith, nat_tests)
 
+dims_means : (dims : ℕ) (b : Bool) → (dims_test dims && b) ≡ true → IsDims dims × (b ≡ true)
+dims_means dims b h = ((grind (arith, nat_tests), grind (arith, nat_tests)), grind (arith, nat_tests))
+
+dims_pass : (dims : ℕ) (b : Bool) → IsDims dims → b ≡ true → (dims_test dims && b) ≡ true
+dims_pass dims b is holds = grind (arith, nat_tests, is.0, is.1)
+
 -- where the page spells a node, reading it gives that node
 pub spelled : (dims : ℕ) (page : List ℕ) (c : NodeContent) → Spells dims page c → node_at dims page ≡ Some c
 unfolding node_at node_test
@@ -76,9 +82,9 @@ spelled dims page c s =
     (λ place lt. entry_passes dims l (item_at dims page place)
     (subst (λ (m : ℕ). IsEntry dims m (item_at dims page place)) (sym level) (s.each place lt))) in
     let kind = number_at 1 0 page in
-    let passes =
-    head_test (kind == 6 || kind == 2) (number_at 1 1 page) dims n l (all_over n test)
-    (kind_test kind s.head.kind) s.head.dims_is s.head.few (λ above. s.head.some (omega arith)) each in
+    let passes = head_test (dims_test dims && (kind == 6 || kind == 2)) (number_at 1 1 page) dims n l
+    (all_over n test) (dims_pass dims (kind == 6 || kind == 2) s.head.axes (kind_test kind s.head.kind))
+    s.head.dims_is s.head.few (λ above. s.head.some (omega arith)) each in
     rw passes
     (ap (λ (m : ℕ). Some (record { level = m; entries = items_at dims page n })) level
     ∙ ap (λ (es : List Item). Some (record { level = c.level; entries = es })) (sym s.entries))
@@ -93,13 +99,16 @@ spells dims page c h =
     let kind = number_at 1 0 page in
     let parts =
     cond_some
-    ((kind == 6 || kind == 2) && number_at 1 1 page == dims && nat_le n 100 && (l == 0 || nat_le 1 n)
-    && test) (record { level = l; entries = items_at dims page n }) c h in
-    let means = head_means (kind == 6 || kind == 2) (number_at 1 1 page) dims n l test parts.0 in
+    (dims_test dims && (kind == 6 || kind == 2) && number_at 1 1 page == dims && nat_le n 100
+    && (l == 0 || nat_le 1 n) && test) (record { level = l; entries = items_at dims page n }) c h in
+    let means = head_means (dims_test dims && (kind == 6 || kind == 2)) (number_at 1 1 page) dims n l test
+    parts.0 in
+    let axes = dims_means dims (kind == 6 || kind == 2) means.0 in
     let level : l ≡ c.level = ap (λ (x : NodeContent). x.level) parts.1 in
     record {
       head = record {
-        kind = kind_means kind means.0;
+        axes = axes.0;
+        kind = kind_means kind axes.1;
         dims_is = means.1;
         level_is = level;
         few = means.2;

@@ -99,6 +99,7 @@ module _ (dims : ℕ) (tagged : Bool) (place count left : ℕ) (old mid : List �
         let entries : List Item = remove c.entries place in
         let long : length entries + 1 ≡ length c.entries = length-remove c.entries place inside in
         let head : HasNodeHead dims c.level now = record {
+          axes = was.axes;
           kind = subst IsNodeKind (sym kind_stays) was.kind;
           dims_is = head_stays 1 1 (omega arith) (inl (omega arith)) ∙ was.dims_is;
           level_is = head_stays 1 4 (omega arith) (inr (omega arith)) ∙ was.level_is;

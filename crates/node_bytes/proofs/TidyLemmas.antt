@@ -9,6 +9,7 @@ use Rattle.block_bytes.specs.Kinds.{node_kind, untagged_node_kind}
 use Rattle.block_bytes.specs.Laws.{byte_at, number_at-put, number_at-put_other}
 use Rattle.block_bytes.specs.Numbers.{AreBytes, number_at, put_number}
 use Rattle.box_bytes.specs.Corners.{Keeps}
+use Rattle.box_math.specs.Bounds.{IsDims}
 use Rattle.tree_node.specs.Nodes.{Item, NodeContent}
 use Rattle.node_bytes.specs.Layout.{IsClearOfEntry, IsNamed, IsOfEntry, IsPageOfNode, IsSpellable, IsTidy}
 use Rattle.node_bytes.specs.Layout.{has_tags, node_at, node_of_kind}
@@ -56,14 +57,14 @@ tidy_by dims tagged count page tags size rest k unnamed =
 
 -- ---- a page written whole
 
-pub written_page : (dims level : ℕ) (items : List Item) (place : ℕ) (page : List ℕ)
+pub written_page : (dims level : ℕ) (items : List Item) (place : ℕ) (page : List ℕ) → IsDims dims
     → Written dims level items place page → place ≡ length items
     → IsSpellable (record { level = level; entries = items })
     → IsPageOfNode dims page (record { level = level; entries = items })
-written_page dims level items place page w all spellable =
+written_page dims level items place page axes w all spellable =
     page_of_node dims page (record { level = level; entries = items })
     (spelled dims page (record { level = level; entries = items })
-    (written_spells dims level items place page w (omega arith) spellable))
+    (written_spells dims level items place page axes w (omega arith) spellable))
     w.head.head.kind_is
     (tidy_by dims (level == 0) (length items) page (sym (written_tags dims level items place page w))
     w.head.head.count_is (written_rest dims level items place page w (omega arith)))

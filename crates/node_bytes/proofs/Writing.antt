@@ -4,7 +4,7 @@ use Rattle.std.proofs.Common.{sym, ◌∙◌, subst, arith, below_more, inl, inr
 use Rattle.std.proofs.lemmas.Bool.Decides.{nat_tests}
 use Rattle.block_bytes.specs.Numbers.{number_at, IsApart}
 use Rattle.block_bytes.specs.PlaceLaws.{first_places-are}
-use Rattle.box_math.specs.Bounds.{IsBox, IsOrdered}
+use Rattle.box_math.specs.Bounds.{IsBox, IsDims, IsOrdered}
 use Rattle.box_bytes.specs.Corners.{Keeps}
 use Rattle.tree_node.specs.Nodes.{Item}
 use Rattle.node_bytes.specs.Layout.{low_place, high_place, reference_place, tag_place, has_tags, item_at}
@@ -106,14 +106,15 @@ written_more dims level items place old new item w within size is box there keep
 }
 
 pub written_spells : (dims level : ℕ) (items : List Item) (place : ℕ) (page : List ℕ)
-    → Written dims level items place page → length items ≤ place
+    → IsDims dims → Written dims level items place page → length items ≤ place
     → IsSpellable (record { level = level; entries = items })
     → Spells dims page (record { level = level; entries = items })
-written_spells dims level items place page w all s =
+written_spells dims level items place page axes w all s =
     let count : number_at 2 2 page ≡ length items = w.head.head.count_is in
     let few = s.few in
     record {
       head = record {
+        axes = axes;
         kind = inl w.head.head.kind_is;
         dims_is = w.head.head.dims_is;
         level_is = w.head.level_is;

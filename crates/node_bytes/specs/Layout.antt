@@ -8,7 +8,7 @@ use Rattle.block_bytes.specs.Forms.{IsPageOf}
 use Rattle.block_bytes.specs.Kinds.{HasHead, node_kind, untagged_node_kind}
 use Rattle.block_bytes.specs.Numbers.{number_at, IsApart}
 use Rattle.block_bytes.specs.Places.{first_places}
-use Rattle.box_math.specs.Bounds.{IsDims, IsBox, IsOrdered, ordered_test, all_over}
+use Rattle.box_math.specs.Bounds.{IsDims, IsBox, IsOrdered, all_over, dims_test, ordered_test}
 use Rattle.box_bytes.specs.Corners.{box_at, IsClearOfBox, IsOfCorner}
 use Rattle.tree_node.specs.Nodes.{Item, NodeContent}
 
@@ -111,8 +111,9 @@ pub record IsHead (dims level count : ℕ) (page : List ℕ) : Type 0 where
 abbrev pub IsNodeKind : ℕ → Type 0
 IsNodeKind kind = (kind ≡ node_kind) ⊎ (kind ≡ untagged_node_kind)
 
--- the page begins as a node page of this dimension and level does
+-- the page begins as a node page of this dimension, of two or three axes, and level does
 pub record HasNodeHead (dims level : ℕ) (page : List ℕ) : Type 0 where
+  pub axes : IsDims dims
   pub kind : IsNodeKind (number_at 1 0 page)
   pub dims_is : number_at 1 1 page ≡ dims
   pub level_is : number_at 1 4 page ≡ level
@@ -127,7 +128,6 @@ pub record Spells (dims : ℕ) (page : List ℕ) (c : NodeContent) : Type 0 wher
 
 -- the first places of the page hold so many entries of a node on this level
 pub record IsLaidOut (dims level count : ℕ) (page : List ℕ) : Type 0 where
-  pub dims_is : IsDims dims
   pub few : count ≤ 100
   pub each : (place : ℕ) → place < count → IsEntry dims level (item_at dims page place)
 
@@ -139,7 +139,7 @@ entry_test dims level item = ordered_test dims item.bounds.low item.bounds.high
 -- whether the page spells a node
 unfoldable pub node_test : ℕ → List ℕ → Bool
 node_test dims page =
-    (number_at 1 0 page == node_kind || number_at 1 0 page == untagged_node_kind)
+    dims_test dims && (number_at 1 0 page == node_kind || number_at 1 0 page == untagged_node_kind)
     && number_at 1 1 page == dims && nat_le (number_at 2 2 page) 100
     && (number_at 1 4 page == 0 || nat_le 1 (number_at 2 2 page))
     && all_over (number_at 2 2 page) (λ place. entry_test dims (number_at 1 4 page) (item_at dims page place))

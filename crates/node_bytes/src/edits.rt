@@ -15,7 +15,7 @@ use crate::head::{count_at, is_tagged};
 use crate::tags::add_tags;
 use block_bytes::{read_u8, write_u16};
 use box_bytes::write_box;
-use box_math::BBox;
+use box_math::{BBox, is_dims};
 use tree_node::Entry;
 
 /// Adds an entry to a node page whose count is below 100: it is written in the place after the last one, and
@@ -41,10 +41,9 @@ pub(crate) fn push_entry<const D: usize>(page: &mut [u8; 4096], entry: &Entry<D>
 /// becomes one with tags. One with zeros in all bytes that it does not name stays one, and so does one that
 /// spells a node.
 pub fn write_box_at<const D: usize>(page: &mut [u8; 4096], place: usize, bounds: &BBox<D>)
-    requires { IsDims D }
     ensures { IsBoxed D place bounds.now page.old page.new }
 {
-    if place < 100 && place < count_at(page) {
+    if is_dims(D) && place < 100 && place < count_at(page) {
         add_tags::<D>(page);
         write_box(page, 16 + 4 * place, 416 + 4 * place, 800, bounds);
     }
@@ -53,7 +52,6 @@ pub fn write_box_at<const D: usize>(page: &mut [u8; 4096], place: usize, bounds:
 /// Adds an entry to a node page as `push_entry` does, where its count is below 100 and the entry is one of
 /// the page's level. A page that spells a node spells one still.
 pub fn push_where_room<const D: usize>(page: &mut [u8; 4096], entry: &Entry<D>)
-    requires { IsDims D }
     ensures pushed { (c : NodeContent) → node_at D page.old ≡ Some c → length c.entries < 100
         → IsOfLevel c.level entry.now.reference entry.now.tag
         → node_at D page.new ≡ Some (pushed c (item_of entry.now)) }
@@ -61,8 +59,9 @@ pub fn push_where_room<const D: usize>(page: &mut [u8; 4096], entry: &Entry<D>)
         → length c.entries < 100 → IsOfLevel c.level entry.now.reference entry.now.tag
         → IsPageOfNode D page.new (pushed c (item_of entry.now)) }
     ensures stays { StaysNode D page.old page.new }
+    ensures full { 100 ≤ number_at 2 2 page.old → page.new ≡ page.old }
 {
-    if count_at(page) < 100 && is_of_level(read_u8(page, 4), entry) {
+    if is_dims(D) && count_at(page) < 100 && is_of_level(read_u8(page, 4), entry) {
         push_entry(page, entry);
     }
 }
@@ -96,15 +95,16 @@ pub(crate) fn drop_entry<const D: usize>(page: &mut [u8; 4096], place: usize)
 /// Takes the entry in a place out of a node page as `drop_entry` does, where it has such an entry and another
 /// one. A page that spells a node spells one still.
 pub fn drop_where_there<const D: usize>(page: &mut [u8; 4096], place: usize)
-    requires { IsDims D }
     ensures taken { (c : NodeContent) → node_at D page.old ≡ Some c → place < length c.entries
         → 1 < length c.entries → node_at D page.new ≡ Some (without_entry c place) }
     ensures is_page { IsTidy D page.old → (c : NodeContent) → node_at D page.old ≡ Some c
         → place < length c.entries → 1 < length c.entries → IsPageOfNode D page.new (without_entry c place) }
     ensures stays { StaysNode D page.old page.new }
+    ensures absent { number_at 2 2 page.old ≤ place → page.new ≡ page.old }
+    ensures only { number_at 2 2 page.old ≡ 1 → page.new ≡ page.old }
 {
     let count = count_at(page);
-    if place >= count || count == 1 {
+    if !is_dims(D) || place >= count || count == 1 {
         return;
     }
     if count <= 100 {

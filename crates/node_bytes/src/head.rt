@@ -6,6 +6,7 @@ ghost use Rattle.box_math.specs.Bounds.{IsDims};
 ghost use Rattle.node_bytes.specs.Layout.{HasNodeHead, IsHead, IsNodeKind, has_tags};
 
 use block_bytes::{NODE_KIND, UNTAGGED_NODE_KIND, read_u8, read_u16, write_u8};
+use box_math::is_dims;
 
 // Whether a node of the level may have so many entries: at most 100, and at least one above the leaves.
 #[inline]
@@ -28,7 +29,8 @@ fn is_node_kind(kind: u8) -> bool
 pub(crate) fn has_node_head<const D: usize>(page: &[u8; 4096], level: u8) -> bool
     ensures { IsTrue result ↔ HasNodeHead D level page.now }
 {
-    is_node_kind(read_u8(page, 0))
+    is_dims(D)
+        && is_node_kind(read_u8(page, 0))
         && usize::from(read_u8(page, 1)) == D
         && read_u8(page, 4) == level
         && is_count(level, count_at(page))

@@ -1,11 +1,11 @@
 //! What pages spell: each law is the contract of a function that does nothing, but for `a_node_comes_back` and
 //! `a_written_page_comes_back`, which encode and decode.
 
-ghost use Rattle.std.specs.Prelude.{◌≡◌, Some, option_map};
+ghost use Rattle.std.specs.Prelude.{◌≡◌, IfSome, Some, option_map};
 ghost use Rattle.block_bytes.specs.Numbers.{AreBytes};
 ghost use Rattle.box_math.specs.Bounds.{IsDims};
 ghost use Rattle.tree_node.specs.Nodes.{NodeContent, content_of};
-ghost use Rattle.node_bytes.specs.Layout.{IsPageOfNode, IsSpellable};
+ghost use Rattle.node_bytes.specs.Layout.{IsPageOfNode, IsSpellable, node_at};
 ghost use Rattle.node_bytes.specs.PageLaws.{ReadsWhatIsSpelled, ReadsNamedBytes, SpellsNodes};
 ghost use Rattle.node_bytes.specs.PageLaws.{NodesHaveOnePage};
 
@@ -38,8 +38,7 @@ pub fn a_node_has_one_page()
 
 /// A node that is encoded is decoded again.
 pub fn a_node_comes_back<const D: usize>(node: &Node<D>, page: &mut [u8; 4096]) -> Option<Node<D>>
-    requires dims { IsDims D }
-    requires spellable { IsSpellable (content_of node.now) }
+    requires { IsSpellable (content_of node.now) }
     ensures { option_map content_of result ≡ Some (content_of node.now) }
 {
     encode(node, page);
@@ -50,7 +49,9 @@ pub fn a_node_comes_back<const D: usize>(node: &Node<D>, page: &mut [u8; 4096]) 
 /// same bytes.
 pub fn a_written_page_comes_back<const D: usize>(page: &[u8; 4096], level: u8) -> Option<[u8; 4096]>
     requires { IsDims D }
-    ensures { (c : NodeContent) → c.level ≡ level → IsPageOfNode D page.now c → result ≡ Some page.now }
+    ensures same { (c : NodeContent) → c.level ≡ level → IsPageOfNode D page.now c → result ≡ Some page.now }
+    ensures encoded { (c : NodeContent) → c.level ≡ level → node_at D page.now ≡ Some c
+        → IfSome result (λ again. IsPageOfNode D again c) }
 {
     let node = decode::<D>(page, level)?;
     let mut again = zero_block();

@@ -2,7 +2,7 @@
 
 ghost use Rattle.std.specs.Prelude.{◌≡◌, ◌≢◌, ◌==◌, ℕ, Some, All, false, length, IfSome, IfNone, IsTrue};
 ghost use Rattle.block_bytes.specs.Numbers.{number_at};
-ghost use Rattle.box_math.specs.Bounds.{IsDims, IsBox};
+ghost use Rattle.box_math.specs.Bounds.{IsBox};
 ghost use Rattle.tree_node.specs.Nodes.{NodeContent, content_of};
 ghost use Rattle.node_bytes.specs.Layout.{node_at, IsSpellable, IsNamed, IsPageOfNode};
 
@@ -15,7 +15,6 @@ use tree_node::Node;
 /// is neither 6 nor 2, its dimension or its level is another, its count is above 100, or 0 above the leaves,
 /// some entry has a low above its high, or some reference above the leaves is below 3, or 2^31 or more.
 pub fn decode<const D: usize>(page: &[u8; 4096], level: u8) -> Option<Node<D>>
-    requires { IsDims D }
     ensures spelled { IfSome result (λ node. node_at D page.now ≡ Some (content_of node)) }
     ensures level { IfSome result (λ node. node.level ≡ level) }
     ensures spellable { IfSome result (λ node. IsSpellable (content_of node)) }
@@ -41,8 +40,7 @@ pub fn decode<const D: usize>(page: &[u8; 4096], level: u8) -> Option<Node<D>>
 /// at most 100 entries, and one that is no leaf has at least one, all of which refer to pages from 3 to 2^31
 /// - 1 and have no tag.
 pub fn encode<const D: usize>(node: &Node<D>, page: &mut [u8; 4096])
-    requires dims { IsDims D }
-    requires spellable { IsSpellable (content_of node.now) }
+    requires { IsSpellable (content_of node.now) }
     ensures spelled { node_at D page.new ≡ Some (content_of node.now) }
     ensures rest { (k : ℕ) → (IsNamed D (node.now.level == 0) (length node.now.entries.items) k → ⊥)
         → number_at 1 k page.new ≡ 0 }

@@ -1,7 +1,7 @@
 //! Node pages of format 1, which have no tags, made pages with tags.
 
-ghost use Rattle.std.specs.Prelude.{◌≡◌, ℕ, ◌+◌, ◌*◌, ◌<◌, ◌≤◌, Some};
-ghost use Rattle.block_bytes.specs.Kinds.{node_kind};
+ghost use Rattle.std.specs.Prelude.{◌≡◌, ◌≢◌, ℕ, ◌+◌, ◌*◌, ◌<◌, ◌≤◌, Some};
+ghost use Rattle.block_bytes.specs.Kinds.{node_kind, untagged_node_kind};
 ghost use Rattle.block_bytes.specs.Numbers.{number_at};
 ghost use Rattle.box_math.specs.Bounds.{IsDims};
 ghost use Rattle.tree_node.specs.Nodes.{NodeContent};
@@ -18,6 +18,7 @@ pub(crate) fn add_tags<const D: usize>(page: &mut [u8; 4096])
     ensures kind { (c : NodeContent) → node_at D page.old ≡ Some c → number_at 1 0 page.new ≡ node_kind }
     ensures count { number_at 2 2 page.new ≡ number_at 2 2 page.old }
     ensures tidy { IsTidy D page.old → IsTidy D page.new }
+    ensures another { number_at 1 0 page.old ≢ untagged_node_kind → page.new ≡ page.old }
 {
     if read_u8(page, 0) == UNTAGGED_NODE_KIND {
         clear_tags::<D>(page);

@@ -22,7 +22,6 @@ use tree_node::{Entry, Node};
 
 /// Whether the page spells a node of that dimension, of whatever level.
 pub fn spells_node<const D: usize>(page: &[u8; 4096]) -> bool
-    requires { IsDims D }
     ensures { result ≡ node_test D page.now }
 {
     let level = read_u8(page, 4);
@@ -36,6 +35,7 @@ pub struct NodeView<'a, const D: usize> {
     level: u8,
     count: usize,
     tagged: bool,
+    pub ghost dims: { IsDims D },
     ghost laid_out: { IsLaidOut D level count page.now },
     ghost tags: { tagged ≡ has_tags page.now },
 }
@@ -46,8 +46,7 @@ impl<'a, const D: usize> NodeView<'a, D> {
     /// The node that the page spells, of which it is known that it spells one of that dimension, or `None`
     /// where its level is another one. Its entries are not looked at.
     pub fn of_known(page: &'a [u8; 4096], level: u8) -> Option<NodeView<'a, D>>
-        requires dims { IsDims D }
-        requires spells { node_test D page.now ≡ true }
+        requires { node_test D page.now ≡ true }
         ensures spelled { IfSome result (λ view. node_at D page.now ≡ Some (content_in view)) }
         ensures level { IfSome result (λ view. (content_in view).level ≡ level) }
         ensures spellable { IfSome result (λ view. IsSpellable (content_in view)) }
@@ -68,7 +67,6 @@ impl<'a, const D: usize> NodeView<'a, D> {
     /// The node that the page spells, or `None` where it spells none of that dimension and level, as `decode`
     /// tells.
     pub fn of(page: &'a [u8; 4096], level: u8) -> Option<NodeView<'a, D>>
-        requires { IsDims D }
         ensures spelled { IfSome result (λ view. node_at D page.now ≡ Some (content_in view)) }
         ensures level { IfSome result (λ view. (content_in view).level ≡ level) }
         ensures spellable { IfSome result (λ view. IsSpellable (content_in view)) }

@@ -1,5 +1,5 @@
 -- A page that is lent where it spells a node, as the reading of that node.
-use Rattle.std.proofs.Common.{◌≡◌, ◌∙◌, ℕ, List, Bool, true, false, ◌||◌, Some, refl, inr, subst, sym}
+use Rattle.std.proofs.Common.{◌≡◌, ◌∙◌, ℕ, List, Bool, true, false, ◌||◌, Some, ap, refl, inr, subst, sym}
 use Rattle.std.specs.Prelude.{Result, Ok, Err, IsErrAnd}
 use Rattle.page_file.specs.declared.fault.Fault.{Fault}
 use Rattle.page_file.specs.declared.fault.Fault.TheVariants as fault
@@ -20,6 +20,10 @@ module _ {D A : Type 0} {m : _} {S T : Type 0} (old new : PageCache D A m) (n : 
         refused_looks = read.refused_looks;
         holds = tt;
         used = tt;
+        refused_used = read.refused_used;
+        damaged = λ honest from below is.
+            let same : f ≡ fault.Damaged n = let both = is in cc in
+            read.damaged honest from below (ap (λ (e : Fault). Err e) same);
         quiet = read.quiet;
       })
 
@@ -39,6 +43,8 @@ module _ {D A : Type 0} {m : _} {S T : Type 0} (old new : PageCache D A m) (n : 
     refused_looks = inr read.looks;
     holds = tt;
     used = tt;
+    refused_used = inr (inr read.used);
+    damaged = λ honest from below is. read.looks;
     quiet = read.quiet;
   }
 

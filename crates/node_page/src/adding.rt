@@ -2,7 +2,6 @@
 
 ghost use Rattle.std.specs.Prelude.{◌≡◌, ◌⊎◌, ◌↔◌, ◌<◌, ◌≤◌, Some, None, IfErr, IfNone};
 ghost use Rattle.std.specs.Prelude.{IfOk, IfSome, IsErrOf, IsSome, OnOk, length};
-ghost use Rattle.box_math.specs.Bounds.{IsDims};
 ghost use Rattle.page_file.specs.Fault.{IsDamage, IsOfDevice};
 ghost use Rattle.page_file.specs.Pages.{SameBut};
 ghost use Rattle.page_file.specs.declared.fault.Fault.TheVariants as fault;
@@ -39,7 +38,6 @@ pub fn add_entry<const D: usize, B: BlockDevice, A: Allocator + Copy>(
     entry: &Entry<D>,
     most: usize,
 ) -> Result<Option<BBox<D>>, Fault>
-    requires dims { IsDims D }
     requires open { gate_of cache.old ≡ Open }
     requires most { most ≤ 100 }
     requires refers { IsOfLevel level entry.now.reference entry.now.tag }
@@ -75,7 +73,6 @@ pub fn add_entry<const D: usize, B: BlockDevice, A: Allocator + Copy>(
     cache.edit_node::<D, _, _>(
         page,
         |bytes: &mut [u8; 4096]|
-            requires { IsDims D }
             ensures pushed { (c : NodeContent) → node_at D bytes.old ≡ Some c → length c.entries < 100
                 → IsOfLevel c.level entry.entry.now.reference entry.entry.now.tag
                 → node_at D bytes.new ≡ Some (pushed c (item_of entry.entry.now)) }
@@ -97,7 +94,6 @@ fn least_with<const D: usize, B: BlockDevice, A: Allocator + Copy>(
     entry: &Entry<D>,
     most: usize,
 ) -> Result<Option<BBox<D>>, Fault>
-    requires dims { IsDims D }
     ensures asks { Asks cache.old cache.new result }
     ensures room { IsHonest cache.old → (c : NodeContent) → node_in D (pages cache.old page) ≡ Some c
         → IfOk result (λ some. IsSome some ↔ ((0 < length c.entries) × (length c.entries < most))) }

@@ -103,7 +103,6 @@ fn add_below<const D: usize, B: BlockDevice, A: Allocator + Copy, H: Allocator +
     visits: &mut Visits<H>,
     pairs: &mut Vec<(u64, (BBox<D>, u32)), H>,
 ) -> Result<(), Fault>
-    requires dims { IsDims D }
     requires spellable { IsSpellable (content_of node.now) }
     requires boxes { All (λ item. IsBox D item.bounds) (content_of node.now).entries }
     requires numbers { length visits.old.marks.items ≡ next_of cache.old }
@@ -140,7 +139,6 @@ fn add_pairs<const D: usize, H: Allocator + Copy>(
     leaf: &Node<D>,
     pairs: &mut Vec<(u64, (BBox<D>, u32)), H>,
 ) -> Result<(), Fault>
-    requires dims { IsDims D }
     ensures pairs { OnOk result
         (pairs.new.items ≡ pairs.old.items ++ pairs_of (content_of leaf.now).entries) }
     ensures memory { IfErr result (λ f. f ≡ fault.Memory) }

@@ -2,7 +2,6 @@
 
 ghost use Rattle.std.specs.Prelude.{◌≡◌, ◌⊎◌, ◌↔◌, ◌<◌, ◌≤◌, Some, None, IfErr, IfNone};
 ghost use Rattle.std.specs.Prelude.{IfOk, IfSome, IsErrOf, IsSome, OnOk, length};
-ghost use Rattle.box_math.specs.Bounds.{IsDims};
 ghost use Rattle.page_file.specs.Fault.{IsDamage, IsOfDevice};
 ghost use Rattle.page_file.specs.Pages.{SameBut};
 ghost use Rattle.page_file.specs.declared.fault.Fault.TheVariants as fault;
@@ -40,7 +39,6 @@ pub fn enlarge_entry<const D: usize, B: BlockDevice, A: Allocator + Copy>(
     bounds: &BBox<D>,
     most: usize,
 ) -> Result<Option<BBox<D>>, Fault>
-    requires dims { IsDims D }
     requires open { gate_of cache.old ≡ Open }
     ensures changes { Changes cache.old cache.new result }
     ensures room { IsHonest cache.old → (c : NodeContent) → node_in D (pages cache.old page) ≡ Some c
@@ -81,14 +79,12 @@ fn edit_box<const D: usize, B: BlockDevice, A: Allocator + Copy>(
     place: usize,
     bounds: &BBox<D>,
 ) -> Result<(), Fault>
-    requires dims { IsDims D }
     requires open { gate_of cache.old ≡ Open }
     ensures { Edits page (λ was answer now. IsBoxed D place bounds.now was now) cache.old cache.new result }
 {
     cache.edit_node::<D, _, _>(
         page,
         |bytes: &mut [u8; 4096]|
-            requires { IsDims D }
             ensures { IsBoxed D place bounds.entry.now bytes.old bytes.new }
         { write_box_at(bytes, place, bounds) },
     )
@@ -104,7 +100,6 @@ fn least_enlarged<const D: usize, B: BlockDevice, A: Allocator + Copy>(
     bounds: &BBox<D>,
     most: usize,
 ) -> Result<Option<BBox<D>>, Fault>
-    requires dims { IsDims D }
     ensures asks { Asks cache.old cache.new result }
     ensures room { IsHonest cache.old → (c : NodeContent) → node_in D (pages cache.old page) ≡ Some c
         → IfOk result (λ least. IsSome least ↔ CanEnlarge D most place bounds.now c) }
@@ -146,7 +141,6 @@ pub fn set_entry_box<const D: usize, B: BlockDevice, A: Allocator + Copy>(
     place: usize,
     bounds: &BBox<D>,
 ) -> Result<Option<BBox<D>>, Fault>
-    requires dims { IsDims D }
     requires open { gate_of cache.old ≡ Open }
     ensures changes { Changes cache.old cache.new result }
     ensures room { IsHonest cache.old → (c : NodeContent) → node_in D (pages cache.old page) ≡ Some c
@@ -189,7 +183,6 @@ fn least_with_box<const D: usize, B: BlockDevice, A: Allocator + Copy>(
     place: usize,
     bounds: &BBox<D>,
 ) -> Result<Option<BBox<D>>, Fault>
-    requires dims { IsDims D }
     ensures asks { Asks cache.old cache.new result }
     ensures room { IsHonest cache.old → (c : NodeContent) → node_in D (pages cache.old page) ≡ Some c
         → IfOk result (λ least. IsSome least ↔ (place < length c.entries)) }

@@ -4,7 +4,6 @@
 ghost use Rattle.std.specs.Prelude.{◌≡◌, ◌⊎◌, ◌<◌, ◌≤◌, ◌^◌, ℕ, Some, IfErr, IfOk, IsErrOf};
 ghost use Rattle.std.specs.Prelude.{OnErr, OnOk, length, option_map};
 ghost use Rattle.block_device.specs.Device.{one_more};
-ghost use Rattle.box_math.specs.Bounds.{IsDims};
 ghost use Rattle.tree_node.specs.Nodes.{NodeContent};
 ghost use Rattle.node_page.specs.Changes.{TreesBelowStand, TreesBesideStand, WaitersBesideStand};
 ghost use Rattle.node_page.specs.Parts.{AllPagesMove, MovesBeside, MovesInTurn};
@@ -102,7 +101,6 @@ pub fn a_node_is_viewed_and_comes_back<const D: usize, B: BlockDevice, A: Alloca
     page: u32,
     level: u8,
 ) -> Result<usize, Fault>
-    requires { IsDims D }
     ensures count { IsHonest cache.old → IsLive cache.old page → IfOk result (λ count.
         option_map (λ c. length c.entries) (node_in D (pages cache.old page)) ≡ Some count) }
     ensures asks { Asks cache.old cache.new result }

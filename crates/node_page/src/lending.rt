@@ -2,7 +2,7 @@
 
 ghost use Rattle.std.specs.Prelude.{◌≡◌, ◌⊎◌, ◌≤◌, ◌<◌, Some, All, IfOk, IfErr, IsErrOf};
 ghost use Rattle.std.specs.Borrow.{sem};
-ghost use Rattle.box_math.specs.Bounds.{IsBox, IsDims};
+ghost use Rattle.box_math.specs.Bounds.{IsBox};
 ghost use Rattle.page_file.specs.Fault.{IsDamage, IsOfDevice};
 ghost use Rattle.page_file.specs.declared.fault.Fault.TheVariants as fault;
 ghost use Rattle.page_cache.specs.Cache.{IsHeld, IsHonest, IsLive, given, next_of, pages};
@@ -25,7 +25,6 @@ pub fn view_node<'a, const D: usize, B: BlockDevice, A: Allocator + Copy>(
     page: u32,
     level: u8,
 ) -> Result<NodeView<'a, D>, Fault>
-    requires { IsDims D }
     ensures* read_at { sem 𝓛 (EndsReadAt B.row A.row B.BlockDevice A.Allocator cache.entry page result) }
     ensures node { IsHonest cache.old → IsLive cache.old page
         → IfOk result (λ view. node_in D (pages cache.old page) ≡ Some (content_in view)) }

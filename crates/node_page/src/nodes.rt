@@ -2,7 +2,7 @@
 
 ghost use Rattle.std.specs.Prelude.{◌≡◌, ◌⊎◌, ◌≤◌, ◌<◌, Some, Err, All, IfOk, IfErr, IsErrOf, OnErr, OnOk};
 ghost use Rattle.block_device.specs.Device.{one_more};
-ghost use Rattle.box_math.specs.Bounds.{IsBox, IsDims};
+ghost use Rattle.box_math.specs.Bounds.{IsBox};
 ghost use Rattle.page_file.specs.Fault.{IsDamage, IsOfDevice};
 ghost use Rattle.page_file.specs.Pages.{SameBut};
 ghost use Rattle.page_file.specs.declared.fault.Fault.TheVariants as fault;
@@ -35,7 +35,6 @@ pub fn read_node<const D: usize, B: BlockDevice, A: Allocator + Copy>(
     page: u32,
     level: u8,
 ) -> Result<Node<D>, Fault>
-    requires { IsDims D }
     ensures asks { Asks cache.old cache.new result }
     ensures node { IsHonest cache.old → IsLive cache.old page
         → IfOk result (λ node. node_in D (pages cache.old page) ≡ Some (content_of node)) }
@@ -74,7 +73,6 @@ pub fn read_into<const D: usize, B: BlockDevice, A: Allocator + Copy>(
     level: u8,
     node: &mut Node<D>,
 ) -> Result<(), Fault>
-    requires { IsDims D }
     ensures asks { Asks cache.old cache.new result }
     ensures node { IsHonest cache.old → IsLive cache.old page
         → OnOk result (node_in D (pages cache.old page) ≡ Some (content_of node.new)) }
@@ -110,7 +108,6 @@ pub fn write_node<const D: usize, B: BlockDevice, A: Allocator + Copy>(
     page: u32,
     node: &Node<D>,
 ) -> Result<(), Fault>
-    requires dims { IsDims D }
     requires open { gate_of cache.old ≡ Open }
     requires spellable { IsSpellable (content_of node.now) }
     ensures changes { Changes cache.old cache.new result }
@@ -133,7 +130,7 @@ pub fn write_node<const D: usize, B: BlockDevice, A: Allocator + Copy>(
     cache.refill(
         page,
         |bytes: &mut [u8; 4096]|
-            requires { IsDims D × IsSpellable (content_of node.now) }
+            requires { IsSpellable (content_of node.now) }
             ensures spelled { node_at D bytes.new ≡ Some (content_of node.entry.now) }
             ensures is_page { IsPageOfNode D bytes.new (content_of node.entry.now) }
         { encode(node, bytes) },

@@ -2,7 +2,6 @@
 
 ghost use Rattle.std.specs.Prelude.{◌≡◌, ◌⊎◌, ◌↔◌, ◌<◌, ◌≤◌, Some, None, IfErr, IfNone};
 ghost use Rattle.std.specs.Prelude.{IfOk, IfSome, IsErrOf, IsSome, OnOk, length};
-ghost use Rattle.box_math.specs.Bounds.{IsDims};
 ghost use Rattle.page_file.specs.Fault.{IsDamage, IsOfDevice};
 ghost use Rattle.page_file.specs.Pages.{SameBut};
 ghost use Rattle.page_file.specs.declared.fault.Fault.TheVariants as fault;
@@ -39,7 +38,6 @@ pub fn take_entry<const D: usize, B: BlockDevice, A: Allocator + Copy>(
     place: usize,
     fewest: usize,
 ) -> Result<Option<BBox<D>>, Fault>
-    requires dims { IsDims D }
     requires open { gate_of cache.old ≡ Open }
     requires fewest { 1 ≤ fewest }
     ensures changes { Changes cache.old cache.new result }
@@ -73,7 +71,6 @@ pub fn take_entry<const D: usize, B: BlockDevice, A: Allocator + Copy>(
     cache.edit_node::<D, _, _>(
         page,
         |bytes: &mut [u8; 4096]|
-            requires { IsDims D }
             ensures taken { (c : NodeContent) → node_at D bytes.old ≡ Some c → place < length c.entries
                 → 1 < length c.entries → node_at D bytes.new ≡ Some (without_entry c place) }
             ensures is_page { IsTidy D bytes.old → (c : NodeContent) → node_at D bytes.old ≡ Some c
@@ -94,7 +91,6 @@ fn least_of_others<const D: usize, B: BlockDevice, A: Allocator + Copy>(
     place: usize,
     fewest: usize,
 ) -> Result<Option<BBox<D>>, Fault>
-    requires dims { IsDims D }
     requires fewest { 1 ≤ fewest }
     ensures asks { Asks cache.old cache.new result }
     ensures room { IsHonest cache.old → (c : NodeContent) → node_in D (pages cache.old page) ≡ Some c

@@ -2,14 +2,15 @@
 -- change.
 use Rattle.std.proofs.Common.{◌≡◌, ◌∙◌, ℕ, ◌≤◌, Bool, true, false, Option, None, Some, ap, refl, subst, sym}
 use Rattle.std.proofs.Common.{arith}
-use Rattle.std.specs.Prelude.{◌⊎◌, ◌<◌, Result, Ok, Err, IsErrAnd, OnErr, OnOk}
+use Rattle.std.specs.Prelude.{◌⊎◌, ◌<◌, Result, Ok, Err, IsErrAnd, IsErrOf, OnErr, OnOk}
 use Rattle.block_device.specs.Device.{one_more}
 use Rattle.page_file.specs.Fault.{HasCause, faults_after}
 use Rattle.page_file.specs.declared.fault.Fault.{Fault}
-use Rattle.page_cache.specs.Cache.{IsHeld, KeepsGate, KeepsMap, capacity_of, device_of, held_pages}
+use Rattle.page_file.specs.declared.fault.Fault.TheVariants as fault
+use Rattle.page_cache.specs.Cache.{IsHeld, IsHonest, KeepsGate, KeepsMap, capacity_of, device_of, held_pages}
 use Rattle.page_cache.specs.Cache.{looks_of, next_of}
 use Rattle.page_cache.specs.Cache.{touched_of}
-use Rattle.page_cache.specs.Uses.{Uses, used}
+use Rattle.page_cache.specs.Uses.{IsRefusedUse, Uses, used}
 use Rattle.page_cache.specs.Laws.{no_call_keeps_the_gate, no_call_keeps_the_map, the_gate_is_kept_in_turn}
 use Rattle.page_cache.specs.Laws.{the_map_is_kept_in_turn}
 use Rattle.page_cache.specs.declared.cache.PageCache.{PageCache}
@@ -74,7 +75,8 @@ pub record IsLookedAt {D A : Type 0} {m : _} {T : Type 0} (old new : PageCache D
   pub outside : (n < 2) ⊎ (next_of old ≤ n) → device_of new ≡ device_of old
 
 -- What a page spells was read at page n, which is held then, as the one used last, or refused, in one look, or at
--- most one where it is refused; a number of no page given out needs no call of the device.
+-- most one where it is refused. A page that was brought in and then refused is `Damaged` in one look, and used like
+-- any other. A number of no page given out needs no call of the device.
 pub record IsReadAt {D A : Type 0} {m : _} {T : Type 0} (old new : PageCache D A m) (n : ℕ)
     (result : Result T Fault) : Type 0 where
   pub asks : Asks old new result
@@ -82,6 +84,9 @@ pub record IsReadAt {D A : Type 0} {m : _} {T : Type 0} (old new : PageCache D A
   pub refused_looks : OnErr result ((looks_of new ≡ looks_of old) ⊎ (looks_of new ≡ one_more (looks_of old)))
   pub holds : OnOk result (IsHeld new n)
   pub used : OnOk result (held_pages new ≡ used (capacity_of old) n (held_pages old))
+  pub refused_used : OnErr result (IsRefusedUse (capacity_of old) n (held_pages old) (held_pages new))
+  pub damaged : IsHonest old → 2 ≤ n → n < next_of old → IsErrOf result (fault.Damaged n)
+      → looks_of new ≡ one_more (looks_of old)
   pub quiet : (n < 2) ⊎ (next_of old ≤ n) → device_of new ≡ device_of old
 
 -- a call that hands on a fault ends as the one that answered it

@@ -19,3 +19,8 @@ pub record Uses {D A : Type 0} {m : _} {T E : Type 0} (old new : PageCache D A m
   pub used : OnOk result (held_pages new ≡ used (capacity_of old) n (held_pages old))
   pub refused : OnErr result ((held_pages new ≡ held_pages old)
       ⊎ (held_pages new ≡ with_room (capacity_of old) (held_pages old)))
+
+-- A page was asked for and refused: none went, or the one used least, to make room for it, or it was used like any
+-- other, and what it spells was refused.
+abbrev pub IsRefusedUse : ℕ → ℕ → List ℕ → List ℕ → Type 0
+IsRefusedUse capacity n old new = (new ≡ old) ⊎ (new ≡ with_room capacity old) ⊎ (new ≡ used capacity n old)

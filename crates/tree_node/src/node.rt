@@ -1,5 +1,7 @@
 //! What a node page holds.
 
+ghost use Rattle.box_math.specs.Bounds.{IsDims};
+
 use arrayvec::ArrayVec;
 use box_math::BBox;
 
@@ -15,7 +17,7 @@ pub struct Entry<const D: usize> {
     pub tag: u32,
 }
 
-/// A node of a tree: its level, 0 for a leaf, and its entries.
+/// A node of a tree, of two or three axes: its level, 0 for a leaf, and its entries.
 #[derive(PartialEq, Eq, Debug, Drop)]
 pub struct Node<const D: usize> {
     /// How many levels lie below the node.
@@ -23,6 +25,7 @@ pub struct Node<const D: usize> {
     /// The entries by place. A page has at most 100 of them: there is room for one more, with which an
     /// overfull node stands here before it is split.
     pub entries: ArrayVec<Entry<D>, 101>,
+    pub ghost dims: { IsDims D },
 }
 
 /// Where a tree of pages begins: the page of its root, and how many levels lie below that.

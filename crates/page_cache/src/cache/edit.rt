@@ -4,7 +4,6 @@ ghost use Rattle.std.specs.Prelude.{OnErr};
 ghost use Rattle.std.specs.Prelude.{if◌then◌else◌, ◌==◌, ◌||◌, is_ok, true};
 ghost use Rattle.std.specs.Fn.{FnOnceReturnsAtMut};
 ghost use Rattle.block_device.specs.Device.{IsBlock};
-ghost use Rattle.box_math.specs.Bounds.{IsDims};
 ghost use Rattle.node_bytes.specs.Layout.{StaysNode};
 ghost use Rattle.page_file.specs.Fault.{IsOfDevice, IsDamage};
 ghost use Rattle.page_file.specs.Pages.{SameBut};
@@ -19,7 +18,7 @@ ghost use Rattle.page_cache.specs.Uses.{Uses};
 ghost use Rattle.page_cache.specs.PageSteps.{Edits, Refills};
 
 use crate::cache::PageCache;
-use crate::frame::{Frame, see_block};
+use crate::frame::{Frame, axes_of, see_block};
 use block_device::BlockDevice;
 use page_file::Fault;
 use std::alloc::Allocator;
@@ -53,7 +52,6 @@ impl<D: BlockDevice, A: Allocator + Copy> PageCache<D, A> {
         n: u32,
         change: F,
     ) -> Result<T, Fault>
-        requires dims { IsDims AXES }
         requires open { gate_of self.old ≡ Open }
         requires change { F.IsAlwaysCallable change }
         requires stays { (page after : List ℕ) (answer : T) →
@@ -61,7 +59,7 @@ impl<D: BlockDevice, A: Allocator + Copy> PageCache<D, A> {
         ensures { Edits n (λ page answer after. FnOnceReturnsAtMut F.FnOnce change page answer after)
             self.old self.new result }
     {
-        self.edit_known(n, AXES as u8, change)
+        self.edit_known(n, axes_of::<AXES>(), change)
     }
 
     // Changes a live page where it lies, of which it stays known that it spells a node of so many axes; of 0 axes

@@ -4,7 +4,6 @@ ghost use Rattle.std.specs.Prelude.{IfOk, IfErr, IsTrue};
 ghost use Rattle.std.specs.Prelude.{OnOk, OnErr, option_map, slice_get, ◌||◌, is_ok, true};
 ghost use Rattle.std.specs.Borrow.{sem};
 ghost use Rattle.block_bytes.specs.Numbers.{zeros};
-ghost use Rattle.box_math.specs.Bounds.{IsDims};
 ghost use Rattle.node_bytes.specs.Layout.{node_test};
 ghost use Rattle.page_file.specs.Fault.{HasCause, IsOfDevice, IsDamage};
 ghost use Rattle.page_file.specs.Pages.{SameBut, TakesFirst};
@@ -53,7 +52,6 @@ impl<D: BlockDevice, A: Allocator + Copy> PageCache<D, A> {
     /// number, in one look. That a page spells a node is asked of its bytes once, and then known until they
     /// change, or leave memory.
     pub fn node_page<const AXES: usize>(&mut self, n: u32) -> Result<&[u8; 4096], Fault>
-        requires { IsDims AXES }
         ensures* read_at { sem 𝓛 (EndsReadAt D.row A.row D.BlockDevice A.Allocator self.entry n result) }
         ensures bytes { IsHonest self.old → IsLive self.old n →
             IfOk result (λ page. pages self.old n ≡ Some page.now) }
@@ -78,8 +76,7 @@ impl<D: BlockDevice, A: Allocator + Copy> PageCache<D, A> {
 
     // Whether the page used last spells a node of so many axes.
     fn is_node<const AXES: usize>(&mut self, n: u32) -> bool
-        requires dims { IsDims AXES }
-        requires held { IsHeld self.old n }
+        requires { IsHeld self.old n }
         ensures kept { KeepsBlocks self.old self.new }
         ensures file { self.new.file ≡ self.old.file }
         ensures held { held_pages self.new ≡ held_pages self.old }
@@ -100,7 +97,6 @@ impl<D: BlockDevice, A: Allocator + Copy> PageCache<D, A> {
 
     // Whether the page used last is known to spell a node of so many axes.
     fn is_known_node<const AXES: usize>(&self) -> bool
-        requires { IsDims AXES }
         ensures { IsTrue result → (n : ℕ) (f : Frame A) → slice_get self.now.frames.entries 0 ≡ Some (n, f)
             → node_test AXES f.bytes.value ≡ true }
     {

@@ -1,5 +1,5 @@
 -- The page is that with the other box in its place; a page that has no such entry spells no node with it.
-use Rattle.std.proofs.Common.{◌≡◌, ◌∙◌, ◌<◌, arith, false, length, Some}
+use Rattle.std.proofs.Common.{◌≡◌, ◌∙◌, ◌<◌, arith, false, length, refl, Some}
 use Rattle.tree_node.specs.Nodes.{NodeContent}
 use Rattle.node_bytes.specs.Enlarged.{with_box_at}
 use Rattle.node_bytes.specs.Layout.{node_at}
@@ -8,9 +8,9 @@ use Rattle.node_bytes.proofs.Places.{head_clear}
 use Rattle.node_bytes.proofs.Reading.{node_of_test, size_of, spells, test_of_node}
 use Rattle.node_bytes.proofs.TidyLemmas.{page_of_node}
 use Rattle.node_bytes.proofs.edits.write_box_at.Goals as goal
-use Rattle.node_bytes.proofs.edits.write_box_at.Goals.{Joined-else-place-lt100}
-use Rattle.node_bytes.proofs.edits.write_box_at.Goals.{else-place-lt100-via-else-place-lt100}
-use Rattle.node_bytes.proofs.edits.write_box_at.Goals.{else-place-lt100-via-then-place-lt100+else-place-count_at}
+use Rattle.node_bytes.proofs.edits.write_box_at.Goals.{Joined-else-is_dims, else-is_dims-via-else-is_dims}
+use Rattle.node_bytes.proofs.edits.write_box_at.Goals.{else-is_dims-via-then-is_dims+else-place-lt100}
+use Rattle.node_bytes.proofs.edits.write_box_at.Goals.{else-is_dims-via-then-is_dims+then-place-lt100+else-place-count_at}
 
 pub returns-then-place-count_at : goal.returns-then-place-count_at
 returns-then-place-count_at g c =
@@ -37,23 +37,26 @@ returns-then-place-count_at g c =
           let size = size_of D c.args.page.now _ (spells D c.args.page.now _ is) in
           test_of_node D new _
           (spelled _ is (omega (arith, size, c.if-place-count_at.true, c.count_at.ensures)));
+      absent = λ none. absurd (omega (arith, none, c.if-place-count_at.true, c.count_at.ensures));
     }
 
-none_there : (g : _) (c : Joined-else-place-lt100 g) (content : NodeContent)
+none_there : (g : _) (c : Joined-else-is_dims g) (content : NodeContent)
     → node_at g.row.D c.args.page.now ≡ Some content → c.args.place < length content.entries → ⊥
 none_there g c content is within =
     let here = spells g.row.D c.args.page.now content is in
     let size = size_of g.row.D c.args.page.now content here in
-    elim c.else-place-lt100.branch [
-      | else-place-lt100-via-then-place-lt100+else-place-count_at w ↦
+    elim c.else-is_dims.branch [
+      | else-is_dims-via-then-is_dims+then-place-lt100+else-place-count_at w ↦
           omega (arith, size, within, w.if-place-count_at.false, w.count_at.ensures)
-      | else-place-lt100-via-else-place-lt100 w ↦
+      | else-is_dims-via-then-is_dims+else-place-lt100 w ↦
           omega (arith, size, within, here.head.few, w.if-place-lt100.false)
+      | else-is_dims-via-else-is_dims w ↦ let axes = c.is_dims.ensures.1 here.head.axes in cc
     ]
 
-pub returns-else-place-lt100 : goal.returns-else-place-lt100
-returns-else-place-lt100 g c = record {
+pub returns-else-is_dims : goal.returns-else-is_dims
+returns-else-is_dims g c = record {
   spelled = λ content is within. absurd (none_there g c content is within);
   is_page = λ tidy content is within. absurd (none_there g c content is within);
   stays = λ test. test;
+  absent = λ none. refl;
 }

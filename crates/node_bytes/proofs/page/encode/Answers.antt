@@ -25,7 +25,7 @@ write_entry-requires g c =
       (
         search rules,
         (
-          omega (arith, c.requires.spellable.few, length-map items item_of),
+          omega (arith, c.requires.few, length-map items item_of),
           written_tags g.row.D c.args.node.now.level (map item_of items) c.loop-place.place c.loop-place.page
               c.loop-place.invariant,
         ),
@@ -37,7 +37,7 @@ loop-place-preserved g c =
     let items = c.args.node.now.entries.items in
     let place = c.loop-place.place in
     let entry = c.index-deref-place.result in
-    let few = c.requires.spellable.few in
+    let few = c.requires.few in
     let many : length (map item_of items) ≡ length items = length-map items item_of in
     let below : place < length items = omega arith in
     let is : entry ≡ get_or items place entry = c.index-deref-place.is
@@ -46,7 +46,7 @@ loop-place-preserved g c =
     get_or-map item_of items place entry (item_of entry) below ∙ ap item_of (sym is) in
     let of =
     subst (λ (x : Item). IsOfLevel c.args.node.now.level x.reference x.tag) other
-    (c.requires.spellable.refers place (item_of entry) (omega (arith, many, below))) in
+    (c.requires.refers place (item_of entry) (omega (arith, many, below))) in
     written_more g.row.D c.args.node.now.level (map item_of items) place c.loop-place.page
     c.write_entry.new.page (item_of entry) c.loop-place.invariant (omega arith) c.write_entry.array_long
     (c.write_entry.ensures.written (untagged_above c.args.node.now.level entry.reference entry.tag of))
@@ -61,7 +61,7 @@ returns-clause-spelled g c =
     length-map node.entries.items item_of in
     spelled g.row.D c.loop-place.page (content_of node)
     (written_spells g.row.D node.level (map item_of node.entries.items) c.loop-place.place c.loop-place.page
-    c.loop-place.invariant (omega arith) c.requires.spellable)
+    node.dims c.loop-place.invariant (omega arith) c.requires)
 
 pub returns-clause-rest : goal.returns-clause-rest
 returns-clause-rest g c =
@@ -78,4 +78,4 @@ returns-clause-is_page g c =
     let many : length (map item_of node.entries.items) ≡ length node.entries.items =
     length-map node.entries.items item_of in
     written_page g.row.D node.level (map item_of node.entries.items) c.loop-place.place c.loop-place.page
-    c.loop-place.invariant (omega arith) c.requires.spellable
+    node.dims c.loop-place.invariant (omega arith) c.requires

@@ -11,7 +11,7 @@ entry_at-requires g c =
     let within : c.args.place < view.count = omega (arith, many) in (
       search rules,
       (
-        view.laid_out.dims_is,
+        view.dims,
         (omega (arith, view.laid_out.few), (view.tags, (view.laid_out.each c.args.place within).ordered)),
       ),
     )

@@ -12,7 +12,7 @@ least_in-requires g c =
     let many = length-first_places (item_at g.row.D view.page.now) view.count in (
       search rules,
       (
-        view.laid_out.dims_is,
+        view.dims,
         (
           (omega (arith, many, c.requires), omega (arith, view.laid_out.few)),
           λ place le lt. (view.laid_out.each place (omega (arith, lt))).ordered,

@@ -25,7 +25,7 @@ least_in-requires g c =
     let many = length-first_places (item_at g.row.D view.page.now) view.count in (
       search rules,
       (
-        view.laid_out.dims_is,
+        view.dims,
         (
           (
             omega (arith, many, c.requires.others, c.if-place-eq0.true),
@@ -52,7 +52,7 @@ least_in-before-requires g c =
     let many = length-first_places (item_at g.row.D view.page.now) view.count in (
       search rules,
       (
-        view.laid_out.dims_is,
+        view.dims,
         (
           (omega (arith, c.if-place-eq0.false), omega (arith, many, c.requires.within, view.laid_out.few)),
           λ place le lt. (view.laid_out.each place (omega (arith, lt, many, c.requires.within))).ordered,

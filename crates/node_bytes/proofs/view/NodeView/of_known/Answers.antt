@@ -4,7 +4,7 @@ use Rattle.block_bytes.specs.Numbers.{number_at}
 use Rattle.tree_node.specs.Nodes.{NodeContent}
 use Rattle.node_bytes.specs.Layout.{items_at}
 use Rattle.node_bytes.proofs.Named.{spells_nodes}
-use Rattle.node_bytes.proofs.Reading.{known_entries, known_few, known_node, spellable, spells}
+use Rattle.node_bytes.proofs.Reading.{known_entries, known_few, known_node, node_of_test, spellable, spells}
 use Rattle.node_bytes.proofs.view.NodeView.of_known.Goals as goal
 
 pub returns-then-read_u8-level-clause-none : goal.returns-then-read_u8-level-clause-none
@@ -17,11 +17,11 @@ invariant_of-result g c =
     let is : c.args.level ≡ number_at 1 4 c.args.page.now =
     sym c.if-read_u8-level.false ∙ c.read_u8.ensures in
     record {
+      dims = (spells g.row.D c.args.page.now _ (node_of_test g.row.D c.args.page.now c.requires)).head.axes;
       laid_out = record {
-        dims_is = c.requires.dims;
-        few = known_few g.row.D c.args.page.now c.args.level c.count_at.result c.requires.spells is
+        few = known_few g.row.D c.args.page.now c.args.level c.count_at.result c.requires is
             c.count_at.ensures;
-        each = known_entries g.row.D c.args.page.now c.args.level c.count_at.result c.requires.spells is
+        each = known_entries g.row.D c.args.page.now c.args.level c.count_at.result c.requires is
             c.count_at.ensures;
       };
       tags = c.is_tagged.ensures;
@@ -29,7 +29,7 @@ invariant_of-result g c =
 
 pub returns-clause-spelled : goal.returns-clause-spelled
 returns-clause-spelled g c =
-    known_node g.row.D c.args.page.now c.args.level c.count_at.result c.requires.spells
+    known_node g.row.D c.args.page.now c.args.level c.count_at.result c.requires
     (sym c.if-read_u8-level.false ∙ c.read_u8.ensures) c.count_at.ensures
 
 pub returns-clause-spellable : goal.returns-clause-spellable

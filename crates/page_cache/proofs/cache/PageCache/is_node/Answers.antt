@@ -22,7 +22,7 @@ invariant_of-self g c =
     let changed = c.learn_node.ensures.changed in
     let kept =
     kept_put cache.file (frame_at es) (frame_at (set_value (nat_eq n) es new)) n new
-    (λ k. lookup-set n k es new c.requires.held) (cache.within n c.requires.held)
+    (λ k. lookup-set n k es new c.requires) (cache.within n c.requires)
     (λ h clean. cache.true_to h n f is (sym changed ∙ clean)
     ∙ ap (λ b. Some b.value) (sym c.learn_node.ensures.bytes))
     (λ newer. cache.behind_the_gate n f is (sym changed ∙ newer))
@@ -43,7 +43,7 @@ returns-clause-kept g c =
       blocks = λ h. laid_same (changed_pages es) (changed_pages (set_value (nat_eq n) es new)) _
           (newer_same (frame_at es) (frame_at (set_value (nat_eq n) es new)) n c.in-Some.frame.now new
           (sym c.in-Some.ensures.value) c.learn_node.ensures.bytes c.learn_node.ensures.changed
-          (λ k. lookup-set n k es new c.requires.held));
+          (λ k. lookup-set n k es new c.requires));
       looks = refl;
       capacity = refl;
       touched = refl;
@@ -54,7 +54,7 @@ returns-clause-held g c = keys-set_value (nat_eq c.args.n) c.args.self.now.frame
 
 pub returns-clause-holds : goal.returns-clause-holds
 returns-clause-holds g c = λ k held.
-    held_set c.args.n k c.args.self.now.frames.entries c.learn_node.new.self c.requires.held held
+    held_set c.args.n k c.args.self.now.frames.entries c.learn_node.new.self c.requires held
 
 pub returns-clause-first : goal.returns-clause-first
 returns-clause-first g c = λ f at.

@@ -9,7 +9,7 @@ returns-in_err-look g c = (
     refl,
     λ k. tt,
     not_lent _ _ _ c.in_err-look.field-0.0 c.from_residual.result c.from_residual.ensures.1
-        c.in_err-look.ensures.looked_at,
+        c.in_err-look.ensures.looked_at c.in_err-look.ensures.faults,
   ),
   record {
     read_at = tt;
@@ -29,7 +29,8 @@ returns-then-not-is_node g c = (
   (
     refl,
     λ k. tt,
-    spells_none _ _ _ _ _ c.in_ok-look.ensures.looked_at c.is_node.ensures.kept c.is_node.ensures.file,
+    spells_none _ _ _ _ _ c.in_ok-look.ensures.looked_at c.is_node.ensures.kept c.is_node.ensures.file
+        c.is_node.ensures.held,
   ),
   record {
     read_at = tt;
