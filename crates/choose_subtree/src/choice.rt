@@ -1,7 +1,7 @@
 //! The choice among the children of a node.
 
 ghost use Rattle.std.specs.Prelude.{◌≡◌, ℕ, ◌<◌, ◌≤◌, All, length};
-ghost use Rattle.box_math.specs.Bounds.{IsBox, IsDims};
+ghost use Rattle.box_math.specs.Bounds.{IsBox};
 ghost use Rattle.choose_subtree.specs.Choice.{area_key, overlap_key, IsChosenChild};
 ghost use Rattle.node_bytes.specs.Views.{content_in};
 ghost use Rattle.tree_node.specs.Keys.{IsFirstLeast};
@@ -14,7 +14,6 @@ use node_page::NodeView;
 
 // The first entry whose area grows least, and of those with equal growth the least.
 fn least_area<const D: usize>(node: &NodeView<D>, new: &BBox<D>) -> usize
-    requires dims { IsDims D }
     requires some { 0 < length (content_in node.now).entries }
     ensures { IsFirstLeast (length (content_in node.now).entries)
         (area_key D (content_in node.now).entries new.now) result }
@@ -33,7 +32,6 @@ fn least_area<const D: usize>(node: &NodeView<D>, new: &BBox<D>) -> usize
 // no overlap grows. A sum that is past the least so far is left off, and begins with this entry, which lies
 // near the new box.
 fn least_overlap<const D: usize>(node: &NodeView<D>, new: &BBox<D>) -> usize
-    requires dims { IsDims D }
     requires boxes { All (λ item. IsBox D item.bounds) (content_in node.now).entries }
     requires some { 0 < length (content_in node.now).entries }
     ensures { IsFirstLeast (length (content_in node.now).entries)
@@ -61,7 +59,6 @@ fn least_overlap<const D: usize>(node: &NodeView<D>, new: &BBox<D>) -> usize
 
 /// The place of the child that a new box goes to, of a node above the leaves that has some.
 pub fn choose<const D: usize>(node: &NodeView<D>, bounds: &BBox<D>) -> usize
-    requires dims { IsDims D }
     requires above { 0 < (content_in node.now).level }
     requires some { 0 < length (content_in node.now).entries }
     requires boxes { All (λ item. IsBox D item.bounds) (content_in node.now).entries }

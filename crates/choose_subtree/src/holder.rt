@@ -1,7 +1,7 @@
 //! The choice where some entry holds the new box already.
 
 ghost use Rattle.std.specs.Prelude.{◌≡◌, ◌⊎◌, ◌<◌, ◌≤◌, ℕ, All, IfNone, IfSome, IsTrue, length};
-ghost use Rattle.box_math.specs.Bounds.{IsBox, IsDims, Within};
+ghost use Rattle.box_math.specs.Bounds.{IsBox, Within};
 ghost use Rattle.choose_subtree.specs.Choice.{IsChosenChild, growth_of};
 ghost use Rattle.node_bytes.specs.Views.{content_in};
 ghost use Rattle.tree_node.specs.Boxes.{box_at};
@@ -31,7 +31,6 @@ fn lesser(first: Option<Holder>, second: Holder) -> Holder
 
 // Whether the new box has a volume, or each entry does: then each entry that does not hold it has to grow.
 fn all_grow<const D: usize>(node: &NodeView<D>, new: &BBox<D>) -> bool
-    requires dims { IsDims D }
     requires boxes { All (λ item. IsBox D item.bounds) (content_in node.now).entries }
     ensures { IsTrue result → (j : ℕ) → j < length (content_in node.now).entries
         → (Within D new.now (box_at (content_in node.now).entries j) → ⊥)
@@ -44,7 +43,6 @@ fn all_grow<const D: usize>(node: &NodeView<D>, new: &BBox<D>) -> bool
 /// The first least of the entries that hold the box already, which is the chosen one: it does not grow, and
 /// each other one does. `None` where none holds it, or an entry may stay as small where it takes the box in.
 pub(crate) fn least_holder<const D: usize>(node: &NodeView<D>, new: &BBox<D>) -> Option<usize>
-    requires dims { IsDims D }
     requires boxes { All (λ item. IsBox D item.bounds) (content_in node.now).entries }
     ensures within { IfSome result (λ place. place < length (content_in node.now).entries) }
     ensures chosen { IfSome result

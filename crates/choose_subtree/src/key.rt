@@ -46,7 +46,6 @@ pub(crate) fn key_of<const D: usize>(
     k: usize,
     overlap: u128,
 ) -> Key
-    requires dims { IsDims D }
     requires within { k < length (content_in node.now).entries }
     ensures { result ≡ record {
       overlap = overlap;

@@ -36,7 +36,6 @@ pub(crate) fn overlap_growth_up_to<const D: usize>(
     other: usize,
     limit: u128,
 ) -> Option<u128>
-    requires dims { IsDims D }
     requires boxes { All (λ item. IsBox D item.bounds) (content_in node.now).entries }
     requires within { k < length (content_in node.now).entries }
     requires other { other < length (content_in node.now).entries }
@@ -70,7 +69,6 @@ pub(crate) fn whole_overlap_growth<const D: usize>(
     new: &BBox<D>,
     k: usize,
 ) -> u128
-    requires dims { IsDims D }
     requires boxes { All (λ item. IsBox D item.bounds) (content_in node.now).entries }
     requires within { k < length (content_in node.now).entries }
     ensures { result ≡ overlap_growth D (content_in node.now).entries new.now k }

@@ -1,7 +1,7 @@
 //! The children of a node, which wait to be read.
 
 ghost use Rattle.std.specs.Prelude.{◌≡◌, ◌<◌, ◌≤◌, All, IfErr, OnOk, length, map};
-ghost use Rattle.box_math.specs.Bounds.{IsBox, IsDims};
+ghost use Rattle.box_math.specs.Bounds.{IsBox};
 ghost use Rattle.box_math.specs.Measures.{point_dist2_of};
 ghost use Rattle.page_file.specs.declared.fault.Fault.TheVariants as fault;
 ghost use Rattle.node_bytes.specs.Layout.{IsSpellable};
@@ -25,7 +25,6 @@ pub(crate) fn append_children<const D: usize, H: Allocator>(
     best: &Best<H>,
     fresh: &mut Vec<Candidate, H>,
 ) -> Result<(), Fault>
-    requires dims { IsDims D }
     requires some { 1 ≤ k }
     requires few { length best.now ≤ k }
     requires boxes { All (λ item. IsBox D item.bounds) (content_in view.now).entries }
@@ -52,7 +51,6 @@ fn append_all<const D: usize, H: Allocator>(
     best: &Best<H>,
     fresh: &mut Vec<Candidate, H>,
 ) -> Result<(), Fault>
-    requires dims { IsDims D }
     requires some { 1 ≤ k }
     requires few { length best.now ≤ k }
     requires spellable { IsSpellable (content_in view.now) }
@@ -83,7 +81,6 @@ fn append_near<const D: usize, H: Allocator>(
     best: &Best<H>,
     fresh: &mut Vec<Candidate, H>,
 ) -> Result<(), Fault>
-    requires dims { IsDims D }
     requires some { 1 ≤ k }
     requires few { length best.now ≤ k }
     requires boxes { All (λ item. IsBox D item.bounds) (content_in view.now).entries }

@@ -21,7 +21,6 @@ pub(crate) struct Distances {
 impl Distances {
     /// Those of the boxes of a node. The loop has no branches, so that several boxes are measured at once.
     pub(crate) fn of<const D: usize>(view: &NodeView<'_, D>, point: &[i32; D]) -> Distances
-        requires { IsDims D }
         ensures { AreDistances (λ b. point_dist2_of D b point.now) (content_in view.now).entries
             result.squares result.widest }
     {
@@ -42,7 +41,6 @@ impl Distances {
         place: usize,
         point: &[i32; D],
     ) -> u128
-        requires dims { IsDims D }
         requires within { place < length (content_in view.now).entries }
         requires measured { AreDistances (λ b. point_dist2_of D b point.now) (content_in view.now).entries
             self.now.squares self.now.widest }

@@ -1,7 +1,7 @@
 //! The objects of a leaf, offered to the k best.
 
 ghost use Rattle.std.specs.Prelude.{◌≡◌, ◌≤◌, All, IfErr, OnOk, length, map};
-ghost use Rattle.box_math.specs.Bounds.{IsBox, IsDims};
+ghost use Rattle.box_math.specs.Bounds.{IsBox};
 ghost use Rattle.box_math.specs.Measures.{point_dist2_of};
 ghost use Rattle.page_file.specs.declared.fault.Fault.TheVariants as fault;
 ghost use Rattle.node_bytes.specs.Views.{content_in};
@@ -22,7 +22,6 @@ pub(crate) fn offer_objects<const D: usize, H: Allocator>(
     k: usize,
     best: &mut Best<H>,
 ) -> Result<(), Fault>
-    requires dims { IsDims D }
     requires some { 1 ≤ k }
     requires few { length best.old ≤ k }
     requires boxes { All (λ item. IsBox D item.bounds) (content_in view.now).entries }
@@ -45,7 +44,6 @@ fn offer_all<const D: usize, H: Allocator>(
     k: usize,
     best: &mut Best<H>,
 ) -> Result<(), Fault>
-    requires dims { IsDims D }
     requires some { 1 ≤ k }
     requires few { length best.old ≤ k }
     ensures offered { OnOk result (best.new ≡ offered k best.old
@@ -71,7 +69,6 @@ fn offer_near<const D: usize, H: Allocator>(
     k: usize,
     best: &mut Best<H>,
 ) -> Result<(), Fault>
-    requires dims { IsDims D }
     requires some { 1 ≤ k }
     requires few { length best.old ≤ k }
     requires boxes { All (λ item. IsBox D item.bounds) (content_in view.now).entries }

@@ -4,7 +4,6 @@ ghost use Rattle.std.specs.Prelude.{◌≡◌, ◌⊎◌, ℕ, ◌+◌, ◌^◌,
 ghost use Rattle.std.specs.Prelude.{List, All, slice_index_or, map, length, IsPermutation};
 ghost use Rattle.std.specs.Prelude.{IfOk, IfErr, IfSome, IfNone, OnOk};
 ghost use Rattle.block_device.specs.Device.{one_more};
-ghost use Rattle.box_math.specs.Bounds.{IsDims};
 ghost use Rattle.box_math.specs.Measures.{point_dist2_of};
 ghost use Rattle.page_file.specs.Fault.{IsDamage, IsOfDevice};
 ghost use Rattle.page_file.specs.declared.fault.Fault.TheVariants as fault;
@@ -49,7 +48,6 @@ pub fn nearest<const D: usize, B: BlockDevice, A: Allocator + Copy, H: Allocator
     point: &[i32; D],
     k: usize,
 ) -> Result<Vec<(u64, u128), H>, Fault>
-    requires dims { IsDims D }
     requires some { 1 ≤ k }
     ensures asks { Asks cache.old cache.new result }
     ensures rows { IsHonest cache.old → (t : Tree) (most : ℕ) → IsTreeAt D most (pages cache.old) root t →
@@ -108,7 +106,6 @@ fn look_at_objects<const D: usize, B: BlockDevice, A: Allocator + Copy, H: Alloc
     k: usize,
     best: &mut Best<H>,
 ) -> Result<(), Fault>
-    requires dims { IsDims D }
     requires some { 1 ≤ k }
     requires few { length best.old ≤ k }
     ensures asks { Asks cache.old cache.new result }
@@ -135,7 +132,6 @@ fn look_at_children<const D: usize, B: BlockDevice, A: Allocator + Copy, H: Allo
     best: &Best<H>,
     fresh: &mut Vec<Candidate, H>,
 ) -> Result<(), Fault>
-    requires dims { IsDims D }
     requires above { 0 < node.level }
     requires some { 1 ≤ k }
     requires few { length best.now ≤ k }

@@ -1,8 +1,7 @@
 -- What a query admits: each box that encloses a sought one, or an admitted one.
 use Rattle.std.proofs.Common.{◌≡◌, ℕ, Bool, true, ℤ, List, arith}
 use Rattle.std.proofs.lemmas.Int.{ints}
-use Rattle.box_math.specs.Bounds.{Bounds, HoldsPoint, IsOrdered, Meets, Within, holds_test, meets_test}
-use Rattle.box_math.specs.Bounds.{within_test}
+use Rattle.box_math.specs.Bounds.{Bounds, HoldsPoint, IsOrdered, Meets, Within}
 use Rattle.box_math.proofs.BoxLaws.{Meets-grows, Within-trans}
 use Rattle.box_math.proofs.TestLaws.{holds_test_true, meets_test_true, within_test_true}
 use Rattle.tree_node.specs.Searches.{Guards}

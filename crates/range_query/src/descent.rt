@@ -2,7 +2,6 @@
 
 ghost use Rattle.std.specs.Prelude.{◌≡◌, ◌⊎◌, ℕ, ◌+◌, ◌++◌, ◌<◌, Some, All, map, IfErr, IfOk, OnOk};
 ghost use Rattle.block_device.specs.Device.{one_more};
-ghost use Rattle.box_math.specs.Bounds.{IsDims};
 ghost use Rattle.page_file.specs.Fault.{IsDamage, IsOfDevice};
 ghost use Rattle.page_file.specs.declared.fault.Fault.TheVariants as fault;
 ghost use Rattle.page_cache.specs.Cache.{IsHonest, given, looks_of, pages};
@@ -35,7 +34,6 @@ pub(crate) fn descend<const D: usize, B: BlockDevice, A: Allocator + Copy, H: Al
     tag: Option<u32>,
     rows: &mut Vec<(u64, (BBox<D>, u32)), H>,
 ) -> Result<(), Fault>
-    requires { IsDims D }
     ensures asks { Asks cache.old cache.new result }
     ensures rows { IsHonest cache.old → (row : Row) → StandsAt D (pages cache.old) root.page root.level row
         → OnOk result (rows.new.items
@@ -71,7 +69,6 @@ fn add_sought<const D: usize, B: BlockDevice, A: Allocator + Copy, H: Allocator>
     tag: Option<u32>,
     rows: &mut Vec<(u64, (BBox<D>, u32)), H>,
 ) -> Result<(), Fault>
-    requires { IsDims D }
     ensures asks { Asks cache.old cache.new result }
     ensures rows { IsHonest cache.old → (c : NodeContent) → node_in D (pages cache.old page) ≡ Some c →
         c.level ≡ 0
@@ -124,7 +121,6 @@ fn admitted_children<const D: usize, B: BlockDevice, A: Allocator + Copy>(
     root: Root,
     query: &Query<D>,
 ) -> Result<ArrayVec<u32, 100>, Fault>
-    requires dims { IsDims D }
     requires above { 0 < root.level }
     ensures asks { Asks cache.old cache.new result }
     ensures children { IsHonest cache.old → (c : NodeContent) → node_in D (pages cache.old root.page) ≡ Some c

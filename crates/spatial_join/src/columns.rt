@@ -1,7 +1,7 @@
 //! The boxes of a node in columns, as `meet_mask` takes them, and the places that a mask names.
 
 ghost use Rattle.std.specs.Prelude.{◌≡◌, ℕ, ◌<◌, ◌≤◌, true, false, IfSome, IfNone, length};
-ghost use Rattle.box_math.specs.Bounds.{IsDims, on_axis};
+ghost use Rattle.box_math.specs.Bounds.{on_axis};
 ghost use Rattle.box_math.specs.Masks.{has_bit};
 ghost use Rattle.tree_node.specs.Boxes.{box_at};
 ghost use Rattle.tree_node.specs.Nodes.{items_of};
@@ -13,7 +13,6 @@ use node_page::Node;
 /// The lows and the highs of a node's entries, 100 at most: a column for each axis, each number in the place
 /// of its entry.
 pub(crate) fn columns_of<const D: usize>(node: &Node<D>) -> ([[i32; 100]; D], [[i32; 100]; D])
-    requires dims { IsDims D }
     requires few { length node.now.entries.items ≤ 100 }
     ensures boxes { HaveBoxes D (items_of node.now.entries.items) }
     ensures lows { (axis place : ℕ) → axis < D → place < length node.now.entries.items

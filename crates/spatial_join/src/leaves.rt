@@ -2,7 +2,7 @@
 
 ghost use Rattle.std.specs.Prelude.{◌≡◌, ◌⊎◌, ◌++◌, ◌<◌, ◌≤◌, ℕ, Some, All, IfErr, OnOk, length};
 ghost use Rattle.block_device.specs.Device.{one_more};
-ghost use Rattle.box_math.specs.Bounds.{IsBox, IsDims, Within, on_axis};
+ghost use Rattle.box_math.specs.Bounds.{IsBox, Within, on_axis};
 ghost use Rattle.page_file.specs.Fault.{IsDamage, IsOfDevice};
 ghost use Rattle.page_file.specs.declared.fault.Fault.TheVariants as fault;
 ghost use Rattle.page_cache.specs.Cache.{IsHonest, looks_of, pages};
@@ -37,7 +37,6 @@ pub(crate) fn add_leaf_pairs<const D: usize, B: BlockDevice, A: Allocator + Copy
     reach: Reach,
     pairs: &mut Vec<(u64, u64), H>,
 ) -> Result<(), Fault>
-    requires dims { IsDims D }
     requires few { length left.now.entries.items ≤ 100 }
     requires boxes { HaveBoxes D (items_of left.now.entries.items) }
     requires lows { (axis place : ℕ) → axis < D → place < length left.now.entries.items
@@ -70,7 +69,6 @@ fn push_near<const D: usize, H: Allocator>(
     reach: Reach,
     pairs: &mut Vec<(u64, u64), H>,
 ) -> Result<(), Fault>
-    requires dims { IsDims D }
     requires few { length left.now.entries.items ≤ 100 }
     requires boxes { HaveBoxes D (items_of left.now.entries.items) }
     requires lows { (axis place : ℕ) → axis < D → place < length left.now.entries.items
@@ -100,7 +98,6 @@ fn push_pairs_with<const D: usize, H: Allocator>(
     reach: Reach,
     pairs: &mut Vec<(u64, u64), H>,
 ) -> Result<(), Fault>
-    requires dims { IsDims D }
     requires few { length (content_in right.now).entries ≤ 100 }
     requires boxes { All (λ item. IsBox D item.bounds) (content_in right.now).entries }
     ensures pairs { OnOk result (pairs.new.items

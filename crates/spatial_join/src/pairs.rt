@@ -2,7 +2,6 @@
 
 ghost use Rattle.std.specs.Prelude.{◌≡◌, ◌⊎◌, ◌↔◌, ◌+◌, ◌*◌, ◌^◌, ◌<◌, ◌≤◌, ◌++◌, ℕ, IfErr, OnOk, length};
 ghost use Rattle.std.specs.Prelude.{map};
-ghost use Rattle.box_math.specs.Bounds.{IsDims};
 ghost use Rattle.box_math.specs.Measures.{near_test};
 ghost use Rattle.page_file.specs.Fault.{IsDamage, IsOfDevice};
 ghost use Rattle.page_file.specs.declared.fault.Fault.TheVariants as fault;
@@ -35,7 +34,6 @@ pub(crate) fn add_pairs<const D: usize, B: BlockDevice, A: Allocator + Copy, H: 
     reach: Reach,
     pairs: &mut Vec<(u64, u64), H>,
 ) -> Result<(), Fault>
-    requires dims { IsDims D }
     requires leaves { left.now.level ≡ 0 ↔ right.now.level ≡ 0 }
     requires left_pages { HasPages (content_of left.now) }
     requires right_pages { HasPages (content_of right.now) }
@@ -80,7 +78,6 @@ fn add_pairs_of_entry<const D: usize, B: BlockDevice, A: Allocator + Copy, H: Al
     mask: u128,
     pairs: &mut Vec<(u64, u64), H>,
 ) -> Result<(), Fault>
-    requires dims { IsDims D }
     requires above { 0 < level }
     requires right_above { 0 < right.now.level }
     requires page { entry.now.reference < 2 ^ 32 }

@@ -1,7 +1,7 @@
 //! How near two boxes are that a join pairs.
 
 ghost use Rattle.std.specs.Prelude.{◌≡◌, ◌+◌, ◌*◌, ◌<◌, ◌≤◌, ℕ, All, length};
-ghost use Rattle.box_math.specs.Bounds.{IsBox, IsDims, meets_test, on_axis, widened_of};
+ghost use Rattle.box_math.specs.Bounds.{IsBox, meets_test, on_axis, widened_of};
 ghost use Rattle.box_math.specs.Measures.{near_test};
 ghost use Rattle.tree_node.specs.Boxes.{box_at};
 ghost use Rattle.tree_node.specs.Nodes.{items_of};
@@ -41,7 +41,6 @@ impl Reach {
         node: &Node<D>,
         bounds: &BBox<D>,
     ) -> u128
-        requires dims { IsDims D }
         requires few { length node.now.entries.items ≤ 100 }
         requires boxes { HaveBoxes D (items_of node.now.entries.items) }
         requires lows { (axis place : ℕ) → axis < D → place < length node.now.entries.items
@@ -60,7 +59,6 @@ impl Reach {
 
     // Those of the entries that the mask names whose boxes are in this reach of the given one.
     fn nearer<const D: usize>(self, named: u128, node: &Node<D>, bounds: &BBox<D>) -> u128
-        requires dims { IsDims D }
         requires few { length node.now.entries.items ≤ 100 }
         requires boxes { HaveBoxes D (items_of node.now.entries.items) }
         requires named { Tells (λ b. meets_test D (widened_of D self.root bounds.now) b) named
@@ -80,7 +78,6 @@ impl Reach {
 
     /// Which entries of a node that is read in its page have a box in this reach of the given one.
     pub(crate) fn mask_in<const D: usize>(self, node: &NodeView<D>, bounds: &BBox<D>) -> u128
-        requires dims { IsDims D }
         requires few { length (content_in node.now).entries ≤ 100 }
         requires boxes { All (λ item. IsBox D item.bounds) (content_in node.now).entries }
         ensures { Tells (near_test D self.limit bounds.now) result (content_in node.now).entries }
@@ -94,7 +91,6 @@ impl Reach {
 
     // Those of the entries that the mask names whose boxes are in this reach of the given one.
     fn nearer_in<const D: usize>(self, named: u128, node: &NodeView<D>, bounds: &BBox<D>) -> u128
-        requires dims { IsDims D }
         requires few { length (content_in node.now).entries ≤ 100 }
         requires boxes { All (λ item. IsBox D item.bounds) (content_in node.now).entries }
         requires named { Tells (λ b. meets_test D (widened_of D self.root bounds.now) b) named

@@ -11,7 +11,7 @@ pub overlap_gain-sum-requires : goal.overlap_gain-sum-requires
 overlap_gain-sum-requires g c = (
   search rules,
   (
-    c.requires.dims,
+    c.args.node.now.dims,
     rw c.join-after.ensures.value (join_of-encloses g.row.D c.box_in-before.result c.args.new.now).0,
   ),
 )

@@ -71,8 +71,6 @@ add_pairs-add_pairs_of_entry-requires g t c κs within =
                 search rules,
                 (
                   search rules,
-                  (
-                    c.requires.dims,
                     (
                       above,
                       (
@@ -80,7 +78,6 @@ add_pairs-add_pairs_of_entry-requires g t c κs within =
                         (fits, (c.requires.right_pages, (c.requires.few, told))),
                       ),
                     ),
-                  ),
                 ),
               ),
             ),
@@ -305,8 +302,6 @@ add_pairs_of_entry-add_pairs-requires g t c κs within =
               within.1.1,
               (
                 search rules,
-                (
-                  c.requires.dims,
                   (
                     (leaves, leaves'),
                     (
@@ -314,7 +309,6 @@ add_pairs_of_entry-add_pairs-requires g t c κs within =
                       (c.in_ok-second.ensures.references, c.in_ok-second.ensures.few),
                     ),
                   ),
-                ),
               ),
             ),
           ),

@@ -19,8 +19,6 @@ nearer-requires g c = (
   search rules,
   (
     search rules,
-    (
-      c.requires.dims,
       (
         c.requires.few,
         (
@@ -32,6 +30,5 @@ nearer-requires g c = (
               c.meet_mask-named.ensures c.requires.lows c.requires.highs),
         ),
       ),
-    ),
   ),
 )

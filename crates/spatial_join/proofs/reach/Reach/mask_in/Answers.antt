@@ -20,8 +20,6 @@ nearer_in-requires g c =
       search rules,
       (
         search rules,
-        (
-          c.requires.dims,
           (
             c.requires.few,
             (
@@ -32,6 +30,5 @@ nearer_in-requires g c =
                   c.mask-named.ensures.met c.mask-named.ensures.none),
             ),
           ),
-        ),
       ),
     )
