@@ -3,7 +3,6 @@
 ghost use Rattle.std.specs.Prelude.{◌≡◌, ◌*◌, ℕ, List, [], None, Ok, IfOk, IfErr};
 ghost use Rattle.std.specs.Prelude.{OnOk};
 ghost use Rattle.arrayvec.specs.ArrayVec.{array_vec_len};
-ghost use Rattle.box_math.specs.Bounds.{IsDims};
 ghost use Rattle.page_file.specs.declared.fault.Fault.TheVariants as fault;
 ghost use Rattle.page_file.specs.declared.gate.Gate.TheVariants.{Open};
 ghost use Rattle.page_cache.specs.Cache.{Grows, IsPageMap, gate_of, pages};
@@ -32,7 +31,6 @@ pub(crate) fn insert_kept<const D: usize, B: BlockDevice, A: Allocator + Copy>(
     waiting: &mut Waiting<D>,
     kept: &mut Kept<D>,
 ) -> Result<Root, Fault>
-    requires dims { IsDims D }
     requires open { gate_of cache.old ≡ Open }
     requires root { IsRoot root }
     ensures changes { Changes cache.old cache.new result }

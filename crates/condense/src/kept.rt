@@ -1,6 +1,7 @@
 //! The entries that a removal keeps to insert them again: their types, and what their fields keep.
 
 ghost use Rattle.std.specs.Prelude.{All};
+ghost use Rattle.box_math.specs.Bounds.{IsDims};
 ghost use Rattle.node_bytes.specs.Layout.{IsOfLevel};
 
 mod list;
@@ -21,5 +22,6 @@ pub(crate) struct Orphan<const D: usize> {
 pub struct Kept<const D: usize> {
     // the first to be inserted is the last
     orphans: ArrayVec<Orphan<D>, 1560>,
+    pub ghost dims: { IsDims D },
     ghost refers: { All (λ o. IsOfLevel o.level o.entry.reference o.entry.tag) orphans.items },
 }

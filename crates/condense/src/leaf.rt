@@ -1,7 +1,6 @@
 //! An object taken out of its leaf.
 
 ghost use Rattle.std.specs.Prelude.{◌≡◌, ◌<◌, ℕ, IfNone, IfSome, length, slice_index_or};
-ghost use Rattle.box_math.specs.Bounds.{IsDims};
 ghost use Rattle.page_file.specs.declared.gate.Gate.TheVariants.{Open};
 ghost use Rattle.page_cache.specs.Cache.{gate_of};
 ghost use Rattle.tree_node.specs.Nodes.{Item};
@@ -55,7 +54,6 @@ fn find_here<const D: usize, B: BlockDevice, A: Allocator + Copy>(
     page: u32,
     object: &Entry<D>,
 ) -> Result<Option<usize>, Fault>
-    requires dims { IsDims D }
     ensures { FindsHere D page object.now.reference (object.now.bounds, object.now.tag)
         cache.old cache.new result }
 {
@@ -71,7 +69,6 @@ pub(crate) fn take_here<const D: usize, B: BlockDevice, A: Allocator + Copy>(
     fanout: Fanout,
     hand: &mut Node<D>,
 ) -> Result<Option<Became<D>>, Fault>
-    requires dims { IsDims D }
     requires open { gate_of cache.old ≡ Open }
     requires leaf { at.level ≡ 0 }
     ensures { (kept : Kept D) → TakesOutBelow fanout.most at object.now.reference

@@ -1,7 +1,7 @@
 //! A node above the leaves, looked into for children that may have an object.
 
 ghost use Rattle.std.specs.Prelude.{◌<◌, ◌≤◌, ℕ, length};
-ghost use Rattle.box_math.specs.Bounds.{IsDims, Within};
+ghost use Rattle.box_math.specs.Bounds.{Within};
 ghost use Rattle.tree_node.specs.Boxes.{box_at};
 ghost use Rattle.node_bytes.specs.Views.{content_in};
 ghost use Rattle.condense.specs.Steps.{FindsNext};
@@ -45,7 +45,6 @@ pub(crate) fn next_child<const D: usize, B: BlockDevice, A: Allocator + Copy>(
     bounds: &BBox<D>,
     from: usize,
 ) -> Result<Option<Next>, Fault>
-    requires dims { IsDims D }
     requires above { 0 < at.level }
     requires from { from ≤ 100 }
     ensures { FindsNext D from at bounds.now cache.old cache.new result }

@@ -2,7 +2,6 @@
 
 ghost use Rattle.std.specs.Prelude.{◌≡◌, ◌⊎◌, ◌^◌, ◌-◌, ◌<◌, ◌≤◌, IfErr, IfNone, IfOk, IfSome, Some, length};
 ghost use Rattle.std.specs.Prelude.{ℕ, OnOk, false, slice_index_or};
-ghost use Rattle.box_math.specs.Bounds.{IsDims};
 ghost use Rattle.page_file.specs.Fault.{IsDamage, IsOfDevice};
 ghost use Rattle.page_file.specs.declared.fault.Fault.TheVariants as fault;
 ghost use Rattle.page_file.specs.declared.gate.Gate.TheVariants.{Open};
@@ -30,7 +29,6 @@ pub(crate) fn give_way<const D: usize, B: BlockDevice, A: Allocator + Copy>(
     cache: &mut PageCache<B, A>,
     root: Root,
 ) -> Result<Root, Fault>
-    requires dims { IsDims D }
     requires open { gate_of cache.old ≡ Open }
     requires root { IsRoot root }
     ensures changes { Changes cache.old cache.new result }
@@ -62,7 +60,6 @@ fn only_child<const D: usize, B: BlockDevice, A: Allocator + Copy>(
     cache: &mut PageCache<B, A>,
     at: Root,
 ) -> Result<Option<Root>, Fault>
-    requires dims { IsDims D }
     requires above { 0 < at.level }
     ensures asks { Asks cache.old cache.new result }
     ensures child { IsHonest cache.old → (c : NodeContent) → node_in D (pages cache.old at.page) ≡ Some c

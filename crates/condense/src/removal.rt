@@ -81,7 +81,6 @@ pub fn remove_with<const D: usize, B: BlockDevice, A: Allocator + Copy>(
     waiting: &mut Waiting<D>,
     kept: &mut Kept<D>,
 ) -> Result<Root, Fault>
-    requires dims { IsDims D }
     requires open { gate_of cache.old ≡ Open }
     requires root { IsRoot root }
     ensures { Removes D fanout.most root object.now.reference (object.now.bounds, object.now.tag)
@@ -111,7 +110,6 @@ fn put_root<const D: usize, B: BlockDevice, A: Allocator + Copy>(
     waiting: &mut Waiting<D>,
     kept: &mut Kept<D>,
 ) -> Result<Root, Fault>
-    requires dims { IsDims D }
     requires open { gate_of cache.old ≡ Open }
     requires root { IsRoot root }
     requires cut { hand.now.settled ≡ false → IsCut root.level (content_of hand.now.node) }
@@ -148,7 +146,6 @@ fn write_root<const D: usize, B: BlockDevice, A: Allocator + Copy>(
     root: Root,
     hand: &InHand<D>,
 ) -> Result<(), Fault>
-    requires dims { IsDims D }
     requires open { gate_of cache.old ≡ Open }
     requires cut { hand.now.settled ≡ false → IsCut root.level (content_of hand.now.node) }
     ensures changes { Changes cache.old cache.new result }

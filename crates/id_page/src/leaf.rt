@@ -7,7 +7,7 @@ ghost use Rattle.block_bytes.specs.Numbers.{number_at};
 ghost use Rattle.box_math.specs.Bounds.{IsDims};
 ghost use Rattle.box_bytes.specs.Corners.{Keeps};
 ghost use Rattle.bucket_page.specs.Layout.{Entry, IsClearOfEntry, entry_place};
-ghost use Rattle.id_page.specs.Leaf.{IsTidyLeaf, leaf_at, most_objects, object_size};
+ghost use Rattle.id_page.specs.Leaf.{IsTidyLeaf, leaf_at, leaf_object, most_objects, object_size};
 
 use crate::head::{LEAF_KIND, clear_bytes, count_at};
 use crate::objects::{has_leaf_head, id_at, object_at, object_place, write_object};
@@ -40,6 +40,7 @@ pub fn place_of_id<const D: usize>(page: &[u8; 4096], id: u64) -> Option<usize>
         → IfSome result (λ place. (slice_index_or objects place other).0 ≡ id) }
     ensures absent { (objects : List Entry) → leaf_at D page.now ≡ Some objects → result ≡ None
         → All (λ object. object.0 ≢ id) objects }
+    ensures none { result ≡ None → (k : ℕ) → k < number_at 2 2 page.now → (leaf_object D page.now k).0 ≢ id }
 {
     for place in 0..count_at(page) {
         if id_at::<D>(page, place) == id {

@@ -1,12 +1,15 @@
 //! The two kinds of tables, told apart by byte 0 of the first page.
 
-ghost use Rattle.std.specs.Prelude.{◌≡◌, ◌⊎◌, ◌+◌, ◌≤◌, ℕ, IfErr, IfOk};
+ghost use Rattle.std.specs.Prelude.{◌≡◌, ◌⊎◌, ◌+◌, ◌≤◌, ◌↔◌, ℕ, List, Some, IfErr, IfOk};
+ghost use Rattle.block_bytes.specs.Numbers.{number_at};
 ghost use Rattle.box_math.specs.Bounds.{IsDims};
 ghost use Rattle.page_file.specs.Fault.{IsDamage, IsOfDevice};
 ghost use Rattle.page_file.specs.declared.fault.Fault.TheVariants as fault;
-ghost use Rattle.page_cache.specs.Cache.{IsHonest, looks_of, pages};
+ghost use Rattle.page_cache.specs.Cache.{IsHonest, given, looks_of, pages};
 ghost use Rattle.page_cache.specs.Calls.{Asks};
+ghost use Rattle.id_page.specs.Layout.{fork_kind};
 ghost use Rattle.id_table.specs.Table.{IdTable, IdsStand, kind_of, page_of};
+ghost use Rattle.id_table.specs.declared.kind.TableKind.TheVariants.{Tree};
 
 use block_bytes::read_u8;
 use block_device::BlockDevice;
@@ -38,6 +41,8 @@ pub fn kind_at<const D: usize, B: BlockDevice, A: Allocator + Copy>(
     ensures asks { Asks cache.old cache.new result }
     ensures kind { IsHonest cache.old → (t : IdTable) → page_of t ≡ page → IdsStand D (pages cache.old) t
         → IfOk result (λ kind. kind ≡ kind_of t) }
+    ensures byte { IsHonest cache.old → (bytes : List ℕ) → given cache.old page ≡ Some bytes
+        → IfOk result (λ kind. kind ≡ Tree ↔ number_at 1 0 bytes ≡ fork_kind) }
     ensures stands { IsHonest cache.old → (t : IdTable) → page_of t ≡ page → IdsStand D (pages cache.old) t
         → IfErr result IsOfDevice }
     ensures looks { looks_of cache.new ≤ looks_of cache.old + 1 }

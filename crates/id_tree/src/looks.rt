@@ -1,6 +1,6 @@
 //! Looks at the pages of a tree.
 
-ghost use Rattle.std.specs.Prelude.{◌≡◌, ℕ, ◌≤◌, ◌<◌, ◌⊎◌, Some, None, List, length, IfErr, IfOk, IsSomeAnd};
+ghost use Rattle.std.specs.Prelude.{◌≡◌, ◌≢◌, ℕ, ◌≤◌, ◌<◌, ◌⊎◌, Some, None, List, length, IfErr, IfOk, IsSomeAnd};
 ghost use Rattle.std.specs.Prelude.{IfSome, IsSome, OnOk, ◌+◌};
 ghost use Rattle.block_bytes.specs.Numbers.{number_at};
 ghost use Rattle.box_math.specs.Bounds.{IsDims};
@@ -11,7 +11,7 @@ ghost use Rattle.page_cache.specs.Cache.{IsHonest, IsLive, pages, given};
 ghost use Rattle.page_cache.specs.Calls.{Asks};
 ghost use Rattle.id_words.specs.Objects.{kept_in};
 ghost use Rattle.id_page.specs.Fork.{AreAscending, ForkContent, fork_at, link_at, route, route_place};
-ghost use Rattle.id_page.specs.Leaf.{HasLeafHead, leaf_at, most_objects};
+ghost use Rattle.id_page.specs.Leaf.{HasLeafHead, leaf_at, leaf_object, most_objects};
 ghost use Rattle.id_tree.specs.Rows.{IsFoundAt};
 ghost use Rattle.id_tree.specs.Runs.{IsUpto};
 ghost use Rattle.id_tree.specs.Tree.{fork_in, leaf_in};
@@ -135,6 +135,8 @@ fn found_on<const D: usize>(page: &[u8; 4096], id: u64) -> Option<Option<(usize,
     requires dims { IsDims D }
     ensures of_leaf { (objects : List Entry) → leaf_at D page.now ≡ Some objects
         → IsSomeAnd result (IsFoundAt id objects) }
+    ensures absent { result ≡ Some None → (k : ℕ) → k < number_at 2 2 page.now
+        → (leaf_object D page.now k).0 ≢ id }
     ensures head { IsSome result → HasLeafHead D page.now }
 {
     if !has_leaf_head::<D>(page) {
@@ -161,6 +163,9 @@ pub(crate) fn look<const D: usize, B: BlockDevice, A: Allocator + Copy>(
     ensures found { IsHonest cache.old → (objects : List Entry)
         → leaf_in D (pages cache.old number) ≡ Some objects
         → IfOk result (IsFoundAt id objects) }
+    ensures absent { IsHonest cache.old → (bytes : List ℕ) → given cache.old number ≡ Some bytes
+        → IfOk result (λ found. found ≡ None → (k : ℕ) → k < number_at 2 2 bytes
+        → (leaf_object D bytes k).0 ≢ id) }
     ensures leaf { IsHonest cache.old → OnOk result (BeginsAsLeaf D (given cache.old) number) }
     ensures there { IsHonest cache.old → (objects : List Entry)
         → leaf_in D (pages cache.old number) ≡ Some objects

@@ -1,6 +1,6 @@
 //! An object that gets another box.
 
-ghost use Rattle.std.specs.Prelude.{◌≡◌, ◌⊎◌, ℕ, Bool, Some, true, IfErr, OnErr, OnOk};
+ghost use Rattle.std.specs.Prelude.{◌≡◌, ◌⊎◌, ℕ, Bool, Some, true, IfErr, IsErrOf, OnErr, OnOk};
 ghost use Rattle.std.specs.FinMap as map;
 ghost use Rattle.box_math.specs.Bounds.{IsDims};
 ghost use Rattle.box_math.specs.Objects.{Object, tag_of};
@@ -55,6 +55,7 @@ pub fn update<const D: usize, B: BlockDevice, A: Allocator + Copy>(
         → IsLeafPlace t id at.leaf at.place
         → (kept : Object) → map.get (objects_of t) id ≡ Some kept → tag ≡ tag_of kept
         → OnOk result (Sets D (pages cache.old) (pages cache.new) t id (with_box kept bounds.now)) }
+    ensures nowhere { at.leaf ≡ 0 → IsErrOf result (fault.Damaged root) }
     ensures grows { Grows 0 cache.old cache.new }
     ensures faults { IsPageMap cache.old → (t : IdTree) → t.page ≡ root → TreeStands D (pages cache.old) t
         → IsLeafPlace t id at.leaf at.place

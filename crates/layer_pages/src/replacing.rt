@@ -2,7 +2,6 @@
 
 ghost use Rattle.std.specs.Prelude.{◌≡◌, ℕ, IfErr, IfOk};
 ghost use Rattle.std.specs.FinMap as map;
-ghost use Rattle.box_math.specs.Bounds.{IsDims};
 ghost use Rattle.page_file.specs.declared.gate.Gate.TheVariants.{Open};
 ghost use Rattle.page_cache.specs.Cache.{Grows, IsPageMap, gate_of, pages};
 ghost use Rattle.page_cache.specs.Calls.{Changes};
@@ -40,7 +39,6 @@ pub fn replace<const D: usize, B: BlockDevice, A: Allocator + Copy>(
     waiting: &mut Waiting<D>,
     kept: &mut Kept<D>,
 ) -> Result<Root, Fault>
-    requires dims { IsDims D }
     requires open { gate_of cache.old ≡ Open }
     requires root { CanBeRoot layer.root }
     ensures changes { Changes cache.old cache.new result }

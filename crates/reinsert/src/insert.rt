@@ -64,7 +64,6 @@ pub fn insert_with<const D: usize, B: BlockDevice, A: Allocator + Copy>(
     fanout: Fanout,
     waiting: &mut Waiting<D>,
 ) -> Result<Root, Fault>
-    requires dims { IsDims D }
     requires open { gate_of cache.old ≡ Open }
     requires levels { (level ≤ root.level) × (root.level ≤ 40) }
     requires root { (3 ≤ root.page) × (root.page < 2 ^ 31) }
@@ -96,7 +95,6 @@ fn place_one<const D: usize, B: BlockDevice, A: Allocator + Copy>(
     fanout: Fanout,
     waiting: &mut Waiting<D>,
 ) -> Result<Root, Fault>
-    requires dims { IsDims D }
     requires open { gate_of cache.old ≡ Open }
     requires level { root.level ≤ 40 }
     requires root { (3 ≤ root.page) × (root.page < 2 ^ 31) }

@@ -3,7 +3,6 @@
 ghost use Rattle.std.specs.Prelude.{◌≡◌, ◌+◌, ◌<◌, ◌≤◌, ◌++◌, ◌∷◌, [], ⊤, None, All, length};
 ghost use Rattle.std.specs.Prelude.{IfOk, IfErr, IfSome, IsTrue, OnOk, ℕ};
 ghost use Rattle.arrayvec.specs.ArrayVec.{array_vec_len};
-ghost use Rattle.box_math.specs.Bounds.{IsDims};
 ghost use Rattle.page_file.specs.declared.fault.Fault.TheVariants as fault;
 ghost use Rattle.page_file.specs.declared.gate.Gate.TheVariants.{Open};
 ghost use Rattle.page_cache.specs.Cache.{Grows, IsPageMap, gate_of, given, pages};
@@ -39,7 +38,6 @@ pub(crate) fn place<const D: usize, B: BlockDevice, A: Allocator + Copy>(
     limits: Limits,
     waiting: &mut Waiting<D>,
 ) -> Result<Settled<D>, Fault>
-    requires dims { IsDims D }
     requires open { gate_of cache.old ≡ Open }
     requires levels { (target ≤ at.level) × (at.level ≤ limits.top) × (limits.top ≤ 40) }
     requires refers { IsOfLevel target entry.now.reference entry.now.tag }
@@ -89,7 +87,6 @@ fn put_here<const D: usize, B: BlockDevice, A: Allocator + Copy>(
     limits: Limits,
     waiting: &mut Waiting<D>,
 ) -> Result<Settled<D>, Fault>
-    requires dims { IsDims D }
     requires open { gate_of cache.old ≡ Open }
     requires top { (at.level ≤ limits.top) × (limits.top ≤ 40) }
     requires refers { IsOfLevel at.level entry.now.reference entry.now.tag }
@@ -120,7 +117,6 @@ fn read_fitting<const D: usize, B: BlockDevice, A: Allocator + Copy>(
     fanout: Fanout,
     node: &mut Node<D>,
 ) -> Result<(), Fault>
-    requires dims { IsDims D }
     ensures { ReadsFitting fanout.most at cache.old cache.new node.new result }
 {
     read_into(cache, at.page, at.level, node)?;
@@ -147,7 +143,6 @@ fn put_above<const D: usize, B: BlockDevice, A: Allocator + Copy>(
     limits: Limits,
     waiting: &mut Waiting<D>,
 ) -> Result<Settled<D>, Fault>
-    requires dims { IsDims D }
     requires open { gate_of cache.old ≡ Open }
     requires top { (at.level ≤ limits.top) × (limits.top ≤ 40) }
     requires beside { IfSome lower.beside (λ e. IsOfLevel at.level e.reference e.tag) }
@@ -176,7 +171,6 @@ fn put_anew<const D: usize, B: BlockDevice, A: Allocator + Copy>(
     limits: Limits,
     waiting: &mut Waiting<D>,
 ) -> Result<Settled<D>, Fault>
-    requires dims { IsDims D }
     requires open { gate_of cache.old ≡ Open }
     requires top { (at.level ≤ limits.top) × (limits.top ≤ 40) }
     requires beside { IfSome lower.beside (λ e. IsOfLevel at.level e.reference e.tag) }

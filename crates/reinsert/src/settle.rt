@@ -4,7 +4,6 @@ ghost use Rattle.std.specs.Prelude.{◌≡◌, ◌^◌, ◌+◌, ◌<◌, ◌≤
 ghost use Rattle.std.specs.Prelude.{map, IfOk, OnOk};
 ghost use Rattle.std.specs.Prelude.{IfErr, IfSome};
 ghost use Rattle.arrayvec.specs.ArrayVec.{array_vec_len};
-ghost use Rattle.box_math.specs.Bounds.{IsDims};
 ghost use Rattle.page_file.specs.declared.gate.Gate.TheVariants.{Open};
 ghost use Rattle.page_cache.specs.Cache.{Grows, IsLive, IsPageMap, gate_of, pages};
 ghost use Rattle.page_cache.specs.Calls.{Changes};
@@ -45,7 +44,6 @@ pub(crate) fn settle<const D: usize, B: BlockDevice, A: Allocator + Copy>(
     limits: Limits,
     waiting: &mut Waiting<D>,
 ) -> Result<Settled<D>, Fault>
-    requires dims { IsDims D }
     requires open { gate_of cache.old ≡ Open }
     requires top { (node.now.level ≤ limits.top) × (limits.top ≤ 40) }
     requires some { 0 < array_vec_len node.now.entries }
@@ -69,7 +67,6 @@ fn write_fitting<const D: usize, B: BlockDevice, A: Allocator + Copy>(
     page: u32,
     node: &Node<D>,
 ) -> Result<Settled<D>, Fault>
-    requires dims { IsDims D }
     requires open { gate_of cache.old ≡ Open }
     requires some { 0 < array_vec_len node.now.entries }
     requires few { array_vec_len node.now.entries ≤ 100 }
@@ -101,7 +98,6 @@ fn take_out_far<const D: usize, B: BlockDevice, A: Allocator + Copy>(
     fanout: Fanout,
     waiting: &mut Waiting<D>,
 ) -> Result<Settled<D>, Fault>
-    requires dims { IsDims D }
     requires open { gate_of cache.old ≡ Open }
     requires level { node.now.level < 41 }
     requires many { array_vec_len node.now.entries ≡ fanout.most + 1 }
@@ -142,7 +138,6 @@ fn split_off<const D: usize, B: BlockDevice, A: Allocator + Copy>(
     fanout: Fanout,
     waiting: &mut Waiting<D>,
 ) -> Result<Settled<D>, Fault>
-    requires dims { IsDims D }
     requires open { gate_of cache.old ≡ Open }
     requires level { node.now.level < 41 }
     requires many { array_vec_len node.now.entries ≡ fanout.most + 1 }
@@ -193,7 +188,6 @@ fn write_both<const D: usize, B: BlockDevice, A: Allocator + Copy>(
     first: &Node<D>,
     second: &Node<D>,
 ) -> Result<u32, Fault>
-    requires dims { IsDims D }
     requires open { gate_of cache.old ≡ Open }
     requires first { IsSpellable (content_of first.now) }
     requires second { IsSpellable (content_of second.now) }

@@ -2,6 +2,7 @@
 
 ghost use Rattle.std.specs.Prelude.{◌+◌, ◌*◌, ◌≤◌, All};
 ghost use Rattle.arrayvec.specs.ArrayVec.{array_vec_len};
+ghost use Rattle.box_math.specs.Bounds.{IsDims};
 ghost use Rattle.node_bytes.specs.Layout.{IsOfLevel};
 ghost use Rattle.reinsert.specs.Called.{free_levels};
 
@@ -25,6 +26,7 @@ pub struct Waiting<const D: usize> {
     waits: ArrayVec<Wait<D>, 1230>,
     // for each level whether a node on it has overflowed
     called: [bool; 41],
+    pub ghost dims: { IsDims D },
     ghost room: { array_vec_len waits + 30 * free_levels called ≤ 1230 },
     ghost refers: { All (λ w. IsOfLevel w.level w.entry.reference w.entry.tag) waits.items },
 }

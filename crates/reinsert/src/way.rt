@@ -1,7 +1,6 @@
 //! The way of a box down from a node: the child that it goes to, as the node's page tells it.
 
 ghost use Rattle.std.specs.Prelude.{◌≡◌, ◌⊎◌, ◌<◌, ◌≤◌, Some, IfErr, IfOk, length};
-ghost use Rattle.box_math.specs.Bounds.{IsDims};
 ghost use Rattle.page_file.specs.Fault.{IsDamage, IsOfDevice};
 ghost use Rattle.page_file.specs.declared.fault.Fault.TheVariants as fault;
 ghost use Rattle.page_cache.specs.Cache.{IsHonest, given, pages};
@@ -40,7 +39,6 @@ pub(crate) fn way_down<const D: usize, B: BlockDevice, A: Allocator + Copy>(
     bounds: &BBox<D>,
     fanout: Fanout,
 ) -> Result<Way<D>, Fault>
-    requires dims { IsDims D }
     requires above { 0 < at.level }
     ensures asks { Asks cache.old cache.new result }
     ensures way { IsHonest cache.old → (c : NodeContent) → node_in D (pages cache.old at.page) ≡ Some c

@@ -3,6 +3,7 @@
 ghost use Rattle.std.specs.Prelude.{◌≡◌, ◌+◌, ◌≤◌, ◌<◌, ◌++◌, ◌∷◌, [], All, map, reverse, IsNone, IfSome};
 ghost use Rattle.std.specs.Prelude.{IfErr};
 ghost use Rattle.arrayvec.specs.ArrayVec.{array_vec_len};
+ghost use Rattle.box_math.specs.Bounds.{IsDims};
 ghost use Rattle.page_file.specs.declared.fault.Fault.TheVariants as fault;
 ghost use Rattle.node_bytes.specs.Layout.{IsOfLevel};
 ghost use Rattle.reinsert.specs.Placed.{held_with};
@@ -18,6 +19,7 @@ impl<const D: usize> Kept<D> {
     /// Takes the memory for all that removals keep, at once: a box in which nothing is kept. A refusal is
     /// `Memory`.
     pub fn make<H: Allocator>(alloc: H) -> Result<Box<Kept<D>, H>, Fault>
+        requires { IsDims D }
         ensures { IfErr result (λ f. f ≡ fault.Memory) }
     {
         let empty = Kept {

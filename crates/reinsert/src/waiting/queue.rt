@@ -3,6 +3,7 @@
 ghost use Rattle.std.specs.Prelude.{◌≡◌, ◌+◌, ◌<◌, ◌≤◌, ◌++◌, ◌∷◌, [], All, true, false, map, reverse, set};
 ghost use Rattle.std.specs.Prelude.{IsNone, IfSome, IfErr};
 ghost use Rattle.arrayvec.specs.ArrayVec.{array_vec_len};
+ghost use Rattle.box_math.specs.Bounds.{IsDims};
 ghost use Rattle.page_file.specs.declared.fault.Fault.TheVariants as fault;
 ghost use Rattle.node_bytes.specs.Layout.{IsOfLevel};
 ghost use Rattle.reinsert.specs.Called;
@@ -19,6 +20,7 @@ impl<const D: usize> Waiting<D> {
     /// Takes the memory for all that waits in insertions, at once: a box in which nothing waits. A refusal is
     /// `Memory`.
     pub fn make<H: Allocator>(alloc: H) -> Result<Box<Waiting<D>, H>, Fault>
+        requires { IsDims D }
         ensures { IfErr result (λ f. f ≡ fault.Memory) }
     {
         let empty = Waiting {

@@ -98,7 +98,7 @@ put_root-requires g c =
     cut_in_hand c.args.fanout.most c.args.root.level hand became few
     (sym c.is_written.ensures ∙ unwritten) in (
       search rules,
-      (search rules, (search rules, (c.requires.dims, (gate, (c.requires.root, cut))))),
+      (search rules, (search rules, (gate, (c.requires.root, cut)))),
     )
 
 pub returns : goal.returns

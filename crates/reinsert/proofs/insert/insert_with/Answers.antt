@@ -252,4 +252,4 @@ returns-clause-inserts g c = record {
 
 pub place_one-requires-in-Some : goal.place_one-requires-in-Some
 place_one-requires-in-Some g c =
-    (search rules, (search rules, (c.requires.dims, (search rules, (search rules, (search rules, search rules))))))
+    (search rules, (search rules, (search rules, (search rules, (search rules, search rules)))))

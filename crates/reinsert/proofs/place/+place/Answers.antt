@@ -33,12 +33,9 @@ put_here-requires g t c =
         (
           search rules,
           (
-            c.requires.dims,
-            (
               c.requires.open,
               ((omega (arith, c.requires.levels), omega (arith, c.requires.levels)), refers),
             ),
-          ),
         ),
       ),
     )
@@ -124,10 +121,7 @@ place-requires g t c κs within =
                 search rules,
                 (
                   search rules,
-                  (
-                    c.requires.dims,
-                    (gate, (omega (arith, above, c.requires.levels), c.requires.refers)),
-                  ),
+                  (gate, (omega (arith, above, c.requires.levels), c.requires.refers)),
                 ),
               ),
             ),
@@ -194,13 +188,10 @@ put_above-requires g t c =
       (
         search rules,
         (
-          c.requires.dims,
-          (
             c.in_ok-lower.ensures.changes.gate.gate ∙ c.in_ok-way.ensures.asks.gate.gate
                 ∙ c.requires.open,
             ((omega (arith, c.requires.levels), omega (arith, c.requires.levels)), beside),
           ),
-        ),
       ),
     )
 

@@ -83,12 +83,9 @@ put_anew-requires-2 g c =
       (
         search rules,
         (
-          c.requires.dims,
-          (
             asked.gate.gate ∙ c.requires.open,
             (c.requires.top, c.requires.beside),
           ),
-        ),
       ),
     )
 

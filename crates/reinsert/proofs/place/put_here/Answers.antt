@@ -138,8 +138,6 @@ settle-requires g c =
         (
           search rules,
           (
-            c.requires.dims,
-            (
               c.in_ok-read_fitting.ensures.asks.gate.gate ∙ asked.gate.gate ∙ c.requires.open,
               (
                 (omega (arith, level, c.requires.top), omega (arith, c.requires.top)),
@@ -149,7 +147,6 @@ settle-requires g c =
                 ),
               ),
             ),
-          ),
         ),
       ),
     )

@@ -12,8 +12,6 @@ pub write_both-requires : goal.write_both-requires
 write_both-requires g c = (
   search rules,
   (
-    c.requires.dims,
-    (
       c.requires.open,
       (
         spellable_of c.args.node.now.level c.split-first.result.0.items
@@ -28,7 +26,6 @@ write_both-requires g c = (
             c.split-first.ensures.divided.second_is c.requires.refers),
       ),
     ),
-  ),
 )
 
 pub returns-clause-settled : goal.returns-clause-settled

@@ -36,8 +36,6 @@ pub write_node-requires : goal.write_node-requires
 write_node-requires g c = (
   search rules,
   (
-    c.requires.dims,
-    (
       c.requires.open,
       spellable_of c.args.node.now.level c.farthest-near.result.0.items
           (omega (
@@ -51,7 +49,6 @@ write_node-requires g c = (
           (All-part c.args.node.now.level c.args.node.now.entries.items c.farthest-near.result.0.items _
           c.farthest-near.ensures.divided.near_is c.requires.refers),
     ),
-  ),
 )
 
 pub returns-clause-settled : goal.returns-clause-settled

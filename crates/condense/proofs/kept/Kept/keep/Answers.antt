@@ -33,6 +33,7 @@ invariant_of-self g c =
     subst (λ (x : Entry g.row.D). IsOfLevel c.args.level x.reference x.tag) (sym this)
     (c.requires.refers at e (omega (arith, c.loop-passed-test.true, c.len-passed-end.ensures.value))) in
     record {
+      dims = c.loop-passed.self.dims;
       refers = subst (λ xs. All P xs) (sym c.push.ensures.items)
           (All-append P c.loop-passed.self.orphans.items (record { entry = e; level = c.args.level } ∷ [])
           c.loop-passed.self.refers (All-one P (record { entry = e; level = c.args.level }) one));
