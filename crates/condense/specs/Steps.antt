@@ -6,13 +6,14 @@ use Rattle.std.specs.Prelude.{slice_index_or}
 use Rattle.std.specs.List.{Contains}
 use Rattle.std.specs.List.Sorted.{IsPermutation}
 use Rattle.arrayvec.specs.ArrayVec.{array_vec_len}
+use Rattle.block_device.specs.Device.{one_more}
 use Rattle.box_math.specs.Bounds.{Bounds, Within}
 use Rattle.box_math.specs.Objects.{Object, bounds_of, tag_of}
 use Rattle.page_file.specs.Fault.{IsDamage, IsOfDevice}
 use Rattle.page_file.specs.Pages.{SameBut}
 use Rattle.page_file.specs.declared.fault.Fault.{Fault}
 use Rattle.page_file.specs.declared.fault.Fault.TheVariants as fault
-use Rattle.page_cache.specs.Cache.{Grows, IsHonest, IsLive, IsPageMap, given, pages, touched_of}
+use Rattle.page_cache.specs.Cache.{Grows, IsHonest, IsLive, IsPageMap, given, looks_of, pages, touched_of}
 use Rattle.page_cache.specs.Calls.{Asks, AsksUntil, Changes}
 use Rattle.page_cache.specs.declared.cache.PageCache.{PageCache}
 use Rattle.tree_node.specs.Boxes.{RowHasBoxes, box_at}
@@ -36,11 +37,12 @@ use Rattle.condense.specs.declared.kept.Kept.{Kept}
 
 -- ---- a node
 
--- The next child of a node was sought, from a place on, whose box encloses the one that is sought, or this
--- was refused.
+-- The next child of a node was sought in one look, from a place on, whose box encloses the one that is sought,
+-- or this was refused.
 pub record FindsNext {B A : Type 0} {m : _} (dims from : ℕ) (at : Root) (sought : Bounds)
     (old new : PageCache B A m) (result : Result (Option Next) Fault) : Type 0 where
   pub asks : Asks old new result
+  pub looks : OnOk result (looks_of new ≡ one_more (looks_of old))
   pub is_next : IfOk result (λ found. IfSome found (λ next. IsNext at next))
   pub place : IfOk result (λ found. IfSome found (λ next. (from ≤ next.place) × (next.place < 100)))
   pub given_node : IsHonest old → IfOk result (λ found. IfSome found (λ next.
@@ -58,10 +60,11 @@ pub record FindsNext {B A : Type 0} {m : _} (dims from : ℕ) (at : Root) (sough
   pub faults : IsHonest old → IfErr result (λ f. IsOfDevice f ⊎ (f ≡ fault.Damaged at.page))
   pub other_faults : IfErr result (λ f. IsOfDevice f ⊎ IsDamage f)
 
--- The object's first place in a leaf was sought, or this was refused.
+-- The object's first place in a leaf was sought in one look, or this was refused.
 pub record FindsHere {B A : Type 0} {m : _} (dims page id : ℕ) (object : Object) (old new : PageCache B A m)
     (result : Result (Option ℕ) Fault) : Type 0 where
   pub asks : Asks old new result
+  pub looks : OnOk result (looks_of new ≡ one_more (looks_of old))
   pub found : IsHonest old → (c : NodeContent) → node_in dims (pages old page) ≡ Some c
       → IfOk result (λ found. IfSome found (λ at. (d : Item) → (at < length c.entries)
       × (slice_index_or c.entries at d

@@ -12,7 +12,7 @@ use Rattle.std.proofs.lemmas.Option.{slice_get-get_or}
 use Rattle.box_math.specs.Bounds.{Bounds, IsBox, Within, meets_test}
 use Rattle.box_math.specs.Masks.{has_bit}
 use Rattle.box_math.specs.Measures.{near_test}
-use Rattle.box_math.specs.Objects.{Object, bounds_of, tag_of}
+use Rattle.box_math.specs.Objects.{bounds_of, tag_of}
 use Rattle.box_math.proofs.BoxLaws.{Within-refl}
 use Rattle.box_math.proofs.Distances.{box_dist2_of-commutes, near_test_true}
 use Rattle.tree_node.specs.Boxes.{box_at, no_item}
@@ -23,7 +23,7 @@ use Rattle.tree_node.proofs.PositionLemmas.{total-append}
 use Rattle.node_page.specs.Standing.{PageMap, RowStands}
 use Rattle.spatial_join.specs.Masks.{HaveBoxes, Tells}
 use Rattle.spatial_join.specs.Opening.{AllWithin}
-use Rattle.spatial_join.specs.Pairs.{GainsItems, near_below, pairs_of, pairs_with}
+use Rattle.spatial_join.specs.Pairs.{GainsItems, near_below, pairs_of}
 use Rattle.spatial_join.proofs.LeafPairs.{leaf_pairs}
 use Rattle.spatial_join.proofs.MaskLemmas.{column_meets, same_tests}
 use Rattle.spatial_join.proofs.PairLemmas.{fails_below}

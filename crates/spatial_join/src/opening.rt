@@ -84,7 +84,8 @@ pub(crate) fn open_root<const D: usize, B: BlockDevice, A: Allocator + Copy>(
 
 // A node above the given one, which has it as its only entry, or none if it has no box.
 fn above<const D: usize>(node: Root, bounds: Option<BBox<D>>) -> Node<D>
-    requires { node.level < 255 }
+    requires dims { IsDims D }
+    requires level { node.level < 255 }
     ensures level { result.level ≡ node.level + 1 }
     ensures entries { (content_of result).entries ≡ lone bounds.entry node.page }
     ensures few { length result.entries.items ≤ 1 }

@@ -24,6 +24,7 @@ returns-in_err-leaf g c =
       asks = asks_refused c.args.cache.now c.view_node.follows.lender-at-none f r is
           (subst (λ x. AsksUntil c.args.cache.now c.view_node.follows.lender-at-none (fault_in x))
           c.in_err-leaf.was (search rules));
+      looks = search rules;
       found = λ h x there. no_answer r f _ is;
       first = λ h x there. no_answer r f _ is;
       none = λ h x there. no_answer r f _ is;
@@ -46,6 +47,7 @@ returns g c =
     } in
     record {
       asks = search rules;
+      looks = search rules;
       found = λ h x there.
           let same = same_content D m c.args.page view x
           (c.in_ok-leaf.ensures.node h (page_of_node D (m c.args.page) x there)) there in

@@ -31,6 +31,7 @@ returns-in_err-node g c = record {
       c.from_residual.result c.from_residual.ensures.1
       (subst (λ x. AsksUntil c.args.cache.now c.view_node.follows.lender-at-none (fault_in x))
       c.in_err-node.was (search rules));
+  looks = search rules;
   is_next = no_answer c.from_residual.result c.in_err-node.field-0.0 _ c.from_residual.ensures.1;
   place = no_answer c.from_residual.result c.in_err-node.field-0.0 _ c.from_residual.ensures.1;
   given_node = λ h. no_answer c.from_residual.result c.in_err-node.field-0.0 _ c.from_residual.ensures.1;
@@ -52,6 +53,7 @@ returns-in_err-node g c = record {
 pub returns-then-place-len : goal.returns-then-place-len
 returns-then-place-len g c = record {
   asks = search rules;
+  looks = search rules;
   is_next = tt;
   place = tt;
   given_node = λ h. tt;
@@ -82,6 +84,7 @@ returns g c =
     (omega (arith, c.requires.above, c.in_ok-node.ensures.level)) c.entry.ensures in
     record {
       asks = search rules;
+      looks = search rules;
       is_next = record { above = c.requires.above; level = refl; page = down.0 };
       place = (c.next_enclosing-place.ensures.within, omega (arith, within, c.len.ensures.count, c.len.ensures.few));
       given_node = λ h. record {
