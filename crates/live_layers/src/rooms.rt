@@ -1,6 +1,7 @@
 //! Memory that changes of trees work in, kept from one change to the next.
 
 ghost use Rattle.std.specs.Prelude.{◌≡◌, IfErr};
+ghost use Rattle.box_math.specs.Bounds.{IsDims};
 ghost use Rattle.page_file.specs.declared.fault.Fault.TheVariants as fault;
 
 use condense::Kept;
@@ -38,6 +39,7 @@ pub(crate) fn take_waiting<const D: usize, A: Allocator>(
     room: &mut Room<Waiting<D>, A>,
     alloc: A,
 ) -> Result<Box<Waiting<D>, A>, Fault>
+    requires { IsDims D }
     ensures { IfErr result (λ f. f ≡ fault.Memory) }
 {
     match room.take() {
@@ -51,6 +53,7 @@ pub(crate) fn take_kept<const D: usize, A: Allocator>(
     room: &mut Room<Kept<D>, A>,
     alloc: A,
 ) -> Result<Box<Kept<D>, A>, Fault>
+    requires { IsDims D }
     ensures { IfErr result (λ f. f ≡ fault.Memory) }
 {
     match room.take() {

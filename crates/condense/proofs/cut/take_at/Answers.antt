@@ -182,7 +182,7 @@ returns g c =
       changes = asks_changes old new None (asks_in_turn old mid new None first then);
       grows = search rules;
       cut = (
-        subst (λ l. IsCut l (content_of (record { level = now.level; entries = c.remove.new.self }))) ok.level
+        subst (λ l. IsCut l (content_of (record { level = now.level; entries = c.remove.new.self; dims = now.dims }))) ok.level
             (cut_removed now.level now.entries.items c.remove.new.self.items place ok.spellable has.0
             c.remove.ensures.items),
         omega (arith, fewer, has.1, c.least_entries-fewest.ensures.value),

@@ -10,7 +10,7 @@ use Rattle.node_page.specs.Standing.{PageMap}
 use Rattle.node_bytes.specs.Views.{content_in}
 use Rattle.node_page.proofs.NodeLemmas.{at_error}
 use Rattle.node_page.proofs.StandingLemmas.{page_of_node, same_content}
-use Rattle.reinsert.proofs.FaultLemmas.{asks_refused, no_answer}
+use Rattle.reinsert.proofs.FaultLemmas.{asks_refused, no_answer, no_success}
 use Rattle.condense.proofs.RemoveLemmas.{some_both, some_weaker}
 use Rattle.condense.proofs.leaf.find_here.Goals as goal
 
@@ -24,7 +24,7 @@ returns-in_err-leaf g c =
       asks = asks_refused c.args.cache.now c.view_node.follows.lender-at-none f r is
           (subst (λ x. AsksUntil c.args.cache.now c.view_node.follows.lender-at-none (fault_in x))
           c.in_err-leaf.was (search rules));
-      looks = search rules;
+      looks = no_success r f _ is;
       found = λ h x there. no_answer r f _ is;
       first = λ h x there. no_answer r f _ is;
       none = λ h x there. no_answer r f _ is;

@@ -9,7 +9,7 @@ use Rattle.tree_node.specs.Nodes.{Item, NodeContent, item_of}
 use Rattle.node_page.specs.Standing.{PageMap}
 use Rattle.node_bytes.specs.Views.{content_in}
 use Rattle.node_page.proofs.StandingLemmas.{page_of_node, same_content}
-use Rattle.reinsert.proofs.FaultLemmas.{asks_refused, no_answer}
+use Rattle.reinsert.proofs.FaultLemmas.{asks_refused, no_answer, no_success}
 use Rattle.node_page.proofs.NodeLemmas.{at_error}
 use Rattle.std.proofs.lemmas.List.{get_or_default}
 use Rattle.std.specs.Prelude.{◌⊎◌}
@@ -31,7 +31,7 @@ returns-in_err-node g c = record {
       c.from_residual.result c.from_residual.ensures.1
       (subst (λ x. AsksUntil c.args.cache.now c.view_node.follows.lender-at-none (fault_in x))
       c.in_err-node.was (search rules));
-  looks = search rules;
+  looks = no_success c.from_residual.result c.in_err-node.field-0.0 _ c.from_residual.ensures.1;
   is_next = no_answer c.from_residual.result c.in_err-node.field-0.0 _ c.from_residual.ensures.1;
   place = no_answer c.from_residual.result c.in_err-node.field-0.0 _ c.from_residual.ensures.1;
   given_node = λ h. no_answer c.from_residual.result c.in_err-node.field-0.0 _ c.from_residual.ensures.1;

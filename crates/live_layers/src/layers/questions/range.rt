@@ -2,7 +2,6 @@
 
 ghost use Rattle.std.specs.Prelude.{◌≡◌, ◌&&◌, ℕ, List, IfOk, IfErr, OnOk, filter, map as each};
 ghost use Rattle.std.specs.FinMap.{entries};
-ghost use Rattle.box_math.specs.Bounds.{IsDims};
 ghost use Rattle.box_math.specs.Objects.{bounds_of, has_tag};
 ghost use Rattle.box_math.specs.Queries.{admits, seeks};
 ghost use Rattle.plain_table.specs.Answers.{boxes_answer, row_of};
@@ -59,7 +58,6 @@ impl<B: BlockDevice, A: Allocator + Copy> Layers<B, A> {
         query: &Query<D>,
         tag: Option<u32>,
     ) -> Result<Vec<(u64, (BBox<D>, u32)), A>, Refusal>
-        requires dims { IsDims D }
         requires axes { located.now.dims ≡ D }
         ensures rows { (t : Table) (name : List ℕ) → IsSound self.old t →
             IsLocated self.old t name located.now →
