@@ -22,18 +22,19 @@ use tree_node::least;
 
 // The node of these entries.
 fn node_of<const D: usize>(entries: &[Entry<D>], level: u8) -> Node<D>
+    requires dims { IsDims D }
     requires few { length entries.now ≤ 100 }
     ensures level { result.level ≡ level }
     ensures entries { result.entries.items ≡ entries.now }
 {
-    let mut node = Node {
-        level,
-        entries: ArrayVec::new(),
-    };
+    let mut held = ArrayVec::new();
     'entries: for place in 0..entries.len() {
-        node.entries.push(entries[place]);
+        held.push(entries[place]);
     }
-    node
+    Node {
+        level,
+        entries: held,
+    }
 }
 
 /// Writes a node of these entries into a page that was not live, and answers its number. The gate has to be

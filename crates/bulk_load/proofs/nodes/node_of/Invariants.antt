@@ -2,7 +2,6 @@
 use Rattle.std.proofs.Common.{◌≡◌, take}
 use Rattle.bulk_load.proofs.nodes.node_of.Given as goal
 
--- the entries so far are in the node
+-- the entries so far are held
 abbrev pub invariant-entries : goal.invariant-entries
-invariant-entries g l =
-    record { level : l.node.level ≡ l.level; so_far : l.node.entries.items ≡ take l.place l.entries }
+invariant-entries g l = l.held.items ≡ take l.place l.entries
