@@ -48,7 +48,9 @@ pub fn page_of(filler: u8, bytes: Bytes, over: Bytes) -> [u8; 4096] {
 }
 
 // The node of these entries.
-fn node_of<const D: usize>(level: u8, rows: &[Row<D>]) -> Node<D> {
+fn node_of<const D: usize>(level: u8, rows: &[Row<D>]) -> Node<D>
+    requires { IsDims D }
+{
     let mut entries = ArrayVec::new();
     for &(reference, low, high, tag) in rows {
         match BBox::try_new(low, high) {

@@ -145,7 +145,9 @@ fn each_reason_by_itself_makes_no_node(rt: HostRuntime) {
 
 // A leaf of so many entries, with references and tags at the upper end of their ranges and coordinates at
 // both.
-fn leaf_of<const D: usize>(count: u8) -> Node<D> {
+fn leaf_of<const D: usize>(count: u8) -> Node<D>
+    requires { IsDims D }
+{
     let mut entries = ArrayVec::new();
     for k in 0..count {
         let low = i32::MIN + i32::from(k);
@@ -162,9 +164,7 @@ fn leaf_of<const D: usize>(count: u8) -> Node<D> {
 }
 
 // The page of a leaf, over bytes that are not zero.
-fn encoded<const D: usize>(leaf: &Node<D>) -> [u8; 4096]
-    requires { IsDims D }
-{
+fn encoded<const D: usize>(leaf: &Node<D>) -> [u8; 4096] {
     let mut page = [9; 4096];
     if leaf.level == 0 && leaf.entries.len() <= 100 {
         encode(leaf, &mut page);

@@ -55,12 +55,12 @@ insert_with-requires g c =
       (
         search rules,
         (
-            gate,
-            (
-              (omega (arith, c.if-orphan-now.false), c.inserting.invariant.1.low),
-              (c.inserting.invariant.1.page, c.in-Some.ensures.refers),
-            ),
+          gate,
+          (
+            (omega (arith, c.if-orphan-now.false), c.inserting.invariant.1.low),
+            (c.inserting.invariant.1.page, c.in-Some.ensures.refers),
           ),
+        ),
       ),
     )
 

@@ -102,9 +102,9 @@ leave_out-requires g c =
         (
           search rules,
           (
-              ok.asks.gate.gate ∙ c.requires.open,
-              (c.requires.is_next, (cut, (few, c.requires.room))),
-            ),
+            ok.asks.gate.gate ∙ c.requires.open,
+            (c.requires.is_next, (cut, (few, c.requires.room))),
+          ),
         ),
       ),
     )

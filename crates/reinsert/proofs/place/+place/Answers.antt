@@ -33,9 +33,9 @@ put_here-requires g t c =
         (
           search rules,
           (
-              c.requires.open,
-              ((omega (arith, c.requires.levels), omega (arith, c.requires.levels)), refers),
-            ),
+            c.requires.open,
+            ((omega (arith, c.requires.levels), omega (arith, c.requires.levels)), refers),
+          ),
         ),
       ),
     )
@@ -188,10 +188,10 @@ put_above-requires g t c =
       (
         search rules,
         (
-            c.in_ok-lower.ensures.changes.gate.gate ∙ c.in_ok-way.ensures.asks.gate.gate
-                ∙ c.requires.open,
-            ((omega (arith, c.requires.levels), omega (arith, c.requires.levels)), beside),
-          ),
+          c.in_ok-lower.ensures.changes.gate.gate ∙ c.in_ok-way.ensures.asks.gate.gate
+              ∙ c.requires.open,
+          ((omega (arith, c.requires.levels), omega (arith, c.requires.levels)), beside),
+        ),
       ),
     )
 

@@ -83,9 +83,9 @@ put_anew-requires-2 g c =
       (
         search rules,
         (
-            asked.gate.gate ∙ c.requires.open,
-            (c.requires.top, c.requires.beside),
-          ),
+          asked.gate.gate ∙ c.requires.open,
+          (c.requires.top, c.requires.beside),
+        ),
       ),
     )
 

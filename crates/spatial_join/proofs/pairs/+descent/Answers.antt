@@ -71,13 +71,13 @@ add_pairs-add_pairs_of_entry-requires g t c κs within =
                 search rules,
                 (
                   search rules,
+                  (
+                    above,
                     (
-                      above,
-                      (
-                        both_above c.args.left.now.level c.args.right.now.level c.requires.leaves above,
-                        (fits, (c.requires.right_pages, (c.requires.few, told))),
-                      ),
+                      both_above c.args.left.now.level c.args.right.now.level c.requires.leaves above,
+                      (fits, (c.requires.right_pages, (c.requires.few, told))),
                     ),
+                  ),
                 ),
               ),
             ),
@@ -302,13 +302,13 @@ add_pairs_of_entry-add_pairs-requires g t c κs within =
               within.1.1,
               (
                 search rules,
+                (
+                  (leaves, leaves'),
                   (
-                    (leaves, leaves'),
-                    (
-                      c.in_ok-first.ensures.references,
-                      (c.in_ok-second.ensures.references, c.in_ok-second.ensures.few),
-                    ),
+                    c.in_ok-first.ensures.references,
+                    (c.in_ok-second.ensures.references, c.in_ok-second.ensures.few),
                   ),
+                ),
               ),
             ),
           ),

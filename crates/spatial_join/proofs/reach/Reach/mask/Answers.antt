@@ -19,16 +19,16 @@ nearer-requires g c = (
   search rules,
   (
     search rules,
+    (
+      c.requires.few,
       (
-        c.requires.few,
-        (
-          c.requires.boxes,
-          subst (λ (w : Bounds). Tells (meets_test g.row.D w) c.meet_mask-named.result
-              (items_of c.args.node.now.entries.items)) c.widened.ensures.value
-              (tells_entries c.args.lows.now c.args.highs.now c.args.node.now.entries.items c.widened.result
-              c.meet_mask-named.result c.len-count.result c.len-count.ensures.value
-              c.meet_mask-named.ensures c.requires.lows c.requires.highs),
-        ),
+        c.requires.boxes,
+        subst (λ (w : Bounds). Tells (meets_test g.row.D w) c.meet_mask-named.result
+            (items_of c.args.node.now.entries.items)) c.widened.ensures.value
+            (tells_entries c.args.lows.now c.args.highs.now c.args.node.now.entries.items c.widened.result
+            c.meet_mask-named.result c.len-count.result c.len-count.ensures.value
+            c.meet_mask-named.ensures c.requires.lows c.requires.highs),
       ),
+    ),
   ),
 )

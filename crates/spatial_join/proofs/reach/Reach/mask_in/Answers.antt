@@ -20,15 +20,15 @@ nearer_in-requires g c =
       search rules,
       (
         search rules,
+        (
+          c.requires.few,
           (
-            c.requires.few,
-            (
-              c.requires.boxes,
-              subst (λ (w : Bounds). Tells (meets_test g.row.D w) c.mask-named.result items)
-                  c.widened.ensures.value
-                  (tells_viewed g.row.D c.widened.result c.mask-named.result items
-                  c.mask-named.ensures.met c.mask-named.ensures.none),
-            ),
+            c.requires.boxes,
+            subst (λ (w : Bounds). Tells (meets_test g.row.D w) c.mask-named.result items)
+                c.widened.ensures.value
+                (tells_viewed g.row.D c.widened.result c.mask-named.result items
+                c.mask-named.ensures.met c.mask-named.ensures.none),
           ),
+        ),
       ),
     )
