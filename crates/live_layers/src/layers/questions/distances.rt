@@ -2,6 +2,7 @@
 
 ghost use Rattle.std.specs.Prelude.{◌∷◌, [], ◌==◌, not, ℕ, List, OnOk, take};
 ghost use Rattle.std.specs.FinMap.{entries};
+ghost use Rattle.box_math.specs.Bounds.{IsDims};
 ghost use Rattle.nearest.specs.Nearest.{is_searched};
 ghost use Rattle.plain_table.specs.Answers.{distances_answer};
 ghost use Rattle.box_math.specs.Nearest.{by_distance};
@@ -33,6 +34,7 @@ impl<B: BlockDevice, A: Allocator + Copy> Layers<B, A> {
         k: u64,
         point: &[i32; D],
     ) -> Result<Vec<(u64, u128), A>, Refusal>
+        requires { IsDims D }
         ensures replied { (t : Table) (name : List ℕ) → IsSound self.old t →
             IsLocated self.old t name located.now →
             IsReply (Rose self.old self.new)
