@@ -159,27 +159,30 @@ fn add_chain<const D: usize, B: BlockDevice, A: Allocator + Copy, H: Allocator +
         if number == 0 {
             return Ok(());
         }
-        number = add_bucket::<D, B, A, H>(
-            cache,
+        let bucket = Expected {
             number,
             class,
-            walked > 0,
-            visits,
-            &mut seen,
-            pairs,
-        )?;
+            whole: walked > 0,
+        };
+        number = add_bucket::<D, B, A, H>(cache, bucket, visits, &mut seen, pairs)?;
     }
     Err(Fault::Damaged(number))
 }
 
-// Checks the bucket at a page, which has to be full or not, and appends its objects and its page. Answers the
-// page of the next one.
-#[tactic(auto, using(page_cache::specs::Calls::ends_so))]
-fn add_bucket<const D: usize, B: BlockDevice, A: Allocator + Copy, H: Allocator + Copy>(
-    cache: &mut PageCache<B, A>,
+// What the bucket in a page is to be: of objects of this remainder, and full where another one comes before
+// it.
+#[derive(Clone, Copy, Drop)]
+struct Expected {
     number: u32,
     class: usize,
     whole: bool,
+}
+
+// Checks a bucket, and appends its objects and its page. Answers the page of the next one.
+#[tactic(auto, using(page_cache::specs::Calls::ends_so))]
+fn add_bucket<const D: usize, B: BlockDevice, A: Allocator + Copy, H: Allocator + Copy>(
+    cache: &mut PageCache<B, A>,
+    bucket: Expected,
     visits: &mut Visits<H>,
     seen: &mut BTreeSet<u64, H>,
     pairs: &mut Vec<(u64, (BBox<D>, u32)), H>,
@@ -188,22 +191,22 @@ fn add_bucket<const D: usize, B: BlockDevice, A: Allocator + Copy, H: Allocator 
     requires numbers { length visits.old.marks.items ≡ next_of cache.old }
     ensures asks { Asks cache.old cache.new result }
     ensures found { IsHonest cache.old →
-        IfOk result (λ next. AddsBucket D (given cache.old) class number next whole
+        IfOk result (λ next. AddsBucket D (given cache.old) bucket.class bucket.number next bucket.whole
         pairs.old.items pairs.new.items visits.old.pages.items visits.new.pages.items seen.old seen.new) }
-    ensures stands { IsHonest cache.old → (c : BucketContent) → bucket_in D (given cache.old number) ≡ Some c
-        → MayFollow class number whole c visits.old.pages.items seen.old → IfErr result IsOfDevice }
+    ensures stands { IsHonest cache.old → (c : BucketContent) → bucket_in D (given cache.old bucket.number) ≡ Some c
+        → MayFollow bucket.class bucket.number bucket.whole c visits.old.pages.items seen.old → IfErr result IsOfDevice }
     ensures numbers { length visits.new.marks.items ≡ length visits.old.marks.items }
     ensures looks { looks_of cache.new + length visits.old.pages.items
         ≤ looks_of cache.old + length visits.new.pages.items }
-    ensures damage { IsHonest cache.old → IfErr result (λ f. IsOfDevice f ⊎ (f ≡ fault.Damaged number)) }
+    ensures damage { IsHonest cache.old → IfErr result (λ f. IsOfDevice f ⊎ (f ≡ fault.Damaged bucket.number)) }
     ensures other_faults { IfErr result (λ f. IsOfDevice f ⊎ IsDamage f) }
 {
-    come_to(number, visits)?;
-    let page = cache.page(number)?;
-    if !is_in_chain::<D>(page, whole) {
-        return Err(Fault::Damaged(number));
+    come_to(bucket.number, visits)?;
+    let page = cache.page(bucket.number)?;
+    if !is_in_chain::<D>(page, bucket.whole) {
+        return Err(Fault::Damaged(bucket.number));
     }
-    add_objects::<D, H>(page, number, class, seen, pairs)?;
+    add_objects::<D, H>(page, bucket.number, bucket.class, seen, pairs)?;
     Ok(next_at(page))
 }
 

@@ -19,7 +19,7 @@ ghost use Rattle.id_tree.specs.Steps.Step.{adds};
 ghost use Rattle.id_tree.specs.Tidy.{KeepsTidy};
 ghost use Rattle.id_tree.specs.Tree.{IdTree, Row, TreeStands, objects_in, objects_of};
 
-use crate::below::{has_room, look_below};
+use crate::below::{Below, has_room, look_below};
 use crate::looks::step;
 use crate::pushing::push;
 use crate::rooting::{deepen, start};
@@ -185,7 +185,13 @@ fn add_split<const D: usize, B: BlockDevice, A: Allocator + Copy>(
         → IfErr result (IsNoDamage cache.new) }
     ensures other_faults { IfErr result (λ f. IsNoDamage cache.new f ⊎ IsDamage f) }
 {
-    let (half, half_last) = split::<D, B, A>(cache, root, level, 0, child, true, object.0)?;
+    let below = Below {
+        child,
+        place: 0,
+        last: true,
+        room: false,
+    };
+    let (half, half_last) = split::<D, B, A>(cache, root, level, &below, object.0)?;
     add_below(cache, half, level - 1, half_last, object)
 }
 
@@ -228,15 +234,7 @@ pub(crate) fn add_below<const D: usize, B: BlockDevice, A: Allocator + Copy>(
     if below.room {
         return add_below(cache, below.child, level - 1, below.last, object);
     }
-    let (half, half_last) = split::<D, B, A>(
-        cache,
-        page,
-        level,
-        below.place,
-        below.child,
-        below.last,
-        object.0,
-    )?;
+    let (half, half_last) = split::<D, B, A>(cache, page, level, &below, object.0)?;
     add_below(cache, half, level - 1, half_last, object)
 }
 

@@ -42,6 +42,17 @@ pub struct TableFacts<const D: usize, H: Allocator> {
     pub pages: Vec<u32, H>,
 }
 
+// What the node in a page is to be by the fork above it: its level, whether it is at the edge of its tree,
+// where it may have few, and the least and the greatest identifier that it may have.
+#[derive(Clone, Copy, Drop)]
+struct Expected {
+    page: u32,
+    level: u8,
+    edge: bool,
+    low: u64,
+    top: u64,
+}
+
 /// Checks the table with its root at a page, and answers what it holds.
 ///
 /// On an honest device it answers so only where a table stands there, and a refusal is then `Memory` or
@@ -79,19 +90,14 @@ pub fn check_table<const D: usize, B: BlockDevice, A: Allocator + Copy, H: Alloc
         let pages = visits.into_pages();
         return Ok(TableFacts { pairs, pages });
     }
-    let level = level_at(&bytes);
-    add_below::<D, B, A, H>(
-        cache,
-        root,
-        &bytes,
-        level,
-        true,
-        0,
-        u64::MAX,
-        &mut visits,
-        &mut seen,
-        &mut pairs,
-    )?;
+    let node = Expected {
+        page: root,
+        level: level_at(&bytes),
+        edge: true,
+        low: 0,
+        top: u64::MAX,
+    };
+    add_below::<D, B, A, H>(cache, node, &bytes, &mut visits, &mut seen, &mut pairs)?;
     let pages = visits.into_pages();
     Ok(TableFacts { pairs, pages })
 }
@@ -153,64 +159,55 @@ fn is_root<const D: usize>(page: &[u8; 4096]) -> bool
     true
 }
 
-// Checks the node of that level in a page with these bytes, which was visited, whose identifiers are to be
-// from one to another, and all below it, and appends its objects and the pages below it. The flag says
-// whether the node is at the edge of its tree.
+// Checks the node in a page with these bytes, which was visited, and all below it, and appends its objects and
+// the pages below it.
 fn add_below<const D: usize, B: BlockDevice, A: Allocator + Copy, H: Allocator + Copy>(
     cache: &mut PageCache<B, A>,
-    page: u32,
+    node: Expected,
     bytes: &[u8; 4096],
-    level: u8,
-    edge: bool,
-    low: u64,
-    top: u64,
     visits: &mut Visits<H>,
     seen: &mut BTreeSet<u64, H>,
     pairs: &mut Vec<(u64, (BBox<D>, u32)), H>,
 ) -> Result<(), Fault>
     requires dims { IsDims D }
-    requires low_page { 2 < page }
+    requires low_page { 2 < node.page }
     requires numbers { length visits.old.marks.items ≡ next_of cache.old }
     ensures asks { Asks cache.old cache.new result }
-    ensures found { IsHonest cache.old → given cache.old page ≡ Some bytes.now
-        → OnOk result (AddsNode D (given cache.old) page level edge low top pairs.old.items pairs.new.items
-        visits.old.pages.items visits.new.pages.items seen.old seen.new) }
-    ensures stands { IsHonest cache.old → given cache.old page ≡ Some bytes.now → (row : Row)
-        → MayAdd D (given cache.old) page level edge low top row visits.old.pages.items seen.old
-        → IfErr result IsOfDevice }
+    ensures found { IsHonest cache.old → given cache.old node.page ≡ Some bytes.now
+        → OnOk result (AddsNode D (given cache.old) node.page node.level node.edge node.low node.top
+        pairs.old.items pairs.new.items visits.old.pages.items visits.new.pages.items seen.old seen.new) }
+    ensures stands { IsHonest cache.old → given cache.old node.page ≡ Some bytes.now → (row : Row)
+        → MayAdd D (given cache.old) node.page node.level node.edge node.low node.top row
+        visits.old.pages.items seen.old → IfErr result IsOfDevice }
     ensures numbers { length visits.new.marks.items ≡ length visits.old.marks.items }
     ensures looks { looks_of cache.new + length visits.old.pages.items
         ≤ looks_of cache.old + length visits.new.pages.items }
-    ensures damage { IsHonest cache.old → given cache.old page ≡ Some bytes.now
-        → IfErr result (λ f. (n : ℕ) → f ≡ fault.Damaged n → ComesInTree D (given cache.old) page n) }
+    ensures damage { IsHonest cache.old → given cache.old node.page ≡ Some bytes.now
+        → IfErr result (λ f. (n : ℕ) → f ≡ fault.Damaged n → ComesInTree D (given cache.old) node.page n) }
     ensures other_faults { IfErr result (λ f. IsOfDevice f ⊎ IsDamage f) }
 {
-    if level == 0 {
-        return add_leaf::<D, H>(bytes, page, edge, low, top, seen, pairs);
+    if node.level == 0 {
+        return add_leaf::<D, H>(bytes, node, seen, pairs);
     }
-    if !is_fork_of::<D>(bytes, level, edge) {
-        return Err(Fault::Damaged(page));
+    if !is_fork_of::<D>(bytes, node.level, node.edge) {
+        return Err(Fault::Damaged(node.page));
     }
     let count = count_at(bytes);
     for place in 0..count {
-        let Some(range) = range_of(bytes, place, count, low, top) else {
-            return Err(Fault::Damaged(page));
+        let Some(range) = range_of(bytes, place, count, node.low, node.top) else {
+            return Err(Fault::Damaged(node.page));
         };
         let child = page_at(bytes, place);
         come_to(child, visits)?;
         let below = copy_given(cache, child)?;
-        add_below::<D, B, A, H>(
-            cache,
-            child,
-            &below,
-            level - 1,
-            is_last(edge, place, count),
-            range.0,
-            range.1,
-            visits,
-            seen,
-            pairs,
-        )?;
+        let next = Expected {
+            page: child,
+            level: node.level - 1,
+            edge: is_last(node.edge, place, count),
+            low: range.0,
+            top: range.1,
+        };
+        add_below::<D, B, A, H>(cache, next, &below, visits, seen, pairs)?;
     }
     Ok(())
 }
@@ -287,27 +284,24 @@ fn from_of(page: &[u8; 4096], place: usize, low: u64) -> u64
 // not seen before.
 fn add_leaf<const D: usize, H: Allocator + Copy>(
     page: &[u8; 4096],
-    number: u32,
-    edge: bool,
-    low: u64,
-    top: u64,
+    node: Expected,
     seen: &mut BTreeSet<u64, H>,
     pairs: &mut Vec<(u64, (BBox<D>, u32)), H>,
 ) -> Result<(), Fault>
     requires dims { IsDims D }
-    ensures found { OnOk result
-        (FindsLeaf D edge low top page.now pairs.old.items pairs.new.items seen.old seen.new) }
+    ensures found { OnOk result (FindsLeaf D node.edge node.low node.top page.now
+        pairs.old.items pairs.new.items seen.old seen.new) }
     ensures stands { (objects : List Entry) → leaf_at D page.now ≡ Some objects
-        → MayBeLeaf D edge low top objects seen.old → IfErr result (λ f. f ≡ fault.Memory) }
-    ensures faults { IfErr result (λ f. (f ≡ fault.Memory) ⊎ (f ≡ fault.Damaged number)) }
+        → MayBeLeaf D node.edge node.low node.top objects seen.old → IfErr result (λ f. f ≡ fault.Memory) }
+    ensures faults { IfErr result (λ f. (f ≡ fault.Memory) ⊎ (f ≡ fault.Damaged node.page)) }
 {
     if !is_leaf::<D>(page) {
-        return Err(Fault::Damaged(number));
+        return Err(Fault::Damaged(node.page));
     }
-    if !are_enough(count_at(page), edge, least_in_leaf::<D>()) {
-        return Err(Fault::Damaged(number));
+    if !are_enough(count_at(page), node.edge, least_in_leaf::<D>()) {
+        return Err(Fault::Damaged(node.page));
     }
-    add_objects::<D, H>(page, number, low, top, seen, pairs)
+    add_objects::<D, H>(page, node.page, node.low, node.top, seen, pairs)
 }
 
 // How many objects a leaf has at least.

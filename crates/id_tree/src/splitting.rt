@@ -17,6 +17,7 @@ ghost use Rattle.id_tree.specs.Tree.{Row, links_of};
 ghost use Rattle.id_tree.specs.Tidy.{AreAsTidy, IsAsTidy, KeepsTidy};
 ghost use Rattle.id_words.specs.Damage.{MayBreakAt};
 
+use crate::below::Below;
 use crate::giving::give_and_put;
 use crate::halving::{Cut, plan};
 use crate::looks::copy_page;
@@ -32,9 +33,7 @@ pub(crate) fn split<const D: usize, B: BlockDevice, A: Allocator + Copy>(
     cache: &mut PageCache<B, A>,
     page: u32,
     level: u8,
-    place: usize,
-    child: u32,
-    last: bool,
+    below: &Below,
     id: u64,
 ) -> Result<(u32, bool), Fault>
     requires dims { IsDims D }
@@ -42,25 +41,25 @@ pub(crate) fn split<const D: usize, B: BlockDevice, A: Allocator + Copy>(
     requires high { 0 < level }
     ensures changes { Changes cache.old cache.new result }
     ensures made { IsPageMap cache.old → (edge : Bool) (row : Row)
-        → MaySplit D (pages cache.old) page level edge row id child place last → IfOk result (λ r.
+        → MaySplit D (pages cache.old) page level edge row id below.now.child below.now.place below.now.last → IfOk result (λ r.
         MakesRoom D (pages cache.old) (pages cache.new) page level edge row id r.0 r.1) }
     ensures tidy { IsPageMap cache.old → (edge : Bool) (row : Row)
-        → MaySplit D (pages cache.old) page level edge row id child place last
+        → MaySplit D (pages cache.old) page level edge row id below.now.child below.now.place below.now.last
         → OnOk result (KeepsTidy D (pages cache.old) (pages cache.new)) }
     ensures sound { IsPageMap cache.old → (edge : Bool) (row : Row)
-        → MaySplit D (pages cache.old) page level edge row id child place last → IsPageMap cache.new }
+        → MaySplit D (pages cache.old) page level edge row id below.now.child below.now.place below.now.last → IsPageMap cache.new }
     ensures grows { Grows 1 cache.old cache.new }
     ensures faults { IsPageMap cache.old → (edge : Bool) (row : Row)
-        → MaySplit D (pages cache.old) page level edge row id child place last
+        → MaySplit D (pages cache.old) page level edge row id below.now.child below.now.place below.now.last
         → IfErr result (IsNoDamage cache.new) }
     ensures touched { OnOk result (touched_of cache.new ≡ true) }
     ensures damage { IsHonest cache.old → touched_of cache.new ≡ false
         → IfErr result (λ f. (n : ℕ) → f ≡ fault.Damaged n
-        → ((n ≡ page) ⊎ (n ≡ child)) ⊎ MayBreakAt cache.old n) }
+        → ((n ≡ page) ⊎ (n ≡ below.now.child)) ⊎ MayBreakAt cache.old n) }
     ensures other_faults { IfErr result (λ f. IsNoDamage cache.new f ⊎ IsDamage f) }
 {
-    let plan = plan_split::<D, B, A>(cache, page, level, place, child, last, id)?;
-    put_split::<D, B, A>(cache, page, place, child, last, id, &plan)
+    let plan = plan_split::<D, B, A>(cache, page, level, below, id)?;
+    put_split::<D, B, A>(cache, page, below, id, &plan)
 }
 
 /// A split that was looked out: the page of the fork as it is, and the halves of its child.
@@ -76,32 +75,30 @@ fn plan_split<const D: usize, B: BlockDevice, A: Allocator + Copy>(
     cache: &mut PageCache<B, A>,
     page: u32,
     level: u8,
-    place: usize,
-    child: u32,
-    last: bool,
+    below: &Below,
     id: u64,
 ) -> Result<Plan, Fault>
     requires dims { IsDims D }
     requires high { 0 < level }
     ensures asks { Asks cache.old cache.new result }
     ensures fork { IsHonest cache.old → (edge : Bool) (row : Row)
-        → MaySplit D (pages cache.old) page level edge row id child place last → IfOk result (λ plan.
+        → MaySplit D (pages cache.old) page level edge row id below.now.child below.now.place below.now.last → IfOk result (λ plan.
         fork_at D plan.fork ≡ Some (record { level = level; links = links_of row })) }
     ensures cuts { IsHonest cache.old → (edge : Bool) (row : Row)
-        → (may : MaySplit D (pages cache.old) page level edge row id child place last) → IfOk result (λ plan.
-        Cuts D (level - 1) last may.way.below plan.cut.key plan.cut.first plan.cut.second) }
+        → (may : MaySplit D (pages cache.old) page level edge row id below.now.child below.now.place below.now.last) → IfOk result (λ plan.
+        Cuts D (level - 1) below.now.last may.way.below plan.cut.key plan.cut.first plan.cut.second) }
     ensures tidy_fork { IsHonest cache.old → (edge : Bool) (row : Row)
-        → MaySplit D (pages cache.old) page level edge row id child place last
+        → MaySplit D (pages cache.old) page level edge row id below.now.child below.now.place below.now.last
         → IfOk result (λ plan. IsAsTidy D (pages cache.old) plan.fork) }
     ensures tidy_cut { IsHonest cache.old → (edge : Bool) (row : Row)
-        → MaySplit D (pages cache.old) page level edge row id child place last
+        → MaySplit D (pages cache.old) page level edge row id below.now.child below.now.place below.now.last
         → IfOk result (λ plan. AreAsTidy D (pages cache.old) plan.cut.first plan.cut.second) }
-    ensures within { IfOk result (λ plan. place < number_at 2 2 plan.fork) }
+    ensures within { IfOk result (λ plan. below.now.place < number_at 2 2 plan.fork) }
     ensures room { IfOk result (λ plan. number_at 2 2 plan.fork < 340) }
     ensures there { IsHonest cache.old → (edge : Bool) (row : Row)
-        → MaySplit D (pages cache.old) page level edge row id child place last → IfErr result IsOfDevice }
+        → MaySplit D (pages cache.old) page level edge row id below.now.child below.now.place below.now.last → IfErr result IsOfDevice }
     ensures damage { IsHonest cache.old → IfErr result (λ f. (n : ℕ) → f ≡ fault.Damaged n
-        → (n ≡ page) ⊎ (n ≡ child)) }
+        → (n ≡ page) ⊎ (n ≡ below.now.child)) }
     ensures other_faults { IfErr result (λ f. IsOfDevice f ⊎ IsDamage f) }
 {
     let fork = copy_page(cache, page)?;
@@ -109,10 +106,10 @@ fn plan_split<const D: usize, B: BlockDevice, A: Allocator + Copy>(
     if count >= MOST_CHILDREN {
         return Err(Fault::Damaged(page));
     }
-    if place >= count {
+    if below.place >= count {
         return Err(Fault::Damaged(page));
     }
-    let cut = plan::<D, B, A>(cache, child, level - 1, last, id)?;
+    let cut = plan::<D, B, A>(cache, below.child, level - 1, below.last, id)?;
     Ok(Plan { fork, cut })
 }
 
@@ -120,40 +117,38 @@ fn plan_split<const D: usize, B: BlockDevice, A: Allocator + Copy>(
 fn put_split<const D: usize, B: BlockDevice, A: Allocator + Copy>(
     cache: &mut PageCache<B, A>,
     page: u32,
-    place: usize,
-    child: u32,
-    last: bool,
+    below: &Below,
     id: u64,
     plan: &Plan,
 ) -> Result<(u32, bool), Fault>
     requires open { gate_of cache.old ≡ Open }
-    requires within { place < number_at 2 2 plan.now.fork }
+    requires within { below.now.place < number_at 2 2 plan.now.fork }
     requires room { number_at 2 2 plan.now.fork < 340 }
     ensures changes { Changes cache.old cache.new result }
     ensures made { IsPageMap cache.old → (level : ℕ) (edge : Bool) (row : Row)
-        → (may : MaySplit D (pages cache.old) page level edge row id child place last)
+        → (may : MaySplit D (pages cache.old) page level edge row id below.now.child below.now.place below.now.last)
         → fork_at D plan.now.fork ≡ Some (record { level = level; links = links_of row })
-        → Cuts D (level - 1) last may.way.below plan.now.cut.key plan.now.cut.first plan.now.cut.second
+        → Cuts D (level - 1) below.now.last may.way.below plan.now.cut.key plan.now.cut.first plan.now.cut.second
         → IfOk result (λ r. MakesRoom D (pages cache.old) (pages cache.new) page level edge row id r.0 r.1) }
-    ensures tidy { IsPageMap cache.old → IsLive cache.old child → IsLive cache.old page → ¬ (page ≡ child)
+    ensures tidy { IsPageMap cache.old → IsLive cache.old below.now.child → IsLive cache.old page → ¬ (page ≡ below.now.child)
         → (c : ForkContent) → fork_at D plan.now.fork ≡ Some c → IsAsTidy D (pages cache.old) plan.now.fork
         → AreAsTidy D (pages cache.old) plan.now.cut.first plan.now.cut.second
         → OnOk result (KeepsTidy D (pages cache.old) (pages cache.new)) }
-    ensures sound { IsPageMap cache.old → IsLive cache.old child → IsLive cache.old page → ¬ (page ≡ child)
+    ensures sound { IsPageMap cache.old → IsLive cache.old below.now.child → IsLive cache.old page → ¬ (page ≡ below.now.child)
         → IsPageMap cache.new }
     ensures grows { Grows 1 cache.old cache.new }
-    ensures faults { IsPageMap cache.old → IsLive cache.old child → IsLive cache.old page → ¬ (page ≡ child)
+    ensures faults { IsPageMap cache.old → IsLive cache.old below.now.child → IsLive cache.old page → ¬ (page ≡ below.now.child)
         → IfErr result (IsNoDamage cache.new) }
     ensures touched { OnOk result (touched_of cache.new ≡ true) }
     ensures damage { IsHonest cache.old → touched_of cache.new ≡ false
         → IfErr result (λ f. (n : ℕ) → f ≡ fault.Damaged n → MayBreakAt cache.old n) }
     ensures other_faults { IfErr result (λ f. IsNoDamage cache.new f ⊎ IsDamage f) }
 {
-    let number = put_cut::<D, B, A>(cache, page, &plan.fork, place + 1, child, &plan.cut)?;
+    let number = put_cut::<D, B, A>(cache, page, &plan.fork, below.place + 1, below.child, &plan.cut)?;
     if id < plan.cut.key {
-        return Ok((child, false));
+        return Ok((below.child, false));
     }
-    Ok((number, last))
+    Ok((number, below.last))
 }
 
 // Puts both halves of a child, and names the second one in a place of its fork.

@@ -16,7 +16,7 @@ use Rattle.id_chains.proofs.check.add_bucket.Goals as goal
 pub returns-then-not-is_in_chain-clause-stands : goal.returns-then-not-is_in_chain-clause-stands
 returns-then-not-is_in_chain-clause-stands g c = λ h content there follows.
     let is =
-    bucket_bytes g.row.D (given c.args.cache.now c.args.number) c.in_ok-page.page.now content
+    bucket_bytes g.row.D (given c.args.cache.now c.args.bucket.number) c.in_ok-page.page.now content
     (c.in_ok-page.ensures.given_bytes h) there in
     let s = spells g.row.D c.in_ok-page.page.now content is in
     let good =
@@ -42,14 +42,14 @@ returns-clause-found g c = λ h.
 
 pub returns-in_err-come_to-clause-damage : goal.returns-in_err-come_to-clause-damage
 returns-in_err-come_to-clause-damage g c = λ h.
-    let n = c.args.number in
+    let n = c.args.bucket.number in
     at_error c.from_residual.result c.in_err-come_to.field-0.0 (λ f. IsOfDevice f ⊎ (f ≡ fault.Damaged n))
     c.from_residual.ensures.1
     (damaged_or_memory c.in_err-come_to.field-0.0 n c.in_err-come_to.ensures.faults)
 
 pub returns-in_err-page-clause-damage : goal.returns-in_err-page-clause-damage
 returns-in_err-page-clause-damage g c = λ h.
-    let n = c.args.number in
+    let n = c.args.bucket.number in
     at_error c.from_residual-in_err-page.result c.in_err-page.field-0.0
     (λ f. IsOfDevice f ⊎ (f ≡ fault.Damaged n)) c.from_residual-in_err-page.ensures.1
     (page_refused n (next_of c.args.cache.now) c.in_err-page.field-0.0 (c.in_err-page.ensures.faults h)
@@ -57,7 +57,7 @@ returns-in_err-page-clause-damage g c = λ h.
 
 pub returns-in_err-add_objects-clause-damage : goal.returns-in_err-add_objects-clause-damage
 returns-in_err-add_objects-clause-damage g c = λ h.
-    let n = c.args.number in
+    let n = c.args.bucket.number in
     at_error c.from_residual-in_err-add_objects.result c.in_err-add_objects.field-0.0
     (λ f. IsOfDevice f ⊎ (f ≡ fault.Damaged n)) c.from_residual-in_err-add_objects.ensures.1
     (damaged_or_memory c.in_err-add_objects.field-0.0 n c.in_err-add_objects.ensures.faults)

@@ -20,44 +20,44 @@ use Rattle.id_tree.proofs.GivenLemmas.{comes_below, comes_here, comes_so, leaf_a
 use Rattle.id_tree.proofs.NodeLemmas.{fork_bytes, leaf_bytes}
 use Rattle.id_tree.proofs.check.+add_below.Goals as goal
 
-pub returns-then-level-eq0-clause-asks : goal.returns-then-level-eq0-clause-asks
-returns-then-level-eq0-clause-asks g t c = leaf_asks c.args.cache.now c.args.page c.add_leaf.result
+pub returns-then-node-eq0-clause-asks : goal.returns-then-node-eq0-clause-asks
+returns-then-node-eq0-clause-asks g t c = leaf_asks c.args.cache.now c.args.node.page c.add_leaf.result
     c.add_leaf.ensures.faults
 
-pub returns-then-level-eq0-clause-found : goal.returns-then-level-eq0-clause-found
-returns-then-level-eq0-clause-found g t c = λ h there.
+pub returns-then-node-eq0-clause-found : goal.returns-then-node-eq0-clause-found
+returns-then-node-eq0-clause-found g t c = λ h there.
     on_ok c.add_leaf.result
-    (leaf_adds g.row.D (given c.args.cache.now) c.args.page c.args.level c.args.edge c.args.low c.args.top
+    (leaf_adds g.row.D (given c.args.cache.now) c.args.node.page c.args.node.level c.args.node.edge c.args.node.low c.args.node.top
     c.args.bytes.now c.args.pairs.now.items c.add_leaf.new.pairs.items c.args.visits.now.pages.items
     c.args.seen.now c.add_leaf.new.seen
-    c.if-level-eq0.true c.requires.low_page there)
+    c.if-node-eq0.true c.requires.low_page there)
     c.add_leaf.ensures.found
 
-pub returns-then-level-eq0-clause-stands : goal.returns-then-level-eq0-clause-stands
-returns-then-level-eq0-clause-stands g t c = λ h there row may.
+pub returns-then-node-eq0-clause-stands : goal.returns-then-node-eq0-clause-stands
+returns-then-node-eq0-clause-stands g t c = λ h there row may.
     let m = given c.args.cache.now in
-    let is = leaf_bytes g.row.D (m c.args.page) c.args.bytes.now (objects_in row) there
-    (may.stands.node.leaf c.if-level-eq0.true) in
+    let is = leaf_bytes g.row.D (m c.args.node.page) c.args.bytes.now (objects_in row) there
+    (may.stands.node.leaf c.if-node-eq0.true) in
     if_error c.add_leaf.result (λ (f : Fault). f ≡ fault.Memory) IsOfDevice (λ f is. inl is)
     (c.add_leaf.ensures.stands (objects_in row) is
-    (may_be_leaf g.row.D m c.args.page c.args.level c.args.edge c.args.low c.args.top row
-    c.args.visits.now.pages.items c.args.seen.now c.if-level-eq0.true may))
+    (may_be_leaf g.row.D m c.args.node.page c.args.node.level c.args.node.edge c.args.node.low c.args.node.top row
+    c.args.visits.now.pages.items c.args.seen.now c.if-node-eq0.true may))
 
 pub returns-then-not-is_fork_of-clause-stands : goal.returns-then-not-is_fork_of-clause-stands
 returns-then-not-is_fork_of-clause-stands g t c = λ h there row may.
     let m = given c.args.cache.now in
-    let high : 0 < c.args.level = omega (arith, c.if-level-eq0.false) in
-    let content : ForkContent = record { level = c.args.level; links = links_of row } in
-    let is = fork_bytes g.row.D (m c.args.page) c.args.bytes.now content there (may.stands.node.fork high) in
+    let high : 0 < c.args.node.level = omega (arith, c.if-node-eq0.false) in
+    let content : ForkContent = record { level = c.args.node.level; links = links_of row } in
+    let is = fork_bytes g.row.D (m c.args.node.page) c.args.bytes.now content there (may.stands.node.fork high) in
     let yes = c.is_fork_of.ensures.accepts (links_of row) is
-    (some_links g.row.D m c.args.level row high may.stands.below may.stands.some)
+    (some_links g.row.D m c.args.node.level row high may.stands.below may.stands.some)
     (λ off. (may.stands.large off).fork high) in
     absurd (cc)
 
 pub loop-place-init : goal.loop-place-init
 loop-place-init g t c = record {
   asks = no_call_asks c.args.cache.now;
-  found = λ h f. adds_none g.row.D (given c.args.cache.now) c.args.level c.args.edge c.args.low c.args.top
+  found = λ h f. adds_none g.row.D (given c.args.cache.now) c.args.node.level c.args.node.edge c.args.node.low c.args.node.top
       f.links c.args.pairs.now.items c.args.visits.now.pages.items c.args.seen.now f.some;
   numbers = refl;
   looks = omega arith;
@@ -66,23 +66,23 @@ loop-place-init g t c = record {
 pub returns-in_default-clause-stands : goal.returns-in_default-clause-stands
 returns-in_default-clause-stands g t c = λ h there row may.
     let D = g.row.D in
-    let level = c.args.level in
-    let edge = c.args.edge in
-    let low = c.args.low in
-    let top = c.args.top in
+    let level = c.args.node.level in
+    let edge = c.args.node.edge in
+    let low = c.args.node.low in
+    let top = c.args.node.top in
     let place = c.loop-place.place in
     let inv = c.loop-place.invariant in
     let m = given c.args.cache.now in
-    let high : 0 < level = omega (arith, c.if-level-eq0.false) in
+    let high : 0 < level = omega (arith, c.if-node-eq0.false) in
     let f = c.is_fork_of.ensures.fork c.if-not-is_fork_of.false in
     let content : ForkContent = record { level = level; links = f.links } in
     let count : c.count_at-count.result ≡ length f.links = c.count_at-count.ensures.of_fork D content f.is in
     let within : place < length f.links = omega (arith, c.loop-place-test.true, count) in
     let so = inv.found h f in
-    let links = links_found D m c.args.page level row c.args.bytes.now f.links high may.stands.node there
+    let links = links_found D m c.args.node.page level row c.args.bytes.now f.links high may.stands.node there
     f.is in
     let none = λ (other : Link). c.range_of.ensures.none c.in_default.is D content other in
-    absurd (no_zero D m c.args.page level edge low top row f.links place c.args.pairs.now.items
+    absurd (no_zero D m c.args.node.page level edge low top row f.links place c.args.pairs.now.items
     c.loop-place.pairs.items c.args.visits.now.pages.items c.loop-place.visits.pages.items c.args.seen.now
     c.loop-place.seen (get_or f.links place some_link).1
     high may links within so refl (omega (arith, (none some_link f.is count).0, count))
@@ -102,14 +102,14 @@ returns-in_err-come_to-clause-other_faults g t c =
 pub returns-in_err-come_to-clause-stands : goal.returns-in_err-come_to-clause-stands
 returns-in_err-come_to-clause-stands g t c = λ h there row may.
     let D = g.row.D in
-    let level = c.args.level in
-    let edge = c.args.edge in
-    let low = c.args.low in
-    let top = c.args.top in
+    let level = c.args.node.level in
+    let edge = c.args.node.edge in
+    let low = c.args.node.low in
+    let top = c.args.node.top in
     let place = c.loop-place.place in
     let inv = c.loop-place.invariant in
     let m = given c.args.cache.now in
-    let high : 0 < level = omega (arith, c.if-level-eq0.false) in
+    let high : 0 < level = omega (arith, c.if-node-eq0.false) in
     let f = c.is_fork_of.ensures.fork c.if-not-is_fork_of.false in
     let content : ForkContent = record { level = level; links = f.links } in
     let count : c.count_at-count.result ≡ length f.links = c.count_at-count.ensures.of_fork D content f.is in
@@ -118,9 +118,9 @@ returns-in_err-come_to-clause-stands g t c = λ h there row may.
     let p = c.page_at-child.result in
     let p_is = c.page_at-child.ensures.of_fork D content some_link f.is within in
     let range = c.in-Some.ensures.range D content f.is count in
-    let links = links_found D m c.args.page level row c.args.bytes.now f.links high may.stands.node there
+    let links = links_found D m c.args.node.page level row c.args.bytes.now f.links high may.stands.node there
     f.is in
-    let next = next_may D m c.args.page level edge low top row f.links place c.args.pairs.now.items
+    let next = next_may D m c.args.node.page level edge low top row f.links place c.args.pairs.now.items
     c.loop-place.pairs.items c.args.visits.now.pages.items c.loop-place.visits.pages.items c.args.seen.now
     c.loop-place.seen p
     high may links within so p_is (c.loop-place.visits.pages.items ++ p ∷ []) c.in-Some.range.0
@@ -145,14 +145,14 @@ returns-in_err-below-clause-looks g t c =
 pub returns-in_err-below-clause-stands : goal.returns-in_err-below-clause-stands
 returns-in_err-below-clause-stands g t c = λ h there row may.
     let D = g.row.D in
-    let level = c.args.level in
-    let edge = c.args.edge in
-    let low = c.args.low in
-    let top = c.args.top in
+    let level = c.args.node.level in
+    let edge = c.args.node.edge in
+    let low = c.args.node.low in
+    let top = c.args.node.top in
     let place = c.loop-place.place in
     let inv = c.loop-place.invariant in
     let m = given c.args.cache.now in
-    let high : 0 < level = omega (arith, c.if-level-eq0.false) in
+    let high : 0 < level = omega (arith, c.if-node-eq0.false) in
     let f = c.is_fork_of.ensures.fork c.if-not-is_fork_of.false in
     let content : ForkContent = record { level = level; links = f.links } in
     let count : c.count_at-count.result ≡ length f.links = c.count_at-count.ensures.of_fork D content f.is in
@@ -161,9 +161,9 @@ returns-in_err-below-clause-stands g t c = λ h there row may.
     let p = c.page_at-child.result in
     let p_is = c.page_at-child.ensures.of_fork D content some_link f.is within in
     let range = c.in-Some.ensures.range D content f.is count in
-    let links = links_found D m c.args.page level row c.args.bytes.now f.links high may.stands.node there
+    let links = links_found D m c.args.node.page level row c.args.bytes.now f.links high may.stands.node there
     f.is in
-    let next = next_may D m c.args.page level edge low top row f.links place c.args.pairs.now.items
+    let next = next_may D m c.args.node.page level edge low top row f.links place c.args.pairs.now.items
     c.loop-place.pairs.items c.args.visits.now.pages.items c.loop-place.visits.pages.items c.args.seen.now
     c.loop-place.seen p
     high may links within so p_is (c.loop-place.visits.pages.items ++ p ∷ []) c.in-Some.range.0
@@ -184,14 +184,14 @@ returns-in_err-add_below-clause-asks g t c =
 pub returns-in_err-add_below-clause-stands : goal.returns-in_err-add_below-clause-stands
 returns-in_err-add_below-clause-stands g t c = λ h there row may.
     let D = g.row.D in
-    let level = c.args.level in
-    let edge = c.args.edge in
-    let low = c.args.low in
-    let top = c.args.top in
+    let level = c.args.node.level in
+    let edge = c.args.node.edge in
+    let low = c.args.node.low in
+    let top = c.args.node.top in
     let place = c.loop-place.place in
     let inv = c.loop-place.invariant in
     let m = given c.args.cache.now in
-    let high : 0 < level = omega (arith, c.if-level-eq0.false) in
+    let high : 0 < level = omega (arith, c.if-node-eq0.false) in
     let f = c.is_fork_of.ensures.fork c.if-not-is_fork_of.false in
     let content : ForkContent = record { level = level; links = f.links } in
     let count : c.count_at-count.result ≡ length f.links = c.count_at-count.ensures.of_fork D content f.is in
@@ -200,9 +200,9 @@ returns-in_err-add_below-clause-stands g t c = λ h there row may.
     let p = c.page_at-child.result in
     let p_is = c.page_at-child.ensures.of_fork D content some_link f.is within in
     let range = c.in-Some.ensures.range D content f.is count in
-    let links = links_found D m c.args.page level row c.args.bytes.now f.links high may.stands.node there
+    let links = links_found D m c.args.node.page level row c.args.bytes.now f.links high may.stands.node there
     f.is in
-    let next = next_may D m c.args.page level edge low top row f.links place c.args.pairs.now.items
+    let next = next_may D m c.args.node.page level edge low top row f.links place c.args.pairs.now.items
     c.loop-place.pairs.items c.args.visits.now.pages.items c.loop-place.visits.pages.items c.args.seen.now
     c.loop-place.seen p
     high may links within so p_is c.come_to.new.visits.pages.items c.in-Some.range.0 c.in-Some.range.1 range
@@ -235,12 +235,12 @@ loop-place-preserved g t c =
           c.in_ok-add_below.ensures.asks;
       found = λ h f.
           let D = g.row.D in
-          let level = c.args.level in
-          let edge = c.args.edge in
+          let level = c.args.node.level in
+          let edge = c.args.node.edge in
           let place = c.loop-place.place in
           let m = given c.args.cache.now in
           let p = c.page_at-child.result in
-          let high : 0 < level = omega (arith, c.if-level-eq0.false) in
+          let high : 0 < level = omega (arith, c.if-node-eq0.false) in
           let content : ForkContent = record { level = level; links = f.links } in
           let count : c.count_at-count.result ≡ length f.links =
           c.count_at-count.ensures.of_fork D content f.is in
@@ -259,7 +259,7 @@ loop-place-preserved g t c =
           c.come_to.new.visits.pages.items c.add_below.new.visits.pages.items c.loop-place.seen
           c.add_below.new.seen (λ n. a.map.given_stay h n)
           (c.in_ok-add_below.ensures.found (a.gate.honest.0 h) there_now)) in
-          adds_more D m level edge c.args.low c.args.top f.links place c.args.pairs.now.items
+          adds_more D m level edge c.args.node.low c.args.node.top f.links place c.args.pairs.now.items
           c.loop-place.pairs.items c.add_below.new.pairs.items c.args.visits.now.pages.items
           c.loop-place.visits.pages.items c.come_to.new.visits.pages.items
           c.add_below.new.visits.pages.items c.args.seen.now c.loop-place.seen c.add_below.new.seen p
@@ -272,10 +272,10 @@ loop-place-preserved g t c =
 pub returns-clause-found : goal.returns-clause-found
 returns-clause-found g t c = λ h there.
     let D = g.row.D in
-    let high : 0 < c.args.level = omega (arith, c.if-level-eq0.false) in
+    let high : 0 < c.args.node.level = omega (arith, c.if-node-eq0.false) in
     let f = c.is_fork_of.ensures.fork c.if-not-is_fork_of.false in
-    let count = c.count_at-count.ensures.of_fork D (record { level = c.args.level; links = f.links }) f.is in
-    adds_all D (given c.args.cache.now) c.args.page c.args.level c.args.edge c.args.low c.args.top
+    let count = c.count_at-count.ensures.of_fork D (record { level = c.args.node.level; links = f.links }) f.is in
+    adds_all D (given c.args.cache.now) c.args.node.page c.args.node.level c.args.node.edge c.args.node.low c.args.node.top
     c.args.bytes.now c.loop-place.place c.args.pairs.now.items c.loop-place.pairs.items
     c.args.visits.now.pages.items c.loop-place.visits.pages.items c.args.seen.now
     c.loop-place.seen high c.requires.low_page there f (omega (arith, count, c.loop-place-test.false))
@@ -283,34 +283,34 @@ returns-clause-found g t c = λ h there.
 
 -- ---- what is damaged
 
-pub returns-then-level-eq0-clause-damage : goal.returns-then-level-eq0-clause-damage
-returns-then-level-eq0-clause-damage g t c = λ h there.
-    if_error c.add_leaf.result (λ (f : Fault). (f ≡ fault.Memory) ⊎ (f ≡ fault.Damaged c.args.page))
-    (λ f. (n : ℕ) → f ≡ fault.Damaged n → ComesInTree g.row.D (given c.args.cache.now) c.args.page n)
-    (λ f either n damaged. comes_here g.row.D (given c.args.cache.now) c.args.page n
-    (damaged_visit f c.args.page n either damaged)) c.add_leaf.ensures.faults
+pub returns-then-node-eq0-clause-damage : goal.returns-then-node-eq0-clause-damage
+returns-then-node-eq0-clause-damage g t c = λ h there.
+    if_error c.add_leaf.result (λ (f : Fault). (f ≡ fault.Memory) ⊎ (f ≡ fault.Damaged c.args.node.page))
+    (λ f. (n : ℕ) → f ≡ fault.Damaged n → ComesInTree g.row.D (given c.args.cache.now) c.args.node.page n)
+    (λ f either n damaged. comes_here g.row.D (given c.args.cache.now) c.args.node.page n
+    (damaged_visit f c.args.node.page n either damaged)) c.add_leaf.ensures.faults
 
 pub returns-then-not-is_fork_of-clause-damage : goal.returns-then-not-is_fork_of-clause-damage
 returns-then-not-is_fork_of-clause-damage g t c =
-    λ h there n (damaged : fault.Damaged c.args.page ≡ fault.Damaged n). comes_here g.row.D
-    (given c.args.cache.now) c.args.page n (cc)
+    λ h there n (damaged : fault.Damaged c.args.node.page ≡ fault.Damaged n). comes_here g.row.D
+    (given c.args.cache.now) c.args.node.page n (cc)
 
 pub returns-in_default-clause-damage : goal.returns-in_default-clause-damage
-returns-in_default-clause-damage g t c = λ h there n (damaged : fault.Damaged c.args.page ≡ fault.Damaged n).
-    comes_here g.row.D (given c.args.cache.now) c.args.page n (cc)
+returns-in_default-clause-damage g t c = λ h there n (damaged : fault.Damaged c.args.node.page ≡ fault.Damaged n).
+    comes_here g.row.D (given c.args.cache.now) c.args.node.page n (cc)
 
 pub returns-in_err-come_to-clause-damage : goal.returns-in_err-come_to-clause-damage
 returns-in_err-come_to-clause-damage g t c = λ h there.
     at_error c.from_residual.result c.in_err-come_to.field-0.0
-    (λ f. (n : ℕ) → f ≡ fault.Damaged n → ComesInTree g.row.D (given c.args.cache.now) c.args.page n)
+    (λ f. (n : ℕ) → f ≡ fault.Damaged n → ComesInTree g.row.D (given c.args.cache.now) c.args.node.page n)
     c.from_residual.ensures.1 (λ n damaged.
     let f = c.is_fork_of.ensures.fork c.if-not-is_fork_of.false in
-    let content : ForkContent = record { level = c.args.level; links = f.links } in
+    let content : ForkContent = record { level = c.args.node.level; links = f.links } in
     let count : c.count_at-count.result ≡ length f.links =
     c.count_at-count.ensures.of_fork g.row.D content f.is in
     let within : c.loop-place.place < length f.links = omega (arith, c.loop-place-test.true, count) in
     let named = λ (other : Link). c.page_at-child.ensures.of_fork g.row.D content other f.is within in
-    let below = comes_below g.row.D (given c.args.cache.now) c.args.page c.args.level c.args.bytes.now f.links
+    let below = comes_below g.row.D (given c.args.cache.now) c.args.node.page c.args.node.level c.args.bytes.now f.links
     c.loop-place.place c.page_at-child.result n there f.is within named in
     below (comes_here g.row.D (given c.args.cache.now) c.page_at-child.result n
     (damaged_visit c.in_err-come_to.field-0.0 c.page_at-child.result n c.in_err-come_to.ensures.faults
@@ -319,15 +319,15 @@ returns-in_err-come_to-clause-damage g t c = λ h there.
 pub returns-in_err-below-clause-damage : goal.returns-in_err-below-clause-damage
 returns-in_err-below-clause-damage g t c = λ h there.
     at_error c.from_residual-in_err-below.result c.in_err-below.field-0.0
-    (λ f. (n : ℕ) → f ≡ fault.Damaged n → ComesInTree g.row.D (given c.args.cache.now) c.args.page n)
+    (λ f. (n : ℕ) → f ≡ fault.Damaged n → ComesInTree g.row.D (given c.args.cache.now) c.args.node.page n)
     c.from_residual-in_err-below.ensures.1 (λ n damaged.
     let f = c.is_fork_of.ensures.fork c.if-not-is_fork_of.false in
-    let content : ForkContent = record { level = c.args.level; links = f.links } in
+    let content : ForkContent = record { level = c.args.node.level; links = f.links } in
     let count : c.count_at-count.result ≡ length f.links =
     c.count_at-count.ensures.of_fork g.row.D content f.is in
     let within : c.loop-place.place < length f.links = omega (arith, c.loop-place-test.true, count) in
     let named = λ (other : Link). c.page_at-child.ensures.of_fork g.row.D content other f.is within in
-    let below = comes_below g.row.D (given c.args.cache.now) c.args.page c.args.level c.args.bytes.now f.links
+    let below = comes_below g.row.D (given c.args.cache.now) c.args.node.page c.args.node.level c.args.bytes.now f.links
     c.loop-place.place c.page_at-child.result n there f.is within named in
     below (comes_here g.row.D (given c.args.cache.now) c.page_at-child.result n
     (damaged_read c.in_err-below.field-0.0 c.page_at-child.result n
@@ -336,15 +336,15 @@ returns-in_err-below-clause-damage g t c = λ h there.
 pub returns-in_err-add_below-clause-damage : goal.returns-in_err-add_below-clause-damage
 returns-in_err-add_below-clause-damage g t c = λ h there.
     at_error c.from_residual-in_err-add_below.result c.in_err-add_below.field-0.0
-    (λ f. (n : ℕ) → f ≡ fault.Damaged n → ComesInTree g.row.D (given c.args.cache.now) c.args.page n)
+    (λ f. (n : ℕ) → f ≡ fault.Damaged n → ComesInTree g.row.D (given c.args.cache.now) c.args.node.page n)
     c.from_residual-in_err-add_below.ensures.1 (λ n damaged.
     let f = c.is_fork_of.ensures.fork c.if-not-is_fork_of.false in
-    let content : ForkContent = record { level = c.args.level; links = f.links } in
+    let content : ForkContent = record { level = c.args.node.level; links = f.links } in
     let count : c.count_at-count.result ≡ length f.links =
     c.count_at-count.ensures.of_fork g.row.D content f.is in
     let within : c.loop-place.place < length f.links = omega (arith, c.loop-place-test.true, count) in
     let named = λ (other : Link). c.page_at-child.ensures.of_fork g.row.D content other f.is within in
-    let below = comes_below g.row.D (given c.args.cache.now) c.args.page c.args.level c.args.bytes.now f.links
+    let below = comes_below g.row.D (given c.args.cache.now) c.args.node.page c.args.node.level c.args.bytes.now f.links
     c.loop-place.place c.page_at-child.result n there f.is within named in
     let inv = c.loop-place.invariant in
     let a = asks_in_turn c.args.cache.now c.loop-place.cache c.copy_given.new.cache None inv.asks

@@ -95,18 +95,18 @@ returns-in_err-add_below-clause-stands g c = λ h t at stands.
     let content : ForkContent = record { level = t.level; links = links_of t.row } in
     let is = fork_bytes D (m t.page) c.in_ok-bytes.bytes content (ap m at ∙ c.in_ok-bytes.ensures.bytes h)
     (there.root.fork there.high) in
-    let level = c.level_at-level.ensures.of_fork D content is in
+    let level = c.level_at.ensures.of_fork D content is in
     let count = c.count_at-count.ensures.of_fork D content is in
     let list = c.in_ok-come_to.ensures.added ∙ ap (λ (xs : List ℕ). xs ++ root ∷ [])
     c.in_ok-visits.ensures.none in
-    let may = may_add_root D m t root c.level_at-level.result c.come_to.new.visits.pages.items
+    let may = may_add_root D m t root c.level_at.result c.come_to.new.visits.pages.items
     c.new-seen.result there at (sym level) (omega (arith, count, c.if-count-eq0.false)) list
     (λ id. none_seen c.new-seen.result id c.new-seen.ensures.empty) in
     at_error c.from_residual-in_err-add_below.result c.in_err-add_below.field-0.0 IsOfDevice
     c.from_residual-in_err-add_below.ensures.1
     (c.in_err-add_below.ensures.stands (a.gate.honest.0 h)
     (a.map.given_stay h root ∙ c.in_ok-bytes.ensures.bytes h) t.row
-    (may_on D m (given c.copy_given.new.cache) root c.level_at-level.result true 0 18446744073709551615 t.row
+    (may_on D m (given c.copy_given.new.cache) root c.level_at.result true 0 18446744073709551615 t.row
     c.come_to.new.visits.pages.items c.new-seen.result (λ n. a.map.given_stay h n) may))
 
 pub returns-clause-asks : goal.returns-clause-asks
@@ -124,15 +124,15 @@ returns-clause-given_table g c = λ h.
     c.in_ok-visits.ensures.none in
     let found = c.in_ok-add_below.ensures.found (a.gate.honest.0 h)
     (a.map.given_stay h root ∙ c.in_ok-bytes.ensures.bytes h) in
-    let node = node_on D m (given c.copy_given.new.cache) root c.level_at-level.result true 0
+    let node = node_on D m (given c.copy_given.new.cache) root c.level_at.result true 0
     18446744073709551615 c.new-pairs.result.items c.add_below.new.pairs.items
     c.come_to.new.visits.pages.items c.add_below.new.visits.pages.items c.new-seen.result
     c.add_below.new.seen (λ n. a.map.given_stay h n) found in
     let node1 =
     subst (λ l. AddsNode D m root l true 0 18446744073709551615 [] c.add_below.new.pairs.items
     c.come_to.new.visits.pages.items c.add_below.new.visits.pages.items c.new-seen.result
-    c.add_below.new.seen) c.level_at-level.ensures.value
-    (subst (λ (es : List Entry). AddsNode D m root c.level_at-level.result true 0 18446744073709551615 es
+    c.add_below.new.seen) c.level_at.ensures.value
+    (subst (λ (es : List Entry). AddsNode D m root c.level_at.result true 0 18446744073709551615 es
     c.add_below.new.pairs.items c.come_to.new.visits.pages.items c.add_below.new.visits.pages.items
     c.new-seen.result c.add_below.new.seen)
     c.new-pairs.ensures.items node) in

@@ -36,22 +36,22 @@ returns-then-count-ge-MOST_CHILDREN-clause-there g c = λ h edge row may.
       c.if-count-ge-MOST_CHILDREN.true,
     ))
 
-pub returns-then-place-count-clause-there : goal.returns-then-place-count-clause-there
-returns-then-place-count-clause-there g c = λ h edge row may.
+pub returns-then-below-count-clause-there : goal.returns-then-below-count-clause-there
+returns-then-below-count-clause-there g c = λ h edge row may.
     let old = pages c.args.cache.now in
     let there =
     c.in_ok-fork.ensures.bytes h (node_there g.row.D old c.args.page c.args.level row may.stands.node) in
     let is = fork_bytes g.row.D (old c.args.page) c.in_ok-fork.fork
     (record { level = c.args.level; links = links_of row }) there (may.stands.node.fork may.high) in
-    let within = place_within g.row.D old c.args.page c.args.level edge row c.args.id c.args.child
-    c.args.place c.args.last may in
+    let within = place_within g.row.D old c.args.page c.args.level edge row c.args.id c.args.below.now.child
+    c.args.below.now.place c.args.below.now.last may in
     absurd (omega (
       arith,
       count_of_fork g.row.D c.in_ok-fork.fork
           (record { level = c.args.level; links = links_of row }) is,
       within,
       c.count_at-count.ensures.value,
-      c.if-place-count.true,
+      c.if-below-count.true,
     ))
 
 pub returns-in_err-cut-clause-there : goal.returns-in_err-cut-clause-there
@@ -59,8 +59,8 @@ returns-in_err-cut-clause-there g c = λ h edge row may.
     let old = pages c.args.cache.now in
     let mid = pages c.copy_page.new.cache in
     let asks = c.in_ok-fork.ensures.asks in
-    let halve = may_halve_same g.row.D old mid c.args.page c.args.level edge row c.args.id c.args.child
-    c.args.place c.args.last (asks.map.pages_stay h) may in
+    let halve = may_halve_same g.row.D old mid c.args.page c.args.level edge row c.args.id c.args.below.now.child
+    c.args.below.now.place c.args.below.now.last (asks.map.pages_stay h) may in
     at_error c.from_residual-in_err-cut.result c.in_err-cut.field-0.0 IsOfDevice
     c.from_residual-in_err-cut.ensures.1
     (c.in_err-cut.ensures.there (asks.gate.honest.0 h) may.way.below halve)
@@ -78,8 +78,8 @@ returns-clause-cuts g c = λ h edge row may.
     let old = pages c.args.cache.now in
     let mid = pages c.copy_page.new.cache in
     let asks = c.in_ok-fork.ensures.asks in
-    let halve = may_halve_same g.row.D old mid c.args.page c.args.level edge row c.args.id c.args.child
-    c.args.place c.args.last (asks.map.pages_stay h) may in
+    let halve = may_halve_same g.row.D old mid c.args.page c.args.level edge row c.args.id c.args.below.now.child
+    c.args.below.now.place c.args.below.now.last (asks.map.pages_stay h) may in
     c.in_ok-cut.ensures.cuts (asks.gate.honest.0 h) may.way.below halve
 
 pub returns-clause-tidy_fork : goal.returns-clause-tidy_fork
@@ -98,15 +98,15 @@ returns-clause-tidy_cut g c = λ h edge row may.
     let old = pages c.args.cache.now in
     let mid = pages c.copy_page.new.cache in
     let asks = c.in_ok-fork.ensures.asks in
-    let halve = may_halve_same D old mid c.args.page c.args.level edge row c.args.id c.args.child c.args.place
-    c.args.last (asks.map.pages_stay h) may in
+    let halve = may_halve_same D old mid c.args.page c.args.level edge row c.args.id c.args.below.now.child c.args.below.now.place
+    c.args.below.now.last (asks.map.pages_stay h) may in
     both_tidy_back D old mid c.in_ok-cut.cut.first c.in_ok-cut.cut.second (asks.map.pages_stay h)
     (c.in_ok-cut.ensures.tidy (asks.gate.honest.0 h) may.way.below halve)
 
 pub returns-in_err-fork-clause-damage : goal.returns-in_err-fork-clause-damage
 returns-in_err-fork-clause-damage g c = λ h.
     at_error c.from_residual.result c.in_err-fork.field-0.0
-    (λ e. (n : ℕ) → e ≡ fault.Damaged n → (n ≡ c.args.page) ⊎ (n ≡ c.args.child))
+    (λ e. (n : ℕ) → e ≡ fault.Damaged n → (n ≡ c.args.page) ⊎ (n ≡ c.args.below.now.child))
     c.from_residual.ensures.1
     (λ n damaged. inl
     (damaged_read c.in_err-fork.field-0.0 c.args.page n (c.in_err-fork.ensures.damage h) damaged))
@@ -115,15 +115,15 @@ pub returns-then-count-ge-MOST_CHILDREN-clause-damage : goal.returns-then-count-
 returns-then-count-ge-MOST_CHILDREN-clause-damage g c =
     λ h n (damaged : fault.Damaged c.args.page ≡ fault.Damaged n). inl (damaged_is c.args.page n damaged)
 
-pub returns-then-place-count-clause-damage : goal.returns-then-place-count-clause-damage
-returns-then-place-count-clause-damage g c = λ h n (damaged : fault.Damaged c.args.page ≡ fault.Damaged n).
+pub returns-then-below-count-clause-damage : goal.returns-then-below-count-clause-damage
+returns-then-below-count-clause-damage g c = λ h n (damaged : fault.Damaged c.args.page ≡ fault.Damaged n).
     inl (damaged_is c.args.page n damaged)
 
 pub returns-in_err-cut-clause-damage : goal.returns-in_err-cut-clause-damage
 returns-in_err-cut-clause-damage g c = λ h.
     let honest = c.in_ok-fork.ensures.asks.gate.honest.0 h in
     at_error c.from_residual-in_err-cut.result c.in_err-cut.field-0.0
-    (λ e. (n : ℕ) → e ≡ fault.Damaged n → (n ≡ c.args.page) ⊎ (n ≡ c.args.child))
+    (λ e. (n : ℕ) → e ≡ fault.Damaged n → (n ≡ c.args.page) ⊎ (n ≡ c.args.below.now.child))
     c.from_residual-in_err-cut.ensures.1
     (λ n damaged. inr
-    (damaged_read c.in_err-cut.field-0.0 c.args.child n (c.in_err-cut.ensures.damage honest) damaged))
+    (damaged_read c.in_err-cut.field-0.0 c.args.below.now.child n (c.in_err-cut.ensures.damage honest) damaged))

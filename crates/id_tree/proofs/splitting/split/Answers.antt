@@ -33,8 +33,8 @@ returns-clause-made g c = λ map edge row may.
     let new = pages c.put_split.new.cache in
     let asks = c.in_ok-plan.ensures.asks in
     let same = asks.map.pages_stay map.honest in
-    let again = split_again D old mid c.args.page c.args.level edge row c.args.id c.args.child c.args.place
-    c.args.last same may in
+    let again = split_again D old mid c.args.page c.args.level edge row c.args.id c.args.below.now.child c.args.below.now.place
+    c.args.below.now.last same may in
     if_ok c.put_split.result (λ r. MakesRoom D mid new c.args.page c.args.level edge row c.args.id r.0 r.1)
     (λ r. MakesRoom D old new c.args.page c.args.level edge row c.args.id r.0 r.1)
     (λ r m. makes_from D old mid new c.args.page c.args.level edge row c.args.id r.0 r.1 same m)
@@ -50,11 +50,11 @@ returns-clause-sound g c = λ map edge row may.
     let asks = c.in_ok-plan.ensures.asks in
     let same = asks.map.pages_stay map.honest in
     c.put_split.ensures.sound (asks.map.sound.0 map)
-    (live_same old mid c.args.child same
-    (child_live D old c.args.page c.args.level edge row c.args.id c.args.child c.args.place c.args.last
+    (live_same old mid c.args.below.now.child same
+    (child_live D old c.args.page c.args.level edge row c.args.id c.args.below.now.child c.args.below.now.place c.args.below.now.last
     may))
     (live_same old mid c.args.page same (node_there D old c.args.page c.args.level row may.stands.node))
-    (page_apart D old c.args.page c.args.level edge c.args.id c.args.child row may.high may.stands may.way)
+    (page_apart D old c.args.page c.args.level edge c.args.id c.args.below.now.child row may.high may.stands may.way)
 
 pub returns-clause-faults : goal.returns-clause-faults
 returns-clause-faults g c = λ map edge row may.
@@ -64,11 +64,11 @@ returns-clause-faults g c = λ map edge row may.
     let asks = c.in_ok-plan.ensures.asks in
     let same = asks.map.pages_stay map.honest in
     (c.put_split.ensures.faults (asks.map.sound.0 map)
-    (live_same old mid c.args.child same
-    (child_live D old c.args.page c.args.level edge row c.args.id c.args.child c.args.place c.args.last
+    (live_same old mid c.args.below.now.child same
+    (child_live D old c.args.page c.args.level edge row c.args.id c.args.below.now.child c.args.below.now.place c.args.below.now.last
     may))
     (live_same old mid c.args.page same (node_there D old c.args.page c.args.level row may.stands.node))
-    (page_apart D old c.args.page c.args.level edge c.args.id c.args.child row may.high may.stands may.way))
+    (page_apart D old c.args.page c.args.level edge c.args.id c.args.below.now.child row may.high may.stands may.way))
 
 pub returns-clause-tidy : goal.returns-clause-tidy
 returns-clause-tidy g c = λ map edge row may.
@@ -80,11 +80,11 @@ returns-clause-tidy g c = λ map edge row may.
     let plan = c.in_ok-plan.plan in
     tidy_from c.put_split.result D old mid (pages c.put_split.new.cache) same
     (c.put_split.ensures.tidy (asks.map.sound.0 map)
-    (live_same old mid c.args.child same
-    (child_live D old c.args.page c.args.level edge row c.args.id c.args.child c.args.place c.args.last
+    (live_same old mid c.args.below.now.child same
+    (child_live D old c.args.page c.args.level edge row c.args.id c.args.below.now.child c.args.below.now.place c.args.below.now.last
     may))
     (live_same old mid c.args.page same (node_there D old c.args.page c.args.level row may.stands.node))
-    (page_apart D old c.args.page c.args.level edge c.args.id c.args.child row may.high may.stands may.way)
+    (page_apart D old c.args.page c.args.level edge c.args.id c.args.below.now.child row may.high may.stands may.way)
     (record { level = c.args.level; links = links_of row })
     (c.in_ok-plan.ensures.fork map.honest edge row may)
     (as_tidy_on D old mid plan.fork same (c.in_ok-plan.ensures.tidy_fork map.honest edge row may))
@@ -94,7 +94,7 @@ returns-clause-tidy g c = λ map edge row may.
 pub returns-in_err-plan-clause-damage : goal.returns-in_err-plan-clause-damage
 returns-in_err-plan-clause-damage g c = λ h none.
     at_error c.from_residual.result c.in_err-plan.field-0.0
-    (λ e. (n : ℕ) → e ≡ fault.Damaged n → ((n ≡ c.args.page) ⊎ (n ≡ c.args.child))
+    (λ e. (n : ℕ) → e ≡ fault.Damaged n → ((n ≡ c.args.page) ⊎ (n ≡ c.args.below.now.child))
     ⊎ MayBreakAt c.args.cache.now n)
     c.from_residual.ensures.1 (λ n damaged. inl (c.in_err-plan.ensures.damage h n damaged))
 
@@ -102,7 +102,7 @@ pub returns-clause-damage : goal.returns-clause-damage
 returns-clause-damage g c = λ h none.
     let asks = c.in_ok-plan.ensures.asks in
     if_err c.put_split.result (λ e. (n : ℕ) → e ≡ fault.Damaged n → MayBreakAt c.plan_split.new.cache n)
-    (λ e. (n : ℕ) → e ≡ fault.Damaged n → ((n ≡ c.args.page) ⊎ (n ≡ c.args.child))
+    (λ e. (n : ℕ) → e ≡ fault.Damaged n → ((n ≡ c.args.page) ⊎ (n ≡ c.args.below.now.child))
     ⊎ MayBreakAt c.args.cache.now n)
     (λ e breaks n damaged. inr
     (breaks_kept c.args.cache.now c.plan_split.new.cache n asks.map h (breaks n damaged)))
