@@ -298,6 +298,9 @@ module _ (dims : ℕ) (old : PageMap) (t : IdTree) (root leaf id : ℕ) (at : t.
   pub has_only : Has id t.row → Has id only.below
   has_only there none = there (ap (kept_in id) row_objects ∙ none)
 
+  pub only_has : Has id only.below → Has id t.row
+  only_has there none = there (sym (ap (kept_in id) row_objects) ∙ none)
+
   pub few_only : length (objects_in only.below) ≤ 1 → length (objects_in t.row) ≤ 1
   few_only few = omega (arith, few, ap length row_objects)
 

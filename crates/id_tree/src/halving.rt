@@ -1,6 +1,6 @@
 //! Where a full node is cut in two.
 
-ghost use Rattle.std.specs.Prelude.{◌≡◌, ◌<◌, ◌≤◌, ◌⊎◌, ◌+◌, ℕ, Bool, List, Some, false, IfErr, IfOk};
+ghost use Rattle.std.specs.Prelude.{◌≡◌, ◌<◌, ◌≤◌, ◌⊎◌, ◌+◌, ◌/◌, ℕ, Bool, List, length, Some, false, IfErr, IfOk};
 ghost use Rattle.block_bytes.specs.Numbers.{number_at};
 ghost use Rattle.box_math.specs.Bounds.{IsDims};
 ghost use Rattle.bucket_page.specs.Layout.{Entry};
@@ -12,6 +12,7 @@ ghost use Rattle.id_page.specs.Fork.{ForkContent, fork_at, IsTidyFork};
 ghost use Rattle.id_page.specs.Leaf.{leaf_at, most_objects, IsTidyLeaf};
 ghost use Rattle.id_words.specs.Objects.{times_in};
 ghost use Rattle.id_tree.specs.Cutting.{Cuts, CutsFork, CutsLeaf};
+ghost use Rattle.id_tree.specs.Halving.{under_key};
 ghost use Rattle.id_tree.specs.Steps.{MayHalve};
 ghost use Rattle.id_tree.specs.Tree.{Row, least_objects};
 ghost use Rattle.id_tree.specs.Tidy.{AreAsTidy};
@@ -94,6 +95,8 @@ fn objects_kept<const D: usize>(page: &[u8; 4096], edge: bool, id: u64) -> usize
     ensures large { least_objects D ≤ result }
     ensures some { result < most_objects D }
     ensures rest { edge ≡ false → result + least_objects D ≤ most_objects D }
+    ensures half { (objects : List Entry) → leaf_at D page.now ≡ Some objects
+        → length (under_key id objects) < most_objects D → result ≡ most_objects D / 2 }
 {
     let most = objects_that_fit::<D>();
     if edge {

@@ -235,6 +235,8 @@ fn remove_only<const D: usize, B: BlockDevice, A: Allocator + Copy>(
         → IsPageMap cache.new }
     ensures removed { IsPageMap cache.old → (t : IdTree) → t.page ≡ root → IsOnly D (pages cache.old) t leaf
         → Has id t.row → OnOk result (Removes D (pages cache.old) (pages cache.new) t id) }
+    ensures there { IsPageMap cache.old → (t : IdTree) → t.page ≡ root → IsOnly D (pages cache.old) t leaf
+        → OnOk result (Has id t.row) }
     ensures grows { Grows 0 cache.old cache.new }
     ensures faults { IsPageMap cache.old → (t : IdTree) → t.page ≡ root → IsOnly D (pages cache.old) t leaf
         → Has id t.row → IfErr result IsOfDevice }
@@ -268,6 +270,8 @@ fn remove_last<const D: usize, B: BlockDevice, A: Allocator + Copy>(
     ensures removed { IsPageMap cache.old → (t : IdTree) → t.page ≡ root → IsOnly D (pages cache.old) t leaf
         → Has id t.row → length (objects_in t.row) ≤ 1
         → OnOk result (Removes D (pages cache.old) (pages cache.new) t id) }
+    ensures there { IsPageMap cache.old → (t : IdTree) → t.page ≡ root → IsOnly D (pages cache.old) t leaf
+        → OnOk result (Has id t.row) }
     ensures grows { Grows 0 cache.old cache.new }
     ensures faults { IsPageMap cache.old → (t : IdTree) → t.page ≡ root → IsOnly D (pages cache.old) t leaf
         → Has id t.row → IfErr result IsOfDevice }

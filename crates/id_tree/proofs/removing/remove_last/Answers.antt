@@ -6,7 +6,8 @@ use Rattle.node_page.proofs.NodeLemmas.{at_error, on_ok}
 use Rattle.id_tree.specs.Rows.{IsFoundAt}
 use Rattle.id_tree.specs.Tree.{objects_in}
 use Rattle.id_tree.proofs.RemoveLemmas.{has_only, leaf_stands, may_free_only, only_same, removes_from}
-use Rattle.id_tree.proofs.RemoveLemmas.{removes_last}
+use Rattle.id_tree.proofs.RemoveLemmas.{only_has, has_found, removes_last}
+use Rattle.id_words.proofs.Results.{on_done}
 use Rattle.id_tree.proofs.TidyLemmas.{fork_node, tidy_from}
 use Rattle.page_file.specs.declared.fault.Fault.TheVariants as fault
 use Rattle.node_page.proofs.DamageLemmas.{damaged_read}
@@ -99,3 +100,12 @@ returns-clause-damage g c = λ h none.
     (λ e. (n : ℕ) → e ≡ fault.Damaged n → (n ≡ c.args.leaf) ⊎ (n ≡ c.args.root))
     (λ f either n damaged. inr (damaged_read f c.args.root n either damaged))
     (c.put_and_free.ensures.damage (c.in_ok-found.ensures.asks.gate.honest.0 h) none)
+
+pub returns-clause-there : goal.returns-clause-there
+returns-clause-there g c = λ map t at only.
+    let old = pages c.args.cache.now in
+    let stands = leaf_stands g.row.D old t c.args.root c.args.leaf c.args.id at only in
+    let found = subst (IsFoundAt c.args.id (objects_in only.below)) c.in-Some.is
+    (c.in_ok-found.ensures.found map.honest (objects_in only.below) (stands.node.leaf refl)) in
+    on_done c.put_and_free.result (λ x done. only_has g.row.D old t c.args.root c.args.leaf c.args.id at only
+    (has_found c.args.id only.below _ _ found))

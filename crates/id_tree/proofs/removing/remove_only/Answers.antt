@@ -7,7 +7,7 @@ use Rattle.id_tree.specs.Tree.{objects_in}
 use Rattle.id_tree.proofs.AddLemmas.{leaf_counted}
 use Rattle.id_tree.proofs.NodeLemmas.{node_there, there_bytes}
 use Rattle.id_tree.proofs.RemoveLemmas.{few_only, has_only, leaf_stands, may_shrink_only, only_same}
-use Rattle.id_tree.proofs.RemoveLemmas.{removes_from, removes_only}
+use Rattle.id_tree.proofs.RemoveLemmas.{only_has, removes_from, removes_only}
 use Rattle.id_tree.proofs.TidyLemmas.{tidy_from}
 use Rattle.page_file.specs.declared.fault.Fault.TheVariants as fault
 use Rattle.node_page.proofs.DamageLemmas.{damaged_read}
@@ -172,3 +172,30 @@ returns-then-count-gt1-clause-damage g c = λ h none.
 pub returns-clause-damage : goal.returns-clause-damage
 returns-clause-damage g c = λ h none. c.remove_last.ensures.damage
     (c.in_ok-count.ensures.asks.gate.honest.0 h) none
+
+pub returns-then-count-gt1-clause-there : goal.returns-then-count-gt1-clause-there
+returns-then-count-gt1-clause-there g c = λ map t at only.
+    let D = g.row.D in
+    let root = c.args.root in
+    let leaf = c.args.leaf in
+    let id = c.args.id in
+    let old = pages c.args.cache.now in
+    let mid = pages c.count_in.new.cache in
+    let asks = c.in_ok-count.ensures.asks in
+    let same = asks.map.pages_stay map.honest in
+    let map1 = asks.map.sound.0 map in
+    let one = only_same D old mid t leaf same only in
+    let node = (leaf_stands D old t root leaf id at only).node in
+    let bytes = there_bytes D old leaf 0 only.below node in
+    let count = c.in_ok-count.ensures.count map.honest bytes.0 bytes.1 in
+    let long = leaf_counted D old leaf 0 only.below bytes.0 node refl bytes.1 in
+    let many : 1 < length (objects_in only.below) = omega (arith, count, long, c.if-count-gt1.true) in
+    let may = may_shrink_only D mid t root leaf id at one many in
+    on_ok c.take_in.result (only_has D mid t root leaf id at one) (c.take_in.ensures.there map1 only.below may)
+
+pub returns-clause-there : goal.returns-clause-there
+returns-clause-there g c = λ map t at only.
+    let asks = c.in_ok-count.ensures.asks in
+    c.remove_last.ensures.there (asks.map.sound.0 map) t at
+    (only_same g.row.D (pages c.args.cache.now) (pages c.count_in.new.cache) t c.args.leaf
+    (asks.map.pages_stay map.honest) only)
