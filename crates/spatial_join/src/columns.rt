@@ -1,24 +1,43 @@
 //! The boxes of a node in columns, as `meet_mask` takes them, and the places that a mask names.
 
 ghost use Rattle.std.specs.Prelude.{◌≡◌, ℕ, ◌<◌, ◌≤◌, true, false, IfSome, IfNone, length};
-ghost use Rattle.box_math.specs.Bounds.{on_axis};
+ghost use Rattle.box_math.specs.Bounds.{meets_test, on_axis};
 ghost use Rattle.box_math.specs.Masks.{has_bit};
 ghost use Rattle.tree_node.specs.Boxes.{box_at};
 ghost use Rattle.tree_node.specs.Nodes.{items_of};
 ghost use Rattle.node_bytes.specs.Columns.{cell};
-ghost use Rattle.spatial_join.specs.Masks.{HaveBoxes};
+ghost use Rattle.spatial_join.specs.Masks.{HaveBoxes, Tells};
 
+use box_math::{BBox, meet_mask};
 use node_page::Node;
 
-/// The lows and the highs of a node's entries, 100 at most: a column for each axis, each number in the place
-/// of its entry.
-pub(crate) fn columns_of<const D: usize>(node: &Node<D>) -> ([[i32; 100]; D], [[i32; 100]; D])
+/// A node beside its boxes in columns: a column for each axis, with each number in the place of its entry.
+#[derive(Drop)]
+pub(crate) struct NodeInColumns<'a, const D: usize> {
+    pub(crate) node: &'a Node<D>,
+    lows: [[i32; 100]; D],
+    highs: [[i32; 100]; D],
+    ghost few: { length node.now.entries.items ≤ 100 },
+    ghost boxes: { HaveBoxes D (items_of node.now.entries.items) },
+    ghost low_cells: { (axis place : ℕ) → axis < D → place < length node.now.entries.items
+        → cell lows axis place ≡ on_axis (box_at (items_of node.now.entries.items) place).low axis },
+    ghost high_cells: { (axis place : ℕ) → axis < D → place < length node.now.entries.items
+        → cell highs axis place ≡ on_axis (box_at (items_of node.now.entries.items) place).high axis },
+}
+
+impl<'a, const D: usize> NodeInColumns<'a, D> {
+    /// Which entries of the node have a box that meets the window, also where they only touch.
+    pub(crate) fn mask(&self, window: &BBox<D>) -> u128
+        ensures { Tells (meets_test D window.now) result (items_of self.now.node.now.entries.items) }
+    {
+        meet_mask(&self.lows, &self.highs, self.node.entries.len(), window)
+    }
+}
+
+/// The node beside its boxes in columns. It has 100 entries at most.
+pub(crate) fn columns_of<const D: usize>(node: &Node<D>) -> NodeInColumns<'_, D>
     requires few { length node.now.entries.items ≤ 100 }
-    ensures boxes { HaveBoxes D (items_of node.now.entries.items) }
-    ensures lows { (axis place : ℕ) → axis < D → place < length node.now.entries.items
-        → cell result.0 axis place ≡ on_axis (box_at (items_of node.now.entries.items) place).low axis }
-    ensures highs { (axis place : ℕ) → axis < D → place < length node.now.entries.items
-        → cell result.1 axis place ≡ on_axis (box_at (items_of node.now.entries.items) place).high axis }
+    ensures { result.node.now ≡ node.now }
 {
     let mut lows = [[0; 100]; D];
     let mut highs = [[0; 100]; D];
@@ -26,7 +45,7 @@ pub(crate) fn columns_of<const D: usize>(node: &Node<D>) -> ([[i32; 100]; D], [[
         lows[axis] = low_column(node, axis);
         highs[axis] = high_column(node, axis);
     }
-    (lows, highs)
+    NodeInColumns { node, lows, highs }
 }
 
 // The lows on one axis.

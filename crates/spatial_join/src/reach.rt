@@ -1,17 +1,15 @@
 //! How near two boxes are that a join pairs.
 
-ghost use Rattle.std.specs.Prelude.{◌≡◌, ◌+◌, ◌*◌, ◌<◌, ◌≤◌, ℕ, All, length};
-ghost use Rattle.box_math.specs.Bounds.{IsBox, meets_test, on_axis, widened_of};
+ghost use Rattle.std.specs.Prelude.{◌≡◌, ◌+◌, ◌*◌, ◌<◌, ◌≤◌, All, length};
+ghost use Rattle.box_math.specs.Bounds.{IsBox, meets_test, widened_of};
 ghost use Rattle.box_math.specs.Measures.{near_test};
-ghost use Rattle.tree_node.specs.Boxes.{box_at};
 ghost use Rattle.tree_node.specs.Nodes.{items_of};
-ghost use Rattle.node_bytes.specs.Columns.{cell};
 ghost use Rattle.node_bytes.specs.Views.{content_in};
-ghost use Rattle.spatial_join.specs.Masks.{HaveBoxes, Tells};
+ghost use Rattle.spatial_join.specs.Masks.{Tells};
 
-use crate::columns::next_place;
-use box_math::{BBox, meet_mask};
-use node_page::{Node, NodeView};
+use crate::columns::{NodeInColumns, next_place};
+use box_math::BBox;
+use node_page::NodeView;
 
 /// The greatest squared distance of two boxes that are paired, and its root: each gap between such boxes is
 /// at most that, so that a box that is widened by it meets them all.
@@ -33,43 +31,35 @@ impl Reach {
         }
     }
 
-    /// Which entries of a node, whose boxes stand in the columns, have a box in this reach of the given one.
-    pub(crate) fn mask<const D: usize>(
-        self,
-        lows: &[[i32; 100]; D],
-        highs: &[[i32; 100]; D],
-        node: &Node<D>,
-        bounds: &BBox<D>,
-    ) -> u128
-        requires few { length node.now.entries.items ≤ 100 }
-        requires boxes { HaveBoxes D (items_of node.now.entries.items) }
-        requires lows { (axis place : ℕ) → axis < D → place < length node.now.entries.items
-            → cell lows.now axis place ≡ on_axis (box_at (items_of node.now.entries.items) place).low axis }
-        requires highs { (axis place : ℕ) → axis < D → place < length node.now.entries.items
-            → cell highs.now axis place ≡ on_axis (box_at (items_of node.now.entries.items) place).high axis }
-        ensures { Tells (near_test D self.limit bounds.now) result (items_of node.now.entries.items) }
+    /// Which entries of a node have a box in this reach of the given one.
+    pub(crate) fn mask<const D: usize>(self, columns: &NodeInColumns<D>, bounds: &BBox<D>) -> u128
+        ensures { Tells (near_test D self.limit bounds.now) result
+            (items_of columns.now.node.now.entries.items) }
     {
-        let count = node.entries.len();
         if self.limit == 0 {
-            return meet_mask(lows, highs, count, bounds);
+            return columns.mask(bounds);
         }
-        let named = meet_mask(lows, highs, count, &bounds.widened(self.root));
-        self.nearer(named, node, bounds)
+        let named = columns.mask(&bounds.widened(self.root));
+        self.nearer(named, columns, bounds)
     }
 
     // Those of the entries that the mask names whose boxes are in this reach of the given one.
-    fn nearer<const D: usize>(self, named: u128, node: &Node<D>, bounds: &BBox<D>) -> u128
-        requires few { length node.now.entries.items ≤ 100 }
-        requires boxes { HaveBoxes D (items_of node.now.entries.items) }
+    fn nearer<const D: usize>(
+        self,
+        named: u128,
+        columns: &NodeInColumns<D>,
+        bounds: &BBox<D>,
+    ) -> u128
         requires named { Tells (λ b. meets_test D (widened_of D self.root bounds.now) b) named
-            (items_of node.now.entries.items) }
-        ensures { Tells (near_test D self.limit bounds.now) result (items_of node.now.entries.items) }
+            (items_of columns.now.node.now.entries.items) }
+        ensures { Tells (near_test D self.limit bounds.now) result
+            (items_of columns.now.node.now.entries.items) }
     {
         let mut near = named;
         let mut from = 0;
         'entry: while let Some(place) = next_place(named, from) {
             from = place + 1;
-            if !bounds.is_near(&node.entries[place].bounds, self.limit) {
+            if !bounds.is_near(&columns.node.entries[place].bounds, self.limit) {
                 near &= !(1u128 << place);
             }
         }

@@ -25,6 +25,7 @@ returns-clause-pairs g c = λ h content there level all.
     (same_content g.row.D m c.args.page (content_in c.in_ok-right.right) content
     (c.in_ok-right.ensures.node h live) there) in
     subst (λ (others : List Item). GainsItems g.row.D c.args.reach.limit
-    (items_of c.args.left.now.entries.items) others c.args.pairs.now.items c.push_near.new.pairs.items) same
+    (items_of c.args.left.now.node.now.entries.items) others c.args.pairs.now.items
+    c.push_near.new.pairs.items) same
     (c.in_ok-push_near.ensures.pairs
     (subst (All (λ (item : Item). Within g.row.D item.bounds c.args.bounds.now)) (sym same) all))

@@ -10,7 +10,7 @@ abbrev pub decreases-add_pairs : goal.decreases-add_pairs
 decreases-add_pairs g l = 2 * (l.left.now.level + l.right.now.level) + 1
 
 abbrev pub decreases-add_pairs_of_entry : goal.decreases-add_pairs_of_entry
-decreases-add_pairs_of_entry g l = 2 * (l.level + l.right.now.level)
+decreases-add_pairs_of_entry g l = 2 * (l.level + l.right.now.node.now.level)
 
 -- the pairs below the entries so far are added
 abbrev pub invariant-add_pairs-loop-entry : goal.invariant-add_pairs-loop-entry
@@ -24,9 +24,9 @@ invariant-add_pairs-loop-entry g l =
 abbrev pub invariant-add_pairs_of_entry-other : goal.invariant-add_pairs_of_entry-other
 invariant-add_pairs_of_entry-other g l =
     Progress g.row.D l.fn.reach.limit l.fn.cache l.cache (sole l.fn.level (item_of l.fn.entry))
-    (content_of l.fn.right) (left_beside g.row.D l.fn.reach.limit l.from)
+    (content_of l.fn.right.node.now) (left_beside g.row.D l.fn.reach.limit l.from)
     (nodes_beside g.row.D l.fn.reach.limit l.from) (1 - l.from) l.fn.pairs.items l.pairs.items
-    × (l.from ≤ length l.fn.right.entries.items)
+    × (l.from ≤ length l.fn.right.node.now.entries.items)
 
 -- each entry comes after the one before it
 abbrev pub decreases-add_pairs_of_entry-other : goal.decreases-add_pairs_of_entry-other

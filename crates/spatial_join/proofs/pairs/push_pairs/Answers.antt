@@ -8,15 +8,16 @@ use Rattle.spatial_join.proofs.pairs.push_pairs.Goals as goal
 
 pub other-preserved : goal.other-preserved
 other-preserved g c =
+    let right = c.args.right.now.node.now in
     let within =
-    place_within c.deref.result.now c.args.right.now.entries.items c.in-Some.place c.args.mask
-    c.requires.mask c.in-Some.ensures.set.2 c.deref.ensures.0 in
+    place_within c.deref.result.now right.entries.items c.in-Some.place c.mask-mask.result
+    c.mask-mask.ensures c.in-Some.ensures.set.2 c.deref.ensures.0 in
     let named =
-    entry_named c.deref.result.now c.args.right.now.entries.items c.in-Some.place
+    entry_named c.deref.result.now right.entries.items c.in-Some.place
     c.index-deref-place.result c.deref.ensures.0 within c.index-deref-place.is in (
-      next_pushed g.row.D c.args.reach.limit (map item_of c.args.right.now.entries.items)
-          (item_of c.args.entry.now) c.args.pairs.now.items c.other.pairs.items c.args.mask c.requires.mask
-          c.other.from c.other.invariant.0
+      next_pushed g.row.D c.args.reach.limit (map item_of right.entries.items)
+          (item_of c.args.entry.now) c.args.pairs.now.items c.other.pairs.items c.mask-mask.result
+          c.mask-mask.ensures c.other.from c.other.invariant.0
           c.in-Some.place c.in-Some.ensures.set.0 c.in-Some.ensures.set.2 c.in-Some.ensures.first
           (item_of c.index-deref-place.result) named c.push.new.self.items c.in_ok-push.ensures.items,
       omega (arith, within, ap length c.deref.ensures.0),
@@ -24,8 +25,9 @@ other-preserved g c =
 
 pub returns-clause-pairs : goal.returns-clause-pairs
 returns-clause-pairs g c =
-    all_pushed g.row.D c.args.reach.limit (map item_of c.args.right.now.entries.items)
-    (item_of c.args.entry.now) c.args.pairs.now.items c.other.pairs.items c.args.mask c.requires.mask
-    c.other.from c.other.invariant.0
-    (omega (arith, c.other.invariant.1, length-map c.args.right.now.entries.items item_of))
+    let right = c.args.right.now.node.now in
+    all_pushed g.row.D c.args.reach.limit (map item_of right.entries.items) (item_of c.args.entry.now)
+    c.args.pairs.now.items c.other.pairs.items c.mask-mask.result c.mask-mask.ensures c.other.from
+    c.other.invariant.0
+    (omega (arith, c.other.invariant.1, length-map right.entries.items item_of))
     c.in_default.ensures.none

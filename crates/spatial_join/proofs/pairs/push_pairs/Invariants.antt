@@ -6,8 +6,8 @@ use Rattle.spatial_join.proofs.pairs.push_pairs.Given as goal
 
 abbrev pub invariant-other : goal.invariant-other
 invariant-other g l =
-    Pushed g.row.D l.fn.reach.limit (map item_of l.fn.right.entries.items) (item_of l.fn.entry) l.from
-    l.fn.pairs.items l.pairs.items × (l.from ≤ length l.fn.right.entries.items)
+    Pushed g.row.D l.fn.reach.limit (map item_of l.fn.right.node.now.entries.items) (item_of l.fn.entry)
+    l.from l.fn.pairs.items l.pairs.items × (l.from ≤ length l.fn.right.node.now.entries.items)
 
 -- each place comes after the one before it
 abbrev pub decreases-other : goal.decreases-other

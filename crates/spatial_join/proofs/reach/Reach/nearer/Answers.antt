@@ -11,18 +11,19 @@ use Rattle.spatial_join.proofs.reach.Reach.nearer.Goals as goal
 
 pub entry-preserved-then-not-is_near : goal.entry-preserved-then-not-is_near
 entry-preserved-then-not-is_near g c =
+    let entries = c.args.columns.now.node.now.entries.items in
     let set = c.in-Some.ensures.set.2 in
     let within =
-    place_within c.deref.result.now c.args.node.now.entries.items c.in-Some.place c.args.named
-    c.requires.named set c.deref.ensures.0 in
+    place_within c.deref.result.now entries c.in-Some.place c.args.named c.requires.named set
+    c.deref.ensures.0 in
     let box =
-    box_read c.deref.result.now c.args.node.now.entries.items c.in-Some.place c.index-deref-place.result
-    c.deref.ensures.0 within c.index-deref-place.is in (
+    box_read c.deref.result.now entries c.in-Some.place c.index-deref-place.result c.deref.ensures.0
+    within c.index-deref-place.is in (
       one_cleared (near_test g.row.D c.args.self.limit c.args.bounds.now)
           (meets_test g.row.D (widened_of g.row.D c.args.self.root c.args.bounds.now)) c.args.named
-          c.entry.near (items_of c.args.node.now.entries.items) c.requires.named
+          c.entry.near (items_of entries) c.requires.named
           (near_meets_widened g.row.D c.args.self.root c.args.self.limit c.args.bounds.now
-          (items_of c.args.node.now.entries.items) c.args.self.enough c.requires.boxes)
+          (items_of entries) c.args.self.enough c.args.columns.now.boxes)
           c.entry.from c.entry.invariant.0 c.in-Some.place _ c.in-Some.ensures.set.0 set
           c.in-Some.ensures.first
           (ap (near_test g.row.D c.args.self.limit c.args.bounds.now) box ∙ sym c.is_near.ensures
@@ -35,18 +36,19 @@ entry-preserved-then-not-is_near g c =
 
 pub entry-preserved : goal.entry-preserved
 entry-preserved g c =
+    let entries = c.args.columns.now.node.now.entries.items in
     let set = c.in-Some.ensures.set.2 in
     let within =
-    place_within c.deref.result.now c.args.node.now.entries.items c.in-Some.place c.args.named
-    c.requires.named set c.deref.ensures.0 in
+    place_within c.deref.result.now entries c.in-Some.place c.args.named c.requires.named set
+    c.deref.ensures.0 in
     let box =
-    box_read c.deref.result.now c.args.node.now.entries.items c.in-Some.place c.index-deref-place.result
-    c.deref.ensures.0 within c.index-deref-place.is in (
+    box_read c.deref.result.now entries c.in-Some.place c.index-deref-place.result c.deref.ensures.0
+    within c.index-deref-place.is in (
       one_kept (near_test g.row.D c.args.self.limit c.args.bounds.now)
           (meets_test g.row.D (widened_of g.row.D c.args.self.root c.args.bounds.now)) c.args.named
-          c.entry.near (items_of c.args.node.now.entries.items) c.requires.named
+          c.entry.near (items_of entries) c.requires.named
           (near_meets_widened g.row.D c.args.self.root c.args.self.limit c.args.bounds.now
-          (items_of c.args.node.now.entries.items) c.args.self.enough c.requires.boxes)
+          (items_of entries) c.args.self.enough c.args.columns.now.boxes)
           c.entry.from c.entry.invariant.0 c.in-Some.place c.in-Some.ensures.set.0 set c.in-Some.ensures.first
           (ap (near_test g.row.D c.args.self.limit c.args.bounds.now) box ∙ sym c.is_near.ensures
           ∙ c.if-not-is_near.false),
@@ -55,9 +57,10 @@ entry-preserved g c =
 
 pub returns : goal.returns
 returns g c =
+    let entries = c.args.columns.now.node.now.entries.items in
     all_sifted (near_test g.row.D c.args.self.limit c.args.bounds.now)
     (meets_test g.row.D (widened_of g.row.D c.args.self.root c.args.bounds.now)) c.args.named
-    c.entry.near (items_of c.args.node.now.entries.items) c.requires.named
+    c.entry.near (items_of entries) c.requires.named
     (near_meets_widened g.row.D c.args.self.root c.args.self.limit c.args.bounds.now
-    (items_of c.args.node.now.entries.items) c.args.self.enough c.requires.boxes)
+    (items_of entries) c.args.self.enough c.args.columns.now.boxes)
     c.entry.from c.entry.invariant.0 c.in_default.ensures.none

@@ -8,7 +8,8 @@ use Rattle.spatial_join.proofs.reach.Reach.nearer.Given as goal
 abbrev pub invariant-entry : goal.invariant-entry
 invariant-entry g l =
     Sifted (near_test g.row.D l.fn.self.limit l.fn.bounds) l.fn.named l.near
-    (items_of l.fn.node.entries.items) l.from × (l.from ≤ length l.fn.node.entries.items)
+    (items_of l.fn.columns.node.now.entries.items) l.from
+    × (l.from ≤ length l.fn.columns.node.now.entries.items)
 
 -- each place comes after the one before it
 abbrev pub decreases-entry : goal.decreases-entry
