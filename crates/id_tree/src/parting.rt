@@ -2,7 +2,7 @@
 //! place, as pages of their own.
 
 ghost use Rattle.std.specs.Prelude.{◌≡◌, ℕ, ◌+◌, ◌*◌, ◌<◌, ◌-◌, ◌≤◌, Some, List, [], ◌∷◌, ◌++◌, length, take};
-ghost use Rattle.std.specs.Prelude.{drop};
+ghost use Rattle.std.specs.Prelude.{All, drop};
 ghost use Rattle.std.specs.Prelude.{slice_index_or};
 ghost use Rattle.block_bytes.specs.Numbers.{number_at};
 ghost use Rattle.box_math.specs.Bounds.{IsDims};
@@ -81,6 +81,8 @@ fn ends_with<const D: usize>(page: &[u8; 4096], many: usize) -> (u64, u64)
 fn ends_of<const D: usize>(page: &[u8; 4096]) -> (u64, u64)
     requires dims { IsDims D }
     requires few { number_at 2 2 page.now ≤ most_objects D }
+    ensures { (objects : List Entry) → leaf_at D page.now ≡ Some objects
+        → All (λ o. (result.0 ≤ o.0) × (o.0 ≤ result.1)) objects }
 {
     let mut least = u64::MAX;
     let mut greatest = 0;

@@ -144,7 +144,14 @@ fn put_split<const D: usize, B: BlockDevice, A: Allocator + Copy>(
         → IfErr result (λ f. (n : ℕ) → f ≡ fault.Damaged n → MayBreakAt cache.old n) }
     ensures other_faults { IfErr result (λ f. IsNoDamage cache.new f ⊎ IsDamage f) }
 {
-    let number = put_cut::<D, B, A>(cache, page, &plan.fork, below.place + 1, below.child, &plan.cut)?;
+    let number = put_cut::<D, B, A>(
+        cache,
+        page,
+        &plan.fork,
+        below.place + 1,
+        below.child,
+        &plan.cut,
+    )?;
     if id < plan.cut.key {
         return Ok((below.child, false));
     }
