@@ -1,0 +1,239 @@
+//! Tests of what no clause says: that calls succeed, how files are opened and locked, what the
+//! system's files hold, and what a call answers that fails.
+use crate::failing::{Calls, FailingFile};
+use crate::steps::Step::{Begin, Blocks, Read, Sync, Write};
+use crate::steps::{DONE, FAILED, Other, Steps, first_other};
+use crate::turns::Turn::{Length, Opening, RemoveJournal};
+use crate::turns::{How, Opened, Part, Turn, opening, played};
+use block_device::{DeviceError, MemoryDevice};
+use file_device::{BlocksFile, FileDevice, OpenError, journal_path, remove_journal};
+use std::alloc::Global;
+use std::test::Fail;
+use std::{fs, io};
+
+const IN_USE: Opened = Err(OpenError::InUse);
+
+// The file at "file_tests/f" has 5000 sevens before, and the others are not there.
+const PARTS: [Part; 10] = [
+    Part {
+        about: "a file is made",
+        path: "file_tests_a",
+        how: How::Made,
+        turns: &[Turn::Steps(TWO_BLOCKS)],
+    },
+    Part {
+        about: "and opened again",
+        path: "file_tests_a",
+        how: How::Changed,
+        turns: &[
+            Turn::Steps(&[(Blocks, Ok(2)), (Read(0), Ok(3)), (Read(1), Ok(2))]),
+            Length(Some(8192)),
+        ],
+    },
+    Part {
+        about: "a file is made in a folder",
+        path: "file_tests/c",
+        how: How::Made,
+        turns: &[Turn::Steps(&[(Write(0, 1), DONE)])],
+    },
+    Part {
+        about: "and is not made anew",
+        path: "file_tests/c",
+        how: How::Made,
+        turns: &[Turn::Steps(&[(Blocks, Ok(1)), (Read(0), Ok(1))])],
+    },
+    // One writer, or many readers: each open of a file has a lock of its own, also of one program.
+    Part {
+        about: "a file that may be written is locked until it is closed",
+        path: "file_tests/e",
+        how: How::Made,
+        turns: &[
+            Turn::Steps(&[(Write(0, 1), DONE)]),
+            Opening(How::Made, IN_USE),
+            Opening(How::Changed, IN_USE),
+            Opening(How::Read, IN_USE),
+            Turn::Steps(&[(Read(0), Ok(1))]),
+        ],
+    },
+    Part {
+        about: "and one that is only read against writers alone",
+        path: "file_tests/e",
+        how: How::Read,
+        turns: &[
+            Opening(How::Read, Ok(1)),
+            Opening(How::Changed, IN_USE),
+            Opening(How::Made, IN_USE),
+            Turn::Steps(&[(Read(0), Ok(1))]),
+        ],
+    },
+    Part {
+        about: "until it is closed",
+        path: "file_tests/e",
+        how: How::Changed,
+        turns: &[Turn::Steps(&[(Blocks, Ok(1))])],
+    },
+    // It reads as a device that can write reads, the end of the last block too.
+    Part {
+        about: "no write of a device over a file that is only read is made",
+        path: "file_tests/f",
+        how: How::Read,
+        turns: &[
+            Turn::Steps(&[
+                (Blocks, Ok(2)),
+                (Write(0, 1), FAILED),
+                (Write(2, 1), FAILED),
+                (Sync, DONE),
+                (Blocks, Ok(2)),
+                (Read(0), Ok(7)),
+                (Begin(1, 904), Ok(7)),
+            ]),
+            Length(Some(5000)),
+        ],
+    },
+    Part {
+        about: "a last block that is cut short ends in zeros",
+        path: "file_tests/f",
+        how: How::Changed,
+        turns: &[Turn::Steps(&[
+            (Blocks, Ok(2)),
+            (Begin(1, 904), Ok(7)),
+            (Write(2, 5), DONE),
+            (Begin(1, 904), Ok(7)),
+            (Blocks, Ok(3)),
+        ])],
+    },
+    // It may be removed while it is open. Where there is none, nothing is left to do.
+    Part {
+        about: "a journal is locked, and removed",
+        path: "file_tests/j-journal",
+        how: How::Made,
+        turns: &[
+            Length(Some(0)),
+            Opening(How::Made, IN_USE),
+            RemoveJournal,
+            Length(None),
+            RemoveJournal,
+        ],
+    },
+];
+
+// Two blocks are written into an empty device.
+const TWO_BLOCKS: Steps = &[
+    (Blocks, Ok(0)),
+    (Write(0, 1), DONE),
+    (Write(1, 2), DONE),
+    (Write(0, 3), DONE),
+    (Sync, DONE),
+    (Blocks, Ok(2)),
+    (Read(0), Ok(3)),
+    (Read(1), Ok(2)),
+];
+
+// Takes away what an earlier run left, and makes the folder and the file that are there before.
+fn prepare(rt: &HostRuntime) -> io::Result<()> {
+    let _ = fs::remove_file(rt, "file_tests_a");
+    let _ = fs::remove_dir_all(rt, "file_tests");
+    fs::create_dir(rt, "file_tests")?;
+    fs::write(rt, "file_tests/f", [7u8; 5000].as_slice())
+}
+
+#[test]
+fn files_of_the_system_do_as_they_are_to(rt: HostRuntime) -> Result<(), Fail> {
+    prepare(&rt)?;
+    for part in &PARTS {
+        let about = part.about;
+        assert_eq!(rt; played(&rt, part), Ok(None), "{about}");
+    }
+    fs::remove_dir_all(&rt, "file_tests")?;
+    fs::remove_file(&rt, "file_tests_a")?;
+    Ok(())
+}
+
+// Each way of opening, and those that make no file.
+const EACH: &'static [How] = &[How::Made, How::Changed, How::Read];
+
+const NOT_MADE: &'static [How] = &[How::Changed, How::Read];
+
+// A folder, a missing folder, no path, what is no file, and a missing file.
+const REFUSED: [(&'static str, &'static [How], OpenError); 6] = [
+    ("file_tests_d", EACH, OpenError::IsADirectory),
+    ("file_tests_d/", EACH, OpenError::IsADirectory),
+    ("file_tests_d/none/a", EACH, OpenError::NotFound),
+    ("", EACH, OpenError::NotFound),
+    ("/dev/null", EACH, OpenError::Refused),
+    ("file_tests_d/a", NOT_MADE, OpenError::NotFound),
+];
+
+// The first way of opening that comes to something else.
+fn other_opening(rt: &HostRuntime, path: &str, ways: &[How], why: OpenError) -> Option<How> {
+    for &how in ways {
+        if opening(rt, path, how) != Err(why) {
+            return Some(how);
+        }
+    }
+    None
+}
+
+#[test]
+fn what_is_no_file_is_refused(rt: HostRuntime) -> Result<(), Fail> {
+    let _ = fs::remove_dir_all(&rt, "file_tests_d");
+    fs::create_dir(&rt, "file_tests_d")?;
+    for (path, ways, why) in REFUSED {
+        assert_eq!(rt; other_opening(&rt, path, ways, why), None, "{path}");
+    }
+    assert!(rt; remove_journal(&rt, "file_tests_d/none/a-journal").is_err());
+    fs::remove_dir_all(&rt, "file_tests_d")?;
+    Ok(())
+}
+
+// Whether this is the path of the journal of a file.
+fn is_journal(alloc: Global, path: &str, journal: &str) -> bool {
+    match journal_path(alloc, path) {
+        Ok(name) => name.as_str() == journal,
+        Err(_) => false,
+    }
+}
+
+#[test]
+fn a_journal_lies_beside_its_file(rt: HostRuntime) {
+    assert!(rt; is_journal(rt.alloc(), "file_tests/j", "file_tests/j-journal"));
+}
+
+// Takes steps on a new device over a file over a device.
+fn over_a_device(alloc: Global, steps: Steps) -> Result<Other, DeviceError> {
+    let mut device = FileDevice::over(BlocksFile::over(MemoryDevice::new(alloc)))?;
+    Ok(first_other(&mut device, steps))
+}
+
+#[test]
+fn a_device_over_a_file_over_a_device(rt: HostRuntime) {
+    assert_eq!(rt; over_a_device(rt.alloc(), TWO_BLOCKS), Ok(None));
+}
+
+// Which calls of a file fail, and after how many bytes.
+const CALLS: Calls = &[None, Some(0), Some(2000), None, Some(2000), None, Some(0)];
+
+// A write that fails half way may leave a part of its block, and the part counts as a block.
+const AFTER_FAILURES: Steps = &[
+    (Write(0, 1), DONE),
+    (Write(1, 2), FAILED),
+    (Blocks, Ok(1)),
+    (Write(1, 2), FAILED),
+    (Blocks, Ok(2)),
+    (Begin(1, 2000), Ok(2)),
+    (Read(0), FAILED),
+    (Read(0), Ok(1)),
+    (Sync, FAILED),
+    (Blocks, Ok(2)),
+];
+
+// Takes steps on a new device over a file whose calls fail so.
+fn over_a_failing_file(calls: Calls, steps: Steps) -> Result<Other, DeviceError> {
+    let mut device = FileDevice::over(FailingFile::new(calls))?;
+    Ok(first_other(&mut device, steps))
+}
+
+#[test]
+fn a_call_that_fails_is_answered(rt: HostRuntime) {
+    assert_eq!(rt; over_a_failing_file(CALLS, AFTER_FAILURES), Ok(None));
+}
