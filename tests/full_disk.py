@@ -12,6 +12,10 @@ Then it is sound, and the work goes on. The disk fills in one of these ways:
     write   a write of the file or its journal is refused, that one or all from it on (strace)
     sync    a sync is refused, that one or all from it on
 
+Or it does not fill, and some reads and writes of the file and its journal are interrupted, which nobody is to see:
+
+    again   each second one, or each third one, and so on (strace)
+
 full_disk.py PROGRAM RUNS SEED
 """
 import os
@@ -368,14 +372,31 @@ def below(program, folder, room, size):
     return trial, trial.run(lambda: None)
 
 
+def traced(folder, calls, fate):
+    """What makes of such calls of a run what is told. Of reads and writes it is those of the file and its journal."""
+    words = ["strace", "-f", "-o", "/dev/null", "-e", f"trace={calls}", "-e", f"inject={calls}:{fate}"]
+    if WRITES in calls:
+        words += ["-P", os.path.join(folder, "store"), "-P", os.path.join(folder, "store-journal")]
+    return Hindrance(words)
+
+
 def refusing(program, folder, room, calls, number):
     """A trial in which such a call of this number is refused, or each from it on."""
-    when = f"{calls}:error=ENOSPC:when={number}" + random.choice(["", "+"])
-    words = ["strace", "-f", "-o", "/dev/null", "-e", f"trace={calls}", "-e", f"inject={when}"]
-    if calls == WRITES:
-        words += ["-P", os.path.join(folder, "store"), "-P", os.path.join(folder, "store-journal")]
-    trial = Trial(program, folder, room, Hindrance(words))
+    when = f"error=ENOSPC:when={number}" + random.choice(["", "+"])
+    trial = Trial(program, folder, room, traced(folder, calls, when))
     return trial, trial.run(lambda: None)
+
+
+def interrupting(program, folder, room, number):
+    """A trial in which each call of so many that reads or writes is interrupted: it is made again."""
+    trial = Trial(program, folder, room, traced(folder, f"pread64,{WRITES}", f"error=EINTR:when=1+{number}"))
+    for begin in (trial.make, trial.begin):
+        session = begin()
+        if not session or not trial.work(session, 200) or trial.refused:
+            raise Wrong(f"where calls are interrupted {trial.refused} was refused")
+        trial.plain.take_end(*session.end(), False)
+        trial.holds(trial.file, "after a run whose calls were interrupted")
+    return trial, "interrupted"
 
 
 KINDS = {
@@ -385,6 +406,7 @@ KINDS = {
     "below": lambda *places, n: below(*places, 24576 + 3777 * n),
     "write": lambda *places, n: refusing(*places, WRITES, 1 + n * 3),
     "sync": lambda *places, n: refusing(*places, "fsync,fdatasync", 1 + n),
+    "again": lambda *places, n: interrupting(*places, 2 + n),
 }
 
 
@@ -395,8 +417,8 @@ def kinds_here(folder):
         del kinds["disk"]
         told.append("disk skipped, since none can be mounted here")
     if not shutil.which("strace"):
-        del kinds["write"], kinds["sync"]
-        told.append("write and sync skipped, since there is no strace here")
+        del kinds["write"], kinds["sync"], kinds["again"]
+        told.append("write, sync and again skipped, since there is no strace here")
     return kinds, told
 
 
