@@ -27,6 +27,8 @@ pub struct Gathered<A: Allocator> {
     pub bad_entry: Option<u64>,
     /// Whether there was room for the name and each object.
     pub room: bool,
+    /// How many entry lines were announced.
+    pub announced: u64,
 }
 
 /// What was taken of a text.
@@ -52,9 +54,10 @@ pub enum Gathering {
 }
 
 impl<A: Allocator + Copy> Gathered<A> {
-    /// Nothing yet, of a load into the layer of that name.
-    pub fn new(alloc: A, layer: &[u8]) -> Self
-        ensures { IsGathered result layer.now [] }
+    /// Nothing yet, of a load of so many entry lines into the layer of that name.
+    pub fn new(alloc: A, layer: &[u8], announced: u64) -> Self
+        ensures nothing { IsGathered result layer.now [] }
+        ensures announced { result.announced ≡ announced }
     {
         match Vec::from_slice(alloc, layer) {
             Ok(layer) => Gathered {
@@ -62,12 +65,14 @@ impl<A: Allocator + Copy> Gathered<A> {
                 objects: Vec::new(alloc),
                 bad_entry: None,
                 room: true,
+                announced,
             },
             Err(_) => Gathered {
                 layer: Vec::new(alloc),
                 objects: Vec::new(alloc),
                 bad_entry: None,
                 room: false,
+                announced,
             },
         }
     }

@@ -264,9 +264,9 @@ fn step_line<D: BlockDevice, A: Allocator + Copy, R: CountedRead, W: Write>(
     let front = LineFront::of(lines.front(len));
     let line = parse_line(lines.front(len));
     if let Line::Load { layer, count } = line {
-        let gathered = Gathered::new(store.alloc(), layer);
+        let gathered = Gathered::new(store.alloc(), layer, count);
         lines.take(len + 1);
-        return load(store, lines, front, gathered, count, input, output);
+        return load(store, lines, front, gathered, input, output);
     }
     let written = answer(store, line, output);
     lines.take(len + 1);
@@ -280,12 +280,12 @@ fn load<D: BlockDevice, A: Allocator + Copy, R: CountedRead, W: Write>(
     lines: &mut LineReader,
     front: LineFront,
     gathered: Gathered<A>,
-    count: u64,
     input: &mut R,
     output: &mut W,
 ) -> Stepped
     ensures steps { (before : Option (List ℕ)) (unread first layer : List ℕ) → IsOneLine first →
-        IsFrontOf front first [] → meaning_of first ≡ Loads layer count → IsGathered gathered layer [] →
+        IsFrontOf front first [] → meaning_of first ≡ Loads layer gathered.announced →
+        IsGathered gathered layer [] →
         Reads false before (R.remaining input.old) unread (pending lines.old) (first ++ newline ∷ []) →
         StepsTo (MakesStep (Calls store.old store.new) result) result
         before (R.remaining input.new) (W.contents output.old) (W.contents output.new)
@@ -296,6 +296,7 @@ fn load<D: BlockDevice, A: Allocator + Copy, R: CountedRead, W: Write>(
         → IsReadersFault (R.is_failing input.new) (R.calls input.new) }
 {
     let mut gathered = gathered;
+    let count = gathered.announced;
     match gather(&mut gathered, count, lines, input, output) {
         Gathering::Full(ended) => {
             let written = give(&load_reply(store, &gathered), output);
@@ -364,7 +365,7 @@ fn last_load_reply<D: BlockDevice, A: Allocator + Copy>(
     if count > 0 {
         return bad_reply();
     }
-    let gathered = Gathered::new(store.alloc(), layer);
+    let gathered = Gathered::new(store.alloc(), layer, count);
     load_reply(store, &gathered)
 }
 

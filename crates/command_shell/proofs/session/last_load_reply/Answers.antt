@@ -29,5 +29,5 @@ pub returns : goal.returns
 returns g c = λ line means. record {
   request = load_request c.args.layer.now (objects_in []);
   asked = loads_nothing line c.args.layer.now c.args.count means (omega arith);
-  step = c.load_reply.ensures c.args.layer.now [] c.new-gathered.ensures;
+  step = c.load_reply.ensures c.args.layer.now [] c.new-gathered.ensures.nothing;
 }

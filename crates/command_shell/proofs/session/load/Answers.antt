@@ -14,7 +14,7 @@ returns-in-Full-clause-steps g c = λ before unread first layer one front means 
     loads_full _ before (g.R.Read.remaining c.args.input.now) (g.R.Read.remaining c.gather.new.input)
     (g.W.Write.contents c.args.output.now) (g.W.Write.contents c.gather.new.output)
     (g.W.Write.contents c.give-written.new.output)
-    unread (pending c.args.lines.now) (pending c.gather.new.lines) first t.text layer c.args.count
+    unread (pending c.args.lines.now) (pending c.gather.new.lines) first t.text layer c.args.gathered.announced
     c.saturating_add.result c.with_bad_entry-front.result c.in-Full.ended c.step_of.result
     c.give-written.result c.load_reply.result c.step_of.ensures c.saturating_add.ensures one
     (c.with_bad_entry-front.ensures first (lines_of t.text) front (t.gathers layer gathered).0) means reads
@@ -28,8 +28,8 @@ returns-in-Short-clause-steps g c = λ before unread first layer one front means
     loads_short _ before (g.R.Read.remaining c.args.input.now) (g.R.Read.remaining c.gather.new.input)
     (g.W.Write.contents c.args.output.now) (g.W.Write.contents c.gather.new.output)
     (g.W.Write.contents c.give.new.output)
-    unread (pending c.args.lines.now) (pending c.gather.new.lines) first t.text layer c.args.count
-    c.args.count c.with_bad_entry-front-in-Short.result c.step_of-in-Short.result c.give.result
+    unread (pending c.args.lines.now) (pending c.gather.new.lines) first t.text layer c.args.gathered.announced
+    c.args.gathered.announced c.with_bad_entry-front-in-Short.result c.step_of-in-Short.result c.give.result
     c.bad_reply.result c.step_of-in-Short.ensures one
     (c.with_bad_entry-front-in-Short.ensures first (lines_of t.text) front (t.gathers layer gathered).0) means
     reads t.reads t.few c.in-Short.ensures.kept
@@ -45,6 +45,6 @@ pub returns-clause-steps : goal.returns-clause-steps
 returns-clause-steps g c = λ before unread first layer one front means gathered reads.
     loads_broken _ refl before (g.R.Read.remaining c.args.input.now) (g.R.Read.remaining c.gather.new.input)
     (g.W.Write.contents c.args.output.now) (g.W.Write.contents c.gather.new.output)
-    unread (pending c.args.lines.now) (pending c.gather.new.lines) first layer c.args.count c.in-Broken.end
+    unread (pending c.args.lines.now) (pending c.gather.new.lines) first layer c.args.gathered.announced c.in-Broken.end
     (λ e. c.in-Broken.ensures.going (ap Broken e)) one means reads c.in-Broken.ensures.gathers
     c.in-Broken.ensures.kept

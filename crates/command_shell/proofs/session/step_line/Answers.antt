@@ -2,7 +2,7 @@
 use Rattle.std.proofs.Common.{◌≡◌, ◌∙◌, ℕ, Option, List, [], ◌∷◌, ◌++◌, take, false, ap, subst, sym}
 use Rattle.std.specs.Io.KnownBytes.{IsAtEnd}
 use Rattle.command_shell.specs.Lines.{newline}
-use Rattle.command_shell.specs.Meanings.{meaning_of}
+use Rattle.command_shell.specs.Meanings.{Loads, meaning_of}
 use Rattle.command_shell.specs.Pending.{Finds, pending}
 use Rattle.command_shell.specs.Reading.{BeginsLine, ReadsTo}
 use Rattle.command_shell.specs.Said.{said}
@@ -34,8 +34,10 @@ returns-in-Load-clause-steps g c = λ before unread reads.
     c.load.ensures.steps before unread (take n mid) c.in-Load.layer.now
     (one_line before r unread mid (pending c.take.new.self) n (IsAtEnd r) found)
     (subst (λ l. IsFrontOf c.of-front.result l []) c.front.ensures c.of-front.ensures)
-    (sym (c.parse_line-line.ensures ∙ ap meaning_of c.front-2.ensures) ∙ ap said c.in-Load.is)
-    c.new-gathered.ensures
+    (subst (λ count. meaning_of (take n mid) ≡ Loads c.in-Load.layer.now count)
+    (sym c.new-gathered.ensures.announced)
+    (sym (c.parse_line-line.ensures ∙ ap meaning_of c.front-2.ensures) ∙ ap said c.in-Load.is))
+    c.new-gathered.ensures.nothing
     (line_read before r unread mid (pending c.take.new.self) n (IsAtEnd r) found c.take.ensures.pending)
 
 pub returns-clause-steps : goal.returns-clause-steps

@@ -1,5 +1,5 @@
 -- The goals of `fitting_number` that are proved by hand.
-use Rattle.std.proofs.Common.{◌+◌, ◌*◌, ◌^◌, ◌<◌, ◌≤◌, length, get_or, arith}
+use Rattle.std.proofs.Common.{◌<◌, get_or, arith}
 use Rattle.command_shell.proofs.NumberLemmas.{digit_at_most_nine, one_more_fits}
 use Rattle.command_shell.proofs.words.fitting_number.Goals as goal
 
