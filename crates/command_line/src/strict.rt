@@ -18,7 +18,7 @@ ghost use Rattle.command_line.specs.Strict.{HasServedStrictlyOnceChecked, status
 
 use crate::program::{FAILED, Served, WENT_WELL, tell_no_store, tell_not_empty};
 use crate::reading::tell_unread;
-use crate::words::Limits;
+use crate::words::{Limits, Options};
 use block_device::BlockDevice;
 use command_shell::{CountedRead, FlushedWrite, Outcome, run_strictly_and_close};
 use layer_store::{Refusal, Store, create_store, open_store};
@@ -37,29 +37,28 @@ const STOPPED: u8 = 3;
 pub(crate) fn settle_device<D: BlockDevice, I: CountedRead, W: FlushedWrite, E: Write>(
     alloc: Global,
     device: D,
-    create: bool,
-    limits: Limits,
+    options: &Options<'_>,
     input: &mut I,
     output: &mut W,
     errors: &mut E,
 ) -> Served<D>
-    requires { is_cache limits.cache ≡ true }
+    requires { is_cache options.now.limits.cache ≡ true }
     ensures status { result.status ≤ 3 }
     ensures flushed { (result.status ≡ 1) ⊎ W.is_flushed output.new }
     ensures quiet { result.status ≡ 0 → Keeps (E.contents errors.old) (E.contents errors.new) }
-    ensures served { HasServedStrictlyOn D.BlockDevice (HasStarted Global D.BlockDevice limits.newest)
-        create device
+    ensures served { HasServedStrictlyOn D.BlockDevice (HasStarted Global D.BlockDevice options.now.limits.newest)
+        options.now.create device
         input.old input.new output.old output.new (I.remaining input.old) (I.remaining input.new)
         (W.contents output.old) (W.contents output.new) (E.contents errors.old) (E.contents errors.new)
         result }
 {
-    if !create {
-        return settle_opened(alloc, device, limits, input, output, errors);
+    if !options.create {
+        return settle_opened(alloc, device, options.limits, input, output, errors);
     }
     if device.blocks() != 0 {
         return tell_not_empty(device, errors);
     }
-    settle_new(alloc, device, limits, input, output, errors)
+    settle_new(alloc, device, options.limits, input, output, errors)
 }
 
 // The same over the store that is there.

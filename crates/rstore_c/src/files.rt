@@ -31,6 +31,15 @@ impl Streams {
     }
 }
 
+/// The streams by which C opens the journal, and those by which it opens it once it was removed.
+#[derive(Drop)]
+pub struct JournalStreams {
+    /// By which it is opened first.
+    pub first: Streams,
+    /// By which it is opened anew.
+    pub anew: Streams,
+}
+
 /// Why no store was opened.
 #[derive(Clone, Copy, PartialEq, Eq, Debug)]
 pub enum Unopened {
@@ -56,16 +65,15 @@ impl From<OpenError> for Unopened {
 pub fn open(
     alloc: Global,
     base: Streams,
-    journal: Streams,
-    anew: Streams,
+    journal: JournalStreams,
     ask: &mut Streams,
     create: bool,
     cache: u32,
 ) -> Result<(Store<Device>, bool), Unopened> {
     let mut source = JournalByStreams {
         ask: &mut *ask,
-        journal: Some(journal),
-        anew: Some(anew),
+        journal: Some(journal.first),
+        anew: Some(journal.anew),
     };
     let (pair, unended) = pair_up(side(base, FileSide::Base)?, &mut source)?;
     let device = match open_over(pair, alloc) {

@@ -1,46 +1,128 @@
-//! Readers and writers that are slow, or fail.
+//! A reader and a writer that are slow, or fail.
 
-use std::alloc::Allocator;
+ghost use Rattle.std.specs.Io.{ReadsAtMost};
+
 use std::cell::Cell;
 use std::io;
 use std::io::{ErrorKind, Read, Write};
 
-/// Gives a byte a call, and at the end of its text fails, if it is to.
-#[derive(Drop)]
-pub struct Slow<'a> {
-    pub rest: &'a [u8],
-    pub fails: Option<ErrorKind>,
+/// What a reader gives next.
+#[derive(Clone, Copy)]
+pub enum Part<'a> {
+    Bytes(&'a [u8]),
+    /// A call that fails.
+    Fails(ErrorKind),
 }
 
-impl Read for Slow<'_> {
-    fn read(&mut self, buffer: &mut [u8]) -> io::Result<usize> {
-        if let (true, Some(kind)) = (self.rest.is_empty(), self.fails) {
-            return Err(io::Error::from(kind));
+/// Gives parts, and nothing after the last. It fails where bytes were not flushed before a call.
+#[derive(Drop)]
+pub struct Source<'a> {
+    pub parts: &'a [Part<'a>],
+    /// How many parts were given, and how many bytes of the next one.
+    pub place: usize,
+    pub given: usize,
+    /// How many bytes a call gives at most.
+    pub pace: usize,
+    /// How many bytes the writer took and did not flush.
+    pub unflushed: &'a Cell<usize>,
+}
+
+impl Source<'_> {
+    fn end_part(&mut self) {
+        self.place = self.place.saturating_add(1);
+        self.given = 0;
+    }
+
+    // Gives some of what was not given of these bytes, which are those of the next part.
+    fn give(&mut self, bytes: &[u8], buffer: &mut [u8]) -> io::Result<usize>
+        ensures { ReadsAtMost result buffer.new }
+    {
+        let (_, rest) = bytes.split_at(self.given.min(bytes.len()));
+        let count = rest.len().min(buffer.len()).min(self.pace);
+        let (mut front, left) = rest.split_at(count);
+        if left.is_empty() {
+            self.end_part();
+        } else {
+            self.given = self.given.saturating_add(count);
         }
-        let count = self.rest.len().min(buffer.len()).min(1);
-        let (mut front, rest) = self.rest.split_at(count);
-        self.rest = rest;
         front.read(buffer)
     }
 }
 
-/// Takes at most two bytes a call, and has room for so many in all. Then it fails, or takes nothing.
-#[derive(Drop)]
-pub struct Short<A: Allocator> {
-    pub written: Vec<u8, A>,
-    pub room: usize,
-    pub fails: bool,
-}
-
-impl<A: Allocator> Write for Short<A> {
-    fn write(&mut self, bytes: &[u8]) -> io::Result<usize> {
-        if self.room == 0 && self.fails {
+impl Read for Source<'_> {
+    fn read(&mut self, buffer: &mut [u8]) -> io::Result<usize> {
+        if self.unflushed.get() > 0 {
             return Err(io::Error::from(ErrorKind::Other));
         }
-        let count = bytes.len().min(self.room).min(2);
+        let Some(part) = self.parts.get(self.place) else {
+            return Ok(0);
+        };
+        match *part {
+            Part::Bytes(bytes) => self.give(bytes, buffer),
+            Part::Fails(kind) => {
+                self.end_part();
+                Err(io::Error::from(kind))
+            }
+        }
+    }
+}
+
+/// What a writer takes.
+#[derive(Clone, Copy)]
+pub enum Room {
+    All,
+    /// At most two bytes a call, so many in all, and then nothing.
+    Stuck(usize),
+    /// The same, and then it fails.
+    Full(usize),
+    /// All, but that the call after so many is interrupted.
+    Interrupted(usize),
+    /// All, but that only so many flushes pass.
+    Flushes(usize),
+}
+
+/// Keeps what it has room for.
+#[derive(Drop)]
+pub struct Sink<'a> {
+    pub written: Vec<u8>,
+    pub room: Room,
+    /// How many bytes it took and did not flush.
+    pub unflushed: &'a Cell<usize>,
+}
+
+// How many of so many bytes there is room for, which they take.
+fn take_room(room: &mut Room, count: usize) -> io::Result<usize> {
+    match *room {
+        Room::All | Room::Flushes(_) => Ok(count),
+        Room::Full(0) => Err(io::Error::from(ErrorKind::Other)),
+        Room::Full(left) => {
+            let taken = count.min(left).min(2);
+            *room = Room::Full(left - taken);
+            Ok(taken)
+        }
+        Room::Stuck(left) => {
+            let taken = count.min(left).min(2);
+            *room = Room::Stuck(left - taken);
+            Ok(taken)
+        }
+        Room::Interrupted(0) => {
+            *room = Room::All;
+            Err(io::Error::from(ErrorKind::Interrupted))
+        }
+        Room::Interrupted(passes) => {
+            *room = Room::Interrupted(passes.saturating_sub(1));
+            Ok(count)
+        }
+    }
+}
+
+impl Write for Sink<'_> {
+    fn write(&mut self, bytes: &[u8]) -> io::Result<usize> {
+        let count = take_room(&mut self.room, bytes.len())?.min(bytes.len());
         match self.written.extend_from_slice(&bytes[..count]) {
             Ok(()) => {
-                self.room -= count;
+                self.unflushed
+                    .set(self.unflushed.get().saturating_add(count));
                 Ok(count)
             }
             Err(_) => Err(io::Error::from(ErrorKind::OutOfMemory)),
@@ -48,90 +130,12 @@ impl<A: Allocator> Write for Short<A> {
     }
 
     fn flush(&mut self) -> io::Result<()> {
+        match self.room {
+            Room::Flushes(0) => return Err(io::Error::from(ErrorKind::Other)),
+            Room::Flushes(passes) => self.room = Room::Flushes(passes.saturating_sub(1)),
+            _ => {}
+        }
+        self.unflushed.set(0);
         Ok(())
-    }
-}
-
-/// Gives a part a call, or is interrupted where there is none, and gives nothing after the last.
-#[derive(Drop)]
-pub struct Parts<'a> {
-    pub parts: &'a [Option<&'a [u8]>],
-    pub calls: usize,
-}
-
-impl Read for Parts<'_> {
-    fn read(&mut self, buffer: &mut [u8]) -> io::Result<usize> {
-        let Some(part) = self.parts.get(self.calls) else {
-            return Ok(0);
-        };
-        self.calls = self.calls.saturating_add(1);
-        match *part {
-            None => Err(io::Error::from(ErrorKind::Interrupted)),
-            Some(mut bytes) => bytes.read(buffer),
-        }
-    }
-}
-
-/// Takes all, but for one call that is interrupted.
-#[derive(Drop)]
-pub struct FailsOnce<A: Allocator> {
-    pub written: Vec<u8, A>,
-    pub passes: Option<usize>,
-}
-
-impl<A: Allocator> Write for FailsOnce<A> {
-    fn write(&mut self, bytes: &[u8]) -> io::Result<usize> {
-        let fails = self.passes == Some(0);
-        self.passes = self.passes.and_then(|passes| passes.checked_sub(1));
-        if fails {
-            return Err(io::Error::from(ErrorKind::Interrupted));
-        }
-        match self.written.extend_from_slice(bytes) {
-            Ok(()) => Ok(bytes.len()),
-            Err(_) => Err(io::Error::from(ErrorKind::OutOfMemory)),
-        }
-    }
-
-    fn flush(&mut self) -> io::Result<()> {
-        Ok(())
-    }
-}
-
-/// Counts in a cell the bytes that it took and did not flush. So many flushes pass, and each later one fails.
-#[derive(Drop)]
-pub struct Unflushed<'a> {
-    pub bytes: &'a Cell<usize>,
-    pub passes: usize,
-}
-
-impl Write for Unflushed<'_> {
-    fn write(&mut self, bytes: &[u8]) -> io::Result<usize> {
-        self.bytes.set(self.bytes.get().saturating_add(bytes.len()));
-        Ok(bytes.len())
-    }
-
-    fn flush(&mut self) -> io::Result<()> {
-        let Some(passes) = self.passes.checked_sub(1) else {
-            return Err(io::Error::from(ErrorKind::Other));
-        };
-        self.passes = passes;
-        self.bytes.set(0);
-        Ok(())
-    }
-}
-
-/// Gives a part a call, and fails where bytes were not flushed before it.
-#[derive(Drop)]
-pub struct Waits<'a> {
-    pub parts: Parts<'a>,
-    pub unflushed: &'a Cell<usize>,
-}
-
-impl Read for Waits<'_> {
-    fn read(&mut self, buffer: &mut [u8]) -> io::Result<usize> {
-        if self.unflushed.get() > 0 {
-            return Err(io::Error::from(ErrorKind::Other));
-        }
-        self.parts.read(buffer)
     }
 }

@@ -1,21 +1,22 @@
 //! Tests of what no contract of the shell says: that the definitions are those of docs/COMMANDS.md, and that
-//! a run goes on while it can. `lines`, `replies` and `faults` need only the shell, `sessions` the store's
-//! commands too.
+//! a run goes on while it can. Texts and replies that want no fake are tested by tests/program.py too.
 #![tactic(auto)]
 
 #[cfg(test)]
-mod fakes;
+mod breaks;
 #[cfg(test)]
-mod faults;
+mod fakes;
 #[cfg(test)]
 mod lines;
 #[cfg(test)]
-mod programs;
+mod memory;
+#[cfg(test)]
+mod player;
 #[cfg(test)]
 mod replies;
 #[cfg(test)]
-mod sessions;
+mod rows;
+#[cfg(test)]
+mod runs;
 #[cfg(test)]
 mod stores;
-#[cfg(test)]
-mod strict;

@@ -1,6 +1,6 @@
 //! What lines mean.
 
-use command_shell::{Line, MAX_LINE, parse_entry, parse_line};
+use command_shell::{Line, parse_entry, parse_line};
 use layer_store::{RawBox, RawPoint, RawQuery};
 use std::test::Fail;
 
@@ -179,14 +179,6 @@ const GOOD: [(&[u8], Line<'static>); 33] = [
     (b"  #create a 2 4", Line::Blank),
 ];
 
-#[test]
-fn reads_good_lines(rt: HostRuntime) -> Result<(), Fail> {
-    for (text, line) in GOOD {
-        assert_eq!(rt; parse_line(text), line);
-    }
-    Ok(())
-}
-
 const BAD: [&[u8]; 73] = [
     b"create",
     b"create a 2",
@@ -263,53 +255,74 @@ const BAD: [&[u8]; 73] = [
     b"join a b tag 5",
 ];
 
-#[test]
-fn refuses_bad_lines(rt: HostRuntime) -> Result<(), Fail> {
-    for text in BAD {
-        assert_eq!(rt; parse_line(text), Line::Bad);
+// What a line means that blanks fill up to 4096 bytes.
+const LONG: [(&[u8], Line<'static>); 3] = [
+    (b"create a 2 4", CREATE),
+    (b"# a comment", Line::Blank),
+    (b"", Line::Blank),
+];
+
+type Entry = Option<(u64, RawBox, u32)>;
+
+const ENTRIES: [(&[u8], Entry); 11] = [
+    (
+        b" 007 1 -2 3 4\r",
+        Some((7, RawBox::Two([1, -2], [3, 4]), 0)),
+    ),
+    (
+        b"0 1 2 3 4 5 6 tag 4294967295",
+        Some((0, RawBox::Three([1, 2, 3], [4, 5, 6]), u32::MAX)),
+    ),
+    (b"", None),
+    (b"# 7 1 2 3 4", None),
+    (b"7 1 2 3", None),
+    (b"-7 1 2 3 4", None),
+    (b"insert a 7 1 2 3 4", None),
+    (b"7 1 2 3 4 tag", None),
+    (b"7 1 2 3 4 tag 4294967296", None),
+    (b"7 1 2 3 4 tag 5 5", None),
+    (b"7 tag 5 1 2 3 4", None),
+];
+
+// Whether blanks can fill up a text to 4096 bytes with the same meaning, and it is bad with one more.
+fn fills_a_line(front: &[u8], line: Line<'static>) -> bool {
+    let mut text = [b' '; 4097];
+    for at in 0..front.len().min(4096) {
+        text[at] = front[at];
     }
-    Ok(())
+    let Some(full) = text.get(..4096) else {
+        return false;
+    };
+    parse_line(full) == line && parse_line(&text) == Line::Bad
 }
 
-#[test]
-fn takes_lines_of_4096_bytes(rt: HostRuntime) -> Result<(), Fail> {
-    let fronts = [
-        (b"create a 2 4".as_slice(), CREATE),
-        (b"# a comment".as_slice(), Line::Blank),
-        (b"".as_slice(), Line::Blank),
-    ];
-    for (front, line) in fronts {
-        let mut text = Vec::from_slice(rt.alloc(), front)?;
-        for _ in front.len()..MAX_LINE {
-            text.push(b' ')?;
+// The first text that means something else.
+fn first_other() -> Option<&'static [u8]> {
+    for (text, line) in GOOD {
+        if parse_line(text) != line {
+            return Some(text);
         }
-        assert_eq!(rt; text.len(), 4096);
-        assert_eq!(rt; parse_line(&text), line);
-        text.push(b' ')?;
-        assert_eq!(rt; parse_line(&text), Line::Bad);
     }
-    Ok(())
+    for text in BAD {
+        if parse_line(text) != Line::Bad {
+            return Some(text);
+        }
+    }
+    for (text, line) in LONG {
+        if !fills_a_line(text, line) {
+            return Some(text);
+        }
+    }
+    for (text, entry) in ENTRIES {
+        if parse_entry(text) != entry {
+            return Some(text);
+        }
+    }
+    None
 }
 
 #[test]
-fn reads_entry_lines(rt: HostRuntime) -> Result<(), Fail> {
-    let plane = Some((7, RawBox::Two([1, -2], [3, 4]), 0));
-    assert_eq!(rt; parse_entry(b" 007 1 -2 3 4\r"), plane);
-    let space = Some((0, RawBox::Three([1, 2, 3], [4, 5, 6]), u32::MAX));
-    assert_eq!(rt; parse_entry(b"0 1 2 3 4 5 6 tag 4294967295"), space);
-    let bad = [
-        b"".as_slice(),
-        b"# 7 1 2 3 4".as_slice(),
-        b"7 1 2 3".as_slice(),
-        b"-7 1 2 3 4".as_slice(),
-        b"insert a 7 1 2 3 4".as_slice(),
-        b"7 1 2 3 4 tag".as_slice(),
-        b"7 1 2 3 4 tag 4294967296".as_slice(),
-        b"7 1 2 3 4 tag 5 5".as_slice(),
-        b"7 tag 5 1 2 3 4".as_slice(),
-    ];
-    for line in bad {
-        assert_eq!(rt; parse_entry(line), None);
-    }
+fn lines_mean_what_they_say(rt: HostRuntime) -> Result<(), Fail> {
+    assert_eq!(rt; first_other(), None);
     Ok(())
 }

@@ -6,7 +6,7 @@ ghost use Rattle.c_session.specs.Calls.{AsksBy, ClosesBy, CommitsBy, HasListed, 
 ghost use Rattle.c_session.specs.Keeping.{as_it_is};
 ghost use Rattle.rstore_c.specs.Opening.{TellsUnopened, number_of_error};
 
-use crate::files::{self, Streams, Unopened};
+use crate::files::{self, JournalStreams, Streams, Unopened};
 use crate::handle::Handle;
 use crate::held::{Device, Held};
 use c_rows::{Layer, tell};
@@ -70,7 +70,11 @@ pub extern "C" fn rstore_c_open(
     let opened = if flags == 2 {
         files::open_to_read(alloc, base, journal, cache)
     } else {
-        files::open(alloc, base, journal, anew, &mut ask, flags == 1, cache)
+        let journal = JournalStreams {
+            first: journal,
+            anew,
+        };
+        files::open(alloc, base, journal, &mut ask, flags == 1, cache)
     };
     match opened {
         Ok((store, unended)) => hand_out(alloc, store, flags == 2, unended, at, detail),

@@ -4,10 +4,10 @@ use Rattle.std.proofs.Common.{◌∙◌, refl, sym, arith}
 use Rattle.std.proofs.lemmas.Bool.{true≢false}
 use Rattle.command_line.proofs.strict.settle_device.Goals as goal
 
-pub returns-then-not-create-clause-served : goal.returns-then-not-create-clause-served
-returns-then-not-create-clause-served g c = record {
-  kept = λ create. absurd (true≢false (sym create ∙ c.if-not-create.true));
-  made = λ create. absurd (true≢false (sym create ∙ c.if-not-create.true));
+pub returns-then-not-options-clause-served : goal.returns-then-not-options-clause-served
+returns-then-not-options-clause-served g c = record {
+  kept = λ create. absurd (true≢false (sym create ∙ c.if-not-options.true));
+  made = λ create. absurd (true≢false (sym create ∙ c.if-not-options.true));
   opened = λ create honest t image. c.settle_opened.ensures.serves t honest image;
   checked = λ create honest. c.settle_opened.ensures.checked honest;
   refused = λ create honest f refuses. c.settle_opened.ensures.refuses f honest refuses;
@@ -20,9 +20,9 @@ returns-then-blocks-ne0-clause-served g c = record {
     c.tell_not_empty.ensures.device,
   );
   made = λ create honest none. absurd (c.if-blocks-ne0.true (c.blocks-2.ensures.is ∙ none));
-  opened = λ create. absurd (true≢false (sym c.if-not-create.false ∙ create));
-  checked = λ create. absurd (true≢false (sym c.if-not-create.false ∙ create));
-  refused = λ create. absurd (true≢false (sym c.if-not-create.false ∙ create));
+  opened = λ create. absurd (true≢false (sym c.if-not-options.false ∙ create));
+  checked = λ create. absurd (true≢false (sym c.if-not-options.false ∙ create));
+  refused = λ create. absurd (true≢false (sym c.if-not-options.false ∙ create));
 }
 
 pub returns-clause-served : goal.returns-clause-served
@@ -31,7 +31,7 @@ returns-clause-served g c =
     record {
       kept = λ create some. absurd (omega (arith, some, none));
       made = λ create honest none. c.settle_new.ensures.serves honest;
-      opened = λ create. absurd (true≢false (sym c.if-not-create.false ∙ create));
-      checked = λ create. absurd (true≢false (sym c.if-not-create.false ∙ create));
-      refused = λ create. absurd (true≢false (sym c.if-not-create.false ∙ create));
+      opened = λ create. absurd (true≢false (sym c.if-not-options.false ∙ create));
+      checked = λ create. absurd (true≢false (sym c.if-not-options.false ∙ create));
+      refused = λ create. absurd (true≢false (sym c.if-not-options.false ∙ create));
     }
