@@ -284,6 +284,11 @@ const ENTRIES: [(&[u8], Entry); 11] = [
     (b"7 tag 5 1 2 3 4", None),
 ];
 
+// Whether a text means this line.
+fn means(text: &[u8], line: Line<'static>) -> bool {
+    parse_line(text) == line
+}
+
 // Whether blanks can fill up a text to 4096 bytes with the same meaning, and it is bad with one more.
 fn fills_a_line(front: &[u8], line: Line<'static>) -> bool {
     let mut text = [b' '; 4097];
@@ -293,7 +298,7 @@ fn fills_a_line(front: &[u8], line: Line<'static>) -> bool {
     let Some(full) = text.get(..4096) else {
         return false;
     };
-    parse_line(full) == line && parse_line(&text) == Line::Bad
+    means(full, line) && means(&text, Line::Bad)
 }
 
 // The first text that means something else.
