@@ -46,8 +46,8 @@ pub(crate) fn settle_device<D: BlockDevice, I: CountedRead, W: FlushedWrite, E: 
     ensures status { result.status ≤ 3 }
     ensures flushed { (result.status ≡ 1) ⊎ W.is_flushed output.new }
     ensures quiet { result.status ≡ 0 → Keeps (E.contents errors.old) (E.contents errors.new) }
-    ensures served { HasServedStrictlyOn D.BlockDevice (HasStarted Global D.BlockDevice options.now.limits.newest)
-        options.now.create device
+    ensures served { HasServedStrictlyOn D.BlockDevice
+        (HasStarted Global D.BlockDevice options.now.limits.newest) options.now.create device
         input.old input.new output.old output.new (I.remaining input.old) (I.remaining input.new)
         (W.contents output.old) (W.contents output.new) (E.contents errors.old) (E.contents errors.new)
         result }

@@ -16,7 +16,8 @@ ghost use Rattle.id_chains.specs.Checked.{AddsBucket, AddsChain, AddsChains, Add
 ghost use Rattle.id_chains.specs.Checked.{ComesAlong, ComesFrom, ComesInTable};
 ghost use Rattle.id_words.specs.Seen.{SeesOne, seen_times};
 ghost use Rattle.id_chains.specs.Checked.{MayFollow, MayStand};
-ghost use Rattle.id_chains.specs.Table.{Bucket, ChainStands, IdChains, IdChainsStand, IsFilled, bucket_in, class_of};
+ghost use Rattle.id_chains.specs.Table.{Bucket, ChainStands, IdChains, IdChainsStand, IsFilled, bucket_in};
+ghost use Rattle.id_chains.specs.Table.{class_of};
 ghost use Rattle.id_words.specs.Objects.{times_in};
 ghost use Rattle.id_chains.specs.Table.{occurs_in_chain};
 
@@ -57,8 +58,8 @@ pub fn check_table<const D: usize, B: BlockDevice, A: Allocator + Copy, H: Alloc
     ensures given_table { IsHonest cache.old →
         IfOk result (λ facts. IsCheckedTable D (given cache.old) directory
         facts.pairs.items facts.pages.items) }
-    ensures stands { IsHonest cache.old → (t : IdChains) → t.page ≡ directory → IdChainsStand D (pages cache.old) t
-        → IfErr result IsOfDevice }
+    ensures stands { IsHonest cache.old → (t : IdChains) → t.page ≡ directory
+        → IdChainsStand D (pages cache.old) t → IfErr result IsOfDevice }
     ensures looks { looks_of cache.new ≤ looks_of cache.old + next_of cache.old }
     ensures damage { IsHonest cache.old
         → IfErr result (λ f. (n : ℕ) → f ≡ fault.Damaged n → ComesInTable D (given cache.old) directory n) }
@@ -193,12 +194,15 @@ fn add_bucket<const D: usize, B: BlockDevice, A: Allocator + Copy, H: Allocator 
     ensures found { IsHonest cache.old →
         IfOk result (λ next. AddsBucket D (given cache.old) bucket.class bucket.number next bucket.whole
         pairs.old.items pairs.new.items visits.old.pages.items visits.new.pages.items seen.old seen.new) }
-    ensures stands { IsHonest cache.old → (c : BucketContent) → bucket_in D (given cache.old bucket.number) ≡ Some c
-        → MayFollow bucket.class bucket.number bucket.whole c visits.old.pages.items seen.old → IfErr result IsOfDevice }
+    ensures stands { IsHonest cache.old → (c : BucketContent)
+        → bucket_in D (given cache.old bucket.number) ≡ Some c
+        → MayFollow bucket.class bucket.number bucket.whole c visits.old.pages.items seen.old
+        → IfErr result IsOfDevice }
     ensures numbers { length visits.new.marks.items ≡ length visits.old.marks.items }
     ensures looks { looks_of cache.new + length visits.old.pages.items
         ≤ looks_of cache.old + length visits.new.pages.items }
-    ensures damage { IsHonest cache.old → IfErr result (λ f. IsOfDevice f ⊎ (f ≡ fault.Damaged bucket.number)) }
+    ensures damage { IsHonest cache.old
+        → IfErr result (λ f. IsOfDevice f ⊎ (f ≡ fault.Damaged bucket.number)) }
     ensures other_faults { IfErr result (λ f. IsOfDevice f ⊎ IsDamage f) }
 {
     come_to(bucket.number, visits)?;

@@ -159,8 +159,8 @@ fn is_root<const D: usize>(page: &[u8; 4096]) -> bool
     true
 }
 
-// Checks the node in a page with these bytes, which was visited, and all below it, and appends its objects and
-// the pages below it.
+// Checks the node in a page with these bytes, which was visited, and all below it, and appends its objects
+// and the pages below it.
 fn add_below<const D: usize, B: BlockDevice, A: Allocator + Copy, H: Allocator + Copy>(
     cache: &mut PageCache<B, A>,
     node: Expected,

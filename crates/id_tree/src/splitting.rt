@@ -41,16 +41,21 @@ pub(crate) fn split<const D: usize, B: BlockDevice, A: Allocator + Copy>(
     requires high { 0 < level }
     ensures changes { Changes cache.old cache.new result }
     ensures made { IsPageMap cache.old → (edge : Bool) (row : Row)
-        → MaySplit D (pages cache.old) page level edge row id below.now.child below.now.place below.now.last → IfOk result (λ r.
-        MakesRoom D (pages cache.old) (pages cache.new) page level edge row id r.0 r.1) }
+        → MaySplit D (pages cache.old) page level edge row id
+        below.now.child below.now.place below.now.last
+        → IfOk result (λ r. MakesRoom D (pages cache.old) (pages cache.new) page level edge row id r.0 r.1) }
     ensures tidy { IsPageMap cache.old → (edge : Bool) (row : Row)
-        → MaySplit D (pages cache.old) page level edge row id below.now.child below.now.place below.now.last
+        → MaySplit D (pages cache.old) page level edge row id
+        below.now.child below.now.place below.now.last
         → OnOk result (KeepsTidy D (pages cache.old) (pages cache.new)) }
     ensures sound { IsPageMap cache.old → (edge : Bool) (row : Row)
-        → MaySplit D (pages cache.old) page level edge row id below.now.child below.now.place below.now.last → IsPageMap cache.new }
+        → MaySplit D (pages cache.old) page level edge row id
+        below.now.child below.now.place below.now.last
+        → IsPageMap cache.new }
     ensures grows { Grows 1 cache.old cache.new }
     ensures faults { IsPageMap cache.old → (edge : Bool) (row : Row)
-        → MaySplit D (pages cache.old) page level edge row id below.now.child below.now.place below.now.last
+        → MaySplit D (pages cache.old) page level edge row id
+        below.now.child below.now.place below.now.last
         → IfErr result (IsNoDamage cache.new) }
     ensures touched { OnOk result (touched_of cache.new ≡ true) }
     ensures damage { IsHonest cache.old → touched_of cache.new ≡ false
@@ -82,21 +87,28 @@ fn plan_split<const D: usize, B: BlockDevice, A: Allocator + Copy>(
     requires high { 0 < level }
     ensures asks { Asks cache.old cache.new result }
     ensures fork { IsHonest cache.old → (edge : Bool) (row : Row)
-        → MaySplit D (pages cache.old) page level edge row id below.now.child below.now.place below.now.last → IfOk result (λ plan.
-        fork_at D plan.fork ≡ Some (record { level = level; links = links_of row })) }
+        → MaySplit D (pages cache.old) page level edge row id
+        below.now.child below.now.place below.now.last
+        → IfOk result (λ plan. fork_at D plan.fork ≡ Some (record { level = level; links = links_of row })) }
     ensures cuts { IsHonest cache.old → (edge : Bool) (row : Row)
-        → (may : MaySplit D (pages cache.old) page level edge row id below.now.child below.now.place below.now.last) → IfOk result (λ plan.
-        Cuts D (level - 1) below.now.last may.way.below plan.cut.key plan.cut.first plan.cut.second) }
+        → (may : MaySplit D (pages cache.old) page level edge row id
+        below.now.child below.now.place below.now.last)
+        → IfOk result (λ plan. Cuts D (level - 1) below.now.last may.way.below
+        plan.cut.key plan.cut.first plan.cut.second) }
     ensures tidy_fork { IsHonest cache.old → (edge : Bool) (row : Row)
-        → MaySplit D (pages cache.old) page level edge row id below.now.child below.now.place below.now.last
+        → MaySplit D (pages cache.old) page level edge row id
+        below.now.child below.now.place below.now.last
         → IfOk result (λ plan. IsAsTidy D (pages cache.old) plan.fork) }
     ensures tidy_cut { IsHonest cache.old → (edge : Bool) (row : Row)
-        → MaySplit D (pages cache.old) page level edge row id below.now.child below.now.place below.now.last
+        → MaySplit D (pages cache.old) page level edge row id
+        below.now.child below.now.place below.now.last
         → IfOk result (λ plan. AreAsTidy D (pages cache.old) plan.cut.first plan.cut.second) }
     ensures within { IfOk result (λ plan. below.now.place < number_at 2 2 plan.fork) }
     ensures room { IfOk result (λ plan. number_at 2 2 plan.fork < 340) }
     ensures there { IsHonest cache.old → (edge : Bool) (row : Row)
-        → MaySplit D (pages cache.old) page level edge row id below.now.child below.now.place below.now.last → IfErr result IsOfDevice }
+        → MaySplit D (pages cache.old) page level edge row id
+        below.now.child below.now.place below.now.last
+        → IfErr result IsOfDevice }
     ensures damage { IsHonest cache.old → IfErr result (λ f. (n : ℕ) → f ≡ fault.Damaged n
         → (n ≡ page) ⊎ (n ≡ below.now.child)) }
     ensures other_faults { IfErr result (λ f. IsOfDevice f ⊎ IsDamage f) }
@@ -126,18 +138,23 @@ fn put_split<const D: usize, B: BlockDevice, A: Allocator + Copy>(
     requires room { number_at 2 2 plan.now.fork < 340 }
     ensures changes { Changes cache.old cache.new result }
     ensures made { IsPageMap cache.old → (level : ℕ) (edge : Bool) (row : Row)
-        → (may : MaySplit D (pages cache.old) page level edge row id below.now.child below.now.place below.now.last)
+        → (may : MaySplit D (pages cache.old) page level edge row id
+        below.now.child below.now.place below.now.last)
         → fork_at D plan.now.fork ≡ Some (record { level = level; links = links_of row })
-        → Cuts D (level - 1) below.now.last may.way.below plan.now.cut.key plan.now.cut.first plan.now.cut.second
+        → Cuts D (level - 1) below.now.last may.way.below
+        plan.now.cut.key plan.now.cut.first plan.now.cut.second
         → IfOk result (λ r. MakesRoom D (pages cache.old) (pages cache.new) page level edge row id r.0 r.1) }
-    ensures tidy { IsPageMap cache.old → IsLive cache.old below.now.child → IsLive cache.old page → ¬ (page ≡ below.now.child)
+    ensures tidy { IsPageMap cache.old → IsLive cache.old below.now.child → IsLive cache.old page
+        → ¬ (page ≡ below.now.child)
         → (c : ForkContent) → fork_at D plan.now.fork ≡ Some c → IsAsTidy D (pages cache.old) plan.now.fork
         → AreAsTidy D (pages cache.old) plan.now.cut.first plan.now.cut.second
         → OnOk result (KeepsTidy D (pages cache.old) (pages cache.new)) }
-    ensures sound { IsPageMap cache.old → IsLive cache.old below.now.child → IsLive cache.old page → ¬ (page ≡ below.now.child)
+    ensures sound { IsPageMap cache.old → IsLive cache.old below.now.child → IsLive cache.old page
+        → ¬ (page ≡ below.now.child)
         → IsPageMap cache.new }
     ensures grows { Grows 1 cache.old cache.new }
-    ensures faults { IsPageMap cache.old → IsLive cache.old below.now.child → IsLive cache.old page → ¬ (page ≡ below.now.child)
+    ensures faults { IsPageMap cache.old → IsLive cache.old below.now.child → IsLive cache.old page
+        → ¬ (page ≡ below.now.child)
         → IfErr result (IsNoDamage cache.new) }
     ensures touched { OnOk result (touched_of cache.new ≡ true) }
     ensures damage { IsHonest cache.old → touched_of cache.new ≡ false
