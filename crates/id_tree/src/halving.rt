@@ -1,7 +1,7 @@
 //! Where a full node is cut in two.
 
-ghost use Rattle.std.specs.Prelude.{◌≡◌, ◌<◌, ◌≤◌, ◌⊎◌, ◌+◌, ◌/◌, ℕ, Bool, List, length, Some, false};
-ghost use Rattle.std.specs.Prelude.{IfErr, IfOk};
+ghost use Rattle.std.specs.Prelude.{◌≡◌, ◌<◌, ◌≤◌, ◌⊎◌, ◌+◌, ◌-◌, ◌/◌, ℕ, Bool, List, length, Some};
+ghost use Rattle.std.specs.Prelude.{true, false, IfErr, IfOk};
 ghost use Rattle.block_bytes.specs.Numbers.{number_at};
 ghost use Rattle.box_math.specs.Bounds.{IsDims};
 ghost use Rattle.bucket_page.specs.Layout.{Entry};
@@ -96,8 +96,11 @@ fn objects_kept<const D: usize>(page: &[u8; 4096], edge: bool, id: u64) -> usize
     ensures large { least_objects D ≤ result }
     ensures some { result < most_objects D }
     ensures rest { edge ≡ false → result + least_objects D ≤ most_objects D }
+    ensures inner { edge ≡ false → result ≡ most_objects D / 2 }
     ensures half { (objects : List Entry) → leaf_at D page.now ≡ Some objects
         → length (under_key id objects) < most_objects D → result ≡ most_objects D / 2 }
+    ensures last { edge ≡ true → (objects : List Entry) → leaf_at D page.now ≡ Some objects
+        → length (under_key id objects) ≡ most_objects D → result ≡ most_objects D - 1 }
 {
     let most = objects_that_fit::<D>();
     if edge {
