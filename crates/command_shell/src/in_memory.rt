@@ -16,7 +16,8 @@ const CACHE: u32 = 64;
 /// end.
 ///
 /// They are the texts of the answers of a lawful session from the empty table, one answer to each command of
-/// the text. None only where the store or the replies find no memory (tested).
+/// the text. It is None where the store or the replies find no memory; that it is so nowhere else, no clause
+/// says.
 pub fn answers_to(alloc: Global, text: &[u8]) -> Option<Vec<u8>>
     ensures { IfSome result (λ replies. AnswersText text.now replies.items) }
 {
