@@ -1,7 +1,8 @@
 //! Decimal numbers times a scale, rounded outward to whole numbers.
 
 ghost use Rattle.std.specs.Prelude.{◌≡◌, ◌+◌, ◌-◌, ◌*◌, ◌^◌, ◌<◌, ◌≤◌, ◌==◌, ◌++◌, length};
-ghost use Rattle.std.specs.Prelude.{MatchOption, IfOk, IfErr, IsTrue, false, true, slice_index, pos, neg_ℤ, ◌≤ℤ◌};
+ghost use Rattle.std.specs.Prelude.{MatchOption, IfOk, IfErr, IsTrue, false, true, slice_index, pos, neg_ℤ};
+ghost use Rattle.std.specs.Prelude.{◌≤ℤ◌};
 ghost use Rattle.std.specs.Str.Parse.{AllDigits, digits_value};
 ghost use Rattle.fast_float.specs.Text.{minus, digits_of, tens_up, tens_down};
 ghost use Rattle.box_import.specs.Decimals.{is_decimal, is_negative, unsigned};

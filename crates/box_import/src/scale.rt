@@ -2,8 +2,8 @@
 
 ghost use Rattle.std.specs.Prelude.{◌≡◌, ◌≤◌, ◌^◌, false, IfSome};
 
-/// The whole number that each coordinate is multiplied by, from 1 to 10^9; and whether what is no whole number
-/// then is refused, or rounded outward.
+/// The whole number that each coordinate is multiplied by, from 1 to 10^9; and whether what is no whole
+/// number then is refused, or rounded outward.
 #[derive(Clone, Copy, PartialEq, Eq, Debug)]
 pub struct Scale {
     value: u32,

@@ -3,8 +3,7 @@
 ghost use Rattle.std.specs.Prelude.{◌≡◌, ◌^◌, ◌<◌, ◌≤◌, All, IfErr, IfOk, None, Some, length};
 ghost use Rattle.box_math.specs.Bounds.{IsDims};
 ghost use Rattle.page_file.specs.Pages.{SameBut};
-ghost use Rattle.page_file.specs.declared.gate.Gate.TheVariants.{Open};
-ghost use Rattle.page_cache.specs.Cache.{Grows, IsPageMap, gate_of, pages};
+ghost use Rattle.page_cache.specs.Cache.{Grows, IsPageMap, pages};
 ghost use Rattle.page_cache.specs.Calls.{Changes};
 ghost use Rattle.tree_node.specs.Boxes.{least_box};
 ghost use Rattle.tree_node.specs.Nodes.{items_of};
@@ -37,15 +36,14 @@ fn node_of<const D: usize>(entries: &[Entry<D>], level: u8) -> Node<D>
     }
 }
 
-/// Writes a node of these entries into a page that was not live, and answers its number. The gate has to be
-/// open. After a refusal one page that was not live may be another; all others are as before.
+/// Writes a node of these entries into a page that was not live, and answers its number. After a refusal one
+/// page that was not live may be another; all others are as before.
 pub(crate) fn write_new<const D: usize, B: BlockDevice, A: Allocator + Copy>(
     cache: &mut PageCache<B, A>,
     entries: &[Entry<D>],
     level: u8,
 ) -> Result<u32, Fault>
     requires dims { IsDims D }
-    requires open { gate_of cache.old ≡ Open }
     requires spellable { IsSpellable (record { level = level; entries = items_of entries.now }) }
     ensures changes { Changes cache.old cache.new result }
     ensures sound { IsPageMap cache.old → IsPageMap cache.new }
@@ -71,7 +69,6 @@ pub(crate) fn write_parent<const D: usize, B: BlockDevice, A: Allocator + Copy>(
     level: u8,
 ) -> Result<Entry<D>, Fault>
     requires dims { IsDims D }
-    requires open { gate_of cache.old ≡ Open }
     requires sized { (1 ≤ length entries.now) × (length entries.now ≤ 100) }
     requires refers { All (λ item. IsOfLevel level item.reference item.tag) (items_of entries.now) }
     ensures changes { Changes cache.old cache.new result }

@@ -5,8 +5,7 @@ ghost use Rattle.std.specs.Prelude.{List, []};
 ghost use Rattle.std.specs.Prelude.{length, map, vec_capacity};
 ghost use Rattle.box_math.specs.Bounds.{IsDims};
 ghost use Rattle.page_file.specs.declared.fault.Fault.TheVariants as fault;
-ghost use Rattle.page_file.specs.declared.gate.Gate.TheVariants.{Open};
-ghost use Rattle.page_cache.specs.Cache.{Grows, IsPageMap, gate_of, pages};
+ghost use Rattle.page_cache.specs.Cache.{Grows, IsPageMap, pages};
 ghost use Rattle.page_cache.specs.Calls.{Changes};
 ghost use Rattle.tree_node.specs.Nodes.{items_of};
 ghost use Rattle.tree_node.specs.Positions.{total};
@@ -27,7 +26,7 @@ use std::alloc::Allocator;
 use tree_node::{Fanout, see_boxes};
 
 /// Makes a tree packed from these objects, in pages that were not live: its nodes have at most `fanout`
-/// entries, and no objects make an empty leaf. The gate has to be open. The objects are left in some order.
+/// entries, and no objects make an empty leaf. The objects are left in some order.
 ///
 /// It lets at most one page more become live than there are objects, also where it is refused.
 ///
@@ -41,7 +40,6 @@ pub fn load<const D: usize, B: BlockDevice, A: Allocator + Copy, H: Allocator + 
     fanout: Fanout,
 ) -> Result<Root, Fault>
     requires dims { IsDims D }
-    requires open { gate_of cache.old ≡ Open }
     ensures changes { Changes cache.old cache.new result }
     ensures sound { IsPageMap cache.old → IsPageMap cache.new }
     ensures loaded { IsPageMap cache.old
@@ -64,7 +62,6 @@ fn pack<const D: usize, B: BlockDevice, A: Allocator + Copy, H: Allocator + Copy
     fanout: Fanout,
 ) -> Result<Root, Fault>
     requires dims { IsDims D }
-    requires open { gate_of cache.old ≡ Open }
     requires some { 0 < level → 1 ≤ length entries.old }
     requires refers { All (λ item. IsOfLevel level item.reference item.tag) (items_of entries.old) }
     requires fits { length entries.old * 2 ^ level < 2 ^ 64 }
@@ -94,7 +91,6 @@ fn pack_level<const D: usize, B: BlockDevice, A: Allocator + Copy, H: Allocator 
     fanout: Fanout,
 ) -> Result<Vec<Entry<D>, H>, Fault>
     requires dims { IsDims D }
-    requires open { gate_of cache.old ≡ Open }
     requires above { fanout.most < length entries.old }
     requires refers { All (λ item. IsOfLevel level item.reference item.tag) (items_of entries.old) }
     ensures changes { Changes cache.old cache.new result }
@@ -135,7 +131,6 @@ fn write_level<const D: usize, B: BlockDevice, A: Allocator + Copy, H: Allocator
     mut parents: Vec<Entry<D>, H>,
 ) -> Result<Vec<Entry<D>, H>, Fault>
     requires dims { IsDims D }
-    requires open { gate_of cache.old ≡ Open }
     requires whole { total (λ size. size) sizes.now ≡ length entries.now }
     requires sized { AreSizes sizes.now }
     requires refers { All (λ item. IsOfLevel level item.reference item.tag) (items_of entries.now) }

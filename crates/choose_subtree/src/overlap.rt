@@ -39,7 +39,8 @@ pub(crate) fn overlap_growth_up_to<const D: usize>(
     requires boxes { All (λ item. IsBox D item.bounds) (content_in node.now).entries }
     requires within { k < length (content_in node.now).entries }
     requires other { other < length (content_in node.now).entries }
-    ensures value { IfSome result (λ growth. growth ≡ overlap_growth D (content_in node.now).entries new.now k) }
+    ensures value { IfSome result
+        (λ growth. growth ≡ overlap_growth D (content_in node.now).entries new.now k) }
     ensures small { IfSome result (λ growth. growth ≤ limit) }
     ensures large { IsNone result → limit < overlap_growth D (content_in node.now).entries new.now k }
 {

@@ -76,9 +76,9 @@ fn serve_blocks<B: BlockReader, I: CountedRead, W: FlushedWrite, E: Write>(
 /// the reader is borrowed, and has no call that writes.**
 ///
 /// Where it is honest and holds an image of a table, the commands are answered by a lawful session that
-/// begins with that table. Blocks that a check of opening refuses are never run on. The status is at most 1, and
-/// 0 only where all was read and each reply written. (That each change answers `Device` or the table's refusal,
-/// and that one that answered `Device` ends with 1, is tested.)
+/// begins with that table. Blocks that a check of opening refuses are never run on. The status is at most 1,
+/// and 0 only where all was read and each reply written. (That each change answers `Device` or the table's
+/// refusal, and that one that answered `Device` ends with 1, is tested.)
 pub fn serve_reader<B: BlockReader, A: Allocator + Copy, I: CountedRead, W: FlushedWrite, E: Write>(
     alloc: A,
     blocks: &B,

@@ -71,7 +71,8 @@ impl LineReader {
         ensures end { IfOk result (λ n. n ≡ 0 → IsAtEnd (R.remaining reader.new)) }
         ensures err { OnErr result (Keeps (R.remaining reader.old) (R.remaining reader.new)) }
         ensures fewer { OnOk result (work_left self.new < work_left self.old) }
-        ensures counted { AreCounted self.old (R.calls reader.old) → AreCounted self.new (R.calls reader.new) }
+        ensures counted { AreCounted self.old (R.calls reader.old) →
+            AreCounted self.new (R.calls reader.new) }
         ensures blamed { AreCounted self.old (R.calls reader.old) →
             OnErr result (IsReadersFault (R.is_failing reader.new) (R.calls reader.new)) }
     {
@@ -143,7 +144,8 @@ impl LineReader {
             (λ more. IsOneLine (pending self.old ++ more))) }
         ensures lazy { (n : ℕ) → BeginsLine (pending self.old) n → reader.new ≡ reader.old }
         ensures fewer { IfOk result (λ found. work_left self.new + work_done found ≤ work_left self.old) }
-        ensures counted { AreCounted self.old (R.calls reader.old) → AreCounted self.new (R.calls reader.new) }
+        ensures counted { AreCounted self.old (R.calls reader.old) →
+            AreCounted self.new (R.calls reader.new) }
         ensures blamed { AreCounted self.old (R.calls reader.old) →
             OnErr result (IsReadersFault (R.is_failing reader.new) (R.calls reader.new)) }
     {
@@ -162,7 +164,8 @@ impl LineReader {
             (λ more. IsOneLine (pending self.old ++ more))) }
         ensures lazy { (n : ℕ) → BeginsLine (pending self.old) n → reader.new ≡ reader.old }
         ensures fewer { IfOk result (λ found. work_left self.new + work_done found ≤ work_left self.old) }
-        ensures counted { AreCounted self.old (R.calls reader.old) → AreCounted self.new (R.calls reader.new) }
+        ensures counted { AreCounted self.old (R.calls reader.old) →
+            AreCounted self.new (R.calls reader.new) }
         ensures blamed { AreCounted self.old (R.calls reader.old) →
             OnErr result (IsReadersFault (R.is_failing reader.new) (R.calls reader.new)) }
     {
@@ -208,7 +211,8 @@ impl LineReader {
             (λ _. ReadsTo (R.remaining reader.old) (R.remaining reader.new)
             (λ more. IsOneLine (pending self.old ++ more))) }
         ensures fewer { IfOk result (λ found. work_left self.new + work_done found ≤ work_left self.old) }
-        ensures counted { AreCounted self.old (R.calls reader.old) → AreCounted self.new (R.calls reader.new) }
+        ensures counted { AreCounted self.old (R.calls reader.old) →
+            AreCounted self.new (R.calls reader.new) }
         ensures blamed { AreCounted self.old (R.calls reader.old) →
             OnErr result (IsReadersFault (R.is_failing reader.new) (R.calls reader.new)) }
     {

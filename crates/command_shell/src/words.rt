@@ -98,7 +98,8 @@ pub fn number(word: &[u8]) -> Option<u64>
 // So many digits or fewer have a value below 2^64.
 const MOST_FITTING: usize = 19;
 
-// The number that a word of at most so many bytes is. No digit makes it too large, so none is tested for that.
+// The number that a word of at most so many bytes is. No digit makes it too large, so none is tested for
+// that.
 fn fitting_number(word: &[u8]) -> Option<u64>
     requires some { 0 < length word.now }
     requires short { length word.now ≤ 19 }

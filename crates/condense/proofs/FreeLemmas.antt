@@ -1,16 +1,12 @@
 -- The pages of a tree freed, child by child, and then the root's.
-use Rattle.std.proofs.Common.{Result, Ok, Err, IfErr, OnOk, Option, Bool, true}
-use Rattle.std.proofs.Common.{false, ◌≡◌, ◌∙◌, ℕ, zero, suc, ◌+◌, ◌-◌, ◌^◌, ◌<◌, ◌≤◌, All, IsSome, Some}
+use Rattle.std.proofs.Common.{Result, Ok, Err, OnOk}
+use Rattle.std.proofs.Common.{◌≡◌, ◌∙◌, ℕ, zero, suc, ◌+◌, ◌-◌, ◌^◌, ◌<◌, ◌≤◌, All, IsSome, Some}
 use Rattle.std.proofs.Common.{None, cond, eqb, List, [], ◌∷◌, length, map, take, get_or, refl, sym, ap, subst}
 use Rattle.std.proofs.Common.{⊎_elim, arith}
 use Rattle.std.proofs.lemmas.Bool.{cases_eq}
 use Rattle.std.proofs.lemmas.List.{take_all, length-map}
 use Rattle.std.proofs.lemmas.List.Elements.{All-get_or}
 use Rattle.page_file.specs.Pages.{SameBut}
-use Rattle.page_file.specs.declared.fault.Fault.{Fault}
-use Rattle.page_cache.specs.Cache.{touched_of}
-use Rattle.page_cache.specs.Calls.{AsksUntil, Changes, ChangesUntil}
-use Rattle.page_cache.specs.declared.cache.PageCache.{PageCache}
 use Rattle.tree_node.specs.declared.node.Entry.{Entry}
 use Rattle.tree_node.specs.declared.node.Root.{Root}
 use Rattle.tree_node.specs.Boxes.{no_item}
@@ -246,27 +242,6 @@ module _ (dims : ℕ) (m m1 : PageMap) (page level : ℕ) (row : Row)
       (moves_same m1 m2 _ _ _ _ (λ n. omega arith) (λ n. refl) ((one_page_moves m1 m2 page others).2 gone)))
 
 -- ---- a refusal
-
-none_before : (before now : Bool) → (before ≡ true → now ≡ true) → now ≡ false → now ≡ before
-none_before false now stays none = none
-none_before true now stays none = stays refl
-
--- what has touched no page has only asked
-untouched_asks : {D A : Type 0} {m : _} (old new : PageCache D A m) (last : Option Fault)
-    → ChangesUntil old new last → touched_of new ≡ false → AsksUntil old new last
-untouched_asks old new last change none = record {
-  gate = change.gate;
-  map = change.untouched none;
-  capacity = change.capacity;
-  looks = change.looks;
-  touched = none_before (touched_of old) (touched_of new) change.touched none;
-  faults = change.faults;
-}
-
-pub refusal_asks : {D A : Type 0} {m : _} {T : Type 0} (old new : PageCache D A m) (result : Result T Fault)
-    → Changes old new result → IfErr result (λ f. touched_of new ≡ false → AsksUntil old new (Some f))
-refusal_asks old new (Ok x) change = tt
-refusal_asks old new (Err f) change = untouched_asks old new (Some f) change
 
 -- the last call is answered as it is
 pub on_ok : {T E : Type 0} (r : Result T E) (X Y : Type 0) → OnOk r X → (X → Y) → OnOk r Y

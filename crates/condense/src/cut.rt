@@ -2,8 +2,7 @@
 
 ghost use Rattle.std.specs.Prelude.{◌≡◌, ◌<◌, ◌≤◌, Some, false, true, length};
 ghost use Rattle.arrayvec.specs.ArrayVec.{array_vec_len};
-ghost use Rattle.page_file.specs.declared.gate.Gate.TheVariants.{Open};
-ghost use Rattle.page_cache.specs.Cache.{IsHonest, gate_of, pages};
+ghost use Rattle.page_cache.specs.Cache.{IsHonest, pages};
 ghost use Rattle.page_cache.specs.Calls.{Asks};
 ghost use Rattle.tree_node.specs.declared.node.Node.{Node};
 ghost use Rattle.tree_node.specs.Nodes.{NodeContent};
@@ -32,7 +31,6 @@ pub(crate) fn take_at<const D: usize, B: BlockDevice, A: Allocator + Copy>(
     fanout: Fanout,
     hand: &mut Node<D>,
 ) -> Result<Became<D>, Fault>
-    requires open { gate_of cache.old ≡ Open }
     ensures { Alters fanout.most place (λ items. items_without items place) at
         cache.old cache.new hand.new result }
 {
@@ -66,7 +64,6 @@ pub(crate) fn set_least<const D: usize, B: BlockDevice, A: Allocator + Copy>(
     least: &BBox<D>,
     fanout: Fanout,
 ) -> Result<Became<D>, Fault>
-    requires open { gate_of cache.old ≡ Open }
     ensures alters { (hand : Node D) → Alters fanout.most place (λ items. set_box items place least.now) at
         cache.old cache.new hand result }
     ensures same { IsHonest cache.old → (c : NodeContent) → node_in D (pages cache.old at.page) ≡ Some c

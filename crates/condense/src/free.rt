@@ -4,9 +4,8 @@ ghost use Rattle.std.specs.Prelude.{◌≡◌, ◌⊎◌, ◌≤◌, ◌+◌, �
 ghost use Rattle.box_math.specs.Bounds.{IsDims};
 ghost use Rattle.page_file.specs.Fault.{IsDamage, IsOfDevice};
 ghost use Rattle.page_file.specs.declared.fault.Fault.TheVariants as fault;
-ghost use Rattle.page_file.specs.declared.gate.Gate.TheVariants.{Open};
-ghost use Rattle.page_cache.specs.Cache.{Grows, IsHonest, IsPageMap, gate_of, given, pages, touched_of};
-ghost use Rattle.page_cache.specs.Calls.{AsksUntil, Changes};
+ghost use Rattle.page_cache.specs.Cache.{Grows, IsHonest, IsPageMap, given, pages, touched_of};
+ghost use Rattle.page_cache.specs.Calls.{Changes};
 ghost use Rattle.tree_node.specs.Trees.{Tree, occurs_in};
 ghost use Rattle.node_page.specs.Checked.{ComesTo};
 ghost use Rattle.node_page.specs.Parts.{Moves, no_page};
@@ -22,7 +21,7 @@ use page_file::Fault;
 use std::alloc::Allocator;
 use tree_node::Root;
 
-/// Frees all pages of the tree at that root. The gate has to be open.
+/// Frees all pages of the tree at that root.
 ///
 /// Where the pages are a sound map, and stand for a tree there, none of the tree's pages is live after `Ok`,
 /// and all others are as before. A refusal is of memory or of the device then, and the map stays sound. One
@@ -37,11 +36,8 @@ pub fn free_tree<const D: usize, B: BlockDevice, A: Allocator + Copy>(
     root: Root,
 ) -> Result<(), Fault>
     requires dims { IsDims D }
-    requires open { gate_of cache.old ≡ Open }
     ensures changes { Changes cache.old cache.new result }
     ensures grows { Grows 0 cache.old cache.new }
-    ensures asked { IfErr result
-        (λ f. touched_of cache.new ≡ false → AsksUntil cache.old cache.new (Some f)) }
     ensures freed { IsPageMap cache.old → (t : Tree) → IsRootOf root t → Stands D (pages cache.old) t
         → OnOk result (Moves (pages cache.old) (pages cache.new) (λ n. occurs_in n t) no_page) }
     ensures sound { IsPageMap cache.old → (t : Tree) → IsRootOf root t → Stands D (pages cache.old) t

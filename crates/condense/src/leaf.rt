@@ -1,8 +1,6 @@
 //! An object taken out of its leaf.
 
 ghost use Rattle.std.specs.Prelude.{◌≡◌, ◌<◌, ℕ, IfNone, IfSome, length, slice_index_or};
-ghost use Rattle.page_file.specs.declared.gate.Gate.TheVariants.{Open};
-ghost use Rattle.page_cache.specs.Cache.{gate_of};
 ghost use Rattle.tree_node.specs.Nodes.{Item};
 ghost use Rattle.node_bytes.specs.Views.{content_in};
 ghost use Rattle.condense.specs.Steps.{FindsHere, TakesOutBelow};
@@ -69,7 +67,6 @@ pub(crate) fn take_here<const D: usize, B: BlockDevice, A: Allocator + Copy>(
     fanout: Fanout,
     hand: &mut Node<D>,
 ) -> Result<Option<Became<D>>, Fault>
-    requires open { gate_of cache.old ≡ Open }
     requires leaf { at.level ≡ 0 }
     ensures { (kept : Kept D) → TakesOutBelow fanout.most at object.now.reference
         (object.now.bounds, object.now.tag) cache.old cache.new kept kept hand.new result }

@@ -4,8 +4,7 @@ ghost use Rattle.std.specs.Prelude.{◌≡◌, ◌⊎◌, ◌^◌, ◌-◌, ◌<
 ghost use Rattle.std.specs.Prelude.{ℕ, OnOk, false, slice_index_or};
 ghost use Rattle.page_file.specs.Fault.{IsDamage, IsOfDevice};
 ghost use Rattle.page_file.specs.declared.fault.Fault.TheVariants as fault;
-ghost use Rattle.page_file.specs.declared.gate.Gate.TheVariants.{Open};
-ghost use Rattle.page_cache.specs.Cache.{Grows, IsHonest, IsPageMap, gate_of, given, pages};
+ghost use Rattle.page_cache.specs.Cache.{Grows, IsHonest, IsPageMap, given, pages};
 ghost use Rattle.page_cache.specs.Cache.{touched_of};
 ghost use Rattle.page_cache.specs.Calls.{Asks, Changes};
 ghost use Rattle.tree_node.specs.Nodes.{Item, NodeContent};
@@ -29,7 +28,6 @@ pub(crate) fn give_way<const D: usize, B: BlockDevice, A: Allocator + Copy>(
     cache: &mut PageCache<B, A>,
     root: Root,
 ) -> Result<Root, Fault>
-    requires open { gate_of cache.old ≡ Open }
     requires root { IsRoot root }
     ensures changes { Changes cache.old cache.new result }
     ensures grows { Grows 0 cache.old cache.new }

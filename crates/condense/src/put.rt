@@ -3,8 +3,6 @@
 
 ghost use Rattle.std.specs.Prelude.{◌≡◌, ◌+◌, ◌<◌, ◌≤◌};
 ghost use Rattle.arrayvec.specs.ArrayVec.{array_vec_len};
-ghost use Rattle.page_file.specs.declared.gate.Gate.TheVariants.{Open};
-ghost use Rattle.page_cache.specs.Cache.{gate_of};
 ghost use Rattle.tree_node.specs.Nodes.{content_of};
 ghost use Rattle.tree_node.specs.Shape;
 ghost use Rattle.condense.specs.Becoming.{IsFewInHand, IsNext};
@@ -32,7 +30,6 @@ pub(crate) fn put_child<const D: usize, B: BlockDevice, A: Allocator + Copy>(
     kept: &mut Kept<D>,
     hand: &mut Node<D>,
 ) -> Result<Became<D>, Fault>
-    requires open { gate_of cache.old ≡ Open }
     requires is_next { IsNext step.at step.next }
     requires cut { IsFewInHand fanout.most step.next.below.level hand.old child.now }
     requires room { array_vec_len kept.old.orphans + 39 ≤ 1560 }
@@ -55,7 +52,6 @@ fn leave_read<const D: usize, B: BlockDevice, A: Allocator + Copy>(
     kept: &mut Kept<D>,
     hand: &mut Node<D>,
 ) -> Result<Became<D>, Fault>
-    requires open { gate_of cache.old ≡ Open }
     requires is_next { IsNext step.at step.next }
     requires room { array_vec_len kept.old.orphans + 39 ≤ 1560 }
     ensures { PutsChild fanout.most step.at step.next became.Few cache.old cache.new hand.old hand.new
@@ -78,7 +74,6 @@ fn leave_out<const D: usize, B: BlockDevice, A: Allocator + Copy>(
     kept: &mut Kept<D>,
     hand: &mut Node<D>,
 ) -> Result<Became<D>, Fault>
-    requires open { gate_of cache.old ≡ Open }
     requires is_next { IsNext step.at step.next }
     requires cut { IsCut step.next.below.level (content_of hand.old) }
     requires few { array_vec_len hand.old.entries < Shape.least_entries fanout.most }

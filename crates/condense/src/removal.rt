@@ -8,8 +8,7 @@ ghost use Rattle.box_math.specs.Objects.{Object};
 ghost use Rattle.page_file.specs.Fault.{IsDamage, IsOfDevice};
 ghost use Rattle.page_file.specs.Pages.{SameBut};
 ghost use Rattle.page_file.specs.declared.fault.Fault.TheVariants as fault;
-ghost use Rattle.page_file.specs.declared.gate.Gate.TheVariants.{Open};
-ghost use Rattle.page_cache.specs.Cache.{Grows, IsHonest, IsLive, IsPageMap, gate_of, pages, touched_of};
+ghost use Rattle.page_cache.specs.Cache.{Grows, IsHonest, IsLive, IsPageMap, pages, touched_of};
 ghost use Rattle.page_cache.specs.Calls.{Changes};
 ghost use Rattle.tree_node.specs.Boxes.{RowHasBoxes};
 ghost use Rattle.tree_node.specs.Nodes.{Item, content_of};
@@ -38,7 +37,7 @@ use std::alloc::Allocator;
 use tree_node::{Entry, Fanout, Node, Root};
 
 /// Removes the object of that identifier, which is the entry's reference, box and tag from the tree at that
-/// root (docs/RULES.md). The gate has to be open.
+/// root (docs/RULES.md).
 ///
 /// Where the map is sound and the pages stand for a tree at the root, they stand after `Ok` for a tree that a
 /// lawful removal leads to. Pages outside of these trees stay, those that came in were not live, and those
@@ -61,7 +60,6 @@ pub fn remove<const D: usize, B: BlockDevice, A: Allocator + Copy, H: Allocator 
     fanout: Fanout,
 ) -> Result<Root, Fault>
     requires dims { IsDims D }
-    requires open { gate_of cache.old ≡ Open }
     requires root { IsRoot root }
     ensures { Removes D fanout.most root object.now.reference (object.now.bounds, object.now.tag)
         cache.old cache.new result }
@@ -81,7 +79,6 @@ pub fn remove_with<const D: usize, B: BlockDevice, A: Allocator + Copy>(
     waiting: &mut Waiting<D>,
     kept: &mut Kept<D>,
 ) -> Result<Root, Fault>
-    requires open { gate_of cache.old ≡ Open }
     requires root { IsRoot root }
     ensures { Removes D fanout.most root object.now.reference (object.now.bounds, object.now.tag)
         cache.old cache.new result }
@@ -110,7 +107,6 @@ fn put_root<const D: usize, B: BlockDevice, A: Allocator + Copy>(
     waiting: &mut Waiting<D>,
     kept: &mut Kept<D>,
 ) -> Result<Root, Fault>
-    requires open { gate_of cache.old ≡ Open }
     requires root { IsRoot root }
     requires cut { hand.now.settled ≡ false → IsCut root.level (content_of hand.now.node) }
     ensures changes { Changes cache.old cache.new result }
@@ -146,7 +142,6 @@ fn write_root<const D: usize, B: BlockDevice, A: Allocator + Copy>(
     root: Root,
     hand: &InHand<D>,
 ) -> Result<(), Fault>
-    requires open { gate_of cache.old ≡ Open }
     requires cut { hand.now.settled ≡ false → IsCut root.level (content_of hand.now.node) }
     ensures changes { Changes cache.old cache.new result }
     ensures grows { Grows 0 cache.old cache.new }

@@ -2,8 +2,6 @@
 
 ghost use Rattle.std.specs.Prelude.{◌≡◌, ◌+◌, ◌*◌, ◌≤◌};
 ghost use Rattle.arrayvec.specs.ArrayVec.{array_vec_len};
-ghost use Rattle.page_file.specs.declared.gate.Gate.TheVariants.{Open};
-ghost use Rattle.page_cache.specs.Cache.{gate_of};
 ghost use Rattle.condense.specs.Steps.{TakesOutBelow};
 
 use crate::hand::{Became, Descent};
@@ -30,7 +28,6 @@ pub(crate) fn take_out<const D: usize, B: BlockDevice, A: Allocator + Copy>(
     kept: &mut Kept<D>,
     hand: &mut Node<D>,
 ) -> Result<Option<Became<D>>, Fault>
-    requires open { gate_of cache.old ≡ Open }
     requires room { array_vec_len kept.old.orphans + 39 * at.level ≤ 1560 }
     ensures { TakesOutBelow fanout.most at object.now.reference (object.now.bounds, object.now.tag)
         cache.old cache.new kept.old kept.new hand.new result }

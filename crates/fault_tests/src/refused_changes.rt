@@ -134,9 +134,9 @@ fn attempt(
     }
 }
 
-// Whether a change goes on whose first growth, or first call of the device, is refused; goes on or fails where
-// a later one is; and is answered in the end. Some calls have to let it fail, and those of the opening are
-// answered by that.
+// Whether a change goes on whose first growth, or first call of the device, is refused; goes on or fails
+// where a later one is; and is answered in the end. Some calls have to let it fail, and those of the opening
+// are answered by that.
 fn goes_on(alloc: Global, command: Command<'_>, refused: Refused) -> bool {
     let first = match refused {
         Refused::Growths => 0,

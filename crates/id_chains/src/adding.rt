@@ -9,8 +9,7 @@ ghost use Rattle.bucket_page.specs.Layout.{BucketContent, bucket_at};
 ghost use Rattle.page_file.specs.Fault.{IsDamage, IsOfDevice};
 ghost use Rattle.page_file.specs.Pages.{SameBut};
 ghost use Rattle.page_file.specs.declared.fault.Fault.TheVariants as fault;
-ghost use Rattle.page_file.specs.declared.gate.Gate.TheVariants.{Open};
-ghost use Rattle.page_cache.specs.Cache.{Grows, IsHonest, IsLive, IsPageMap, gate_of, given, next_of};
+ghost use Rattle.page_cache.specs.Cache.{Grows, IsHonest, IsLive, IsPageMap, given, next_of};
 ghost use Rattle.page_cache.specs.Cache.{pages, touched_of};
 ghost use Rattle.page_cache.specs.Calls.{Changes};
 ghost use Rattle.node_page.specs.Faults.{IsNoDamage};
@@ -33,7 +32,7 @@ use page_file::Fault;
 use std::alloc::Allocator;
 
 /// Adds an object to the table, which does not have its identifier: into the first page of its chain, or into
-/// a new page before that one where it is full. The gate has to be open.
+/// a new page before that one where it is full.
 ///
 /// Pages with zeros in all bytes that they do not name stay so, and so is a new one.
 ///
@@ -49,17 +48,20 @@ pub fn add<const D: usize, B: BlockDevice, A: Allocator + Copy>(
     tag: u32,
 ) -> Result<(), Fault>
     requires dims { IsDims D }
-    requires open { gate_of cache.old ≡ Open }
     ensures changes { Changes cache.old cache.new result }
-    ensures sound { IsPageMap cache.old → (t : IdChains) → t.page ≡ directory → IdChainsStand D (pages cache.old) t
+    ensures sound { IsPageMap cache.old → (t : IdChains) → t.page ≡ directory
+        → IdChainsStand D (pages cache.old) t
         → IsPageMap cache.new }
-    ensures tidy { IsPageMap cache.old → (t : IdChains) → t.page ≡ directory → IdChainsStand D (pages cache.old) t
+    ensures tidy { IsPageMap cache.old → (t : IdChains) → t.page ≡ directory
+        → IdChainsStand D (pages cache.old) t
         → OnOk result (KeepsTidy D (pages cache.old) (pages cache.new)) }
-    ensures added { IsPageMap cache.old → (t : IdChains) → t.page ≡ directory → IdChainsStand D (pages cache.old) t
+    ensures added { IsPageMap cache.old → (t : IdChains) → t.page ≡ directory
+        → IdChainsStand D (pages cache.old) t
         → map.contains_key (objects_of t) id ≡ false
         → OnOk result (Sets D (pages cache.old) (pages cache.new) t id (bounds.now, tag)) }
     ensures grows { Grows 1 cache.old cache.new }
-    ensures faults { IsPageMap cache.old → (t : IdChains) → t.page ≡ directory → IdChainsStand D (pages cache.old) t
+    ensures faults { IsPageMap cache.old → (t : IdChains) → t.page ≡ directory
+        → IdChainsStand D (pages cache.old) t
         → IfErr result (IsNoDamage cache.new) }
     ensures damage { IsHonest cache.old → IfErr result (λ f. (n : ℕ) → f ≡ fault.Damaged n
         → BeginsChain D (given cache.old) directory (class_of id) n ⊎ MayBreakAt cache.old n) }
@@ -77,20 +79,23 @@ pub(crate) fn add_run<const D: usize, B: BlockDevice, A: Allocator + Copy>(
     objects: &[(u64, (BBox<D>, u32))],
 ) -> Result<usize, Fault>
     requires dims { IsDims D }
-    requires open { gate_of cache.old ≡ Open }
     requires some { 0 < length objects.now }
     ensures changes { Changes cache.old cache.new result }
-    ensures sound { IsPageMap cache.old → (t : IdChains) → t.page ≡ directory → IdChainsStand D (pages cache.old) t
+    ensures sound { IsPageMap cache.old → (t : IdChains) → t.page ≡ directory
+        → IdChainsStand D (pages cache.old) t
         → IsPageMap cache.new }
-    ensures tidy { IsPageMap cache.old → (t : IdChains) → t.page ≡ directory → IdChainsStand D (pages cache.old) t
+    ensures tidy { IsPageMap cache.old → (t : IdChains) → t.page ≡ directory
+        → IdChainsStand D (pages cache.old) t
         → OnOk result (KeepsTidy D (pages cache.old) (pages cache.new)) }
     ensures count { IfOk result (λ count. (0 < count) × (count ≤ length objects.now)) }
-    ensures added { IsPageMap cache.old → (t : IdChains) → t.page ≡ directory → IdChainsStand D (pages cache.old) t
+    ensures added { IsPageMap cache.old → (t : IdChains) → t.page ≡ directory
+        → IdChainsStand D (pages cache.old) t
         → AreNew (objects_of t) objects.now
         → IfOk result (λ count. Fills D (pages cache.old) (pages cache.new) t (take count objects.now)) }
     ensures grows { Grows 1 cache.old cache.new }
     ensures whole { IfOk result (λ count. Grows 0 cache.old cache.new ⊎ IsWholeRun objects.now count) }
-    ensures faults { IsPageMap cache.old → (t : IdChains) → t.page ≡ directory → IdChainsStand D (pages cache.old) t
+    ensures faults { IsPageMap cache.old → (t : IdChains) → t.page ≡ directory
+        → IdChainsStand D (pages cache.old) t
         → IfErr result (IsNoDamage cache.new) }
     ensures touched { OnOk result (touched_of cache.new ≡ true) }
     ensures damage { IsHonest cache.old → IfErr result (λ f. (n : ℕ) → f ≡ fault.Damaged n
@@ -119,7 +124,6 @@ fn put_in<const D: usize, B: BlockDevice, A: Allocator + Copy>(
     objects: &[(u64, (BBox<D>, u32))],
 ) -> Result<usize, Fault>
     requires dims { IsDims D }
-    requires open { gate_of cache.old ≡ Open }
     requires some { 0 < length objects.now }
     requires first { class ≡ first_class objects.now }
     ensures changes { Changes cache.old cache.new result }
@@ -209,7 +213,6 @@ fn put_alone<const D: usize, B: BlockDevice, A: Allocator + Copy>(
 ) -> Result<usize, Fault>
     requires dims { IsDims D }
     requires class { class < 1000 }
-    requires open { gate_of cache.old ≡ Open }
     requires some { 0 < length objects.now }
     requires first { class ≡ first_class objects.now }
     ensures changes { Changes cache.old cache.new result }
@@ -265,7 +268,6 @@ pub(crate) fn put_before<const D: usize, B: BlockDevice, A: Allocator + Copy>(
 ) -> Result<(), Fault>
     requires dims { IsDims D }
     requires class { class < 1000 }
-    requires open { gate_of cache.old ≡ Open }
     requires some { 0 < length bucket.now.entries.items }
     ensures changes { Changes cache.old cache.new result }
     ensures sound { IsPageMap cache.old → IsLive cache.old directory → IsPageMap cache.new }

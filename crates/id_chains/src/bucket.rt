@@ -7,8 +7,7 @@ ghost use Rattle.bucket_page.specs.Layout.{BucketContent, HasBucketHead, bucket_
 ghost use Rattle.page_file.specs.Fault.{IsDamage, IsOfDevice};
 ghost use Rattle.page_file.specs.Pages.{SameBut};
 ghost use Rattle.page_file.specs.declared.fault.Fault.TheVariants as fault;
-ghost use Rattle.page_file.specs.declared.gate.Gate.TheVariants.{Open};
-ghost use Rattle.page_cache.specs.Cache.{Grows, IsHonest, IsLive, IsPageMap, gate_of, given, next_of};
+ghost use Rattle.page_cache.specs.Cache.{Grows, IsHonest, IsLive, IsPageMap, given, next_of};
 ghost use Rattle.page_cache.specs.Cache.{pages};
 ghost use Rattle.page_cache.specs.Calls.{Asks, Changes};
 ghost use Rattle.id_chains.specs.Pages.{BeginsFull, IsFoundAt};
@@ -163,7 +162,6 @@ pub(crate) fn write_bucket<const D: usize, B: BlockDevice, A: Allocator + Copy>(
     bucket: &Bucket<D>,
 ) -> Result<(), Fault>
     requires dims { IsDims D }
-    requires open { gate_of cache.old ≡ Open }
     requires some { 0 < length bucket.now.entries.items }
     ensures changes { Changes cache.old cache.new result }
     ensures next { next_of cache.new ≡ next_of cache.old }

@@ -6,8 +6,7 @@ ghost use Rattle.box_math.specs.Bounds.{IsDims};
 ghost use Rattle.page_file.specs.Fault.{IsDamage, IsOfDevice};
 ghost use Rattle.page_file.specs.Pages.{SameBut};
 ghost use Rattle.page_file.specs.declared.fault.Fault.TheVariants as fault;
-ghost use Rattle.page_file.specs.declared.gate.Gate.TheVariants.{Open};
-ghost use Rattle.page_cache.specs.Cache.{Grows, IsHonest, IsLive, IsPageMap, gate_of, given, looks_of};
+ghost use Rattle.page_cache.specs.Cache.{Grows, IsHonest, IsLive, IsPageMap, given, looks_of};
 ghost use Rattle.page_cache.specs.Cache.{next_of, pages, touched_of};
 ghost use Rattle.page_cache.specs.Calls.{Asks, Changes};
 ghost use Rattle.id_chains.specs.Table.{IsDirectory, class_of, link_at};
@@ -117,7 +116,6 @@ pub(crate) fn write_link<B: BlockDevice, A: Allocator + Copy>(
     first: u32,
 ) -> Result<(), Fault>
     requires class { class < 1000 }
-    requires open { gate_of cache.old ≡ Open }
     ensures changes { Changes cache.old cache.new result }
     ensures next { next_of cache.new ≡ next_of cache.old }
     ensures written { IsHonest cache.old → (page : List ℕ) → pages cache.old directory ≡ Some page

@@ -5,8 +5,7 @@ ghost use Rattle.std.specs.List.Sorted.{IsNonDecreasingBy};
 ghost use Rattle.box_math.specs.Bounds.{IsDims};
 ghost use Rattle.page_file.specs.Fault.{IsDamage};
 ghost use Rattle.page_file.specs.declared.fault.Fault.TheVariants as fault;
-ghost use Rattle.page_file.specs.declared.gate.Gate.TheVariants.{Open};
-ghost use Rattle.page_cache.specs.Cache.{Grows, IsHonest, IsPageMap, gate_of, given, pages, touched_of};
+ghost use Rattle.page_cache.specs.Cache.{Grows, IsHonest, IsPageMap, given, pages, touched_of};
 ghost use Rattle.page_cache.specs.Calls.{Changes};
 ghost use Rattle.node_page.specs.Faults.{IsNoDamage};
 ghost use Rattle.id_words.specs.Objects.{AreNew};
@@ -26,7 +25,7 @@ use std::alloc::Allocator;
 /// Adds objects to the table, none of which has an identifier that is there or that one before it has. No
 /// chain is walked: those of one chain that stand in a row are put into its first page together, as many as
 /// it has room for, and then into a new page before it. So in the order of the remainders by 1000 each page
-/// of objects is written once. The gate has to be open.
+/// of objects is written once.
 ///
 /// It makes at most one page more live for each object, and in that order one for each 100 objects and each
 /// remainder, also where it is refused.
@@ -44,20 +43,23 @@ pub fn fill<const D: usize, B: BlockDevice, A: Allocator + Copy>(
     objects: &[(u64, (BBox<D>, u32))],
 ) -> Result<(), Fault>
     requires dims { IsDims D }
-    requires open { gate_of cache.old ≡ Open }
     ensures changes { Changes cache.old cache.new result }
-    ensures sound { IsPageMap cache.old → (t : IdChains) → t.page ≡ directory → IdChainsStand D (pages cache.old) t
+    ensures sound { IsPageMap cache.old → (t : IdChains) → t.page ≡ directory
+        → IdChainsStand D (pages cache.old) t
         → AreNew (objects_of t) objects.now → IsPageMap cache.new }
-    ensures tidy { IsPageMap cache.old → (t : IdChains) → t.page ≡ directory → IdChainsStand D (pages cache.old) t
+    ensures tidy { IsPageMap cache.old → (t : IdChains) → t.page ≡ directory
+        → IdChainsStand D (pages cache.old) t
         → AreNew (objects_of t) objects.now
         → OnOk result (KeepsTidy D (pages cache.old) (pages cache.new)) }
-    ensures filled { IsPageMap cache.old → (t : IdChains) → t.page ≡ directory → IdChainsStand D (pages cache.old) t
+    ensures filled { IsPageMap cache.old → (t : IdChains) → t.page ≡ directory
+        → IdChainsStand D (pages cache.old) t
         → AreNew (objects_of t) objects.now
         → OnOk result (Fills D (pages cache.old) (pages cache.new) t objects.now) }
     ensures grows { Grows (length objects.now) cache.old cache.new }
     ensures grows_in_order { IsNonDecreasingBy (λ object. class_of object.0) objects.now
         → Grows (length objects.now / 100 + 1000) cache.old cache.new }
-    ensures faults { IsPageMap cache.old → (t : IdChains) → t.page ≡ directory → IdChainsStand D (pages cache.old) t
+    ensures faults { IsPageMap cache.old → (t : IdChains) → t.page ≡ directory
+        → IdChainsStand D (pages cache.old) t
         → AreNew (objects_of t) objects.now → IfErr result (IsNoDamage cache.new) }
     ensures damage { IsHonest cache.old → IsPageMap cache.old ⊎ (touched_of cache.new ≡ false)
         → IfErr result (λ f. (n : ℕ) → f ≡ fault.Damaged n

@@ -7,13 +7,13 @@ ghost use Rattle.bucket_page.specs.Layout.{BucketContent};
 ghost use Rattle.page_file.specs.Fault.{IsDamage, IsOfDevice};
 ghost use Rattle.page_file.specs.Pages.{SameBut};
 ghost use Rattle.page_file.specs.declared.fault.Fault.TheVariants as fault;
-ghost use Rattle.page_file.specs.declared.gate.Gate.TheVariants.{Open};
-ghost use Rattle.page_cache.specs.Cache.{Grows, IsHonest, IsLive, IsPageMap, gate_of, given, next_of};
+ghost use Rattle.page_cache.specs.Cache.{Grows, IsHonest, IsLive, IsPageMap, given, next_of};
 ghost use Rattle.page_cache.specs.Cache.{pages, touched_of};
 ghost use Rattle.page_cache.specs.Calls.{Asks, Changes};
 ghost use Rattle.node_page.specs.Parts.{Moves, no_page};
 ghost use Rattle.id_chains.specs.Pages.{Frees};
-ghost use Rattle.id_chains.specs.Table.{Bucket, ChainStands, IdChains, IdChainsStand, bucket_in, occurs_in_chain};
+ghost use Rattle.id_chains.specs.Table.{Bucket, ChainStands, IdChains, IdChainsStand, bucket_in};
+ghost use Rattle.id_chains.specs.Table.{occurs_in_chain};
 ghost use Rattle.id_chains.specs.Table.{link_at, part_of};
 ghost use Rattle.id_chains.specs.Walks.{MeetsAlong, MeetsInTable, NamesNext, NamesNoMore};
 
@@ -24,7 +24,7 @@ use page_cache::PageCache;
 use page_file::Fault;
 use std::alloc::Allocator;
 
-/// Frees all pages of the table. The gate has to be open.
+/// Frees all pages of the table.
 ///
 /// With a sound map, where the pages stand for a table at that directory, a refusal is `Memory` or `Device`.
 /// On other pages it may be `Damaged` too. On an honest device, where the map is sound or no page is touched,
@@ -36,15 +36,17 @@ pub fn free_all<const D: usize, B: BlockDevice, A: Allocator + Copy>(
     directory: u32,
 ) -> Result<(), Fault>
     requires dims { IsDims D }
-    requires open { gate_of cache.old ≡ Open }
     ensures changes { Changes cache.old cache.new result }
-    ensures sound { IsPageMap cache.old → (t : IdChains) → t.page ≡ directory → IdChainsStand D (pages cache.old) t
+    ensures sound { IsPageMap cache.old → (t : IdChains) → t.page ≡ directory
+        → IdChainsStand D (pages cache.old) t
         → IsPageMap cache.new }
-    ensures freed { IsPageMap cache.old → (t : IdChains) → t.page ≡ directory → IdChainsStand D (pages cache.old) t
+    ensures freed { IsPageMap cache.old → (t : IdChains) → t.page ≡ directory
+        → IdChainsStand D (pages cache.old) t
         → OnOk result (Moves (pages cache.old) (pages cache.new) (part_of t) no_page) }
     ensures next { next_of cache.new ≡ next_of cache.old }
     ensures grows { Grows 0 cache.old cache.new }
-    ensures faults { IsPageMap cache.old → (t : IdChains) → t.page ≡ directory → IdChainsStand D (pages cache.old) t
+    ensures faults { IsPageMap cache.old → (t : IdChains) → t.page ≡ directory
+        → IdChainsStand D (pages cache.old) t
         → IfErr result IsOfDevice }
     ensures damage { IsHonest cache.old → IsPageMap cache.old ⊎ (touched_of cache.new ≡ false)
         → IfErr result (λ f. (n : ℕ) → f ≡ fault.Damaged n
@@ -65,16 +67,18 @@ fn free_pages<const D: usize, B: BlockDevice, A: Allocator + Copy>(
     bytes: &[u8; 4096],
 ) -> Result<(), Fault>
     requires dims { IsDims D }
-    requires open { gate_of cache.old ≡ Open }
     ensures changes { Changes cache.old cache.new result }
-    ensures sound { IsPageMap cache.old → (t : IdChains) → t.page ≡ directory → IdChainsStand D (pages cache.old) t
+    ensures sound { IsPageMap cache.old → (t : IdChains) → t.page ≡ directory
+        → IdChainsStand D (pages cache.old) t
         → pages cache.old directory ≡ Some bytes.now → IsPageMap cache.new }
-    ensures freed { IsPageMap cache.old → (t : IdChains) → t.page ≡ directory → IdChainsStand D (pages cache.old) t
+    ensures freed { IsPageMap cache.old → (t : IdChains) → t.page ≡ directory
+        → IdChainsStand D (pages cache.old) t
         → pages cache.old directory ≡ Some bytes.now
         → OnOk result (Frees (pages cache.old) (pages cache.new) (part_of t)) }
     ensures next { next_of cache.new ≡ next_of cache.old }
     ensures grows { Grows 0 cache.old cache.new }
-    ensures faults { IsPageMap cache.old → (t : IdChains) → t.page ≡ directory → IdChainsStand D (pages cache.old) t
+    ensures faults { IsPageMap cache.old → (t : IdChains) → t.page ≡ directory
+        → IdChainsStand D (pages cache.old) t
         → pages cache.old directory ≡ Some bytes.now → IfErr result IsOfDevice }
     ensures damage { IsHonest cache.old
         → (IsPageMap cache.old × IsLive cache.old directory) ⊎ (touched_of cache.new ≡ false)
@@ -95,7 +99,6 @@ fn free_chain<const D: usize, B: BlockDevice, A: Allocator + Copy>(
     first: u32,
 ) -> Result<(), Fault>
     requires dims { IsDims D }
-    requires open { gate_of cache.old ≡ Open }
     ensures changes { Changes cache.old cache.new result }
     ensures sound { IsPageMap cache.old → (chain : List Bucket) → ChainStands D (pages cache.old) first chain
         → ((n : ℕ) → occurs_in_chain n chain ≤ 1) → IsPageMap cache.new }
@@ -131,7 +134,6 @@ fn free_bucket<const D: usize, B: BlockDevice, A: Allocator + Copy>(
     number: u32,
 ) -> Result<u32, Fault>
     requires dims { IsDims D }
-    requires open { gate_of cache.old ≡ Open }
     ensures changes { Changes cache.old cache.new result }
     ensures following { IsPageMap cache.old → (c : BucketContent) →
         bucket_in D (pages cache.old number) ≡ Some c

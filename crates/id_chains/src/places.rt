@@ -7,8 +7,7 @@ ghost use Rattle.bucket_page.specs.Layout.{BucketContent, Entry, bucket_at, repl
 ghost use Rattle.page_file.specs.Fault.{IsDamage, IsOfDevice};
 ghost use Rattle.page_file.specs.Pages.{SameBut};
 ghost use Rattle.page_file.specs.declared.fault.Fault.TheVariants as fault;
-ghost use Rattle.page_file.specs.declared.gate.Gate.TheVariants.{Open};
-ghost use Rattle.page_cache.specs.Cache.{Grows, IsHonest, IsLive, IsPageMap, KeepsMap, gate_of, given};
+ghost use Rattle.page_cache.specs.Cache.{Grows, IsHonest, IsLive, IsPageMap, KeepsMap, given};
 ghost use Rattle.page_cache.specs.Cache.{next_of, pages, touched_of};
 ghost use Rattle.page_cache.specs.Calls.{Asks, Changes};
 ghost use Rattle.id_chains.specs.Pages.{HasObject, IsInChain, moved};
@@ -69,7 +68,6 @@ pub(crate) fn put_at<const D: usize, B: BlockDevice, A: Allocator + Copy>(
     object: &(u64, (BBox<D>, u32)),
 ) -> Result<(), Fault>
     requires dims { IsDims D }
-    requires open { gate_of cache.old ≡ Open }
     requires within { place < 100 }
     ensures changes { Changes cache.old cache.new result }
     ensures refused { OnErr result (KeepsMap cache.old cache.new) }
@@ -109,7 +107,6 @@ pub(crate) fn move_at<const D: usize, B: BlockDevice, A: Allocator + Copy>(
     bounds: &BBox<D>,
 ) -> Result<(), Fault>
     requires dims { IsDims D }
-    requires open { gate_of cache.old ≡ Open }
     requires within { place < 100 }
     ensures changes { Changes cache.old cache.new result }
     ensures refused { OnErr result (KeepsMap cache.old cache.new) }

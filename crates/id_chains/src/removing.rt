@@ -7,8 +7,7 @@ ghost use Rattle.box_math.specs.Bounds.{IsDims};
 ghost use Rattle.bucket_page.specs.Layout.{BucketContent, bucket_at, Entry};
 ghost use Rattle.page_file.specs.Fault.{IsDamage, IsOfDevice};
 ghost use Rattle.page_file.specs.declared.fault.Fault.TheVariants as fault;
-ghost use Rattle.page_file.specs.declared.gate.Gate.TheVariants.{Open};
-ghost use Rattle.page_cache.specs.Cache.{Grows, IsHonest, IsLive, IsPageMap, gate_of, given, pages};
+ghost use Rattle.page_cache.specs.Cache.{Grows, IsHonest, IsLive, IsPageMap, given, pages};
 ghost use Rattle.page_cache.specs.Cache.{touched_of};
 ghost use Rattle.page_cache.specs.Calls.{Asks, Changes};
 ghost use Rattle.id_chains.specs.Changes.{Removes};
@@ -27,7 +26,7 @@ use page_file::Fault;
 use std::alloc::Allocator;
 
 /// Removes an object from the table, which has its identifier: the last object of the first page of its chain
-/// fills the place, and a first page that becomes empty is freed. The gate has to be open.
+/// fills the place, and a first page that becomes empty is freed.
 ///
 /// Pages with zeros in all bytes that they do not name stay so.
 ///
@@ -42,18 +41,20 @@ pub fn remove<const D: usize, B: BlockDevice, A: Allocator + Copy>(
     id: u64,
 ) -> Result<(), Fault>
     requires dims { IsDims D }
-    requires open { gate_of cache.old ≡ Open }
     ensures changes { Changes cache.old cache.new result }
-    ensures sound { IsPageMap cache.old → (t : IdChains) → t.page ≡ directory → IdChainsStand D (pages cache.old) t
+    ensures sound { IsPageMap cache.old → (t : IdChains) → t.page ≡ directory
+        → IdChainsStand D (pages cache.old) t
         → IsPageMap cache.new }
-    ensures tidy { IsPageMap cache.old → (t : IdChains) → t.page ≡ directory → IdChainsStand D (pages cache.old) t
+    ensures tidy { IsPageMap cache.old → (t : IdChains) → t.page ≡ directory
+        → IdChainsStand D (pages cache.old) t
         → OnOk result (KeepsTidy D (pages cache.old) (pages cache.new)) }
     ensures removed { IsPageMap cache.old → (t : IdChains) → t.page ≡ directory →
         IdChainsStand D (pages cache.old) t
         → map.contains_key (objects_of t) id ≡ true
         → OnOk result (Removes D (pages cache.old) (pages cache.new) t id) }
     ensures grows { Grows 0 cache.old cache.new }
-    ensures faults { IsPageMap cache.old → (t : IdChains) → t.page ≡ directory → IdChainsStand D (pages cache.old) t
+    ensures faults { IsPageMap cache.old → (t : IdChains) → t.page ≡ directory
+        → IdChainsStand D (pages cache.old) t
         → map.contains_key (objects_of t) id ≡ true → IfErr result IsOfDevice }
     ensures damage { IsHonest cache.old → IsPageMap cache.old ⊎ (touched_of cache.new ≡ false)
         → IfErr result (λ f. (n : ℕ) → f ≡ fault.Damaged n
@@ -114,7 +115,6 @@ fn drop_last<const D: usize, B: BlockDevice, A: Allocator + Copy>(
 ) -> Result<(), Fault>
     requires dims { IsDims D }
     requires class { class < 1000 }
-    requires open { gate_of cache.old ≡ Open }
     ensures changes { Changes cache.old cache.new result }
     ensures less { IsPageMap cache.old → ¬ (directory ≡ first) → (links : List ℕ)
         → pages cache.old directory ≡ Some links → (c : BucketContent) →
@@ -166,7 +166,6 @@ fn unlink<B: BlockDevice, A: Allocator + Copy>(
     next: u32,
 ) -> Result<(), Fault>
     requires class { class < 1000 }
-    requires open { gate_of cache.old ≡ Open }
     ensures changes { Changes cache.old cache.new result }
     ensures unlinked { IsPageMap cache.old → IsLive cache.old first → ¬ (directory ≡ first) → (links : List ℕ)
         → pages cache.old directory ≡ Some links → (c : BucketContent) → length c.entries ≡ 1 → next ≡ c.next

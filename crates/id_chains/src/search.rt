@@ -31,9 +31,11 @@ pub fn get<const D: usize, B: BlockDevice, A: Allocator + Copy>(
 ) -> Result<Option<(BBox<D>, u32)>, Fault>
     requires dims { IsDims D }
     ensures asks { Asks cache.old cache.new result }
-    ensures found { IsHonest cache.old → (t : IdChains) → t.page ≡ directory → IdChainsStand D (pages cache.old) t
+    ensures found { IsHonest cache.old → (t : IdChains) → t.page ≡ directory
+        → IdChainsStand D (pages cache.old) t
         → IfOk result (λ kept. kept ≡ map.get (objects_of t) id) }
-    ensures stands { IsHonest cache.old → (t : IdChains) → t.page ≡ directory → IdChainsStand D (pages cache.old) t
+    ensures stands { IsHonest cache.old → (t : IdChains) → t.page ≡ directory
+        → IdChainsStand D (pages cache.old) t
         → IfErr result IsOfDevice }
     ensures damage { IsHonest cache.old → IfErr result (λ f. (n : ℕ) → f ≡ fault.Damaged n
         → MeetsInChain D (given cache.old) directory (class_of id) n) }

@@ -6,8 +6,7 @@ ghost use Rattle.box_math.specs.Bounds.{IsDims};
 ghost use Rattle.box_math.specs.Objects.{Object};
 ghost use Rattle.page_file.specs.Fault.{IsDamage, IsOfDevice};
 ghost use Rattle.page_file.specs.declared.fault.Fault.TheVariants as fault;
-ghost use Rattle.page_file.specs.declared.gate.Gate.TheVariants.{Open};
-ghost use Rattle.page_cache.specs.Cache.{Grows, IsHonest, IsPageMap, KeepsMap, gate_of, given, pages};
+ghost use Rattle.page_cache.specs.Cache.{Grows, IsHonest, IsPageMap, KeepsMap, given, pages};
 ghost use Rattle.page_cache.specs.Calls.{Changes};
 ghost use Rattle.id_words.specs.Objects.{with_box};
 ghost use Rattle.id_chains.specs.Changes.{Sets};
@@ -24,7 +23,7 @@ use page_file::Fault;
 use std::alloc::Allocator;
 
 /// Gives the object with that identifier, which the table has, another box, where it lies: one page is
-/// written. Its tag stays. The gate has to be open.
+/// written. Its tag stays.
 ///
 /// Pages with zeros in all bytes that they do not name stay so.
 ///
@@ -39,19 +38,21 @@ pub fn update<const D: usize, B: BlockDevice, A: Allocator + Copy>(
     bounds: &BBox<D>,
 ) -> Result<(), Fault>
     requires dims { IsDims D }
-    requires open { gate_of cache.old ≡ Open }
     ensures changes { Changes cache.old cache.new result }
     ensures refused { OnErr result (KeepsMap cache.old cache.new) }
-    ensures sound { IsPageMap cache.old → (t : IdChains) → t.page ≡ directory → IdChainsStand D (pages cache.old) t
+    ensures sound { IsPageMap cache.old → (t : IdChains) → t.page ≡ directory
+        → IdChainsStand D (pages cache.old) t
         → IsPageMap cache.new }
-    ensures tidy { IsPageMap cache.old → (t : IdChains) → t.page ≡ directory → IdChainsStand D (pages cache.old) t
+    ensures tidy { IsPageMap cache.old → (t : IdChains) → t.page ≡ directory
+        → IdChainsStand D (pages cache.old) t
         → OnOk result (KeepsTidy D (pages cache.old) (pages cache.new)) }
     ensures updated { IsPageMap cache.old → (t : IdChains) → t.page ≡ directory →
         IdChainsStand D (pages cache.old) t
         → (kept : Object) → map.get (objects_of t) id ≡ Some kept
         → OnOk result (Sets D (pages cache.old) (pages cache.new) t id (with_box kept bounds.now)) }
     ensures grows { Grows 0 cache.old cache.new }
-    ensures faults { IsPageMap cache.old → (t : IdChains) → t.page ≡ directory → IdChainsStand D (pages cache.old) t
+    ensures faults { IsPageMap cache.old → (t : IdChains) → t.page ≡ directory
+        → IdChainsStand D (pages cache.old) t
         → map.contains_key (objects_of t) id ≡ true → IfErr result IsOfDevice }
     ensures damage { IsHonest cache.old → IfErr result (λ f. (n : ℕ) → f ≡ fault.Damaged n
         → MeetsInChain D (given cache.old) directory (class_of id) n) }

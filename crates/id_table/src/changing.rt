@@ -6,8 +6,7 @@ ghost use Rattle.box_math.specs.Bounds.{IsDims};
 ghost use Rattle.box_math.specs.Objects.{Object, tag_of};
 ghost use Rattle.page_file.specs.Fault.{IsDamage, IsOfDevice};
 ghost use Rattle.page_file.specs.declared.fault.Fault.TheVariants as fault;
-ghost use Rattle.page_file.specs.declared.gate.Gate.TheVariants.{Open};
-ghost use Rattle.page_cache.specs.Cache.{BreaksAt, Grows, IsHonest, IsPageMap, KeepsMap, gate_of, given};
+ghost use Rattle.page_cache.specs.Cache.{BreaksAt, Grows, IsHonest, IsPageMap, KeepsMap, given};
 ghost use Rattle.page_cache.specs.Cache.{next_of, pages, touched_of};
 ghost use Rattle.page_cache.specs.Calls.{Changes};
 ghost use Rattle.node_page.specs.Faults.{IsNoDamage};
@@ -26,8 +25,8 @@ use page_cache::PageCache;
 use page_file::Fault;
 use std::alloc::Allocator;
 
-/// Makes a table of this kind and of no objects, and answers its first page, which stays its first. The gate
-/// has to be open. A tree wants a file of version 3: the caller raises it (`PageCache::raise_version`).
+/// Makes a table of this kind and of no objects, and answers its first page, which stays its first. A tree
+/// wants a file of version 3: the caller raises it (`PageCache::raise_version`).
 ///
 /// With a sound map a refusal is `Memory` or `Device`, or `NoPages` where each page number is live. On an
 /// honest device it may be `Damaged` too, where the chain of free pages breaks.
@@ -36,7 +35,6 @@ pub fn make<const D: usize, B: BlockDevice, A: Allocator + Copy>(
     kind: TableKind,
 ) -> Result<u32, Fault>
     requires dims { IsDims D }
-    requires open { gate_of cache.old ≡ Open }
     ensures changes { Changes cache.old cache.new result }
     ensures sound { IsPageMap cache.old → IsPageMap cache.new }
     ensures made { IsPageMap cache.old
@@ -56,7 +54,7 @@ pub fn make<const D: usize, B: BlockDevice, A: Allocator + Copy>(
 }
 
 /// Adds an object to the table that begins at a page, which does not have its identifier, at the spot where
-/// [`find`](crate::find) found that it would come. The gate has to be open.
+/// [`find`](crate::find) found that it would come.
 ///
 /// With a sound map, where the pages stand for a table there, a refusal is `Memory` or `Device`, or `NoPages`
 /// where each page number is live. On other pages it may be `Damaged` too: where no page was touched, with
@@ -72,7 +70,6 @@ pub fn add<const D: usize, B: BlockDevice, A: Allocator + Copy>(
     tag: u32,
 ) -> Result<(), Fault>
     requires dims { IsDims D }
-    requires open { gate_of cache.old ≡ Open }
     ensures changes { Changes cache.old cache.new result }
     ensures sound { IsPageMap cache.old → (t : IdTable) → page_of t ≡ page → IdsStand D (pages cache.old) t
         → IsSpot t id spot → IsPageMap cache.new }
@@ -97,8 +94,7 @@ pub fn add<const D: usize, B: BlockDevice, A: Allocator + Copy>(
 }
 
 /// Gives the object with that identifier, which the table that begins at a page has, another box at the spot
-/// where [`find`](crate::find) found it: one page is written. Its tag is `tag`, as before. The gate has to be
-/// open.
+/// where [`find`](crate::find) found it: one page is written. Its tag is `tag`, as before.
 ///
 /// With a sound map, where the pages stand for a table there, a refusal is `Memory` or `Device`. On other
 /// pages it may be `Damaged` too, with the number of a page that a walk meets. Refused, it leaves the map as
@@ -113,7 +109,6 @@ pub fn update<const D: usize, B: BlockDevice, A: Allocator + Copy>(
     tag: u32,
 ) -> Result<(), Fault>
     requires dims { IsDims D }
-    requires open { gate_of cache.old ≡ Open }
     ensures changes { Changes cache.old cache.new result }
     ensures sound { IsPageMap cache.old → (t : IdTable) → page_of t ≡ page → IdsStand D (pages cache.old) t
         → IsSpot t id spot → IsPageMap cache.new }
@@ -138,7 +133,7 @@ pub fn update<const D: usize, B: BlockDevice, A: Allocator + Copy>(
 }
 
 /// Removes an object from the table that begins at a page, which has its identifier, at the spot where
-/// [`find`](crate::find) found it. The gate has to be open.
+/// [`find`](crate::find) found it.
 ///
 /// With a sound map, where the pages stand for a table there, a refusal is `Memory` or `Device`. On other
 /// pages it may be `Damaged` too: where no page was touched, with the number of a page that a walk meets.
@@ -150,7 +145,6 @@ pub fn remove<const D: usize, B: BlockDevice, A: Allocator + Copy>(
     id: u64,
 ) -> Result<(), Fault>
     requires dims { IsDims D }
-    requires open { gate_of cache.old ≡ Open }
     ensures changes { Changes cache.old cache.new result }
     ensures sound { IsPageMap cache.old → (t : IdTable) → page_of t ≡ page → IdsStand D (pages cache.old) t
         → IsSpot t id spot → IsPageMap cache.new }
@@ -174,7 +168,7 @@ pub fn remove<const D: usize, B: BlockDevice, A: Allocator + Copy>(
     }
 }
 
-/// Frees all pages of the table that begins at a page. The gate has to be open.
+/// Frees all pages of the table that begins at a page.
 ///
 /// With a sound map, where the pages stand for a table there, a refusal is `Memory` or `Device`. On other
 /// pages it may be `Damaged` too: where no page was touched, with the number of a page that a walk meets.
@@ -184,7 +178,6 @@ pub fn free_all<const D: usize, B: BlockDevice, A: Allocator + Copy>(
     page: u32,
 ) -> Result<(), Fault>
     requires dims { IsDims D }
-    requires open { gate_of cache.old ≡ Open }
     ensures changes { Changes cache.old cache.new result }
     ensures sound { IsPageMap cache.old → (t : IdTable) → page_of t ≡ page → IdsStand D (pages cache.old) t
         → IsPageMap cache.new }

@@ -5,8 +5,7 @@ ghost use Rattle.std.specs.FinMap as map;
 ghost use Rattle.box_math.specs.Bounds.{IsDims};
 ghost use Rattle.page_file.specs.Fault.{IsDamage};
 ghost use Rattle.page_file.specs.declared.fault.Fault.TheVariants as fault;
-ghost use Rattle.page_file.specs.declared.gate.Gate.TheVariants.{Open};
-ghost use Rattle.page_cache.specs.Cache.{Grows, IsHonest, IsPageMap, gate_of, given, pages, touched_of};
+ghost use Rattle.page_cache.specs.Cache.{Grows, IsHonest, IsPageMap, given, pages, touched_of};
 ghost use Rattle.page_cache.specs.Calls.{Changes};
 ghost use Rattle.node_page.specs.Faults.{IsNoDamage};
 ghost use Rattle.std.specs.List.Sorted.{IsNonDecreasingBy};
@@ -26,12 +25,12 @@ use std::alloc::Allocator;
 
 /// Adds objects to the table that begins at a page, none of which has an identifier that is there or that
 /// another of them has. Where they were added, they are left in the order that the table takes best: by
-/// identifier, or chain after chain. The gate has to be open.
+/// identifier, or chain after chain.
 ///
 /// With a sound map, where the pages stand for a table there, a refusal is `Memory` or `Device`, or `NoPages`
 /// where each page number is live; also after a refusal at most `most_filled_pages` of the objects that are
-/// there then more pages are live. On other pages it may be `Damaged` too: where no page was touched, with the
-/// number of a page that a walk meets, or at which the chain of free pages breaks.
+/// there then more pages are live. On other pages it may be `Damaged` too: where no page was touched, with
+/// the number of a page that a walk meets, or at which the chain of free pages breaks.
 #[tactic(auto, using(page_cache::specs::Calls::changing))]
 pub fn fill<const D: usize, B: BlockDevice, A: Allocator + Copy>(
     cache: &mut PageCache<B, A>,
@@ -39,7 +38,6 @@ pub fn fill<const D: usize, B: BlockDevice, A: Allocator + Copy>(
     objects: &mut [(u64, (BBox<D>, u32))],
 ) -> Result<(), Fault>
     requires dims { IsDims D }
-    requires open { gate_of cache.old ≡ Open }
     ensures changes { Changes cache.old cache.new result }
     ensures same { IsPermutation objects.old objects.new }
     ensures ordered { IsHonest cache.old → (t : IdTable) → page_of t ≡ page → IdsStand D (pages cache.old) t

@@ -30,8 +30,8 @@ pub enum TableKind {
 
 /// The kind of the table that begins at a page: a tree where byte 0 is that of a fork, else chains.
 ///
-/// It makes one look. On an honest device, where a table stands there, a refusal is `Memory` or `Device`; else
-/// it may be `Damaged` too, with the number of the page. Map and gate stay, also after a refusal.
+/// It makes one look. On an honest device, where a table stands there, a refusal is `Memory` or `Device`;
+/// else it may be `Damaged` too, with the number of the page. Map and gate stay, also after a refusal.
 #[tactic(auto, using(page_cache::specs::Calls::ends_so))]
 pub fn kind_at<const D: usize, B: BlockDevice, A: Allocator + Copy>(
     cache: &mut PageCache<B, A>,

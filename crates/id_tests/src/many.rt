@@ -112,8 +112,8 @@ fn count_checked(alloc: Global, cache: &mut Cache, plain: &Plain) -> Result<(usi
     Ok((alike, facts.pages.len()))
 }
 
-// Removes the objects with the identifiers from a place to another one, once those from the first place on are
-// shuffled, and tells how many identifiers are answered right then, and what a check counts.
+// Removes the objects with the identifiers from a place to another one, once those from the first place on
+// are shuffled, and tells how many identifiers are answered right then, and what a check counts.
 fn round(
     alloc: Global,
     cache: &mut Cache,

@@ -12,8 +12,8 @@ use test_caches::{Cache, new_cache};
 /// The page of the table's directory.
 pub const TABLE: u32 = 3;
 
-/// So many objects of one chain: their identifiers are a thousand apart, and of each next one the coordinate of
-/// the point that it is, and its tag, are one more.
+/// So many objects of one chain: their identifiers are a thousand apart, and of each next one the coordinate
+/// of the point that it is, and its tag, are one more.
 #[derive(Clone, Copy)]
 pub struct Run {
     pub first: u64,

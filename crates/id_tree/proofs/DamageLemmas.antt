@@ -116,13 +116,12 @@ module _ {B A : Type 0} {m : _} where
       (said_before dims old now p n keeps honest either)
 
 -- a page that could not be freed, where none is touched
-pub free_untouched : {T : Type 0} (r : Result T Fault) (n next : ℕ) (touched : Bool)
-    → (3 ≤ n → n < next → touched ≡ true) → ((n < 3) ⊎ (next ≤ n) → r ≡ Err (fault.Damaged n))
-    → touched ≡ false
+pub free_untouched : {T : Type 0} (r : Result T Fault) (n next : ℕ)
+    → (3 ≤ n → n < next → IfErr r IsOfDevice) → ((n < 3) ⊎ (next ≤ n) → r ≡ Err (fault.Damaged n))
     → IfErr r (λ f. IsOfDevice f ⊎ (f ≡ fault.Damaged n))
-free_untouched (Ok x) n next touched inside outside none = tt
-free_untouched (Err f) n next touched inside outside none =
-    untouched_refused n next f touched inside (λ out. let is = outside out in cc) none
+free_untouched (Ok x) n next inside outside = tt
+free_untouched (Err f) n next inside outside =
+    untouched_refused n next f inside (λ out. let is = outside out in cc)
 
 -- a fork that is the same names the same child
 pub names_same : (dims : ℕ) (old mid : PageMap) (page child : ℕ) → ((n : ℕ) → mid n ≡ old n)

@@ -5,8 +5,7 @@ ghost use Rattle.std.specs.FinMap as map;
 ghost use Rattle.box_math.specs.Bounds.{IsDims};
 ghost use Rattle.page_file.specs.Fault.{IsDamage, IsOfDevice};
 ghost use Rattle.page_file.specs.declared.fault.Fault.TheVariants as fault;
-ghost use Rattle.page_file.specs.declared.gate.Gate.TheVariants.{Open};
-ghost use Rattle.page_cache.specs.Cache.{Grows, IsHonest, IsPageMap, gate_of, given, pages, touched_of};
+ghost use Rattle.page_cache.specs.Cache.{Grows, IsHonest, IsPageMap, given, pages, touched_of};
 ghost use Rattle.page_cache.specs.Calls.{Changes};
 ghost use Rattle.node_page.specs.Faults.{IsNoDamage};
 ghost use Rattle.id_words.specs.Damage.{MayBreakAt};
@@ -36,7 +35,7 @@ use std::alloc::Allocator;
 pub(crate) const MOST_LEVELS: u8 = 6;
 
 /// Adds an object to the table, which does not have its identifier, where [`find`](crate::find) found that it
-/// would come. The gate has to be open.
+/// would come.
 ///
 /// A leaf with room is all that it looks at, which no clause says; else it walks down from the root.
 ///
@@ -55,7 +54,6 @@ pub fn add<const D: usize, B: BlockDevice, A: Allocator + Copy>(
     tag: u32,
 ) -> Result<(), Fault>
     requires dims { IsDims D }
-    requires open { gate_of cache.old ≡ Open }
     ensures changes { Changes cache.old cache.new result }
     ensures sound { IsPageMap cache.old → (t : IdTree) → t.page ≡ root → TreeStands D (pages cache.old) t
         → IsLeafPlace t id at.leaf at.place → IsPageMap cache.new }
@@ -91,7 +89,6 @@ pub(crate) fn add_object<const D: usize, B: BlockDevice, A: Allocator + Copy>(
     object: &(u64, (BBox<D>, u32)),
 ) -> Result<(), Fault>
     requires dims { IsDims D }
-    requires open { gate_of cache.old ≡ Open }
     ensures changes { Changes cache.old cache.new result }
     ensures sound { IsPageMap cache.old → (t : IdTree) → t.page ≡ root → TreeStands D (pages cache.old) t
         → IsPageMap cache.new }
@@ -129,7 +126,6 @@ fn add_deeper<const D: usize, B: BlockDevice, A: Allocator + Copy>(
     object: &(u64, (BBox<D>, u32)),
 ) -> Result<(), Fault>
     requires dims { IsDims D }
-    requires open { gate_of cache.old ≡ Open }
     ensures changes { Changes cache.old cache.new result }
     ensures sound { IsPageMap cache.old → (t : IdTree) → t.page ≡ root
         → IsFullTree D (pages cache.old) t level
@@ -165,7 +161,6 @@ fn add_split<const D: usize, B: BlockDevice, A: Allocator + Copy>(
     object: &(u64, (BBox<D>, u32)),
 ) -> Result<(), Fault>
     requires dims { IsDims D }
-    requires open { gate_of cache.old ≡ Open }
     requires high { 0 < level }
     ensures changes { Changes cache.old cache.new result }
     ensures grown { IsPageMap cache.old → (row : Row)
@@ -205,7 +200,6 @@ pub(crate) fn add_below<const D: usize, B: BlockDevice, A: Allocator + Copy>(
     object: &(u64, (BBox<D>, u32)),
 ) -> Result<(), Fault>
     requires dims { IsDims D }
-    requires open { gate_of cache.old ≡ Open }
     ensures changes { Changes cache.old cache.new result }
     ensures grown { IsPageMap cache.old → (row : Row)
         → MayGrow D (pages cache.old) page level edge row
@@ -247,7 +241,6 @@ fn push_in<const D: usize, B: BlockDevice, A: Allocator + Copy>(
     object: &(u64, (BBox<D>, u32)),
 ) -> Result<(), Fault>
     requires dims { IsDims D }
-    requires open { gate_of cache.old ≡ Open }
     ensures changes { Changes cache.old cache.new result }
     ensures grown { IsPageMap cache.old → (row : Row)
         → MayGrow D (pages cache.old) page 0 edge row

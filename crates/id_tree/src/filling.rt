@@ -6,8 +6,7 @@ ghost use Rattle.std.specs.FinMap as map;
 ghost use Rattle.box_math.specs.Bounds.{IsDims};
 ghost use Rattle.page_file.specs.Fault.{IsDamage};
 ghost use Rattle.page_file.specs.declared.fault.Fault.TheVariants as fault;
-ghost use Rattle.page_file.specs.declared.gate.Gate.TheVariants.{Open};
-ghost use Rattle.page_cache.specs.Cache.{Grows, IsHonest, IsPageMap, gate_of, given, pages, touched_of};
+ghost use Rattle.page_cache.specs.Cache.{Grows, IsHonest, IsPageMap, given, pages, touched_of};
 ghost use Rattle.page_cache.specs.Calls.{Changes};
 ghost use Rattle.node_page.specs.Faults.{IsNoDamage};
 ghost use Rattle.id_words.specs.Objects.{AreNew};
@@ -25,9 +24,9 @@ use page_cache::PageCache;
 use page_file::Fault;
 use std::alloc::Allocator;
 
-/// Adds objects to the table, none of which has an identifier that is there or that one before it has. The
-/// gate has to be open. In the order of their identifiers they leave full leaves, and a run of such objects
-/// is put into its leaf with one walk, which no clause says.
+/// Adds objects to the table, none of which has an identifier that is there or that one before it has. In the
+/// order of their identifiers they leave full leaves, and a run of such objects is put into its leaf with one
+/// walk, which no clause says.
 ///
 /// Where the pages stand for a table, it makes at most one page more live for each 28 objects that the table
 /// has then, and 14 more.
@@ -44,7 +43,6 @@ pub fn fill<const D: usize, B: BlockDevice, A: Allocator + Copy>(
     objects: &[(u64, (BBox<D>, u32))],
 ) -> Result<(), Fault>
     requires dims { IsDims D }
-    requires open { gate_of cache.old ≡ Open }
     ensures changes { Changes cache.old cache.new result }
     ensures sound { IsPageMap cache.old → (t : IdTree) → t.page ≡ root → TreeStands D (pages cache.old) t
         → AreNew (objects_of t) objects.now → IsPageMap cache.new }
@@ -80,7 +78,6 @@ fn fill_run<const D: usize, B: BlockDevice, A: Allocator + Copy>(
     objects: &[(u64, (BBox<D>, u32))],
 ) -> Result<usize, Fault>
     requires dims { IsDims D }
-    requires open { gate_of cache.old ≡ Open }
     requires some { 0 < length objects.now }
     ensures changes { Changes cache.old cache.new result }
     ensures some { IfOk result (λ count. 0 < count) }

@@ -3,8 +3,7 @@
 ghost use Rattle.std.specs.Prelude.{◌≡◌, ◌⊎◌, ℕ, Bool, false, IfErr, OnOk};
 ghost use Rattle.page_file.specs.Fault.{IsDamage, IsOfDevice};
 ghost use Rattle.page_file.specs.declared.fault.Fault.TheVariants as fault;
-ghost use Rattle.page_file.specs.declared.gate.Gate.TheVariants.{Open};
-ghost use Rattle.page_cache.specs.Cache.{Grows, IsHonest, IsPageMap, gate_of, given, next_of, pages};
+ghost use Rattle.page_cache.specs.Cache.{Grows, IsHonest, IsPageMap, given, next_of, pages};
 ghost use Rattle.page_cache.specs.Cache.{touched_of};
 ghost use Rattle.page_cache.specs.Calls.{Changes};
 ghost use Rattle.node_page.specs.Parts.{Moves, no_page};
@@ -19,7 +18,7 @@ use page_cache::PageCache;
 use page_file::Fault;
 use std::alloc::Allocator;
 
-/// Frees all pages of the table. The gate has to be open.
+/// Frees all pages of the table.
 ///
 /// With a sound map, where the pages stand for a table at that root, a refusal is `Memory` or `Device`. On
 /// other pages it may be `Damaged` too. On an honest device, where no page is touched, that comes with the
@@ -29,7 +28,6 @@ pub fn free_all<const D: usize, B: BlockDevice, A: Allocator + Copy>(
     cache: &mut PageCache<B, A>,
     root: u32,
 ) -> Result<(), Fault>
-    requires open { gate_of cache.old ≡ Open }
     ensures changes { Changes cache.old cache.new result }
     ensures sound { IsPageMap cache.old → (t : IdTree) → t.page ≡ root → TreeStands D (pages cache.old) t
         → IsPageMap cache.new }
@@ -54,7 +52,6 @@ fn free_node<const D: usize, B: BlockDevice, A: Allocator + Copy>(
     page: u32,
     level: u8,
 ) -> Result<(), Fault>
-    requires open { gate_of cache.old ≡ Open }
     ensures changes { Changes cache.old cache.new result }
     ensures freed { IsPageMap cache.old → (edge : Bool) (row : Row)
         → NodeStands D (pages cache.old) page level edge row

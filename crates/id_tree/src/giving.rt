@@ -3,8 +3,7 @@
 ghost use Rattle.std.specs.Prelude.{◌≡◌, ◌<◌, ◌≤◌, ◌⊎◌, IfErr, IfOk, ℕ, OnOk, true, false};
 ghost use Rattle.page_file.specs.Fault.{IsDamage};
 ghost use Rattle.page_file.specs.declared.fault.Fault.TheVariants as fault;
-ghost use Rattle.page_file.specs.declared.gate.Gate.TheVariants.{Open};
-ghost use Rattle.page_cache.specs.Cache.{Grows, IsLive, IsPageMap, gate_of, next_of, pages, BreaksAt};
+ghost use Rattle.page_cache.specs.Cache.{Grows, IsLive, IsPageMap, next_of, pages, BreaksAt};
 ghost use Rattle.page_cache.specs.Cache.{IsHonest, touched_of};
 ghost use Rattle.page_cache.specs.Calls.{Changes};
 ghost use Rattle.node_page.specs.Faults.{IsNoDamage};
@@ -24,7 +23,6 @@ pub(crate) fn give_page<B: BlockDevice, A: Allocator + Copy>(
     cache: &mut PageCache<B, A>,
     bytes: &[u8; 4096],
 ) -> Result<u32, Fault>
-    requires open { gate_of cache.old ≡ Open }
     ensures changes { Changes cache.old cache.new result }
     ensures given { IsPageMap cache.old
         → IfOk result (λ number. Gives (pages cache.old) (pages cache.new) number bytes.now) }
@@ -52,7 +50,6 @@ pub(crate) fn give_and_put<B: BlockDevice, A: Allocator + Copy>(
     first: &[u8; 4096],
     second: &[u8; 4096],
 ) -> Result<u32, Fault>
-    requires open { gate_of cache.old ≡ Open }
     ensures changes { Changes cache.old cache.new result }
     ensures given { IsPageMap cache.old → IsLive cache.old page → IfOk result (λ number.
         GivesAndPuts (pages cache.old) (pages cache.new) page number first.now second.now) }

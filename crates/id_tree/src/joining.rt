@@ -6,8 +6,7 @@ ghost use Rattle.block_bytes.specs.Numbers.{number_at};
 ghost use Rattle.box_math.specs.Bounds.{IsDims};
 ghost use Rattle.page_file.specs.Fault.{IsDamage, IsOfDevice};
 ghost use Rattle.page_file.specs.declared.fault.Fault.TheVariants as fault;
-ghost use Rattle.page_file.specs.declared.gate.Gate.TheVariants.{Open};
-ghost use Rattle.page_cache.specs.Cache.{Grows, IsHonest, IsPageMap, gate_of, pages, given, touched_of};
+ghost use Rattle.page_cache.specs.Cache.{Grows, IsHonest, IsPageMap, pages, given, touched_of};
 ghost use Rattle.page_cache.specs.Calls.{Asks, Changes};
 ghost use Rattle.id_tree.specs.Joining.{AreTooMany, FitTogether, HasSpare, IsAmple, MakesSpare, MayJoin};
 ghost use Rattle.id_tree.specs.Joining.{MayMeet};
@@ -74,7 +73,6 @@ pub(crate) fn join<const D: usize, B: BlockDevice, A: Allocator + Copy>(
     id: u64,
 ) -> Result<(u32, bool), Fault>
     requires dims { IsDims D }
-    requires open { gate_of cache.old ≡ Open }
     requires high { 0 < level }
     ensures changes { Changes cache.old cache.new result }
     ensures made { IsPageMap cache.old → (child : ℕ) (row : Row)
@@ -108,7 +106,6 @@ fn join_pair<const D: usize, B: BlockDevice, A: Allocator + Copy>(
     pair: &Pair,
 ) -> Result<(u32, bool), Fault>
     requires dims { IsDims D }
-    requires open { gate_of cache.old ≡ Open }
     requires high { 0 < level }
     requires within { pair.now.left + 1 < number_at 2 2 pair.now.fork }
     requires few { number_at 2 2 pair.now.fork ≤ 340 }
@@ -150,7 +147,6 @@ fn make_one<const D: usize, B: BlockDevice, A: Allocator + Copy>(
     pair: &Pair,
 ) -> Result<(u32, bool), Fault>
     requires dims { IsDims D }
-    requires open { gate_of cache.old ≡ Open }
     requires high { 0 < level }
     requires within { pair.now.left + 1 < number_at 2 2 pair.now.fork }
     requires few { number_at 2 2 pair.now.fork ≤ 340 }
@@ -195,7 +191,6 @@ fn share<const D: usize, B: BlockDevice, A: Allocator + Copy>(
     pair: &Pair,
 ) -> Result<(u32, bool), Fault>
     requires dims { IsDims D }
-    requires open { gate_of cache.old ≡ Open }
     requires high { 0 < level }
     requires within { pair.now.left + 1 < number_at 2 2 pair.now.fork }
     requires few { number_at 2 2 pair.now.fork ≤ 340 }

@@ -2,8 +2,7 @@
 
 ghost use Rattle.std.specs.Prelude.{◌≡◌, ◌<◌, ◌⊎◌, length, IfErr, OnOk, ℕ, Some};
 ghost use Rattle.page_file.specs.Fault.{IsDamage, IsOfDevice};
-ghost use Rattle.page_file.specs.declared.gate.Gate.TheVariants.{Open};
-ghost use Rattle.page_cache.specs.Cache.{Grows, IsPageMap, gate_of, pages};
+ghost use Rattle.page_cache.specs.Cache.{Grows, IsPageMap, pages};
 ghost use Rattle.page_cache.specs.Calls.{Changes};
 ghost use Rattle.id_tree.specs.Joining.{Lifts, Lowers, MayFree, MayLower};
 ghost use Rattle.id_tree.specs.Tree.{Row, fork_in};
@@ -24,7 +23,6 @@ pub(crate) fn lower<const D: usize, B: BlockDevice, A: Allocator + Copy>(
     root: u32,
     level: u8,
 ) -> Result<(), Fault>
-    requires open { gate_of cache.old ≡ Open }
     ensures changes { Changes cache.old cache.new result }
     ensures lowered { IsPageMap cache.old → (row : Row) → MayLower D (pages cache.old) root level row
         → OnOk result (Lowers D (pages cache.old) (pages cache.new) root level row) }
@@ -58,7 +56,6 @@ fn lift<B: BlockDevice, A: Allocator + Copy>(
     root: u32,
     child: u32,
 ) -> Result<(), Fault>
-    requires open { gate_of cache.old ≡ Open }
     ensures changes { Changes cache.old cache.new result }
     ensures lifted { IsPageMap cache.old → MayFree (pages cache.old) root child
         → OnOk result (Lifts (pages cache.old) (pages cache.new) root child) }

@@ -7,8 +7,7 @@ ghost use Rattle.bucket_page.specs.Layout.{Entry};
 ghost use Rattle.page_file.specs.Fault.{IsDamage, IsOfDevice};
 ghost use Rattle.page_file.specs.declared.fault.Fault.TheVariants as fault;
 ghost use Rattle.page_file.specs.Pages.{SameBut};
-ghost use Rattle.page_file.specs.declared.gate.Gate.TheVariants.{Open};
-ghost use Rattle.page_cache.specs.Cache.{Grows, IsHonest, IsLive, IsPageMap, KeepsMap, gate_of, pages};
+ghost use Rattle.page_cache.specs.Cache.{Grows, IsHonest, IsLive, IsPageMap, KeepsMap, pages};
 ghost use Rattle.page_cache.specs.Cache.{touched_of};
 ghost use Rattle.page_cache.specs.Calls.{Changes};
 ghost use Rattle.id_tree.specs.Tree.{leaf_in};
@@ -31,7 +30,6 @@ pub(crate) fn move_at<const D: usize, B: BlockDevice, A: Allocator + Copy>(
     object: &(u64, (BBox<D>, u32)),
 ) -> Result<(), Fault>
     requires dims { IsDims D }
-    requires open { gate_of cache.old ≡ Open }
     ensures changes { Changes cache.old cache.new result }
     ensures refused { OnErr result (KeepsMap cache.old cache.new) }
     ensures written { IsHonest cache.old → (objects : List Entry)
@@ -83,7 +81,6 @@ pub(crate) fn take_at<const D: usize, B: BlockDevice, A: Allocator + Copy>(
     place: usize,
 ) -> Result<(), Fault>
     requires dims { IsDims D }
-    requires open { gate_of cache.old ≡ Open }
     ensures changes { Changes cache.old cache.new result }
     ensures refused { OnErr result (KeepsMap cache.old cache.new) }
     ensures taken { IsHonest cache.old → (objects : List Entry) (other : Entry)

@@ -5,8 +5,7 @@ ghost use Rattle.std.specs.Prelude.{remove, slice_index_or, slice_set, IfErr, If
 ghost use Rattle.block_bytes.specs.Numbers.{number_at};
 ghost use Rattle.page_file.specs.Fault.{IsDamage, IsOfDevice};
 ghost use Rattle.page_file.specs.declared.fault.Fault.TheVariants as fault;
-ghost use Rattle.page_file.specs.declared.gate.Gate.TheVariants.{Open};
-ghost use Rattle.page_cache.specs.Cache.{Grows, IsHonest, IsPageMap, gate_of, pages, IsLive, given};
+ghost use Rattle.page_cache.specs.Cache.{Grows, IsHonest, IsPageMap, pages, IsLive, given};
 ghost use Rattle.page_cache.specs.Cache.{touched_of};
 ghost use Rattle.page_cache.specs.Calls.{Asks, Changes};
 ghost use Rattle.id_page.specs.Fork.{ForkContent, Link, fork_at, with_links, IsTidyFork};
@@ -107,7 +106,6 @@ pub(crate) fn put_joined<const D: usize, B: BlockDevice, A: Allocator + Copy>(
     pair: &Pair,
     all: &[u8; 4096],
 ) -> Result<(), Fault>
-    requires open { gate_of cache.old ≡ Open }
     requires within { pair.now.left + 1 < number_at 2 2 pair.now.fork }
     requires few { number_at 2 2 pair.now.fork ≤ 340 }
     ensures changes { Changes cache.old cache.new result }
@@ -141,7 +139,6 @@ pub(crate) fn put_and_free<B: BlockDevice, A: Allocator + Copy>(
     second: u32,
     bytes: &[u8; 4096],
 ) -> Result<(), Fault>
-    requires open { gate_of cache.old ≡ Open }
     ensures changes { Changes cache.old cache.new result }
     ensures done { IsPageMap cache.old → MayFree (pages cache.old) first second
         → OnOk result (PutsAndFrees (pages cache.old) (pages cache.new) first second bytes.now) }
@@ -181,7 +178,6 @@ pub(crate) fn put_shares<const D: usize, B: BlockDevice, A: Allocator + Copy>(
     pair: &Pair,
     cut: &Cut,
 ) -> Result<(), Fault>
-    requires open { gate_of cache.old ≡ Open }
     requires within { pair.now.left + 1 < number_at 2 2 pair.now.fork }
     requires few { number_at 2 2 pair.now.fork ≤ 340 }
     ensures changes { Changes cache.old cache.new result }
@@ -217,7 +213,6 @@ fn put_both<B: BlockDevice, A: Allocator + Copy>(
     one: &[u8; 4096],
     two: &[u8; 4096],
 ) -> Result<(), Fault>
-    requires open { gate_of cache.old ≡ Open }
     ensures changes { Changes cache.old cache.new result }
     ensures done { IsPageMap cache.old → MayFree (pages cache.old) first second
         → OnOk result (PutsBoth (pages cache.old) (pages cache.new) first second one.now two.now) }

@@ -55,8 +55,8 @@ pub(crate) fn key_with<const D: usize>(page: &[u8; 4096], many: usize) -> u64
     high
 }
 
-// Two keys, of which fewer than so many objects are below the first, and as many or more below the second: the
-// least and the greatest identifier, or the ends of all keys where they are none.
+// Two keys, of which fewer than so many objects are below the first, and as many or more below the second:
+// the least and the greatest identifier, or the ends of all keys where they are none.
 fn ends_with<const D: usize>(page: &[u8; 4096], many: usize) -> (u64, u64)
     requires dims { IsDims D }
     requires few { number_at 2 2 page.now ≤ most_objects D }

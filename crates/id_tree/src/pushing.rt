@@ -6,8 +6,7 @@ ghost use Rattle.bucket_page.specs.Layout.{Entry};
 ghost use Rattle.page_file.specs.Fault.{IsDamage, IsOfDevice};
 ghost use Rattle.page_file.specs.declared.fault.Fault.TheVariants as fault;
 ghost use Rattle.page_file.specs.Pages.{SameBut};
-ghost use Rattle.page_file.specs.declared.gate.Gate.TheVariants.{Open};
-ghost use Rattle.page_cache.specs.Cache.{Grows, IsHonest, IsLive, IsPageMap, KeepsMap, gate_of, pages};
+ghost use Rattle.page_cache.specs.Cache.{Grows, IsHonest, IsLive, IsPageMap, KeepsMap, pages};
 ghost use Rattle.page_cache.specs.Calls.{Changes};
 ghost use Rattle.id_page.specs.Leaf.{most_objects};
 ghost use Rattle.id_tree.specs.Tree.{leaf_in};
@@ -29,7 +28,6 @@ pub(crate) fn push<const D: usize, B: BlockDevice, A: Allocator + Copy>(
     object: &(u64, (BBox<D>, u32)),
 ) -> Result<(), Fault>
     requires dims { IsDims D }
-    requires open { gate_of cache.old ≡ Open }
     ensures changes { Changes cache.old cache.new result }
     ensures refused { OnErr result (KeepsMap cache.old cache.new) }
     ensures written { IsHonest cache.old → (objects : List Entry)

@@ -5,8 +5,7 @@ ghost use Rattle.std.specs.FinMap as map;
 ghost use Rattle.box_math.specs.Bounds.{IsDims};
 ghost use Rattle.page_file.specs.Fault.{IsDamage, IsOfDevice};
 ghost use Rattle.page_file.specs.declared.fault.Fault.TheVariants as fault;
-ghost use Rattle.page_file.specs.declared.gate.Gate.TheVariants.{Open};
-ghost use Rattle.page_cache.specs.Cache.{Grows, IsHonest, IsPageMap, gate_of, given, pages, touched_of};
+ghost use Rattle.page_cache.specs.Cache.{Grows, IsHonest, IsPageMap, given, pages, touched_of};
 ghost use Rattle.page_cache.specs.Calls.{Changes};
 ghost use Rattle.id_tree.specs.Changes.{Removes};
 ghost use Rattle.id_tree.specs.Checked.{ComesInTree, IsMet};
@@ -31,7 +30,7 @@ use page_file::Fault;
 use std::alloc::Allocator;
 
 /// Removes the object with that identifier, where [`find`](crate::find) found it in the table: the last
-/// object of its leaf fills the place. The gate has to be open.
+/// object of its leaf fills the place.
 ///
 /// A leaf with two fifths of what fits, or more, is all that it looks at, which no clause says. Where the
 /// leaf has less, it walks down from the root: each child with less than two fifths of what fits is joined
@@ -50,7 +49,6 @@ pub fn remove<const D: usize, B: BlockDevice, A: Allocator + Copy>(
     id: u64,
 ) -> Result<(), Fault>
     requires dims { IsDims D }
-    requires open { gate_of cache.old ≡ Open }
     ensures changes { Changes cache.old cache.new result }
     ensures sound { IsPageMap cache.old → (t : IdTree) → t.page ≡ root → TreeStands D (pages cache.old) t
         → IsLeafPlace t id at.leaf at.place → IsPageMap cache.new }
@@ -85,7 +83,6 @@ fn remove_from_root<const D: usize, B: BlockDevice, A: Allocator + Copy>(
     id: u64,
 ) -> Result<(), Fault>
     requires dims { IsDims D }
-    requires open { gate_of cache.old ≡ Open }
     ensures changes { Changes cache.old cache.new result }
     ensures sound { IsPageMap cache.old → (t : IdTree) → t.page ≡ root → TreeStands D (pages cache.old) t
         → IsPageMap cache.new }
@@ -123,7 +120,6 @@ fn remove_among<const D: usize, B: BlockDevice, A: Allocator + Copy>(
     id: u64,
 ) -> Result<(), Fault>
     requires dims { IsDims D }
-    requires open { gate_of cache.old ≡ Open }
     ensures changes { Changes cache.old cache.new result }
     ensures tidy { IsPageMap cache.old → (t : IdTree) → t.page ≡ root → IsAmong D (pages cache.old) t level
         → OnOk result (KeepsTidy D (pages cache.old) (pages cache.new)) }
@@ -153,7 +149,6 @@ fn remove_below<const D: usize, B: BlockDevice, A: Allocator + Copy>(
     id: u64,
 ) -> Result<(), Fault>
     requires dims { IsDims D }
-    requires open { gate_of cache.old ≡ Open }
     ensures changes { Changes cache.old cache.new result }
     ensures removed { IsPageMap cache.old → (row : Row) → MayShrink D (pages cache.old) page level edge row
         → Has id row
@@ -194,7 +189,6 @@ fn take_in<const D: usize, B: BlockDevice, A: Allocator + Copy>(
     id: u64,
 ) -> Result<(), Fault>
     requires dims { IsDims D }
-    requires open { gate_of cache.old ≡ Open }
     ensures changes { Changes cache.old cache.new result }
     ensures removed { IsPageMap cache.old → (row : Row) → MayShrink D (pages cache.old) page 0 edge row
         → Has id row → OnOk result (Becomes D (pages cache.old) (pages cache.new) page 0 edge row id drops) }
@@ -227,7 +221,6 @@ fn remove_only<const D: usize, B: BlockDevice, A: Allocator + Copy>(
     id: u64,
 ) -> Result<(), Fault>
     requires dims { IsDims D }
-    requires open { gate_of cache.old ≡ Open }
     ensures changes { Changes cache.old cache.new result }
     ensures tidy { IsPageMap cache.old → (t : IdTree) → t.page ≡ root → IsOnly D (pages cache.old) t leaf
         → OnOk result (KeepsTidy D (pages cache.old) (pages cache.new)) }
@@ -261,7 +254,6 @@ fn remove_last<const D: usize, B: BlockDevice, A: Allocator + Copy>(
     id: u64,
 ) -> Result<(), Fault>
     requires dims { IsDims D }
-    requires open { gate_of cache.old ≡ Open }
     ensures changes { Changes cache.old cache.new result }
     ensures tidy { IsPageMap cache.old → (t : IdTree) → t.page ≡ root → IsOnly D (pages cache.old) t leaf
         → OnOk result (KeepsTidy D (pages cache.old) (pages cache.new)) }

@@ -4,8 +4,7 @@ ghost use Rattle.std.specs.Prelude.{◌≡◌, ◌<◌, ◌⊎◌, Some, [], ◌
 ghost use Rattle.box_math.specs.Bounds.{IsDims};
 ghost use Rattle.page_file.specs.Fault.{IsDamage};
 ghost use Rattle.page_file.specs.declared.fault.Fault.TheVariants as fault;
-ghost use Rattle.page_file.specs.declared.gate.Gate.TheVariants.{Open};
-ghost use Rattle.page_cache.specs.Cache.{Grows, IsLive, IsPageMap, gate_of, pages, IsHonest, touched_of};
+ghost use Rattle.page_cache.specs.Cache.{Grows, IsLive, IsPageMap, pages, IsHonest, touched_of};
 ghost use Rattle.page_cache.specs.Calls.{Changes};
 ghost use Rattle.node_page.specs.Faults.{IsNoDamage};
 ghost use Rattle.id_page.specs.Fork.{fork_at, ForkContent, IsTidyFork};
@@ -35,7 +34,6 @@ pub(crate) fn name_new<const D: usize, B: BlockDevice, A: Allocator + Copy>(
     bytes: &[u8; 4096],
 ) -> Result<u32, Fault>
     requires dims { IsDims D }
-    requires open { gate_of cache.old ≡ Open }
     requires high { 0 < level }
     ensures changes { Changes cache.old cache.new result }
     ensures named { IsPageMap cache.old → IsLive cache.old root
@@ -88,7 +86,6 @@ pub(crate) fn start<const D: usize, B: BlockDevice, A: Allocator + Copy>(
     object: &(u64, (BBox<D>, u32)),
 ) -> Result<(), Fault>
     requires dims { IsDims D }
-    requires open { gate_of cache.old ≡ Open }
     ensures changes { Changes cache.old cache.new result }
     ensures started { IsPageMap cache.old → IsLive cache.old root
         → OnOk result (Starts D (pages cache.old) (pages cache.new) root object.now) }
@@ -126,7 +123,6 @@ pub(crate) fn deepen<const D: usize, B: BlockDevice, A: Allocator + Copy>(
     level: u8,
 ) -> Result<u32, Fault>
     requires dims { IsDims D }
-    requires open { gate_of cache.old ≡ Open }
     requires low { level < 255 }
     ensures changes { Changes cache.old cache.new result }
     ensures deepened { IsPageMap cache.old → IsLive cache.old root

@@ -6,8 +6,7 @@ ghost use Rattle.box_math.specs.Bounds.{IsDims};
 ghost use Rattle.bucket_page.specs.Layout.{Entry};
 ghost use Rattle.page_file.specs.Fault.{IsDamage, IsOfDevice};
 ghost use Rattle.page_file.specs.declared.fault.Fault.TheVariants as fault;
-ghost use Rattle.page_file.specs.declared.gate.Gate.TheVariants.{Open};
-ghost use Rattle.page_cache.specs.Cache.{Grows, IsHonest, IsPageMap, gate_of, given, pages};
+ghost use Rattle.page_cache.specs.Cache.{Grows, IsHonest, IsPageMap, given, pages};
 ghost use Rattle.page_cache.specs.Calls.{Asks, Changes};
 ghost use Rattle.id_page.specs.Leaf.{most_objects};
 ghost use Rattle.id_words.specs.Objects.{AreNew};
@@ -165,7 +164,6 @@ pub(crate) fn push_all<const D: usize, B: BlockDevice, A: Allocator + Copy>(
     objects: &[(u64, (BBox<D>, u32))],
 ) -> Result<(), Fault>
     requires dims { IsDims D }
-    requires open { gate_of cache.old ≡ Open }
     ensures changes { Changes cache.old cache.new result }
     ensures sound { IsPageMap cache.old → (t : IdTree) → TreeStands D (pages cache.old) t
         → TakesAll D t leaf objects.now → AreNew (objects_of t) objects.now → IsPageMap cache.new }

@@ -6,8 +6,7 @@ ghost use Rattle.block_bytes.specs.Numbers.{number_at};
 ghost use Rattle.box_math.specs.Bounds.{IsDims};
 ghost use Rattle.page_file.specs.Fault.{IsDamage, IsOfDevice};
 ghost use Rattle.page_file.specs.declared.fault.Fault.TheVariants as fault;
-ghost use Rattle.page_file.specs.declared.gate.Gate.TheVariants.{Open};
-ghost use Rattle.page_cache.specs.Cache.{Grows, IsHonest, IsLive, IsPageMap, gate_of, pages, touched_of};
+ghost use Rattle.page_cache.specs.Cache.{Grows, IsHonest, IsLive, IsPageMap, pages, touched_of};
 ghost use Rattle.page_cache.specs.Calls.{Asks, Changes};
 ghost use Rattle.node_page.specs.Faults.{IsNoDamage};
 ghost use Rattle.id_page.specs.Fork.{ForkContent, fork_at, with_links, IsTidyFork};
@@ -37,7 +36,6 @@ pub(crate) fn split<const D: usize, B: BlockDevice, A: Allocator + Copy>(
     id: u64,
 ) -> Result<(u32, bool), Fault>
     requires dims { IsDims D }
-    requires open { gate_of cache.old ≡ Open }
     requires high { 0 < level }
     ensures changes { Changes cache.old cache.new result }
     ensures made { IsPageMap cache.old → (edge : Bool) (row : Row)
@@ -133,7 +131,6 @@ fn put_split<const D: usize, B: BlockDevice, A: Allocator + Copy>(
     id: u64,
     plan: &Plan,
 ) -> Result<(u32, bool), Fault>
-    requires open { gate_of cache.old ≡ Open }
     requires within { below.now.place < number_at 2 2 plan.now.fork }
     requires room { number_at 2 2 plan.now.fork < 340 }
     ensures changes { Changes cache.old cache.new result }
@@ -185,7 +182,6 @@ fn put_cut<const D: usize, B: BlockDevice, A: Allocator + Copy>(
     child: u32,
     cut: &Cut,
 ) -> Result<u32, Fault>
-    requires open { gate_of cache.old ≡ Open }
     requires within { place ≤ number_at 2 2 fork.now }
     requires room { number_at 2 2 fork.now < 340 }
     ensures changes { Changes cache.old cache.new result }

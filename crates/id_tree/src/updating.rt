@@ -6,8 +6,7 @@ ghost use Rattle.box_math.specs.Bounds.{IsDims};
 ghost use Rattle.box_math.specs.Objects.{Object, tag_of};
 ghost use Rattle.page_file.specs.Fault.{IsDamage, IsOfDevice};
 ghost use Rattle.page_file.specs.declared.fault.Fault.TheVariants as fault;
-ghost use Rattle.page_file.specs.declared.gate.Gate.TheVariants.{Open};
-ghost use Rattle.page_cache.specs.Cache.{Grows, IsHonest, IsPageMap, KeepsMap, gate_of, given, pages};
+ghost use Rattle.page_cache.specs.Cache.{Grows, IsHonest, IsPageMap, KeepsMap, given, pages};
 ghost use Rattle.page_cache.specs.Calls.{Changes};
 ghost use Rattle.id_words.specs.Objects.{with_box};
 ghost use Rattle.id_tree.specs.Changes.{Sets};
@@ -25,8 +24,7 @@ use page_file::Fault;
 use std::alloc::Allocator;
 
 /// Gives the object with that identifier another box, where [`find`](crate::find) found it in the table. Its
-/// tag is `tag`, as before. The gate has to be open. It writes one page, and looks at no other, which no
-/// clause says.
+/// tag is `tag`, as before. It writes one page, and looks at no other, which no clause says.
 ///
 /// Pages with zeros in all bytes that they do not name stay so.
 ///
@@ -43,7 +41,6 @@ pub fn update<const D: usize, B: BlockDevice, A: Allocator + Copy>(
     tag: u32,
 ) -> Result<(), Fault>
     requires dims { IsDims D }
-    requires open { gate_of cache.old ≡ Open }
     ensures changes { Changes cache.old cache.new result }
     ensures refused { OnErr result (KeepsMap cache.old cache.new) }
     ensures sound { IsPageMap cache.old → (t : IdTree) → t.page ≡ root → TreeStands D (pages cache.old) t

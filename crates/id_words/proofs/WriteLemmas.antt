@@ -64,24 +64,13 @@ pub touched_by : {T : Type 0} (r : Result T Fault) (before now : Bool) → now �
 touched_by (Ok x) before now is = touched_so before now is
 touched_by (Err f) before now is = tt
 
--- a page that is freed is touched, but for one before the first or past the last
-pub freed_touches : (n next : ℕ) (touched : Bool) → (3 ≤ n → n < next → touched ≡ true)
-    → ((n < 3) ⊎ (next ≤ n) → ⊥) → touched ≡ true
-freed_touches n next touched inside outside = ⊎_elim
-    (λ (low : n < 3). absurd (outside (inl low)))
-    (λ (high : 3 ≤ n). ⊎_elim
-    (λ (below : n < next). inside high below)
-    (λ (above : next ≤ n). absurd (outside (inr above)))
-    (cases_lt n next))
-    (cases_lt n 3)
-
-pub untouched_refused : (n next : ℕ) (f : Fault) (touched : Bool) → (3 ≤ n → n < next → touched ≡ true)
-    → ((n < 3) ⊎ (next ≤ n) → f ≡ fault.Damaged n) → touched ≡ false
-    → IsOfDevice f ⊎ (f ≡ fault.Damaged n)
-untouched_refused n next f touched inside outside none = ⊎_elim
+-- a page that is not freed was refused by the device, or is one before the first or past the last
+pub untouched_refused : (n next : ℕ) (f : Fault) → (3 ≤ n → n < next → IsOfDevice f)
+    → ((n < 3) ⊎ (next ≤ n) → f ≡ fault.Damaged n) → IsOfDevice f ⊎ (f ≡ fault.Damaged n)
+untouched_refused n next f inside outside = ⊎_elim
     (λ (low : n < 3). inr (outside (inl low)))
     (λ (high : 3 ≤ n). ⊎_elim
-    (λ (below : n < next). let yes = inside high below in absurd (cc))
+    (λ (below : n < next). inl (inside high below))
     (λ (above : next ≤ n). inr (outside (inr above)))
     (cases_lt n next))
     (cases_lt n 3)

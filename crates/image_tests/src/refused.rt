@@ -1,4 +1,5 @@
-//! What no run of the program shows: how many blocks a refused command writes, and how many pages may be cached.
+//! What no run of the program shows: how many blocks a refused command writes, and how many pages may be
+//! cached.
 
 use block_device::{BlockDevice, MemoryDevice};
 use layer_store::{RawBox, Refusal};

@@ -133,9 +133,10 @@ fn identifiers_and_tags_are_read(rt: HostRuntime) -> Result<(), Fail> {
 
 #[test]
 fn lines_are_counted(rt: HostRuntime) -> Result<(), Fail> {
-    let text =
-        b"\xef\xbb\xbf\n\x1e{\"type\":\"Feature\",\"geometry\":{\"type\":\"Point\",\"coordinates\":[1,2]}}\r\n\
-        \t\n {\"geometry\" : { \"type\" : \"Point\" , \"coordinates\" : [ 3 , 4 ] } , \"type\" : \"Feature\" } ";
+    let text = b"\xef\xbb\xbf\n\x1e{\"type\":\"Feature\",\
+        \"geometry\":{\"type\":\"Point\",\"coordinates\":[1,2]}}\r\n\
+        \t\n {\"geometry\" : { \"type\" : \"Point\" , \"coordinates\" : [ 3 , 4 ] } , \
+        \"type\" : \"Feature\" } ";
     let found = told(rt.alloc(), text, NONE, Axes::Two, 1)?;
     assert_eq!(rt;
         found.as_str(),
@@ -189,7 +190,8 @@ const BAD_FEATURES: [(&str, &str); 18] = [
     ),
     (
         r#"{"geometry":{"type":"Point","coordinates":[[1,2]]}}"#,
-        "line 1, member geometry: \"{\\\"type\\\":\\\"Point\\\",\\\"coordinates\\\":[[1,2]]}}\" is no geometry",
+        "line 1, member geometry: \"{\\\"type\\\":\\\"Point\\\",\\\"coordinates\\\":[[1,2]]}}\" \
+        is no geometry",
     ),
     (
         r#"{"geometry":{"coordinates":[[1,2],[[3,4]]]}}"#,

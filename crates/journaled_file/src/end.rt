@@ -85,7 +85,8 @@ fn put_end<P: DevicePair>(pair: &mut P) -> Result<bool, DeviceError>
         IfOk result (λ t. t ≡ true → IsSynced (P.base pair.new) (P.journal pair.new) (P.may_leave pair.new)) }
     ensures no_room { P.honest pair.old → IfOk result (λ t. t ≡ false → length (P.journal pair.old) < 2) }
     ensures stops { P.honest pair.old →
-        PairLeaves P.moment P.left_since pair.old pair.new (EndTorn (P.may_leave pair.old) (P.base pair.old)) }
+        PairLeaves P.moment P.left_since pair.old pair.new
+        (EndTorn (P.may_leave pair.old) (P.base pair.old)) }
     ensures honest { P.honest pair.old ↔ P.honest pair.new }
 {
     if pair.journal_blocks() < 2 {

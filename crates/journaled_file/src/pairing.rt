@@ -71,7 +71,8 @@ fn renewed<B: BlockDevice + Drop, J: BlockDevice + Drop, S: JournalSource<J>>(
     source: &mut S,
 ) -> Result<TwoDevices<B, J>, OpenError>
     ensures { IfOk result (λ new. ⟦<TwoDevices<B, J> as DevicePair>⟧.honest new
-        → IsNew (⟦<TwoDevices<B, J> as DevicePair>⟧.base new) (⟦<TwoDevices<B, J> as DevicePair>⟧.journal new)) }
+        → IsNew (⟦<TwoDevices<B, J> as DevicePair>⟧.base new)
+        (⟦<TwoDevices<B, J> as DevicePair>⟧.journal new)) }
 {
     let mut pair = pair;
     if pair.journal_blocks() != 0 {

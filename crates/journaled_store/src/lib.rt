@@ -34,14 +34,17 @@ use titled_pair::TitledPair;
 /// within a call, it is one of those that were kept since. So it is, too, where the store is given up and its
 /// pair opened again.
 pub fn a_stop_leaves_a_table_that_was_closed<P: DevicePair, A: Allocator + Copy, S: Allocator>()
-    ensures now { (store : Store (Journaled P A ⟦<P as DevicePair>⟧) S ⟦<JournaledDevice<P, A> as BlockDevice>⟧)
+    ensures now { (store : Store (Journaled P A ⟦<P as DevicePair>⟧) S
+        ⟦<JournaledDevice<P, A> as BlockDevice>⟧)
         (s : SessionState) (a b : Blocks) → Represents store s → P.may_leave (pair_of (device_in store)) a b →
         IsImageOfOne s.stops.kept (recovered a b) }
-    ensures so_far { (store : Store (Journaled P A ⟦<P as DevicePair>⟧) S ⟦<JournaledDevice<P, A> as BlockDevice>⟧)
+    ensures so_far { (store : Store (Journaled P A ⟦<P as DevicePair>⟧) S
+        ⟦<JournaledDevice<P, A> as BlockDevice>⟧)
         (s : SessionState) (a b : Blocks) → Represents store s →
         P.left_since (pair_of (device_in store)) s.stops.since a b →
         IsImageOfOne s.stops.kept_so_far (recovered a b) }
-    ensures given_up { (store : Store (Journaled P A ⟦<P as DevicePair>⟧) S ⟦<JournaledDevice<P, A> as BlockDevice>⟧)
+    ensures given_up { (store : Store (Journaled P A ⟦<P as DevicePair>⟧) S
+        ⟦<JournaledDevice<P, A> as BlockDevice>⟧)
         (s : SessionState) → Represents store s → IsImageOfOne s.stops.kept
         (recovered (P.base (pair_of (device_in store))) (P.journal (pair_of (device_in store)))) }
     ensures never_refused { (store : Store (Journaled P A ⟦<P as DevicePair>⟧) S

@@ -72,9 +72,9 @@ pub struct Imported<D: BlockDevice> {
 /// one without objects is loaded, and into another the objects are inserted in turn.
 ///
 /// **Where the store holds a table that was closed last, then either each of these commands was done, and the
-/// blocks are an image of the table after them; or the store was given up, as where one is refused, and nothing
-/// was closed: over a device that commits the table is found as it was.** Where the closing is refused, by
-/// `Memory` or `Device`, the table is found as it was, or as it was to be.
+/// blocks are an image of the table after them; or the store was given up, as where one is refused, and
+/// nothing was closed: over a device that commits the table is found as it was.** Where the closing is
+/// refused, by `Memory` or `Device`, the table is found as it was, or as it was to be.
 ///
 /// What is told of a refusal is what the store answered the last call, and an object is named where that was
 /// its insertion. `progress` is told how many objects were put in.
@@ -88,8 +88,8 @@ pub fn import_and_close<D: BlockDevice, A: Allocator + Copy, P: PutProgress>(
         HasImported D.BlockDevice moment t
         (import_commands t import.now.layer.now import.now.dims import.now.fanout import.now.objects.now)
         (is_ok result.outcome) (device_in store) result.device }
-    ensures why { IfErr result.outcome (IsUnimported store import.now.layer.now import.now.dims import.now.fanout
-        import.now.objects.now) }
+    ensures why { IfErr result.outcome (IsUnimported store import.now.layer.now import.now.dims
+        import.now.fanout import.now.objects.now) }
 {
     let mut store = store;
     if let Err(why) = put_all(&mut store, import, progress) {

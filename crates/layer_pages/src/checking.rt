@@ -29,9 +29,9 @@ const CATALOG: u32 = 2;
 /// On an honest device it answers so only where such a layer stands there; else, unless memory or the device
 /// refused before, it is `Damaged` with the number of a page that a walk through the layer comes to: that of
 /// the catalog where there is another count of objects, and that of the identifier table where it has others
-/// than the tree. Where such a layer stands, a refusal is `Memory` or `Device`. It makes no more than two looks
-/// for each number below the next one, and one more, whatever the pages are. Map and gate stay, also after a
-/// refusal.
+/// than the tree. Where such a layer stands, a refusal is `Memory` or `Device`. It makes no more than two
+/// looks for each number below the next one, and one more, whatever the pages are. Map and gate stay, also
+/// after a refusal.
 pub fn check<'a, const D: usize, B: BlockDevice, A: Allocator + Copy, H: Allocator>(
     alloc: &'a H,
     cache: &mut PageCache<B, A>,

@@ -2,8 +2,7 @@
 
 ghost use Rattle.std.specs.Prelude.{◌≡◌, ℕ, false, IfErr, IfOk};
 ghost use Rattle.std.specs.FinMap as map;
-ghost use Rattle.page_file.specs.declared.gate.Gate.TheVariants.{Open};
-ghost use Rattle.page_cache.specs.Cache.{Grows, IsPageMap, gate_of, pages};
+ghost use Rattle.page_cache.specs.Cache.{Grows, IsPageMap, pages};
 ghost use Rattle.page_cache.specs.Calls.{Changes};
 ghost use Rattle.node_page.specs.Faults.{IsChangeFault, IsNoDamage};
 ghost use Rattle.id_table.specs.Table.{kind_of};
@@ -20,8 +19,7 @@ use reinsert::{Waiting, insert_with};
 use std::alloc::Allocator;
 
 /// Inserts an object, whose identifier the layer does not have, and answers the root of its tree: by a lawful
-/// insertion into the tree, and then into the identifier table, at the spot where it would come. The gate has
-/// to be open.
+/// insertion into the tree, and then into the identifier table, at the spot where it would come.
 ///
 /// With a sound map, where the pages stand for that layer, a refusal is `Memory` or `Device`, or `NoPages`
 /// where each page number is live. One that touched no page leaves the map as it was. Also after a refusal at
@@ -32,7 +30,6 @@ pub fn insert<const D: usize, B: BlockDevice, A: Allocator + Copy>(
     object: &ObjectAt<D>,
     waiting: &mut Waiting<D>,
 ) -> Result<Root, Fault>
-    requires open { gate_of cache.old ≡ Open }
     requires root { CanBeRoot layer.root }
     ensures changes { Changes cache.old cache.new result }
     ensures root { IfOk result CanBeRoot }

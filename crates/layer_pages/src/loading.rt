@@ -5,8 +5,7 @@ ghost use Rattle.std.specs.Prelude.{IfErr, IfOk, IsPermutation, OnOk, length};
 ghost use Rattle.std.specs.FinMap as map;
 ghost use Rattle.box_math.specs.Bounds.{IsBox, IsDims};
 ghost use Rattle.page_file.specs.declared.fault.Fault.TheVariants as fault;
-ghost use Rattle.page_file.specs.declared.gate.Gate.TheVariants.{Open};
-ghost use Rattle.page_cache.specs.Cache.{Grows, IsPageMap, gate_of, pages};
+ghost use Rattle.page_cache.specs.Cache.{Grows, IsPageMap, pages};
 ghost use Rattle.page_cache.specs.Calls.{Changes};
 ghost use Rattle.tree_node.specs.Nodes.{items_of};
 ghost use Rattle.node_page.specs.Faults.{IsNoDamage};
@@ -27,7 +26,7 @@ use page_file::Fault;
 use std::alloc::Allocator;
 
 /// Puts these objects into a layer without objects, and answers the root of its tree, which is packed. Their
-/// identifiers are all different. The gate has to be open. The objects are left in another order.
+/// identifiers are all different. The objects are left in another order.
 ///
 /// With a sound map, where the pages stand for that layer without objects, a refusal is `Memory` or `Device`,
 /// or `NoPages` where each page number is live. Also after a refusal at most `most_loaded_pages` more pages
@@ -39,7 +38,6 @@ pub fn load<const D: usize, B: BlockDevice, A: Allocator + Copy, H: Allocator + 
     objects: &mut [(u64, (BBox<D>, u32))],
 ) -> Result<Root, Fault>
     requires dims { IsDims D }
-    requires open { gate_of cache.old ≡ Open }
     requires root { CanBeRoot layer.root }
     ensures changes { Changes cache.old cache.new result }
     ensures root { IfOk result CanBeRoot }
@@ -111,7 +109,6 @@ fn put_ids<const D: usize, B: BlockDevice, A: Allocator + Copy>(
     objects: &mut [(u64, (BBox<D>, u32))],
 ) -> Result<(), Fault>
     requires dims { IsDims D }
-    requires open { gate_of cache.old ≡ Open }
     requires root { CanBeRoot root }
     ensures changes { Changes cache.old cache.new result }
     ensures sound { IsPageMap cache.old → (l : LayerPages) (most : ℕ) (all : Objects)

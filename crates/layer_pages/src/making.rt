@@ -4,8 +4,7 @@ ghost use Rattle.std.specs.Prelude.{◌≡◌, ◌^◌, ◌<◌, ◌≤◌, ℕ,
 ghost use Rattle.std.specs.FinMap as map;
 ghost use Rattle.box_math.specs.Bounds.{IsDims};
 ghost use Rattle.page_file.specs.Pages.{SameBut};
-ghost use Rattle.page_file.specs.declared.gate.Gate.TheVariants.{Open};
-ghost use Rattle.page_cache.specs.Cache.{Grows, IsPageMap, gate_of, next_of, pages};
+ghost use Rattle.page_cache.specs.Cache.{Grows, IsPageMap, next_of, pages};
 ghost use Rattle.page_cache.specs.Calls.{Changes};
 ghost use Rattle.node_page.specs.Parts.{no_page};
 ghost use Rattle.node_page.specs.Standing.{node_in};
@@ -21,17 +20,16 @@ use page_cache::PageCache;
 use page_file::Fault;
 use std::alloc::Allocator;
 
-/// Makes a layer of no objects in pages that were not live, with an identifier table of this kind, and answers
-/// its root and the first page of that table. The gate has to be open.
+/// Makes a layer of no objects in pages that were not live, with an identifier table of this kind, and
+/// answers its root and the first page of that table.
 ///
-/// With a sound map a refusal is `Memory` or `Device`, or `NoPages` where each page number is live. Also after
-/// a refusal at most two more pages are live.
+/// With a sound map a refusal is `Memory` or `Device`, or `NoPages` where each page number is live. Also
+/// after a refusal at most two more pages are live.
 pub fn make<const D: usize, B: BlockDevice, A: Allocator + Copy>(
     cache: &mut PageCache<B, A>,
     kind: TableKind,
 ) -> Result<(Root, u32), Fault>
     requires dims { IsDims D }
-    requires open { gate_of cache.old ≡ Open }
     ensures changes { Changes cache.old cache.new result }
     ensures places { IfOk result (λ made. CanBeRoot made.0 × (3 ≤ made.1) × (made.1 < next_of cache.new)) }
     ensures sound { IsPageMap cache.old → IsPageMap cache.new }
@@ -52,7 +50,6 @@ fn make_leaf<const D: usize, B: BlockDevice, A: Allocator + Copy>(
     cache: &mut PageCache<B, A>,
 ) -> Result<u32, Fault>
     requires dims { IsDims D }
-    requires open { gate_of cache.old ≡ Open }
     ensures changes { Changes cache.old cache.new result }
     ensures number { IfOk result (λ page. (3 ≤ page) × (page < 2 ^ 31)) }
     ensures sound { IsPageMap cache.old → IsPageMap cache.new }

@@ -2,8 +2,7 @@
 
 ghost use Rattle.std.specs.Prelude.{◌≡◌, ℕ, IfErr, IfOk};
 ghost use Rattle.std.specs.FinMap as map;
-ghost use Rattle.page_file.specs.declared.gate.Gate.TheVariants.{Open};
-ghost use Rattle.page_cache.specs.Cache.{Grows, IsPageMap, gate_of, pages};
+ghost use Rattle.page_cache.specs.Cache.{Grows, IsPageMap, pages};
 ghost use Rattle.page_cache.specs.Calls.{Changes};
 ghost use Rattle.node_page.specs.Faults.{IsChangeFault, IsNoDamage};
 ghost use Rattle.condense.specs.Removed.{IsRefused};
@@ -24,7 +23,7 @@ use std::alloc::Allocator;
 
 /// Gives the object with that identifier, which the layer has with that box and that tag, the box `new`, and
 /// answers the root of its tree: by a lawful removal from the tree, then a lawful insertion, and then its
-/// other box in the identifier table. Its tag stays. The gate has to be open.
+/// other box in the identifier table. Its tag stays.
 ///
 /// With a sound map, where the pages stand for that layer, a refusal is `Memory` or `Device`, or `NoPages`
 /// where each page number is live. One that touched no page leaves the map as it was. Where the layer does
@@ -39,7 +38,6 @@ pub fn replace<const D: usize, B: BlockDevice, A: Allocator + Copy>(
     waiting: &mut Waiting<D>,
     kept: &mut Kept<D>,
 ) -> Result<Root, Fault>
-    requires open { gate_of cache.old ≡ Open }
     requires root { CanBeRoot layer.root }
     ensures changes { Changes cache.old cache.new result }
     ensures root { IfOk result CanBeRoot }

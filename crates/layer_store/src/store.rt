@@ -23,8 +23,8 @@ const FAILED: Refusal = Refusal::StoreFailed(19);
 /// fault, and the store answers `StoreFailed(19)` from then on.
 ///
 /// Each layer is an R*-tree of pages and a table from identifier to box and tag. Questions only read pages. A
-/// change writes them behind an open gate, and [`Store::reopen`] and [`Store::close`] shut it over an image of
-/// the table.
+/// change writes them behind an open gate, and [`Store::reopen`] and [`Store::close`] shut it over an image
+/// of the table.
 #[derive(Drop)]
 pub struct Store<D: BlockDevice, A: Allocator = Global> {
     layers: Layers<D, A>,

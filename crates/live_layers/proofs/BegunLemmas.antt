@@ -93,13 +93,13 @@ module _ {D A : Type 0} {m : _} {T : Type 0} where
       → ChangesUntil mid new None → Begins old new (Ok y)
   begun_and_made old mid new x y begun changes = record {
     stops = λ ts honest rests. pages_written old mid new ts (begun.honest.0 honest) begun.opened
-        (begun.stops ts honest rests) changes.gate;
-    rests = λ ts honest rests closed. absurd (closed (changes.gate.gate ∙ begun.opened));
-    opened = changes.gate.gate ∙ begun.opened;
+        (begun.stops ts honest rests) (changes.gate begun.opened);
+    rests = λ ts honest rests closed. absurd (closed ((changes.gate begun.opened).gate ∙ begun.opened));
+    opened = (changes.gate begun.opened).gate ∙ begun.opened;
     broke_open = tt;
     told = tt;
-    stays_open = λ open'. changes.gate.gate ∙ begun.opened;
-    honest = (λ h. changes.gate.honest.0 (begun.honest.0 h), λ h. begun.honest.1 (changes.gate.honest.1 h));
+    stays_open = λ open'. (changes.gate begun.opened).gate ∙ begun.opened;
+    honest = (λ h. changes.honest.0 (begun.honest.0 h), λ h. begun.honest.1 (changes.honest.1 h));
     next = omega (arith, begun.next, changes.next);
     faults = changes.faults ∙ begun.faults;
   }
@@ -111,13 +111,13 @@ module _ {D A : Type 0} {m : _} {T : Type 0} where
   begun_and_broke old mid new x f result is begun changes =
       handed_on old new (told_by new f) result is (record {
         stops = λ ts honest rests. pages_written old mid new ts (begun.honest.0 honest) begun.opened
-            (begun.stops ts honest rests) changes.gate;
-        rests = λ ts honest rests closed. absurd (closed (changes.gate.gate ∙ begun.opened));
+            (begun.stops ts honest rests) (changes.gate begun.opened);
+        rests = λ ts honest rests closed. absurd (closed ((changes.gate begun.opened).gate ∙ begun.opened));
         opened = tt;
-        broke_open = λ touched. changes.gate.gate ∙ begun.opened;
+        broke_open = λ touched. (changes.gate begun.opened).gate ∙ begun.opened;
         told = λ touched. touched;
-        stays_open = λ open'. changes.gate.gate ∙ begun.opened;
-        honest = (λ h. changes.gate.honest.0 (begun.honest.0 h), λ h. begun.honest.1 (changes.gate.honest.1 h));
+        stays_open = λ open'. (changes.gate begun.opened).gate ∙ begun.opened;
+        honest = (λ h. changes.honest.0 (begun.honest.0 h), λ h. begun.honest.1 (changes.honest.1 h));
         next = omega (arith, begun.next, changes.next);
         faults = changes.faults ∙ ap (faults_after f) begun.faults;
       })
@@ -189,7 +189,7 @@ module _ {D A : Type 0} {m : _} {T : Type 0} where
         }));
     written = on_any_err result _ (λ was. same.2 ∙ keeps.written was);
     versions = leaves_as_was old new (told_by new.cache f) result is (record {
-      version = λ honest. changes.gate.version (begun.honest.0 honest) ∙ keeps.map.version honest;
+      version = λ honest. changes.version (begun.honest.0 honest) ∙ keeps.map.version honest;
       newest = same.3 ∙ keeps.newest;
     });
   }
@@ -224,7 +224,7 @@ module _ {D A : Type 0} {m : _} {T : Type 0} where
     written = tt;
     versions = record {
       done = λ honest. ap (λ (c : PageCache D A m). version_of c) same
-          ∙ changes.gate.version (begun.honest.0 honest) ∙ keeps.map.version honest;
+          ∙ changes.version (begun.honest.0 honest) ∙ keeps.map.version honest;
       undone = λ honest. tt;
       newest = newest ∙ keeps.newest;
     };

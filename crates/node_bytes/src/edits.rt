@@ -74,8 +74,8 @@ fn is_of_level<const D: usize>(level: u8, entry: &Entry<D>) -> bool
 }
 
 /// Takes the entry in a place out of a node page: those behind it move up by one place, the bytes of the last
-/// one become zeros, and the count falls. A page of format 1 becomes one with tags. One with zeros in all bytes
-/// that it does not name stays one. A node above the leaves has to keep an entry.
+/// one become zeros, and the count falls. A page of format 1 becomes one with tags. One with zeros in all
+/// bytes that it does not name stays one. A node above the leaves has to keep an entry.
 pub(crate) fn drop_entry<const D: usize>(page: &mut [u8; 4096], place: usize)
     requires dims { IsDims D }
     requires within { place < number_at 2 2 page.old }

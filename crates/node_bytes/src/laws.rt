@@ -1,5 +1,5 @@
-//! What pages spell: each law is the contract of a function that does nothing, but for `a_node_comes_back` and
-//! `a_written_page_comes_back`, which encode and decode.
+//! What pages spell: each law is the contract of a function that does nothing, but for `a_node_comes_back`
+//! and `a_written_page_comes_back`, which encode and decode.
 
 ghost use Rattle.std.specs.Prelude.{◌≡◌, IfSome, Some, option_map};
 ghost use Rattle.block_bytes.specs.Numbers.{AreBytes};

@@ -1,10 +1,10 @@
 -- A page that is lent where it spells a node, as the reading of that node.
-use Rattle.std.proofs.Common.{◌≡◌, ◌∙◌, ℕ, List, Bool, true, false, ◌||◌, Some, ap, refl, inr, subst, sym}
-use Rattle.std.specs.Prelude.{Result, Ok, Err, IsErrAnd}
+use Rattle.std.proofs.Common.{◌≡◌, ◌∙◌, ℕ, List, Bool, true, false, ◌||◌, None, ap, refl, inr, subst, sym}
+use Rattle.std.specs.Prelude.{Result, Ok, Err, IfErr, IsErrAnd}
 use Rattle.page_file.specs.declared.fault.Fault.{Fault}
 use Rattle.page_file.specs.declared.fault.Fault.TheVariants as fault
 use Rattle.page_cache.specs.Cache.{touched_of}
-use Rattle.page_cache.specs.Calls.{AsksUntil, IsReadAt}
+use Rattle.page_cache.specs.Calls.{AsksUntil, IsReadAt, RefusesChange, refuses_after}
 use Rattle.page_cache.specs.PageSteps.{Edits}
 use Rattle.page_cache.specs.declared.cache.PageCache.{PageCache}
 
@@ -52,18 +52,23 @@ or_not : (b : Bool) → (b || false) ≡ b
 or_not true = refl
 or_not false = refl
 
--- an edit that was refused has only asked
+-- an edit that was refused has touched no page
 pub edit_refused : {D A : Type 0} {m : _} {T : Type 0} {did : List ℕ → T → List ℕ → Type 0}
-    (old new : PageCache D A m) (n : ℕ) (f : Fault) → Edits n did old new (Err f)
-    → AsksUntil old new (Some f)
+    (old new : PageCache D A m) (n : ℕ) (f : Fault) → Edits n did old new (Err f) → RefusesChange old new f
 edit_refused old new n f edit = record {
-  gate = edit.changes.gate;
+  changes = edit.changes;
   map = edit.in_memory.refused;
-  capacity = edit.changes.capacity;
-  looks = edit.changes.looks;
   touched = edit.in_memory.touched ∙ or_not (touched_of old);
-  faults = edit.changes.faults;
 }
+
+-- also after pages were asked for, where its fault is handed on
+pub edit_refused_after : {D A : Type 0} {m : _} {S T : Type 0} {did : List ℕ → S → List ℕ → Type 0}
+    (old mid new : PageCache D A m) (n : ℕ) (f : Fault) (result : Result T Fault)
+    → IsErrAnd result (λ e. e ≡ f) → AsksUntil old mid None → Edits n did mid new (Err f)
+    → IfErr result (λ e. RefusesChange old new e)
+edit_refused_after old mid new n f (Ok x) is asks edit = tt
+edit_refused_after old mid new n f (Err e) is asks edit = subst (λ e. RefusesChange old new e) (sym is)
+    (refuses_after old mid new f asks (edit_refused mid new n f edit))
 
 -- an edit that did the one did the other
 pub edits_as : {D A : Type 0} {m : _} {T : Type 0} (n : ℕ) (did does : List ℕ → T → List ℕ → Type 0)
@@ -79,6 +84,7 @@ edits_as n did does old new (Ok x) so edit = record {
   sound = edit.sound;
   next = edit.next;
   in_memory = edit.in_memory;
+  opens = edit.opens;
   held = edit.held;
   outside = edit.outside;
   faults = edit.faults;
@@ -93,6 +99,7 @@ edits_as n did does old new (Err f) so edit = record {
   sound = edit.sound;
   next = edit.next;
   in_memory = edit.in_memory;
+  opens = edit.opens;
   held = edit.held;
   outside = edit.outside;
   faults = edit.faults;

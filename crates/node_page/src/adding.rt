@@ -8,7 +8,7 @@ ghost use Rattle.page_file.specs.declared.fault.Fault.TheVariants as fault;
 ghost use Rattle.page_file.specs.declared.gate.Gate.TheVariants.{Open};
 ghost use Rattle.page_cache.specs.Cache.{Grows, IsHeld, IsHonest, IsLive, IsPageMap, gate_of, given, next_of};
 ghost use Rattle.page_cache.specs.Cache.{pages};
-ghost use Rattle.page_cache.specs.Calls.{Asks, AsksUntil, Changes};
+ghost use Rattle.page_cache.specs.Calls.{Asks, AsksUntil, Changes, RefusesChange};
 ghost use Rattle.tree_node.specs.Boxes.{least_box};
 ghost use Rattle.tree_node.specs.Nodes.{NodeContent, item_of};
 ghost use Rattle.node_bytes.specs.Layout.{IsOfLevel, IsPageOfNode, IsTidy, StaysNode, node_at, pushed};
@@ -27,7 +27,6 @@ use tree_node::Entry;
 /// has some entry and fewer than the most, and answers the least box round all of them then; else it answers
 /// `None`, and has only asked for the page. The entry is written where the page lies in memory: a page with
 /// zeros in all bytes that it does not name becomes the one that `encode` makes of the node with the entry.
-/// The gate has to be open.
 ///
 /// It is refused as `read_node` is, and has then touched no page.
 #[tactic(auto, using(page_cache::specs::Calls::changing))]
@@ -38,7 +37,6 @@ pub fn add_entry<const D: usize, B: BlockDevice, A: Allocator + Copy>(
     entry: &Entry<D>,
     most: usize,
 ) -> Result<Option<BBox<D>>, Fault>
-    requires open { gate_of cache.old ≡ Open }
     requires most { most ≤ 100 }
     requires refers { IsOfLevel level entry.now.reference entry.now.tag }
     ensures changes { Changes cache.old cache.new result }
@@ -56,14 +54,15 @@ pub fn add_entry<const D: usize, B: BlockDevice, A: Allocator + Copy>(
         SameBut page (pages cache.old) (pages cache.new) }
     ensures sound { IsPageMap cache.old → IsLive cache.old page → IsPageMap cache.new }
     ensures full { IfOk result (λ some. IfNone some (AsksUntil cache.old cache.new None)) }
-    ensures refused { IfErr result (λ f. AsksUntil cache.old cache.new (Some f)) }
+    ensures refused { IfErr result (λ f. RefusesChange cache.old cache.new f) }
     ensures grows { Grows 0 cache.old cache.new }
     ensures faults { IsHonest cache.old → (c : NodeContent) → node_in D (pages cache.old page) ≡ Some c
         → c.level ≡ level → IfErr result IsOfDevice }
     ensures given_node { IsHonest cache.old → OnOk result ((c : NodeContent)
         × (node_in D (given cache.old page) ≡ Some c) × (c.level ≡ level)) }
     ensures outside { (page < 2) ⊎ (next_of cache.old ≤ page) → IsErrOf result (fault.Damaged page) }
-    ensures held { IsHeld cache.old page → IfErr result (λ f. f ≡ fault.Damaged page) }
+    ensures held { gate_of cache.old ≡ Open → IsHeld cache.old page
+        → IfErr result (λ f. f ≡ fault.Damaged page) }
     ensures named { IsHonest cache.old → IfErr result (λ f. IsOfDevice f ⊎ (f ≡ fault.Damaged page)) }
     ensures other_faults { IfErr result (λ f. IsOfDevice f ⊎ IsDamage f) }
 {

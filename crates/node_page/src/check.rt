@@ -107,8 +107,8 @@ fn add_below<const D: usize, B: BlockDevice, A: Allocator + Copy, H: Allocator +
     requires boxes { All (λ item. IsBox D item.bounds) (content_of node.now).entries }
     requires numbers { length visits.old.marks.items ≡ next_of cache.old }
     ensures asks { Asks cache.old cache.new result }
-    ensures found { IsHonest cache.old → OnOk result (AddsTree D fanout (given cache.old) (content_of node.now)
-        pairs.old.items pairs.new.items visits.old.pages.items visits.new.pages.items) }
+    ensures found { IsHonest cache.old → OnOk result (AddsTree D fanout (given cache.old)
+        (content_of node.now) pairs.old.items pairs.new.items visits.old.pages.items visits.new.pages.items) }
     ensures stands { IsHonest cache.old → (row : Row) → row_items row ≡ (content_of node.now).entries
         → RowStands D (given cache.old) node.now.level row → RowHasShape D fanout row
         → ((n : ℕ) → times_in n visits.old.pages.items + occurs n row ≤ 1) → IfErr result IsOfDevice }

@@ -8,7 +8,7 @@ ghost use Rattle.page_file.specs.declared.fault.Fault.TheVariants as fault;
 ghost use Rattle.page_file.specs.declared.gate.Gate.TheVariants.{Open};
 ghost use Rattle.page_cache.specs.Cache.{Grows, IsHeld, IsHonest, IsLive, IsPageMap, gate_of, given, next_of};
 ghost use Rattle.page_cache.specs.Cache.{pages};
-ghost use Rattle.page_cache.specs.Calls.{Asks, AsksUntil, Changes};
+ghost use Rattle.page_cache.specs.Calls.{Asks, AsksUntil, Changes, RefusesChange};
 ghost use Rattle.page_cache.specs.PageSteps.{Edits};
 ghost use Rattle.tree_node.specs.Boxes.{least_box};
 ghost use Rattle.tree_node.specs.Nodes.{NodeContent};
@@ -27,7 +27,7 @@ use std::alloc::Allocator;
 /// the node has such an entry, and at most the most, and answers the least box round all of them then; else
 /// it answers `None`, and has only asked for the page. The box is written where the page lies in memory: a
 /// page with zeros in all bytes that it does not name becomes the one that `encode` makes of the node with
-/// that box. The gate has to be open.
+/// that box.
 ///
 /// It is refused as `read_node` is, and has then touched no page.
 #[tactic(auto, using(page_cache::specs::Calls::changing))]
@@ -39,7 +39,6 @@ pub fn enlarge_entry<const D: usize, B: BlockDevice, A: Allocator + Copy>(
     bounds: &BBox<D>,
     most: usize,
 ) -> Result<Option<BBox<D>>, Fault>
-    requires open { gate_of cache.old ≡ Open }
     ensures changes { Changes cache.old cache.new result }
     ensures room { IsHonest cache.old → (c : NodeContent) → node_in D (pages cache.old page) ≡ Some c
         → IfOk result (λ least. IsSome least ↔ CanEnlarge D most place bounds.now c) }
@@ -54,14 +53,15 @@ pub fn enlarge_entry<const D: usize, B: BlockDevice, A: Allocator + Copy>(
         SameBut page (pages cache.old) (pages cache.new) }
     ensures sound { IsPageMap cache.old → IsLive cache.old page → IsPageMap cache.new }
     ensures cannot { IfOk result (λ some. IfNone some (AsksUntil cache.old cache.new None)) }
-    ensures refused { IfErr result (λ f. AsksUntil cache.old cache.new (Some f)) }
+    ensures refused { IfErr result (λ f. RefusesChange cache.old cache.new f) }
     ensures grows { Grows 0 cache.old cache.new }
     ensures faults { IsHonest cache.old → (c : NodeContent) → node_in D (pages cache.old page) ≡ Some c
         → c.level ≡ level → IfErr result IsOfDevice }
     ensures given_node { IsHonest cache.old → OnOk result ((c : NodeContent)
         × (node_in D (given cache.old page) ≡ Some c) × (c.level ≡ level)) }
     ensures outside { (page < 2) ⊎ (next_of cache.old ≤ page) → IsErrOf result (fault.Damaged page) }
-    ensures held { IsHeld cache.old page → IfErr result (λ f. f ≡ fault.Damaged page) }
+    ensures held { gate_of cache.old ≡ Open → IsHeld cache.old page
+        → IfErr result (λ f. f ≡ fault.Damaged page) }
     ensures named { IsHonest cache.old → IfErr result (λ f. IsOfDevice f ⊎ (f ≡ fault.Damaged page)) }
     ensures other_faults { IfErr result (λ f. IsOfDevice f ⊎ IsDamage f) }
 {
@@ -79,7 +79,6 @@ fn edit_box<const D: usize, B: BlockDevice, A: Allocator + Copy>(
     place: usize,
     bounds: &BBox<D>,
 ) -> Result<(), Fault>
-    requires open { gate_of cache.old ≡ Open }
     ensures { Edits page (λ was answer now. IsBoxed D place bounds.now was now) cache.old cache.new result }
 {
     cache.edit_node::<D, _, _>(
@@ -129,8 +128,7 @@ fn least_enlarged<const D: usize, B: BlockDevice, A: Allocator + Copy>(
 
 /// Gives the entry in a place of the node of that level at a live page that box, where the node has such an
 /// entry, and answers the least box round all of them then; else it answers `None`, and has only asked for
-/// the page. The box is written where the page lies in memory, as `enlarge_entry` does. The gate has to be
-/// open.
+/// the page. The box is written where the page lies in memory, as `enlarge_entry` does.
 ///
 /// It is refused as `read_node` is, and has then touched no page.
 #[tactic(auto, using(page_cache::specs::Calls::changing))]
@@ -141,7 +139,6 @@ pub fn set_entry_box<const D: usize, B: BlockDevice, A: Allocator + Copy>(
     place: usize,
     bounds: &BBox<D>,
 ) -> Result<Option<BBox<D>>, Fault>
-    requires open { gate_of cache.old ≡ Open }
     ensures changes { Changes cache.old cache.new result }
     ensures room { IsHonest cache.old → (c : NodeContent) → node_in D (pages cache.old page) ≡ Some c
         → IfOk result (λ least. IsSome least ↔ (place < length c.entries)) }
@@ -156,14 +153,15 @@ pub fn set_entry_box<const D: usize, B: BlockDevice, A: Allocator + Copy>(
         SameBut page (pages cache.old) (pages cache.new) }
     ensures sound { IsPageMap cache.old → IsLive cache.old page → IsPageMap cache.new }
     ensures cannot { IfOk result (λ some. IfNone some (AsksUntil cache.old cache.new None)) }
-    ensures refused { IfErr result (λ f. AsksUntil cache.old cache.new (Some f)) }
+    ensures refused { IfErr result (λ f. RefusesChange cache.old cache.new f) }
     ensures grows { Grows 0 cache.old cache.new }
     ensures faults { IsHonest cache.old → (c : NodeContent) → node_in D (pages cache.old page) ≡ Some c
         → c.level ≡ level → IfErr result IsOfDevice }
     ensures given_node { IsHonest cache.old → OnOk result ((c : NodeContent)
         × (node_in D (given cache.old page) ≡ Some c) × (c.level ≡ level)) }
     ensures outside { (page < 2) ⊎ (next_of cache.old ≤ page) → IsErrOf result (fault.Damaged page) }
-    ensures held { IsHeld cache.old page → IfErr result (λ f. f ≡ fault.Damaged page) }
+    ensures held { gate_of cache.old ≡ Open → IsHeld cache.old page
+        → IfErr result (λ f. f ≡ fault.Damaged page) }
     ensures named { IsHonest cache.old → IfErr result (λ f. IsOfDevice f ⊎ (f ≡ fault.Damaged page)) }
     ensures other_faults { IfErr result (λ f. IsOfDevice f ⊎ IsDamage f) }
 {

@@ -6,9 +6,8 @@ ghost use Rattle.box_math.specs.Bounds.{IsBox};
 ghost use Rattle.page_file.specs.Fault.{IsDamage, IsOfDevice};
 ghost use Rattle.page_file.specs.Pages.{SameBut};
 ghost use Rattle.page_file.specs.declared.fault.Fault.TheVariants as fault;
-ghost use Rattle.page_file.specs.declared.gate.Gate.TheVariants.{Open};
 ghost use Rattle.page_cache.specs.Cache.{Grows, IsHeld, IsHonest, IsLive, IsPageMap, IsUnchanged};
-ghost use Rattle.page_cache.specs.Cache.{device_of, gate_of, given, looks_of, next_of, pages};
+ghost use Rattle.page_cache.specs.Cache.{device_of, given, looks_of, next_of, pages};
 ghost use Rattle.page_cache.specs.Calls.{Asks, Changes};
 ghost use Rattle.tree_node.specs.Nodes.{NodeContent, content_of};
 ghost use Rattle.node_bytes.specs.Layout.{IsPageOfNode, IsSpellable, node_at};
@@ -97,8 +96,8 @@ pub fn read_into<const D: usize, B: BlockDevice, A: Allocator + Copy>(
 }
 
 /// Writes a node into a live page, which becomes the one that `encode` makes of it, whatever was there
-/// before. The gate has to be open. The node has at most 100 entries, and one that is no leaf has at least
-/// one, all of which refer to pages from 3 to 2^31 - 1 and have no tag.
+/// before. The node has at most 100 entries, and one that is no leaf has at least one, all of which refer to
+/// pages from 3 to 2^31 - 1 and have no tag.
 ///
 /// A number outside 2 to the last one given out is `Damaged` with that number, and changes nothing. After
 /// another refusal, which on an honest device is `Memory` or `Device`, the page is still live and may hold
@@ -108,7 +107,6 @@ pub fn write_node<const D: usize, B: BlockDevice, A: Allocator + Copy>(
     page: u32,
     node: &Node<D>,
 ) -> Result<(), Fault>
-    requires open { gate_of cache.old ≡ Open }
     requires spellable { IsSpellable (content_of node.now) }
     ensures changes { Changes cache.old cache.new result }
     ensures written { IsHonest cache.old → IsLive cache.old page

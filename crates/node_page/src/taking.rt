@@ -8,7 +8,7 @@ ghost use Rattle.page_file.specs.declared.fault.Fault.TheVariants as fault;
 ghost use Rattle.page_file.specs.declared.gate.Gate.TheVariants.{Open};
 ghost use Rattle.page_cache.specs.Cache.{Grows, IsHeld, IsHonest, IsLive, IsPageMap, gate_of, given, next_of};
 ghost use Rattle.page_cache.specs.Cache.{pages};
-ghost use Rattle.page_cache.specs.Calls.{Asks, AsksUntil, Changes};
+ghost use Rattle.page_cache.specs.Calls.{Asks, AsksUntil, Changes, RefusesChange};
 ghost use Rattle.tree_node.specs.Boxes.{least_box};
 ghost use Rattle.tree_node.specs.Nodes.{NodeContent};
 ghost use Rattle.node_bytes.specs.Layout.{IsPageOfNode, IsTidy, StaysNode, node_at};
@@ -27,7 +27,7 @@ use std::alloc::Allocator;
 /// more entries than the fewest, and answers the least box round those that are left; else it answers `None`,
 /// and has only asked for the page. The entries behind it move up by one place where the page lies in memory,
 /// so their order stays: a page with zeros in all bytes that it does not name becomes the one that `encode`
-/// makes of the node without the entry. The gate has to be open.
+/// makes of the node without the entry.
 ///
 /// It is refused as `read_node` is, and has then touched no page.
 #[tactic(auto, using(page_cache::specs::Calls::changing))]
@@ -38,7 +38,6 @@ pub fn take_entry<const D: usize, B: BlockDevice, A: Allocator + Copy>(
     place: usize,
     fewest: usize,
 ) -> Result<Option<BBox<D>>, Fault>
-    requires open { gate_of cache.old ≡ Open }
     requires fewest { 1 ≤ fewest }
     ensures changes { Changes cache.old cache.new result }
     ensures room { IsHonest cache.old → (c : NodeContent) → node_in D (pages cache.old page) ≡ Some c
@@ -54,14 +53,15 @@ pub fn take_entry<const D: usize, B: BlockDevice, A: Allocator + Copy>(
         SameBut page (pages cache.old) (pages cache.new) }
     ensures sound { IsPageMap cache.old → IsLive cache.old page → IsPageMap cache.new }
     ensures cannot { IfOk result (λ some. IfNone some (AsksUntil cache.old cache.new None)) }
-    ensures refused { IfErr result (λ f. AsksUntil cache.old cache.new (Some f)) }
+    ensures refused { IfErr result (λ f. RefusesChange cache.old cache.new f) }
     ensures grows { Grows 0 cache.old cache.new }
     ensures faults { IsHonest cache.old → (c : NodeContent) → node_in D (pages cache.old page) ≡ Some c
         → c.level ≡ level → IfErr result IsOfDevice }
     ensures given_node { IsHonest cache.old → OnOk result ((c : NodeContent)
         × (node_in D (given cache.old page) ≡ Some c) × (c.level ≡ level)) }
     ensures outside { (page < 2) ⊎ (next_of cache.old ≤ page) → IsErrOf result (fault.Damaged page) }
-    ensures held { IsHeld cache.old page → IfErr result (λ f. f ≡ fault.Damaged page) }
+    ensures held { gate_of cache.old ≡ Open → IsHeld cache.old page
+        → IfErr result (λ f. f ≡ fault.Damaged page) }
     ensures named { IsHonest cache.old → IfErr result (λ f. IsOfDevice f ⊎ (f ≡ fault.Damaged page)) }
     ensures other_faults { IfErr result (λ f. IsOfDevice f ⊎ IsDamage f) }
 {

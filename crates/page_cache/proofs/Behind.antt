@@ -1,9 +1,10 @@
 -- Maps behind what is held: kept where those blocks are, and the file's own where no page is changed.
-use Rattle.std.proofs.Common.{inl, inr, ◌⊎◌, ◌≡◌, ◌∙◌, ℕ, Bool, true, false, cond, Option, Some, None}
+use Rattle.std.proofs.Common.{inl, inr, ◌⊎◌, ◌≡◌, ◌≤◌, ◌<◌, ◌∙◌, ℕ, Bool, true, false, cond, Option, Some, None}
 use Rattle.std.proofs.Common.{is_some, nat_eq, unwrap_or, arith, refl, sym, ap, subst, ⊎_elim}
 use Rattle.std.specs.Prelude.{◌↔◌}
 use Rattle.block_device.specs.Device.{Blocks, block_at}
 use Rattle.page_file.specs.File as below
+use Rattle.page_file.specs.Frames.{aside_at}
 use Rattle.page_file.specs.Given.{given_is, is_given}
 use Rattle.page_file.specs.Laws as kept
 use Rattle.page_file.specs.Opening.{IsRefused}
@@ -291,6 +292,36 @@ module _ {D A : Type 0} {m : _} where
       (λ (closed : ¬ (gate_of old ≡ Open)). map_by_file old new (none_changed old closed)
       (λ k. ap (λ f. changed_pages f.entries k) frames ∙ none_changed old closed k) keeps)
       (kept.is_open (gate_of old))
+
+  -- and the free pages, and behind what is held each block but for the gate
+  pub free_opened : (old : PageCache D A m) (file : PageFile D m) → (gate_of old ≡ Open → file ≡ old.file)
+      → (IsHonest old → below.free_of file ≡ below.free_of old.file) → IsHonest old
+      → free_pages_of (laid_over (changed_pages old.frames.entries) (below.blocks_of file))
+      (below.header_of file) ≡ free_of old
+  free_opened old file was_open keeps h =
+      let over = λ (f : PageFile D m). free_pages_of
+      (laid_over (changed_pages old.frames.entries) (below.blocks_of f)) (below.header_of f) in
+      ⊎_elim
+      (λ (e : gate_of old ≡ Open). ap over (was_open e))
+      (λ (closed : ¬ (gate_of old ≡ Open)). let none = none_changed old closed in
+      ap (λ (b : Blocks). free_pages_of b (below.header_of file))
+      (laid_none (changed_pages old.frames.entries) (below.blocks_of file) none)
+      ∙ keeps h ∙ free_below old none)
+      (kept.is_open (gate_of old))
+
+  pub blocks_opened : (old : PageCache D A m) (file : PageFile D m)
+      → below.header_of file ≡ below.header_of old.file → (IsHonest old → below.IsHonest file)
+      → (IsHonest old → SameButGate (below.blocks_of file) (blocks_of old)) → IsHonest old → (n : ℕ) → 2 ≤ n
+      → n < next_of old
+      → block_at n (laid_over (changed_pages old.frames.entries) (below.blocks_of file))
+      ≡ block_at n (blocks_behind old)
+  blocks_opened old file header honest aside h n low below_next =
+      let next = ap (λ (x : Header). x.next) header in
+      let f = changed_pages old.frames.entries in
+      block_at-laid f (below.blocks_of file) n (omega (arith, below_next, next, file.room (honest h)))
+      ∙ ap (λ b. unwrap_or (f n) b)
+      (aside_at (below.blocks_of file) (blocks_of old) n (aside h) (omega (arith, low)))
+      ∙ sym (block_at-laid f (blocks_of old) n (omega (arith, below_next, old.file.room h)))
 
   -- a page that is held is lent as it is given
   pub given_held : (cache : PageCache D A m) (n : ℕ) (f : Frame A) → IsHonest cache

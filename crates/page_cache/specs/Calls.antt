@@ -2,14 +2,14 @@
 -- change.
 use Rattle.std.proofs.Common.{◌≡◌, ◌∙◌, ℕ, ◌≤◌, Bool, true, false, Option, None, Some, ap, refl, subst, sym}
 use Rattle.std.proofs.Common.{arith}
-use Rattle.std.specs.Prelude.{◌⊎◌, ◌<◌, Result, Ok, Err, IsErrAnd, IsErrOf, OnErr, OnOk}
+use Rattle.std.specs.Prelude.{◌⊎◌, ◌↔◌, ◌<◌, Result, Ok, Err, IsErrAnd, IsErrOf, OnErr, OnOk}
 use Rattle.block_device.specs.Device.{one_more}
 use Rattle.page_file.specs.Fault.{HasCause, faults_after}
 use Rattle.page_file.specs.declared.fault.Fault.{Fault}
 use Rattle.page_file.specs.declared.fault.Fault.TheVariants as fault
-use Rattle.page_cache.specs.Cache.{IsHeld, IsHonest, KeepsGate, KeepsMap, capacity_of, device_of, held_pages}
-use Rattle.page_cache.specs.Cache.{looks_of, next_of}
-use Rattle.page_cache.specs.Cache.{touched_of}
+use Rattle.page_file.specs.declared.gate.Gate.TheVariants.{Open}
+use Rattle.page_cache.specs.Cache.{IsHeld, IsHonest, KeepsGate, KeepsMap, capacity_of, device_of, gate_of}
+use Rattle.page_cache.specs.Cache.{held_pages, looks_of, next_of, touched_of, version_of}
 use Rattle.page_cache.specs.Uses.{IsRefusedUse, Uses, used}
 use Rattle.page_cache.specs.Laws.{no_call_keeps_the_gate, no_call_keeps_the_map, the_gate_is_kept_in_turn}
 use Rattle.page_cache.specs.Laws.{the_map_is_kept_in_turn}
@@ -36,12 +36,15 @@ pub record AsksUntil {D A : Type 0} {m : _} (old new : PageCache D A m) (end : O
   pub touched : touched_of new ≡ touched_of old
   pub faults : m.faults (device_of new) ≡ faults_behind end (m.faults (device_of old))
 
--- Pages were changed, given out or freed, and it ended so: gate and moment stay, capacity and honesty, no
--- look and no page number is taken back, and the faults are counted as above. What was touched stays so, and
--- where no page is touched, the map stays.
+-- Pages were changed, given out or freed, and it ended so: an open gate and its moment stay, version, capacity
+-- and honesty, no look and no page number is taken back, and the faults are counted as above. What was touched
+-- stays so, and where no page is touched, the map stays. A gate that is not open is opened before the first page
+-- is changed, or unsure where that is refused.
 pub record ChangesUntil {D A : Type 0} {m : _} (old new : PageCache D A m) (end : Option Fault)
     : Type 0 where
-  pub gate : KeepsGate old new
+  pub gate : gate_of old ≡ Open → KeepsGate old new
+  pub honest : IsHonest old ↔ IsHonest new
+  pub version : IsHonest old → version_of new ≡ version_of old
   pub next : next_of old ≤ next_of new
   pub capacity : capacity_of new ≡ capacity_of old
   pub looks : looks_of old ≤ looks_of new
@@ -57,6 +60,12 @@ Asks old new result = AsksUntil old new (fault_in result)
 abbrev pub Changes : {D A : Type 0} {m : _} {T : Type 0} → PageCache D A m → PageCache D A m → Result T Fault
     → Type 0
 Changes old new result = ChangesUntil old new (fault_in result)
+
+-- A change was refused with that fault before a page was touched: the map stays.
+pub record RefusesChange {D A : Type 0} {m : _} (old new : PageCache D A m) (f : Fault) : Type 0 where
+  pub changes : ChangesUntil old new (Some f)
+  pub map : KeepsMap old new
+  pub touched : touched_of new ≡ touched_of old
 
 -- the count of looks is one more where a page was lent, up to the greatest u64, and the same after a refusal
 abbrev pub looks_after : {T : Type 0} → Result T Fault → ℕ → ℕ
@@ -138,7 +147,9 @@ module _ {D A : Type 0} {m : _} where
   pub asks_changes : (old new : PageCache D A m) (end : Option Fault) → AsksUntil old new end
       → ChangesUntil old new end
   asks_changes old new end a = record {
-    gate = a.gate;
+    gate = λ opened. a.gate;
+    honest = a.gate.honest;
+    version = a.gate.version;
     next = omega (arith, a.map.next);
     capacity = a.capacity;
     looks = a.looks;
@@ -153,14 +164,34 @@ module _ {D A : Type 0} {m : _} where
   pub changes_in_turn : (old mid new : PageCache D A m) (end : Option Fault) → ChangesUntil old mid None
       → ChangesUntil mid new end → ChangesUntil old new end
   changes_in_turn old mid new end a b = record {
-    gate = the_gate_is_kept_in_turn old mid new a.gate b.gate;
+    gate = λ opened. let first = a.gate opened in
+        the_gate_is_kept_in_turn old mid new first (b.gate (first.gate ∙ opened));
+    honest = (λ h. b.honest.0 (a.honest.0 h), λ h. a.honest.1 (b.honest.1 h));
+    version = λ h. b.version (a.honest.0 h) ∙ a.version h;
     next = omega (arith, a.next, b.next);
     capacity = b.capacity ∙ a.capacity;
     looks = omega (arith, a.looks, b.looks);
     touched = λ was. b.touched (a.touched was);
-    untouched = λ none. the_map_is_kept_in_turn old mid new a.gate.honest.0
+    untouched = λ none. the_map_is_kept_in_turn old mid new a.honest.0
         (a.untouched (none_before (touched_of mid) (touched_of new) b.touched none)) (b.untouched none);
     faults = b.faults ∙ ap (faults_behind end) a.faults;
+  }
+
+  -- what was only asked for is refused as a change, also where a change was refused after it
+  pub asks_refuse : (old new : PageCache D A m) (f : Fault) → AsksUntil old new (Some f)
+      → RefusesChange old new f
+  asks_refuse old new f a = record {
+    changes = asks_changes old new (Some f) a;
+    map = a.map;
+    touched = a.touched;
+  }
+
+  pub refuses_after : (old mid new : PageCache D A m) (f : Fault) → AsksUntil old mid None
+      → RefusesChange mid new f → RefusesChange old new f
+  refuses_after old mid new f a b = record {
+    changes = changes_in_turn old mid new (Some f) (asks_changes old mid None a) b.changes;
+    map = the_map_is_kept_in_turn old mid new a.gate.honest.0 a.map b.map;
+    touched = b.touched ∙ a.touched;
   }
 
   -- a call that succeeds, and then one whose fault is handed on

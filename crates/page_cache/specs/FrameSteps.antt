@@ -1,8 +1,8 @@
 -- What private calls make of frames and of the file below, also where they are refused.
-use Rattle.std.specs.Prelude.{◌≡◌, ◌⊎◌, ◌∷◌, ℕ, None, Some, IsSome, Result, false, true}
+use Rattle.std.specs.Prelude.{◌≡◌, ◌⊎◌, ◌↔◌, ◌∷◌, ◌≤◌, ◌<◌, ℕ, None, Some, IsSome, Result, false, true}
 use Rattle.std.specs.Prelude.{if◌then◌else◌, ◌==◌, IfErr, IsOk, OnErr, OnOk, nat_eq, option_map, slice_get}
 use Rattle.std.specs.Map.{remove_entry}
-use Rattle.block_device.specs.Device.{Torn, written}
+use Rattle.block_device.specs.Device.{Torn, block_at, written}
 use Rattle.page_file.specs.Fault.{HasCause, IsDamage, IsOfDevice}
 use Rattle.page_file.specs.File as below
 use Rattle.page_file.specs.Pages.{SameBut}
@@ -10,7 +10,8 @@ use Rattle.page_file.specs.declared.fault.Fault.{Fault}
 use Rattle.page_file.specs.declared.fault.Fault.TheVariants as fault
 use Rattle.page_file.specs.declared.file.PageFile.{PageFile}
 use Rattle.page_file.specs.declared.gate.Gate.TheVariants.{Open}
-use Rattle.page_cache.specs.Cache.{IsHeld, IsHonest, blocks_behind, device_of, gate_of, held_pages}
+use Rattle.page_cache.specs.Cache.{IsHeld, IsHonest, KeepsMap, blocks_behind, device_of, free_of, gate_of}
+use Rattle.page_cache.specs.Cache.{held_pages, next_of}
 use Rattle.page_cache.specs.Frames.{frame_at}
 use Rattle.page_cache.specs.Keeps.{KeepsBlocks, SameFrames}
 use Rattle.page_cache.specs.declared.cache.PageCache.{PageCache}
@@ -68,3 +69,21 @@ pub record Holds {D A : Type 0} {m : _} {T : Type 0} (n : ℕ) (frame : Frame A)
   pub touched : new.touched ≡ old.touched
   pub capacity : new.frames.cap ≡ old.frames.cap
   pub memory : IfErr result (λ f. f ≡ fault.Memory)
+
+-- The gate was opened where it was not open, with the frames as they were; after a refusal it is unsure.
+pub record OpensGate {D A : Type 0} {m : _} {T : Type 0} (old new : PageCache D A m) (result : Result T Fault)
+    : Type 0 where
+  pub opened : OnOk result (gate_of new ≡ Open)
+  pub was_open : gate_of old ≡ Open → (new.file ≡ old.file) × IsOk result
+  pub frames : new.frames ≡ old.frames
+  pub looks : new.looks ≡ old.looks
+  pub touched : new.touched ≡ old.touched
+  pub map : KeepsMap old new
+  pub free : IsHonest old → free_of new ≡ free_of old
+  pub header : below.header_of new.file ≡ below.header_of old.file
+  -- the blocks are as they were behind what is held, the gate aside
+  pub blocks : IsHonest old → (n : ℕ) → 2 ≤ n → n < next_of old
+      → block_at n (blocks_behind new) ≡ block_at n (blocks_behind old)
+  pub honest : IsHonest old ↔ IsHonest new
+  pub faults : IfErr result IsOfDevice
+  pub cause : HasCause (m.faults (device_of old)) (m.faults (device_of new)) result

@@ -1,15 +1,16 @@
 -- What each call does that changes, gives out or frees a page, also where it is refused: `old` is the cache
 -- before, `new` the one after, and `result` the call's answer.
-use Rattle.std.specs.Prelude.{◌≡◌, ◌⊎◌, ◌≤◌, ◌<◌, ◌+◌, ◌^◌, ◌||◌, ℕ, List, None, Some, Result, Err, true}
+use Rattle.std.specs.Prelude.{◌≡◌, ◌⊎◌, ◌≤◌, ◌<◌, ◌+◌, ◌^◌, ◌||◌, ℕ, List, None, Some, Result, Err, false, true}
 use Rattle.std.specs.Prelude.{IfErr, IfOk, IsErrOf, IsOk, OnErr, OnOk, is_ok}
 use Rattle.block_bytes.specs.Numbers.{zeros}
 use Rattle.page_file.specs.Fault.{IsDamage, IsOfDevice}
 use Rattle.page_file.specs.Pages.{SameBut, TakesFirst}
 use Rattle.page_file.specs.declared.fault.Fault.{Fault}
 use Rattle.page_file.specs.declared.fault.Fault.TheVariants as fault
+use Rattle.page_file.specs.declared.gate.Gate.TheVariants.{Open}
 use Rattle.page_cache.specs.Cache.{Grows, IsBroken, IsFull, IsHeld, IsHonest, IsLive, IsPageMap, IsUnchanged}
-use Rattle.page_cache.specs.Cache.{KeepsMap, device_of, free_count_of, free_of, given, looks_of, next_of}
-use Rattle.page_cache.specs.Cache.{pages, touched_of}
+use Rattle.page_cache.specs.Cache.{KeepsMap, device_of, free_count_of, free_of, gate_of, given, looks_of}
+use Rattle.page_cache.specs.Cache.{next_of, pages, touched_of}
 use Rattle.page_cache.specs.Calls.{Changes}
 use Rattle.page_cache.specs.Uses.{Uses}
 use Rattle.page_cache.specs.declared.cache.PageCache.{PageCache}
@@ -41,8 +42,9 @@ pub record Edits {D A : Type 0} {m : _} {T : Type 0} (n : ℕ) (did : List ℕ �
   pub sound : IsPageMap old → IsLive old n → IsPageMap new
   pub next : next_of new ≡ next_of old
   pub in_memory : ChangesInMemory n old new result
-  -- a page that is held is never refused
-  pub held : IsHeld old n → IsOk result
+  pub opens : OnOk result (gate_of new ≡ Open)
+  -- a page that is held is not refused where the gate is open
+  pub held : gate_of old ≡ Open → IsHeld old n → IsOk result
   -- a number of no page given out is named as damaged, without a call of the device
   pub outside : (n < 2) ⊎ (next_of old ≤ n)
       → IsErrOf result (fault.Damaged n) × (device_of new ≡ device_of old)
@@ -61,8 +63,9 @@ pub record Refills {D A : Type 0} {m : _} {T : Type 0} (n : ℕ) (did : List ℕ
   pub sound : IsPageMap old → IsLive old n → IsPageMap new
   pub next : next_of new ≡ next_of old
   pub in_memory : ChangesInMemory n old new result
-  -- a page that is held is never refused
-  pub held : IsHeld old n → IsOk result
+  pub opens : OnOk result (gate_of new ≡ Open)
+  -- a page that is held is not refused where the gate is open
+  pub held : gate_of old ≡ Open → IsHeld old n → IsOk result
   -- a number of no page given out is named as damaged, without a call of the device
   pub outside : (n < 2) ⊎ (next_of old ≤ n) → (result ≡ Err (fault.Damaged n)) × IsUnchanged old new
   pub faults : IsHonest old → 2 ≤ n → n < next_of old → IfErr result IsOfDevice
@@ -79,8 +82,9 @@ pub record Puts {D A : Type 0} {m : _} {T : Type 0} (n : ℕ) (bytes : List ℕ)
   pub sound : IsPageMap old → IsLive old n → IsPageMap new
   pub next : next_of new ≡ next_of old
   pub in_memory : ChangesInMemory n old new result
-  -- a page that is held is never refused
-  pub held : IsHeld old n → IsOk result
+  pub opens : OnOk result (gate_of new ≡ Open)
+  -- a page that is held is not refused where the gate is open
+  pub held : gate_of old ≡ Open → IsHeld old n → IsOk result
   -- a number of no page given out is named as damaged, without a call of the device
   pub outside : (n < 2) ⊎ (next_of old ≤ n) → (result ≡ Err (fault.Damaged n)) × IsUnchanged old new
   pub faults : IsHonest old → 2 ≤ n → n < next_of old → IfErr result IsOfDevice
@@ -105,6 +109,7 @@ pub record Allocates {D A : Type 0} {m : _} (old new : PageCache D A m) (result 
   pub kept : OnErr result (free_count_of new ≡ free_count_of old
       → KeepsMap old new × (touched_of new ≡ touched_of old))
   pub touched : OnOk result (touched_of new ≡ true)
+  pub opens : OnOk result (gate_of new ≡ Open)
   pub holds : (n : ℕ) × ((k : ℕ) → ¬ (k ≡ n) → IsHeld old k → IsHeld new k)
   pub sound : IsPageMap old → IsPageMap new
   pub number : IfOk result (λ n. (3 ≤ n) × (n < next_of new))
@@ -132,8 +137,10 @@ pub record Frees {D A : Type 0} {m : _} {T : Type 0} (n : ℕ) (old new : PageCa
   pub grows : Grows 0 old new
   pub looks : looks_of new ≡ looks_of old
   pub holds : (k : ℕ) → ¬ (k ≡ n) → IsHeld old k → IsHeld new k
-  -- also by a refusal
-  pub touched : 3 ≤ n → n < next_of old → touched_of new ≡ true
+  pub touched : OnOk result (touched_of new ≡ true)
+  pub opens : OnOk result (gate_of new ≡ Open)
+  -- a refusal that touches no page came when the gate was opened
+  pub untouched : 3 ≤ n → n < next_of old → touched_of new ≡ false → IfErr result IsOfDevice
   -- the catalog, and a number of no page given out, is named as damaged, without a call of the device
   pub outside : (n < 3) ⊎ (next_of old ≤ n)
       → (result ≡ Err (fault.Damaged n)) × IsUnchanged old new × (touched_of new ≡ touched_of old)

@@ -22,9 +22,9 @@ use std::alloc::Allocator;
 /// version as the file's, with pages held in memory and a count of looks.
 ///
 /// A page that is put is changed in memory alone. It is written when it leaves the cache, in `flush`, in
-/// `free_pages` and in `settle`; where that is refused it stays held. A page leaves where there is no room for
-/// another one, and is then the one that was used least; it is the only one that a call lets go, but for a
-/// free page that is given out, and `check_again`, which reads all anew.
+/// `free_pages` and in `settle`; where that is refused it stays held. A page leaves where there is no room
+/// for another one, and is then the one that was used least; it is the only one that a call lets go, but for
+/// a free page that is given out, and `check_again`, which reads all anew.
 ///
 /// Each call answers as the file's call of that name does, and may besides answer `Memory`. On a device that
 /// is not honest, and on blocks that stand for no map of pages, each call is safe and returns.

@@ -10,10 +10,10 @@ use Rattle.page_file.specs.declared.gate.Gate.TheVariants.{Shut, Open}
 use Rattle.page_file.specs.declared.header.Header.{Header}
 use Rattle.page_file.specs.File.{IsHonest, KeepsMap, LiesIn, gate_of}
 use Rattle.page_file.specs.Given.{given_same}
-use Rattle.page_file.specs.Pages.{HasFreeChain, given_pages, header_in, page_of}
+use Rattle.page_file.specs.Pages.{HasFreeChain, free_pages_of, given_pages, header_in, page_of}
 use Rattle.page_file.specs.Stops.{AddsOnly, SameButGate, StopNow, StopSince, TornFrom}
 use Rattle.page_file.specs.Gated.{fails, open_is_not_shut, open_stop, still_open, stop_open}
-use Rattle.page_file.specs.Live.{free_same, pages_same}
+use Rattle.page_file.specs.Live.{free_pages_same, free_same, pages_same}
 use Rattle.page_file.specs.Settled.{header_is, passes_to, settled_passes, sound_says}
 
 -- after the gate the blocks are the same
@@ -83,6 +83,12 @@ pub map_kept_aside : {D : Type 0} {m : _} (old new : PageFile D m) → new.heade
 map_kept_aside {m = m} old new header honest aside =
     map_kept old new header honest
     (λ h k low. aside_at (m.shown new.device) (m.shown old.device) k (aside h) (omega (arith, low)))
+
+-- and so do the free pages
+pub free_kept_aside : (old new : Blocks) (h : Header) → SameButGate new old
+    → free_pages_of new h ≡ free_pages_of old h
+free_kept_aside old new h aside =
+    free_pages_same old new h (λ k low. aside_at new old k aside (omega (arith, low)))
 
 -- a file whose gate is shut lies in its blocks
 pub shut_lies : {D : Type 0} {m : _} (file : PageFile D m) → IsHonest file → gate_of file ≡ Shut

@@ -76,14 +76,17 @@ none_high blocks h n high =
     (Some (block_at n blocks)) None) e
     ∙ ap (λ (t : Bool). cond t (Some (block_at n blocks)) None) (and_false_right (nat_le 2 n))
 
--- the map is the same, where the blocks from the catalog on are
+-- the free pages and the map are the same, where the blocks from the catalog on are
+pub free_pages_same : (old new : Blocks) (h : Header)
+    → ((k : ℕ) → 2 ≤ k → block_at k new ≡ block_at k old) → free_pages_of new h ≡ free_pages_of old h
+free_pages_same old new h same =
+    chain_same old new h.count h.first (λ k low member. same k (omega (arith, low)))
+
 pub pages_same : (old new : Blocks) (h : Header) → ((k : ℕ) → 2 ≤ k → block_at k new ≡ block_at k old)
     → (n : ℕ) → page_of new h n ≡ page_of old h n
 pages_same old new h same n =
-    let free : chain new h.count h.first ≡ chain old h.count h.first =
-    chain_same old new h.count h.first (λ k low member. same k (omega (arith, low))) in
     ap (λ (l : List ℕ). cond (nat_le 2 n && (nat_lt n h.next && not (is_member eqb l n)))
-    (Some (block_at n new)) None) free
+    (Some (block_at n new)) None) (free_pages_same old new h same)
     ∙ case (nat_le 2 n) (nat_lt n h.next && not (is_member eqb (chain old h.count h.first) n)) refl
   where
     case : (t r : Bool) → nat_le 2 n ≡ t

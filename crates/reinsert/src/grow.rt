@@ -4,8 +4,7 @@ ghost use Rattle.std.specs.Prelude.{◌≡◌, ◌⊎◌, ◌^◌, ◌+◌, ◌<
 ghost use Rattle.std.specs.Prelude.{true};
 ghost use Rattle.box_math.specs.Bounds.{IsDims};
 ghost use Rattle.page_file.specs.declared.fault.Fault.TheVariants as fault;
-ghost use Rattle.page_file.specs.declared.gate.Gate.TheVariants.{Open};
-ghost use Rattle.page_cache.specs.Cache.{Grows, IsPageMap, gate_of, pages, touched_of};
+ghost use Rattle.page_cache.specs.Cache.{Grows, IsPageMap, pages, touched_of};
 ghost use Rattle.page_cache.specs.Calls.{Changes};
 ghost use Rattle.tree_node.specs.Nodes.{item_of};
 ghost use Rattle.node_bytes.specs.Layout.{IsOfLevel};
@@ -30,7 +29,6 @@ pub(crate) fn grow<const D: usize, B: BlockDevice, A: Allocator + Copy>(
     beside: Entry<D>,
 ) -> Result<Root, Fault>
     requires dims { IsDims D }
-    requires open { gate_of cache.old ≡ Open }
     requires page { (3 ≤ root.page) × (root.page < 2 ^ 31) }
     requires refers { IsOfLevel 1 beside.reference beside.tag }
     ensures changes { Changes cache.old cache.new result }

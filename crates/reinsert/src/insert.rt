@@ -3,8 +3,7 @@
 ghost use Rattle.std.specs.Prelude.{◌≡◌, ◌^◌, ◌<◌, ◌≤◌, Err};
 ghost use Rattle.box_math.specs.Bounds.{IsDims};
 ghost use Rattle.page_file.specs.declared.fault.Fault.TheVariants as fault;
-ghost use Rattle.page_file.specs.declared.gate.Gate.TheVariants.{Open};
-ghost use Rattle.page_cache.specs.Cache.{IsUnchanged, gate_of};
+ghost use Rattle.page_cache.specs.Cache.{IsUnchanged};
 ghost use Rattle.node_bytes.specs.Layout.{IsOfLevel};
 ghost use Rattle.reinsert.specs.Steps.{Inserts, PlacesOne};
 
@@ -19,7 +18,7 @@ use std::alloc::Allocator;
 use tree_node::{Entry, Fanout, Root};
 
 /// Inserts an entry at a level of the tree at that root (docs/RULES.md): on level 0 an object, above it a
-/// child, which refers to a page from 3 to 2^31 - 1. The gate has to be open.
+/// child, which refers to a page from 3 to 2^31 - 1.
 ///
 /// Where the map is sound and the pages stand for a tree at the root, and above level 0 for another at the
 /// entry's reference that shares no page with it, they stand after `Ok` for a tree that a lawful insertion
@@ -44,7 +43,6 @@ pub fn insert_at<const D: usize, B: BlockDevice, A: Allocator + Copy, H: Allocat
     fanout: Fanout,
 ) -> Result<Root, Fault>
     requires dims { IsDims D }
-    requires open { gate_of cache.old ≡ Open }
     requires levels { (level ≤ root.level) × (root.level ≤ 40) }
     requires root { (3 ≤ root.page) × (root.page < 2 ^ 31) }
     requires refers { IsOfLevel level entry.now.reference entry.now.tag }
@@ -64,7 +62,6 @@ pub fn insert_with<const D: usize, B: BlockDevice, A: Allocator + Copy>(
     fanout: Fanout,
     waiting: &mut Waiting<D>,
 ) -> Result<Root, Fault>
-    requires open { gate_of cache.old ≡ Open }
     requires levels { (level ≤ root.level) × (root.level ≤ 40) }
     requires root { (3 ≤ root.page) × (root.page < 2 ^ 31) }
     requires refers { IsOfLevel level entry.now.reference entry.now.tag }
@@ -95,7 +92,6 @@ fn place_one<const D: usize, B: BlockDevice, A: Allocator + Copy>(
     fanout: Fanout,
     waiting: &mut Waiting<D>,
 ) -> Result<Root, Fault>
-    requires open { gate_of cache.old ≡ Open }
     requires level { root.level ≤ 40 }
     requires root { (3 ≤ root.page) × (root.page < 2 ^ 31) }
     requires refers { IsOfLevel first.now.level first.now.entry.reference first.now.entry.tag }

@@ -4,8 +4,7 @@ ghost use Rattle.std.specs.Prelude.{◌≡◌, ◌+◌, ◌<◌, ◌≤◌, ◌+
 ghost use Rattle.std.specs.Prelude.{IfOk, IfErr, IfSome, IsTrue, OnOk, ℕ};
 ghost use Rattle.arrayvec.specs.ArrayVec.{array_vec_len};
 ghost use Rattle.page_file.specs.declared.fault.Fault.TheVariants as fault;
-ghost use Rattle.page_file.specs.declared.gate.Gate.TheVariants.{Open};
-ghost use Rattle.page_cache.specs.Cache.{Grows, IsPageMap, gate_of, given, pages};
+ghost use Rattle.page_cache.specs.Cache.{Grows, IsPageMap, given, pages};
 ghost use Rattle.page_cache.specs.Calls.{Changes};
 ghost use Rattle.tree_node.specs.Nodes.{item_of};
 ghost use Rattle.tree_node.specs.Rows.{item_in};
@@ -38,7 +37,6 @@ pub(crate) fn place<const D: usize, B: BlockDevice, A: Allocator + Copy>(
     limits: Limits,
     waiting: &mut Waiting<D>,
 ) -> Result<Settled<D>, Fault>
-    requires open { gate_of cache.old ≡ Open }
     requires levels { (target ≤ at.level) × (at.level ≤ limits.top) × (limits.top ≤ 40) }
     requires refers { IsOfLevel target entry.now.reference entry.now.tag }
     ensures changes { Changes cache.old cache.new result }
@@ -87,7 +85,6 @@ fn put_here<const D: usize, B: BlockDevice, A: Allocator + Copy>(
     limits: Limits,
     waiting: &mut Waiting<D>,
 ) -> Result<Settled<D>, Fault>
-    requires open { gate_of cache.old ≡ Open }
     requires top { (at.level ≤ limits.top) × (limits.top ≤ 40) }
     requires refers { IsOfLevel at.level entry.now.reference entry.now.tag }
     ensures { SettlesThere limits.fanout.most limits.top at (λ items. ⊤)
@@ -143,7 +140,6 @@ fn put_above<const D: usize, B: BlockDevice, A: Allocator + Copy>(
     limits: Limits,
     waiting: &mut Waiting<D>,
 ) -> Result<Settled<D>, Fault>
-    requires open { gate_of cache.old ≡ Open }
     requires top { (at.level ≤ limits.top) × (limits.top ≤ 40) }
     requires beside { IfSome lower.beside (λ e. IsOfLevel at.level e.reference e.tag) }
     ensures { SettlesThere limits.fanout.most limits.top at (λ items. place < length items)
@@ -171,7 +167,6 @@ fn put_anew<const D: usize, B: BlockDevice, A: Allocator + Copy>(
     limits: Limits,
     waiting: &mut Waiting<D>,
 ) -> Result<Settled<D>, Fault>
-    requires open { gate_of cache.old ≡ Open }
     requires top { (at.level ≤ limits.top) × (limits.top ≤ 40) }
     requires beside { IfSome lower.beside (λ e. IsOfLevel at.level e.reference e.tag) }
     ensures { SettlesThere limits.fanout.most limits.top at (λ items. place < length items)

@@ -4,8 +4,7 @@ ghost use Rattle.std.specs.Prelude.{◌≡◌, ◌^◌, ◌+◌, ◌<◌, ◌≤
 ghost use Rattle.std.specs.Prelude.{map, IfOk, OnOk};
 ghost use Rattle.std.specs.Prelude.{IfErr, IfSome};
 ghost use Rattle.arrayvec.specs.ArrayVec.{array_vec_len};
-ghost use Rattle.page_file.specs.declared.gate.Gate.TheVariants.{Open};
-ghost use Rattle.page_cache.specs.Cache.{Grows, IsLive, IsPageMap, gate_of, pages};
+ghost use Rattle.page_cache.specs.Cache.{Grows, IsLive, IsPageMap, pages};
 ghost use Rattle.page_cache.specs.Calls.{Changes};
 ghost use Rattle.tree_node.specs.Nodes.{content_of, item_of};
 ghost use Rattle.node_bytes.specs.Layout.{IsOfLevel, IsSpellable};
@@ -44,7 +43,6 @@ pub(crate) fn settle<const D: usize, B: BlockDevice, A: Allocator + Copy>(
     limits: Limits,
     waiting: &mut Waiting<D>,
 ) -> Result<Settled<D>, Fault>
-    requires open { gate_of cache.old ≡ Open }
     requires top { (node.now.level ≤ limits.top) × (limits.top ≤ 40) }
     requires some { 0 < array_vec_len node.now.entries }
     requires few { array_vec_len node.now.entries ≤ limits.fanout.most + 1 }
@@ -67,7 +65,6 @@ fn write_fitting<const D: usize, B: BlockDevice, A: Allocator + Copy>(
     page: u32,
     node: &Node<D>,
 ) -> Result<Settled<D>, Fault>
-    requires open { gate_of cache.old ≡ Open }
     requires some { 0 < array_vec_len node.now.entries }
     requires few { array_vec_len node.now.entries ≤ 100 }
     requires refers { All (λ e. IsOfLevel node.now.level e.reference e.tag) node.now.entries.items }
@@ -98,7 +95,6 @@ fn take_out_far<const D: usize, B: BlockDevice, A: Allocator + Copy>(
     fanout: Fanout,
     waiting: &mut Waiting<D>,
 ) -> Result<Settled<D>, Fault>
-    requires open { gate_of cache.old ≡ Open }
     requires level { node.now.level < 41 }
     requires many { array_vec_len node.now.entries ≡ fanout.most + 1 }
     requires refers { All (λ e. IsOfLevel node.now.level e.reference e.tag) node.now.entries.items }
@@ -138,7 +134,6 @@ fn split_off<const D: usize, B: BlockDevice, A: Allocator + Copy>(
     fanout: Fanout,
     waiting: &mut Waiting<D>,
 ) -> Result<Settled<D>, Fault>
-    requires open { gate_of cache.old ≡ Open }
     requires level { node.now.level < 41 }
     requires many { array_vec_len node.now.entries ≡ fanout.most + 1 }
     requires refers { All (λ e. IsOfLevel node.now.level e.reference e.tag) node.now.entries.items }
@@ -188,7 +183,6 @@ fn write_both<const D: usize, B: BlockDevice, A: Allocator + Copy>(
     first: &Node<D>,
     second: &Node<D>,
 ) -> Result<u32, Fault>
-    requires open { gate_of cache.old ≡ Open }
     requires first { IsSpellable (content_of first.now) }
     requires second { IsSpellable (content_of second.now) }
     ensures changes { Changes cache.old cache.new result }

@@ -28,7 +28,8 @@ pub struct StreamFile<I, O> {
 impl<I: Read + Drop, O: Write + Drop> StreamFile<I, O> {
     /// The file that the streams serve on a side, whose size is asked for.
     pub fn over(input: I, output: O, side: FileSide) -> io::Result<StreamFile<I, O>>
-        ensures begins { IfOk result (λ file. (file.lost ≡ false) × (file.none ≡ false) × (file.side ≡ side)) }
+        ensures begins { IfOk result
+            (λ file. (file.lost ≡ false) × (file.none ≡ false) × (file.side ≡ side)) }
         ensures asked { IfOk result (λ file. TellsSize side file.size (O.contents output)
             (O.contents file.output) (I.remaining input) (I.remaining file.input)) }
     {
@@ -78,8 +79,9 @@ impl<I: Read + Drop, O: Write + Drop> StreamFile<I, O> {
     // Asks for 4096 bytes.
     fn get(&mut self, at: u64, into: &mut [u8; 4096]) -> io::Result<()>
         ensures lost { self.new.lost ≡ self.old.lost }
-        ensures asked { OnOk result (Exchanges (request_bytes read_letter self.old.side at) (into.new ++ 0 ∷ [])
-            (O.contents self.old.output) (O.contents self.new.output) (I.remaining self.old.input)
+        ensures asked { OnOk result (Exchanges (request_bytes read_letter self.old.side at)
+            (into.new ++ 0 ∷ []) (O.contents self.old.output)
+            (O.contents self.new.output) (I.remaining self.old.input)
             (I.remaining self.new.input)) }
     {
         send(&mut self.output, b'r', self.side, at)?;

@@ -64,7 +64,8 @@ fn add_nodes<const D: usize, B: BlockDevice, A: Allocator + Copy, H: Allocator>(
         → OnOk result (rows.new.items ≡ rows.old.items ++ outline_at root.page root.level row) }
     ensures looks { IsHonest cache.old → (row : Row) → StandsAt D (given cache.old) root.page root.level row
         → OnOk result (looks_of cache.new
-        ≡ counted (looks_of cache.old) (nodes_in (record { page = root.page; level = root.level; row = row }))) }
+        ≡ counted (looks_of cache.old)
+        (nodes_in (record { page = root.page; level = root.level; row = row }))) }
     ensures stands { IsHonest cache.old → (row : Row) → StandsAt D (given cache.old) root.page root.level row
         → IfErr result IsOfDevice }
     ensures damage { IsHonest cache.old

@@ -1,4 +1,5 @@
-//! A picture of a layer's tree: the boxes of its nodes level by level, in SVG (docs/COMMANDS.md, "The program").
+//! A picture of a layer's tree: the boxes of its nodes level by level, in SVG (docs/COMMANDS.md, "The
+//! program").
 #![tactic(auto)]
 
 mod frame;

@@ -1,5 +1,5 @@
-//! What one tunes a layer by: its levels, its pages, and how much siblings overlap, counted from the outline of
-//! its tree and written as a table or as JSON (docs/COMMANDS.md, "The program").
+//! What one tunes a layer by: its levels, its pages, and how much siblings overlap, counted from the outline
+//! of its tree and written as a table or as JSON (docs/COMMANDS.md, "The program").
 #![tactic(auto)]
 
 pub mod laws;

@@ -31,8 +31,8 @@ impl<D: BlockDevice, A: Allocator + Copy> Store<D, A> {
         self.layers.outline(layer)
     }
 
-    /// How many pages the identifier table of a layer has, with its first one. It takes memory for the objects
-    /// of the layer.
+    /// How many pages the identifier table of a layer has, with its first one. It takes memory for the
+    /// objects of the layer.
     ///
     /// Refused, in this order, by BadName and NoLayer.
     pub fn id_pages(&mut self, layer: &[u8]) -> Result<u64, Refusal>

@@ -91,9 +91,9 @@ pub fn create_store<D: BlockDevice, A: Allocator + Copy>(
 }
 
 /// Opens the store that lies on a device: gate, header and catalog are read and checked (docs/FORMAT.md,
-/// "Opening"), no other page is read (tested), and nothing is written. The store takes its memory from this allocator
-/// and holds at most so many pages in memory (8 to 4096). Layers that are made are such as files of the newest
-/// version may have; those that are there stay as they are.
+/// "Opening"), no other page is read (tested), and nothing is written. The store takes its memory from this
+/// allocator and holds at most so many pages in memory (8 to 4096). Layers that are made are such as files of
+/// the newest version may have; those that are there stay as they are.
 ///
 /// On an honest device an image of a table is opened as a store of that table and of its trees, but for
 /// `Memory` and `Device`; and blocks are opened only where no check refuses them. The file is of the version

@@ -30,8 +30,8 @@ impl<B: BlockDevice, A: Allocator + Copy> Layers<B, A> {
         Ok(())
     }
 
-    // Why a change of the pages broke off that was begun and met this fault: the cache tells whether it touched
-    // a page.
+    // Why a change of the pages broke off that was begun and met this fault: the cache tells whether it
+    // touched a page.
     pub(crate) fn broken_by(&self, cause: Fault) -> Broken
         ensures { result ≡ told_by (cache_of self.now) cause }
     {

@@ -47,8 +47,8 @@ impl<B: BlockDevice, A: Allocator + Copy> Layers<B, A> {
     /// that does not stand in just one of these. Layers that are sound are refused by `Memory` or `Device`
     /// alone.
     ///
-    /// It makes at most two looks for each layer and number below the next one, two more for each layer, and one
-    /// at the catalog.
+    /// It makes at most two looks for each layer and number below the next one, two more for each layer, and
+    /// one at the catalog.
     pub fn check(&mut self) -> Result<(), Refusal>
         ensures answered { (t : Table) → IsSound self.old t →
             IsAnswered self.old self.new t Check (done_answer result) }

@@ -21,8 +21,8 @@ use plain_table::{MOST_LAYERS, Refusal, is_dims, is_fanout, is_layer_name};
 use std::alloc::Allocator;
 
 impl<B: BlockDevice, A: Allocator + Copy> Layers<B, A> {
-    /// Makes a layer without objects: its tree is an empty leaf, and all other trees stay. In files that may be
-    /// of version 3 its identifier table is a tree, and the version of the file is raised.
+    /// Makes a layer without objects: its tree is an empty leaf, and all other trees stay. In files that may
+    /// be of version 3 its identifier table is a tree, and the version of the file is raised.
     ///
     /// Refused, in this order, by BadName, BadDims, BadFanout, LayerExists and TooManyLayers.
     pub fn create(&mut self, name: &[u8], dims: u64, fanout: u64) -> Result<(), Unmade>

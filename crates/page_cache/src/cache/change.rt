@@ -19,6 +19,9 @@ impl<D: BlockDevice, A: Allocator + Copy> PageCache<D, A> {
     /// Opens the gate for a change: it is written open, alone, and synced, if it is not open already. No page
     /// is touched by this change yet.
     ///
+    /// A call that changes, gives out or frees a page opens the gate too, where it is not open. Where it is
+    /// opened before, that call has nothing more to be refused for.
+    ///
     /// After a refusal, which is `Memory` or `Device`, the gate is unsure. The map stays.
     pub fn begin_change(&mut self) -> Result<(), Fault>
         ensures { BeginsChange self.old self.new result }

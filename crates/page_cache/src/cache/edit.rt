@@ -25,8 +25,8 @@ use std::alloc::Allocator;
 
 impl<D: BlockDevice, A: Allocator + Copy> PageCache<D, A> {
     /// Changes a live page where it lies in memory, and holds it: `change` gets its bytes, and its answer is
-    /// handed on. The gate has to be open. A number outside 2 to the last one given out is `Damaged` with
-    /// that number, without a call of the device.
+    /// handed on. The gate is opened, if it is not open. A number outside 2 to the last one given out is
+    /// `Damaged` with that number, without a call of the device.
     ///
     /// It counts no look. After a refusal, which on an honest device is `Memory` or `Device`, the map is as
     /// before.
@@ -36,7 +36,6 @@ impl<D: BlockDevice, A: Allocator + Copy> PageCache<D, A> {
         n: u32,
         change: F,
     ) -> Result<T, Fault>
-        requires open { gate_of self.old ≡ Open }
         requires change { F.IsAlwaysCallable change }
         ensures { Edits n (λ page answer after. FnOnceReturnsAtMut F.FnOnce change page answer after)
             self.old self.new result }
@@ -44,15 +43,14 @@ impl<D: BlockDevice, A: Allocator + Copy> PageCache<D, A> {
         self.edit_known(n, 0, change)
     }
 
-    /// Changes a live page as `edit` does, where `change` leaves a page that spells a node of so many axes one
-    /// that does: what is known of it is known still.
+    /// Changes a live page as `edit` does, where `change` leaves a page that spells a node of so many axes
+    /// one that does: what is known of it is known still.
     #[tactic(auto, using(crate::specs::Calls::counted_by_end))]
     pub fn edit_node<const AXES: usize, T, F: FnOnce(&mut [u8; 4096]) -> T>(
         &mut self,
         n: u32,
         change: F,
     ) -> Result<T, Fault>
-        requires open { gate_of self.old ≡ Open }
         requires change { F.IsAlwaysCallable change }
         requires stays { (page after : List ℕ) (answer : T) →
             FnOnceReturnsAtMut F.FnOnce change page answer after → StaysNode AXES page after }
@@ -62,8 +60,8 @@ impl<D: BlockDevice, A: Allocator + Copy> PageCache<D, A> {
         self.edit_known(n, axes_of::<AXES>(), change)
     }
 
-    // Changes a live page where it lies, of which it stays known that it spells a node of so many axes; of 0 axes
-    // nothing is known.
+    // Changes a live page where it lies, of which it stays known that it spells a node of so many axes; of 0
+    // axes nothing is known.
     #[tactic(auto, using(crate::specs::Calls::counted_by_end))]
     fn edit_known<T, F: FnOnce(&mut [u8; 4096]) -> T>(
         &mut self,
@@ -71,36 +69,39 @@ impl<D: BlockDevice, A: Allocator + Copy> PageCache<D, A> {
         axes: u8,
         change: F,
     ) -> Result<T, Fault>
-        requires open { gate_of self.old ≡ Open }
         requires change { F.IsAlwaysCallable change }
         requires stays { 0 < axes → (page after : List ℕ) (answer : T) →
             FnOnceReturnsAtMut F.FnOnce change page answer after → StaysNode axes page after }
         ensures { Edits n (λ page answer after. FnOnceReturnsAtMut F.FnOnce change page answer after)
             self.old self.new result }
     {
+        if n < 2 || n >= self.file.next_number() {
+            return Err(Fault::Damaged(n));
+        }
+        self.open_gate()?;
         self.load(n)?;
         Ok(self.change_held(n, axes, change))
     }
 
     /// Fills a live page in memory, and holds it: `fill` gets a page of any bytes, which is that page where
-    /// it is held. The gate has to be open. A number outside 2 to the last one given out is `Damaged` with
-    /// that number, without a call of the device.
+    /// it is held. The gate is opened, if it is not open. A number outside 2 to the last one given out is
+    /// `Damaged` with that number, without a call of the device.
     ///
     /// It counts no look. After a refusal, which on an honest device is `Memory` or `Device`, the map is as
     /// before.
     #[tactic(auto, using(crate::specs::Calls::counted_by_end))]
     pub fn refill<F: FnOnce(&mut [u8; 4096])>(&mut self, n: u32, fill: F) -> Result<(), Fault>
-        requires open { gate_of self.old ≡ Open }
         requires fill { F.IsAlwaysCallable fill }
         ensures { Refills n (λ before after. FnOnceReturnsAtMut F.FnOnce fill before tt after)
             self.old self.new result }
     {
+        if n < 2 || n >= self.file.next_number() {
+            return Err(Fault::Damaged(n));
+        }
+        self.open_gate()?;
         if self.promote(n) {
             self.change_held(n, 0, fill);
             return Ok(());
-        }
-        if n < 2 || n >= self.file.next_number() {
-            return Err(Fault::Damaged(n));
         }
         self.make_room()?;
         let mut bytes = self.blank()?;
@@ -116,8 +117,8 @@ impl<D: BlockDevice, A: Allocator + Copy> PageCache<D, A> {
         held
     }
 
-    // Changes the bytes of a page that is held, of which it stays known that they spell a node of so many axes;
-    // of 0 axes nothing is known.
+    // Changes the bytes of a page that is held, of which it stays known that they spell a node of so many
+    // axes; of 0 axes nothing is known.
     fn change_held<T, F: FnOnce(&mut [u8; 4096]) -> T>(&mut self, n: u32, axes: u8, change: F) -> T
         requires held { IsHeld self.old n }
         requires open { gate_of self.old ≡ Open }

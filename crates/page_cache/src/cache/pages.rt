@@ -11,7 +11,8 @@ ghost use Rattle.page_file.specs.declared.fault.Fault.TheVariants as fault;
 ghost use Rattle.page_file.specs.declared.gate.Gate.TheVariants.{Open};
 ghost use Rattle.page_cache.specs.Cache.{Grows, BreaksAt, IsBroken, IsFull, IsHeld, IsHonest, IsLive};
 ghost use Rattle.page_cache.specs.Cache.{IsPageMap, IsUnchanged, KeepsMap};
-ghost use Rattle.page_cache.specs.Cache.{device_of, free_count_of, free_of, gate_of, given, held_pages, looks_of};
+ghost use Rattle.page_cache.specs.Cache.{device_of, free_count_of, free_of, gate_of, given, held_pages};
+ghost use Rattle.page_cache.specs.Cache.{looks_of};
 ghost use Rattle.page_cache.specs.Cache.{next_of, pages, touched_of};
 ghost use Rattle.page_cache.specs.Calls.{Asks, Changes, IsLookedAt};
 ghost use Rattle.page_cache.specs.Keeps.{KeepsBlocks};
@@ -48,9 +49,9 @@ impl<D: BlockDevice, A: Allocator + Copy> PageCache<D, A> {
         }
     }
 
-    /// Lends a page as `page` does, where it spells a node of so many axes. Another page is `Damaged` with its
-    /// number, in one look. That a page spells a node is asked of its bytes once, and then known until they
-    /// change, or leave memory.
+    /// Lends a page as `page` does, where it spells a node of so many axes. Another page is `Damaged` with
+    /// its number, in one look. That a page spells a node is asked of its bytes once, and then known until
+    /// they change, or leave memory.
     pub fn node_page<const AXES: usize>(&mut self, n: u32) -> Result<&[u8; 4096], Fault>
         ensures* read_at { sem 𝓛 (EndsReadAt D.row A.row D.BlockDevice A.Allocator self.entry n result) }
         ensures bytes { IsHonest self.old → IsLive self.old n →
@@ -142,20 +143,19 @@ impl<D: BlockDevice, A: Allocator + Copy> PageCache<D, A> {
         self.fetch(n)
     }
 
-    /// Changes a live page in memory, and holds it. The gate has to be open. A number outside 2 to the last
-    /// one given out is `Damaged` with that number, without a call of the device.
+    /// Changes a live page in memory, and holds it. The gate is opened, if it is not open. A number outside 2
+    /// to the last one given out is `Damaged` with that number, without a call of the device.
     ///
     /// After a refusal, which on an honest device is `Memory` or `Device`, the map is as before.
     #[tactic(auto, using(crate::specs::Calls::counted_by_end))]
     pub fn put(&mut self, n: u32, bytes: &[u8; 4096]) -> Result<(), Fault>
-        requires { gate_of self.old ≡ Open }
         ensures { Puts n bytes.now self.old self.new result }
     {
         self.refill(n, |page: &mut [u8; 4096]| *page = *bytes)
     }
 
     /// Gives out a page of zeros that was not live: the first free page where there is one, and else one of a
-    /// new number. The gate has to be open.
+    /// new number. The gate is opened, if it is not open.
     ///
     /// After a refusal one page that was not live may hold any bytes, and may be live; all others are as
     /// before. `NoPages` comes only where each number from 2 to 2^31 - 1 is live. `Damaged` comes with the
@@ -163,9 +163,9 @@ impl<D: BlockDevice, A: Allocator + Copy> PageCache<D, A> {
     /// leaves as many pages free leaves the map.
     #[tactic(auto, using(crate::specs::Calls::counted_by_end))]
     pub fn allocate(&mut self) -> Result<u32, Fault>
-        requires { gate_of self.old ≡ Open }
         ensures { Allocates self.old self.new result }
     {
+        self.open_gate()?;
         // The block of the page that is given out next is read and written below, so that page is not held.
         let first = self.file.first_free();
         self.release(first)?;
@@ -175,19 +175,20 @@ impl<D: BlockDevice, A: Allocator + Copy> PageCache<D, A> {
         allocated
     }
 
-    /// Frees a live page other than the catalog: it is no longer live. The gate has to be open. A number
-    /// outside 3 to the last one given out is `Damaged` with that number, without a call of the device.
+    /// Frees a live page other than the catalog: it is no longer live. The gate is opened, if it is not open.
+    /// A number outside 3 to the last one given out is `Damaged` with that number, without a call of the
+    /// device.
     ///
     /// After a refusal the page may hold any bytes, and may be live or not; all others are as before.
     /// With a sound map that is `Memory` or `Device`.
     #[tactic(auto, using(crate::specs::Calls::counted_by_end))]
     pub fn free(&mut self, n: u32) -> Result<(), Fault>
-        requires { gate_of self.old ≡ Open }
         ensures { Frees n self.old self.new result }
     {
         if n < 3 || n >= self.file.next_number() {
             return Err(Fault::Damaged(n));
         }
+        self.open_gate()?;
         self.forget(n);
         self.touched = true;
         self.file.free(n)

@@ -2,7 +2,8 @@
 ghost use Rattle.std.specs.Prelude.{◌≡◌, ◌↔◌, IsOk, IfErr, OnOk, OnErr};
 ghost use Rattle.block_device.specs.Device.{LeavesOnly};
 ghost use Rattle.page_file.specs.Fault.{HasCause, IsOfDevice};
-ghost use Rattle.page_file.specs.File.{device_of, blocks_of, IsHonest, gate_of, KeepsMap, RaisesVersion};
+ghost use Rattle.page_file.specs.File.{blocks_of, device_of, free_of, gate_of, header_of};
+ghost use Rattle.page_file.specs.File.{IsHonest, KeepsMap, RaisesVersion};
 ghost use Rattle.page_file.specs.Stops.{SameButGate};
 ghost use Rattle.page_file.specs.declared.gate.Gate.TheVariants.{Open, Unsure};
 
@@ -22,6 +23,8 @@ impl<D: BlockDevice> PageFile<D> {
         ensures refused { OnErr result (gate_of self.new ≡ Unsure) }
         ensures was_open { gate_of self.old ≡ Open → (self.new ≡ self.old) × IsOk result }
         ensures map { KeepsMap self.old self.new }
+        ensures header { header_of self.new ≡ header_of self.old }
+        ensures free { IsHonest self.old → free_of self.new ≡ free_of self.old }
         ensures blocks { IsHonest self.old → SameButGate (blocks_of self.new) (blocks_of self.old) }
 
         // A stop leaves the blocks as they were, the gate aside.

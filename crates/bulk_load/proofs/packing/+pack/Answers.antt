@@ -1,5 +1,5 @@
 -- A root, or a level and what is above it.
-use Rattle.std.proofs.Common.{◌≡◌, ◌∙◌, ℕ, suc, ◌+◌, ◌<◌, ◌≤◌, List, length, All, refl, sym, ap, subst, arith}
+use Rattle.std.proofs.Common.{◌≡◌, ℕ, suc, ◌+◌, ◌<◌, ◌≤◌, List, length, All, refl, sym, ap, subst, arith}
 use Rattle.std.proofs.Common.{rules}
 use Rattle.std.proofs.lemmas.List.{length-map}
 use Rattle.std.proofs.lemmas.List.Sorted.{IsPermutation-refl}
@@ -48,17 +48,14 @@ pack-requires g t c κs within =
                 (
                   c.requires.dims,
                   (
-                    c.in_ok-parents.ensures.changes.gate.gate ∙ c.requires.open,
+                    λ above. omega (arith, long, c.in_ok-parents.ensures.two),
                     (
-                      λ above. omega (arith, long, c.in_ok-parents.ensures.two),
-                      (
-                        subst (λ (es : List (Entry g.row.D)). All
-                            (λ (item : Item). IsOfLevel (c.args.level + 1) item.reference item.tag)
-                            (items_of es)) (sym c.as_mut_slice.ensures.value)
-                            c.in_ok-parents.ensures.refers,
-                        next_fits (length c.args.entries.now) (length c.as_mut_slice.result.now)
-                            c.args.level (omega (arith, long, half)) c.requires.fits,
-                      ),
+                      subst (λ (es : List (Entry g.row.D)). All
+                          (λ (item : Item). IsOfLevel (c.args.level + 1) item.reference item.tag)
+                          (items_of es)) (sym c.as_mut_slice.ensures.value)
+                          c.in_ok-parents.ensures.refers,
+                      next_fits (length c.args.entries.now) (length c.as_mut_slice.result.now)
+                          c.args.level (omega (arith, long, half)) c.requires.fits,
                     ),
                   ),
                 ),

@@ -24,17 +24,14 @@ write_level-requires g c =
       (
         c.requires.dims,
         (
-          c.requires.open,
+          ap (total (λ size. size)) c.as_slice.ensures.value ∙ t.whole,
           (
-            ap (total (λ size. size)) c.as_slice.ensures.value ∙ t.whole,
+            subst (λ (sizes : List ℕ). AreSizes sizes) (sym c.as_slice.ensures.value) t.sized,
             (
-              subst (λ (sizes : List ℕ). AreSizes sizes) (sym c.as_slice.ensures.value) t.sized,
-              (
-                All-permutation P (items_of c.args.entries.now) (items_of c.tile.new.entries)
-                    (IsPermutation-map item_of c.args.entries.now c.tile.new.entries c.tile.ensures.all)
-                    c.requires.refers,
-                c.in_ok-parents.ensures.empty,
-              ),
+              All-permutation P (items_of c.args.entries.now) (items_of c.tile.new.entries)
+                  (IsPermutation-map item_of c.args.entries.now c.tile.new.entries c.tile.ensures.all)
+                  c.requires.refers,
+              c.in_ok-parents.ensures.empty,
             ),
           ),
         ),

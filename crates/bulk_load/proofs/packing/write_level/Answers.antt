@@ -73,12 +73,9 @@ write_parent-requires g c =
       (
         c.requires.dims,
         (
-          c.runs.invariant.changes.gate.gate ∙ c.requires.open,
-          (
-            (omega (arith, long, sized.0), omega (arith, long, sized.1)),
-            part_refers (λ (item : Item). IsOfLevel c.args.level item.reference item.tag)
-                (c.runs.from + size - c.runs.from) c.runs.from c.args.entries.now c.requires.refers,
-          ),
+          (omega (arith, long, sized.0), omega (arith, long, sized.1)),
+          part_refers (λ (item : Item). IsOfLevel c.args.level item.reference item.tag)
+              (c.runs.from + size - c.runs.from) c.runs.from c.args.entries.now c.requires.refers,
         ),
       ),
     )

@@ -1,23 +1,34 @@
 -- The goals of `set_least` that are proved by hand.
 use Rattle.std.proofs.Common.{rules, ◌≡◌, ◌∙◌, ◌<◌, ℕ, List, None, Some, IfSome, length, refl, sym, ap, subst, inr}
 use Rattle.std.specs.Prelude.{◌⊎◌, IsSome}
+use Rattle.box_math.specs.Bounds.{Bounds}
 use Rattle.page_file.specs.Fault.{IsDamage, IsOfDevice}
 use Rattle.page_file.specs.declared.fault.Fault.TheVariants as fault
 use Rattle.page_cache.specs.Cache.{IsHonest, IsLive, pages}
-use Rattle.page_cache.specs.Calls.{AsksUntil, asks_and_gives_up, asks_changes, asks_in_turn}
-use Rattle.page_cache.specs.Calls.{changes_in_turn, fault_in, no_call_asks}
+use Rattle.page_cache.specs.Calls.{AsksUntil, RefusesChange, asks_and_gives_up, asks_changes, asks_in_turn}
+use Rattle.page_cache.specs.Calls.{changes_in_turn, fault_in, no_call_asks, refuses_after}
 use Rattle.tree_node.specs.Boxes.{box_at, least_box}
 use Rattle.tree_node.specs.Nodes.{Item, NodeContent}
 use Rattle.node_bytes.specs.Enlarged.{set_box, with_box_at}
-use Rattle.node_page.specs.Standing.{node_in}
+use Rattle.node_page.specs.Standing.{PageMap, node_in}
 use Rattle.node_bytes.specs.Views.{content_in}
 use Rattle.node_bytes.proofs.BoxedLemmas.{length-set_box}
 use Rattle.node_page.proofs.NodeLemmas.{at_error}
 use Rattle.node_page.proofs.StandingLemmas.{page_of_node, same_content}
-use Rattle.reinsert.proofs.FaultLemmas.{asks_refused, at_none, damaged_asks, no_answer, no_success}
+use Rattle.reinsert.proofs.FaultLemmas.{asks_refused, at_none, changes_refused, damaged_asks, no_answer, no_success}
 use Rattle.condense.proofs.BecomeLemmas.{cut_written, few_written, now_written, set_box_same}
 use Rattle.condense.proofs.RemoveLemmas.{never_some, on_err}
 use Rattle.condense.proofs.cut.set_least.Goals as goal
+
+-- a node that is read has the box if the page's has it
+has_not : (dims : ℕ) (m : PageMap) (page place : ℕ) (read there : NodeContent) (least : Bounds) {P : Type 0}
+    → node_in dims (m page) ≡ Some read → node_in dims (m page) ≡ Some there
+    → (place < length read.entries → ¬ (box_at read.entries place ≡ least)) → place < length there.entries
+    → box_at there.entries place ≡ least → P
+has_not dims m page place read there least is at lacks within has =
+    let same = same_content dims m page read there is at in
+    absurd (lacks (subst (λ (k : NodeContent). place < length k.entries) (sym same) within)
+    (ap (λ (k : NodeContent). box_at k.entries place) same ∙ has))
 
 pub returns-in_err-node-clause-alters : goal.returns-in_err-node-clause-alters
 returns-in_err-node-clause-alters g c = λ hand.
@@ -112,9 +123,9 @@ returns-in_err-round-clause-alters g c = λ hand.
     let err = c.in_err-round.ensures in
     let first : AsksUntil old mid None =
     subst (λ x. AsksUntil old mid (fault_in x)) c.in_ok-node.was (search rules) in
-    let then : AsksUntil mid new (Some f) = err.refused in
+    let then : RefusesChange mid new f = err.refused in
     record {
-      changes = asks_and_gives_up old mid new f r is first then;
+      changes = changes_refused old new f r is (refuses_after old mid new f first then).changes;
       grows = search rules;
       cut = no_answer r f _ is;
       now = λ h x there level. no_answer r f _ is;
@@ -236,37 +247,24 @@ returns-then-has_box-clause-same g c = λ h x there within has.
     subst (λ x. AsksUntil c.args.cache.now c.view_node.follows.lender-at-none (fault_in x)) c.in_ok-node.was
     (search rules)
 
+-- it is not written where it has that box
 pub returns-in_err-round-clause-same : goal.returns-in_err-round-clause-same
 returns-in_err-round-clause-same g c = λ h x there within has.
-    let old = c.args.cache.now in
-    let mid = c.view_node.follows.lender-at-none in
-    let new = c.set_entry_box.new.cache in
-    let f = c.in_err-round.field-0.0 in
-    let first : AsksUntil old mid None =
-    subst (λ x. AsksUntil old mid (fault_in x)) c.in_ok-node.was (search rules) in
-    asks_refused old new f c.from_residual-in_err-round.result c.from_residual-in_err-round.ensures.1
-    (asks_in_turn old mid new (Some f) first c.in_err-round.ensures.refused)
+    let read = c.in_ok-node.ensures.node h
+    (page_of_node g.row.D (pages c.args.cache.now c.args.at.page) x there) in
+    has_not g.row.D (pages c.args.cache.now) c.args.at.page c.args.place (content_in c.in_ok-node.node) x
+    c.args.least.now read there (c.has_box.ensures.no c.if-has_box.false) within has
 
 pub returns-in_default-clause-same : goal.returns-in_default-clause-same
 returns-in_default-clause-same g c = λ h x there within has.
-    let old = c.args.cache.now in
-    let mid = c.view_node.follows.lender-at-none in
-    let new = c.set_entry_box.new.cache in
-    let first : AsksUntil old mid None =
-    subst (λ x. AsksUntil old mid (fault_in x)) c.in_ok-node.was (search rules) in
-    let then : AsksUntil mid new None =
-    at_none c.in_ok-round.field-0 (AsksUntil mid new None) c.in_ok-round.ensures.cannot c.in_default.not-Some in
-    damaged_asks old new c.args.at.page (asks_in_turn old mid new None first then)
+    let read = c.in_ok-node.ensures.node h
+    (page_of_node g.row.D (pages c.args.cache.now c.args.at.page) x there) in
+    has_not g.row.D (pages c.args.cache.now) c.args.at.page c.args.place (content_in c.in_ok-node.node) x
+    c.args.least.now read there (c.has_box.ensures.no c.if-has_box.false) within has
 
 pub returns-clause-same : goal.returns-clause-same
 returns-clause-same g c = λ h x there within has.
-    let D = g.row.D in
-    let old = c.args.cache.now in
-    let page = c.args.at.page in
-    let place = c.args.place in
-    let view : NodeContent = content_in c.in_ok-node.node in
-    let same = same_content D (pages old) page view x
-    (c.in_ok-node.ensures.node h (page_of_node D (pages old page) x there)) there in
-    absurd (c.has_box.ensures.no c.if-has_box.false
-    (subst (λ (k : NodeContent). place < length k.entries) (sym same) within)
-    (ap (λ (k : NodeContent). box_at k.entries place) same ∙ has))
+    let read = c.in_ok-node.ensures.node h
+    (page_of_node g.row.D (pages c.args.cache.now c.args.at.page) x there) in
+    has_not g.row.D (pages c.args.cache.now) c.args.at.page c.args.place (content_in c.in_ok-node.node) x
+    c.args.least.now read there (c.has_box.ensures.no c.if-has_box.false) within has

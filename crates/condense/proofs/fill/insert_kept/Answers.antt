@@ -1,5 +1,5 @@
 -- The goals of `insert_kept` that are proved by hand.
-use Rattle.std.proofs.Common.{rules, ◌∙◌, ◌+◌, List, None, Ok, length, map, refl, ap, subst, arith}
+use Rattle.std.proofs.Common.{rules, ◌+◌, List, None, Ok, length, map, refl, ap, subst, arith}
 use Rattle.std.proofs.Common.{inr, []}
 use Rattle.page_file.specs.declared.fault.Fault.TheVariants as fault
 use Rattle.page_cache.specs.Cache.{given, pages}
@@ -49,20 +49,16 @@ returns-then-orphan-now-clause-faults g c = λ h t ws elsewhere can shaped.
     absurd (omega (arith, s.0, f.can.at.level, c.if-orphan-now.true))
 
 pub insert_with-requires : goal.insert_with-requires
-insert_with-requires g c =
-    let gate = c.inserting.invariant.0.gate.gate ∙ c.requires.open in (
-      search rules,
-      (
-        search rules,
-        (
-          gate,
-          (
-            (omega (arith, c.if-orphan-now.false), c.inserting.invariant.1.low),
-            (c.inserting.invariant.1.page, c.in-Some.ensures.refers),
-          ),
-        ),
-      ),
-    )
+insert_with-requires g c = (
+  search rules,
+  (
+    search rules,
+    (
+      (omega (arith, c.if-orphan-now.false), c.inserting.invariant.1.low),
+      (c.inserting.invariant.1.page, c.in-Some.ensures.refers),
+    ),
+  ),
+)
 
 pub returns-in_err-now-clause-faults : goal.returns-in_err-now-clause-faults
 returns-in_err-now-clause-faults g c = λ h t ws elsewhere can shaped.

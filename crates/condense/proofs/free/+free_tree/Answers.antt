@@ -1,13 +1,12 @@
 -- The goals of `free_tree` that are proved by hand.
-use Rattle.std.proofs.Common.{None, ◌≡◌, ◌∙◌, ◌⊎◌, ⊎_elim, inl, inr, ℕ, ◌+◌, ◌<◌, ◌≤◌, [], length, sym, arith}
+use Rattle.std.proofs.Common.{None, ◌≡◌, ◌⊎◌, ⊎_elim, inl, inr, ℕ, ◌+◌, ◌<◌, ◌≤◌, [], length, arith}
 use Rattle.std.proofs.Common.{false, IfErr}
-use Rattle.std.proofs.lemmas.Bool.{true≢false}
 use Rattle.std.proofs.lemmas.List.{length-map}
 use Rattle.page_file.specs.Fault.{IsOfDevice}
 use Rattle.page_file.specs.declared.fault.Fault.TheVariants as fault
 use Rattle.page_cache.specs.Cache.{IsPageMap, given, next_of, pages, touched_of}
-use Rattle.page_cache.specs.Calls.{asks_and_gives_up, asks_changes, changes_and_refuses}
-use Rattle.page_cache.specs.Calls.{changes_in_turn, fault_in, no_call_asks}
+use Rattle.page_cache.specs.Calls.{asks_changes, changes_and_refuses}
+use Rattle.page_cache.specs.Calls.{changes_in_turn, fault_in}
 use Rattle.tree_node.specs.Boxes.{no_item}
 use Rattle.tree_node.specs.Nodes.{content_of, item_of}
 use Rattle.node_page.specs.Checked.{ComesTo}
@@ -20,7 +19,7 @@ use Rattle.condense.specs.Taken.{tree_at}
 use Rattle.condense.proofs.DamageLemmas.{child_named, comes_before, free_refused, given_before}
 use Rattle.condense.proofs.DamageLemmas.{gone_adds_none, others_keep, same_adds_none, same_keeps}
 use Rattle.condense.proofs.FreeLemmas.{children_freed, freed_none, freed_root}
-use Rattle.condense.proofs.FreeLemmas.{is_root, moves_at, next_child, on_ok, refusal_asks}
+use Rattle.condense.proofs.FreeLemmas.{is_root, moves_at, next_child, on_ok}
 use Rattle.condense.proofs.FreeLemmas.{root_live, stands_there}
 use Rattle.condense.proofs.free.+free_tree.Goals as goal
 
@@ -74,23 +73,11 @@ children-preserved g t c = (
       ),
 )
 
-pub returns-in_err-node-clause-asked : goal.returns-in_err-node-clause-asked
-returns-in_err-node-clause-asked g t c =
-    refusal_asks c.args.cache.now c.read_node.new.cache c.from_residual.result
-    (asks_and_gives_up c.args.cache.now c.args.cache.now c.read_node.new.cache c.in_err-node.field-0.0
-    c.from_residual.result c.from_residual.ensures.1 (no_call_asks c.args.cache.now)
-    c.in_err-node.ensures.asks)
-
 pub returns-in_err-free_tree-clause-changes : goal.returns-in_err-free_tree-clause-changes
 returns-in_err-free_tree-clause-changes g t c =
     changes_and_refuses c.args.cache.now c.children.cache c.free_tree.new.cache
     c.in_err-free_tree.field-0.0 c.from_residual-in_err-free_tree.result
     c.from_residual-in_err-free_tree.ensures.1 c.children.invariant.0 c.in_err-free_tree.ensures.changes
-
-pub returns-in_err-free_tree-clause-asked : goal.returns-in_err-free_tree-clause-asked
-returns-in_err-free_tree-clause-asked g t c =
-    refusal_asks c.args.cache.now c.free_tree.new.cache c.from_residual-in_err-free_tree.result
-    (returns-in_err-free_tree-clause-changes g t c)
 
 pub returns-in_err-free_tree-clause-sound : goal.returns-in_err-free_tree-clause-sound
 returns-in_err-free_tree-clause-sound g t c = λ h whole at standing.
@@ -127,10 +114,6 @@ pub returns-clause-changes : goal.returns-clause-changes
 returns-clause-changes g t c =
     changes_in_turn c.args.cache.now c.children.cache c.free.new.self (fault_in c.free.result)
     c.children.invariant.0 c.free.ensures.changes
-
-pub returns-clause-asked : goal.returns-clause-asked
-returns-clause-asked g t c =
-    refusal_asks c.args.cache.now c.free.new.self c.free.result (returns-clause-changes g t c)
 
 pub returns-clause-freed : goal.returns-clause-freed
 returns-clause-freed g t c = λ h whole at standing.
@@ -224,7 +207,7 @@ returns-in_err-free_tree-clause-damage g t c = λ h either.
     c.from_residual-in_err-free_tree.ensures.1
     (λ n damaged. comes_before D (given old) (given mid) c.args.root.page content
     c.child_of-below.result.page n (c.in_ok-node.ensures.given_node h) named fewer
-    (c.in_err-free_tree.ensures.damage (so_far.gate.honest.0 h) below n damaged))
+    (c.in_err-free_tree.ensures.damage (so_far.honest.0 h) below n damaged))
 
 pub returns-clause-nodes : goal.returns-clause-nodes
 returns-clause-nodes g t c = λ h.
@@ -264,8 +247,7 @@ returns-clause-damage g t c = λ h either.
     (omega (arith, c.in_ok-node.ensures.level)) in
     c.free.ensures.faults so_far.0 (page_of_node D (pages mid page) content there)
     (λ two. absurd (omega (arith, two, low))))
-    (λ (none : touched_of new ≡ false).
-    absurd (true≢false (sym (c.free.ensures.touched low below) ∙ none)))
+    (λ (none : touched_of new ≡ false). c.free.ensures.untouched low below none)
     either in
     if_error c.free.result (λ f. IsOfDevice f ⊎ (f ≡ fault.Damaged page))
     (λ f. (n : ℕ) → f ≡ fault.Damaged n → ComesTo D (given old) page n)

@@ -111,10 +111,7 @@ lowering-preserved g c =
                 (c.in_ok-free.ensures.others sound.honest live)
                 (c.in_ok-free.ensures.freed sound.honest live),
           ),
-      λ h. let node = c.in_ok-below.ensures.given_node (c.lowering.invariant.0.gate.honest.0 h) in
-          let out = node_was_given_out g.row.D c.lowering.cache c.lowering.now.page node.0 node.1 in
-          inr (c.in_ok-free.ensures.touched c.lowering.invariant.1.page.0
-          (omega (arith, out.1, c.in_ok-below.ensures.asks.map.next))),
+      λ h. inr c.in_ok-free.ensures.touched,
       λ h. let map = c.lowering.invariant.5 h in
           let page = c.lowering.now.page in
           let asks = c.in_ok-below.ensures.asks in
@@ -161,18 +158,21 @@ returns-in_err-below-clause-untouched g c = λ h none.
     at_error c.from_residual.result f (λ f. IsOfDevice f ⊎ (f ≡ fault.Damaged c.args.root.page))
     c.from_residual.ensures.1
     (subst (λ (root : Root). IsOfDevice f ⊎ (f ≡ fault.Damaged root.page)) same
-    (c.in_err-below.ensures.faults (c.lowering.invariant.0.gate.honest.0 h))))
+    (c.in_err-below.ensures.faults (c.lowering.invariant.0.honest.0 h))))
     (λ (touched : touched_of c.lowering.cache ≡ true).
     absurd (true≢false (sym touched ∙ sym c.in_err-below.ensures.asks.touched ∙ none)))
     (c.lowering.invariant.4 h)
 
 pub returns-in_err-free-clause-untouched : goal.returns-in_err-free-clause-untouched
 returns-in_err-free-clause-untouched g c = λ h none.
-    let node = c.in_ok-below.ensures.given_node (c.lowering.invariant.0.gate.honest.0 h) in
+    let node = c.in_ok-below.ensures.given_node (c.lowering.invariant.0.honest.0 h) in
     let out = node_was_given_out g.row.D c.lowering.cache c.lowering.now.page node.0 node.1 in
     let below : c.lowering.now.page < next_of c.only_child.new.cache =
     omega (arith, out.1, c.in_ok-below.ensures.asks.map.next) in
-    absurd (true≢false (sym (c.in_err-free.ensures.touched c.lowering.invariant.1.page.0 below) ∙ none))
+    let f = c.in_err-free.field-0.0 in
+    at_error c.from_residual-in_err-free.result f (λ f. IsOfDevice f ⊎ (f ≡ fault.Damaged c.args.root.page))
+    c.from_residual-in_err-free.ensures.1
+    (inl (c.in_err-free.ensures.untouched c.lowering.invariant.1.page.0 below none))
 
 pub returns-in_err-below-clause-number : goal.returns-in_err-below-clause-number
 returns-in_err-below-clause-number g c = λ h.

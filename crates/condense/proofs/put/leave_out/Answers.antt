@@ -5,7 +5,6 @@ use Rattle.std.specs.Prelude.{◌⊎◌}
 use Rattle.page_file.specs.Fault.{IsDamage, IsOfDevice}
 use Rattle.page_cache.specs.Cache.{pages}
 use Rattle.page_cache.specs.Calls.{changes_in_turn, fault_in}
-use Rattle.page_cache.specs.Laws.{a_live_page_was_given_out}
 use Rattle.tree_node.specs.declared.node.Entry.{Entry}
 use Rattle.node_bytes.specs.Layout.{IsOfLevel}
 use Rattle.node_page.specs.Standing.{PageMap}
@@ -135,7 +134,6 @@ returns g c =
           (c.free.ensures.others h.honest live) in
           take.faults (c.free.ensures.sound h live).honest above.node there above.level_is above.within;
       touched = λ h live. with_ok c.take_at.result _
-          (inr (take.changes.touched (c.free.ensures.touched c.requires.is_next.page
-          (a_live_page_was_given_out old page live).1)));
+          (inr (take.changes.touched c.in_ok-free.ensures.touched));
       other_faults = take.other_faults;
     }

@@ -101,10 +101,7 @@ leave_out-requires g c =
         search rules,
         (
           search rules,
-          (
-            ok.asks.gate.gate ∙ c.requires.open,
-            (c.requires.is_next, (cut, (few, c.requires.room))),
-          ),
+          (c.requires.is_next, (cut, (few, c.requires.room))),
         ),
       ),
     )

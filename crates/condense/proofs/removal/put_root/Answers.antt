@@ -155,8 +155,8 @@ returns-in_err-filled-clause-damage g c = λ h live either none.
 pub returns-clause-damage : goal.returns-clause-damage
 returns-clause-damage g c = λ h live either none.
     let honest =
-    c.in_ok-filled.ensures.changes.gate.honest.0
-    (c.in_ok-write_root.ensures.changes.gate.honest.0 h.honest) in
+    c.in_ok-filled.ensures.changes.honest.0
+    (c.in_ok-write_root.ensures.changes.honest.0 h.honest) in
     ⊎_elim
     (λ (empty : c.args.kept.now.orphans.items ≡ []).
     let is = (c.in_ok-filled.ensures.none empty).0 in

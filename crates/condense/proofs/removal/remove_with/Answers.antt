@@ -90,7 +90,6 @@ pub put_root-requires : goal.put_root-requires
 put_root-requires g c =
     let became = c.in-Some.became in
     let hand = c.take_out.new.hand in
-    let gate = c.in_ok-became.ensures.changes.gate.gate ∙ c.requires.open in
     let few : IsFewInHand c.args.fanout.most c.args.root.level hand became =
     subst (λ o. IfSome o (IsFewInHand c.args.fanout.most c.args.root.level hand)) c.in-Some.is
     c.in_ok-became.ensures.cut in
@@ -98,7 +97,7 @@ put_root-requires g c =
     cut_in_hand c.args.fanout.most c.args.root.level hand became few
     (sym c.is_written.ensures ∙ unwritten) in (
       search rules,
-      (search rules, (search rules, (gate, (c.requires.root, cut)))),
+      (search rules, (search rules, (c.requires.root, cut))),
     )
 
 pub returns : goal.returns

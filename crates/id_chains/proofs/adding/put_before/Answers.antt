@@ -134,7 +134,7 @@ returns-in_err-write_bucket-clause-damage g c = λ h.
     (λ e. (n : ℕ) → e ≡ fault.Damaged n → (n ≡ c.args.directory) ⊎ MayBreakAt c.args.cache.now n)
     c.from_residual-in_err-write_bucket.ensures.1
     (λ n damaged. absurd (no_damage f n
-    (c.in_err-write_bucket.ensures.given_faults (c.in_ok-number.ensures.changes.gate.honest.0 h) low number.1)
+    (c.in_err-write_bucket.ensures.given_faults (c.in_ok-number.ensures.changes.honest.0 h) low number.1)
     damaged))
 
 pub returns-clause-damage : goal.returns-clause-damage
@@ -144,4 +144,4 @@ returns-clause-damage g c = λ h.
     (λ f. (n : ℕ) → f ≡ fault.Damaged n → (n ≡ d) ⊎ MayBreakAt c.args.cache.now n)
     (λ f either n damaged. inl (damaged_read f d n either damaged))
     (c.write_link.ensures.damage
-    (c.in_ok-write_bucket.ensures.changes.gate.honest.0 (c.in_ok-number.ensures.changes.gate.honest.0 h)))
+    (c.in_ok-write_bucket.ensures.changes.honest.0 (c.in_ok-number.ensures.changes.honest.0 h)))

@@ -4,7 +4,7 @@ use Rattle.bucket_page.specs.Layout.{bucket_at}
 use Rattle.page_file.specs.Fault.{IsOfDevice}
 use Rattle.page_file.specs.declared.fault.Fault.TheVariants as fault
 use Rattle.page_cache.specs.Cache.{next_of, pages, touched_of}
-use Rattle.page_cache.specs.Laws.{a_live_page_is_given}
+use Rattle.page_cache.specs.Laws.{a_live_page_is_given, a_live_page_was_given_out}
 use Rattle.node_page.proofs.NodeLemmas.{at_error, page_refused}
 use Rattle.id_chains.specs.Tidy.{IsTidyPage}
 use Rattle.id_chains.proofs.BucketLemmas.{bytes_of_bucket, page_of_bucket}
@@ -38,3 +38,11 @@ pub returns-in-Some-clause-touched : goal.returns-in-Some-clause-touched
 returns-in-Some-clause-touched g c =
     touched_so (touched_of c.args.cache.now) (touched_of c.edit.new.self)
     c.in_ok-pushed.ensures.in_memory.touched
+
+pub returns-in_err-pushed-clause-faults : goal.returns-in_err-pushed-clause-faults
+returns-in_err-pushed-clause-faults g c = λ h content there room.
+    let was = bytes_of_bucket g.row.D (pages c.args.cache.now c.args.number) content there in
+    let given = a_live_page_was_given_out c.args.cache.now c.args.number
+    (page_of_bucket g.row.D (pages c.args.cache.now c.args.number) content there) in
+    at_error c.from_residual.result c.in_err-pushed.field-0.0 IsOfDevice c.from_residual.ensures.1
+    (c.in_err-pushed.ensures.faults h given.0 given.1)

@@ -87,7 +87,7 @@ returns-in_err-filled-clause-damage g c = λ h either.
     (λ f. (n : ℕ) → f ≡ fault.Damaged n → BeginsInTable D (given old) d n ⊎ MayBreakAt old n)
     c.from_residual.ensures.1
     (λ n damaged.
-    let names = c.in_err-filled.ensures.damage (so_far.filling.changes.gate.honest.0 h) n damaged in
+    let names = c.in_err-filled.ensures.damage (so_far.filling.changes.honest.0 h) n damaged in
     ⊎_elim
     (λ (map : IsPageMap old). inl (
       class,

@@ -9,7 +9,7 @@ use Rattle.id_chains.specs.Table.{ChainStands, chain_at, link_at}
 use Rattle.id_chains.specs.Walks.{MeetsAlong, NamesNoMore}
 use Rattle.id_chains.proofs.FreeLemmas.{all_are_freed, all_begins, chain_left, chain_once, chain_short_now}
 use Rattle.id_chains.proofs.FreeLemmas.{frees_all_on}
-use Rattle.id_words.proofs.WriteLemmas.{freed_refused, freed_touches, not_both, untouched_refused}
+use Rattle.id_words.proofs.WriteLemmas.{freed_refused, not_both, untouched_refused}
 use Rattle.id_chains.proofs.MeetLemmas.{meets_so}
 use Rattle.page_cache.specs.Calls.{changes_and_refuses}
 use Rattle.id_chains.proofs.freeing.free_pages.Goals as goal
@@ -21,8 +21,7 @@ loop-class-init g c =
     (λ map live. c.in_ok-free.ensures.freed map.honest live)
     (λ map live. c.in_ok-free.ensures.others map.honest live) c.in_ok-free.ensures.sound
     c.in_ok-free.ensures.given_others
-    (freed_touches c.args.directory (next_of c.args.cache.now) (touched_of c.free.new.self)
-    c.in_ok-free.ensures.touched (λ out. let is = (c.in_ok-free.ensures.outside out).0 in absurd (cc)))
+    c.in_ok-free.ensures.touched
 
 pub returns-in_err-free_chain-clause-sound : goal.returns-in_err-free_chain-clause-sound
 returns-in_err-free_chain-clause-sound g c = λ map t at stands there.
@@ -82,8 +81,8 @@ returns-in_err-free-clause-damage g c = λ h either.
     freed_refused d (next_of old) f (c.in_err-free.ensures.faults map.0 map.1)
     (λ out. let is = (c.in_err-free.ensures.outside out).0 in cc))
     (λ (none : touched_of new ≡ false).
-    untouched_refused d (next_of old) f (touched_of new) c.in_err-free.ensures.touched
-    (λ out. let is = (c.in_err-free.ensures.outside out).0 in cc) none)
+    untouched_refused d (next_of old) f (λ low below. c.in_err-free.ensures.untouched low below none)
+    (λ out. let is = (c.in_err-free.ensures.outside out).0 in cc))
     either in
     at_error c.from_residual.result f
     (λ f. (n : ℕ) → f ≡ fault.Damaged n → (n ≡ c.args.directory)

@@ -59,4 +59,4 @@ returns-in_err-put-clause-damage g c = λ h.
     (λ e. (n : ℕ) → e ≡ fault.Damaged n → BreaksAt c.args.cache.now n)
     c.from_residual-in_err-put.ensures.1
     (λ n damaged. absurd (no_damage f n
-    (c.in_err-put.ensures.faults (c.in_ok-directory.ensures.changes.gate.honest.0 h) low number.1) damaged))
+    (c.in_err-put.ensures.faults (c.in_ok-directory.ensures.changes.honest.0 h) low number.1) damaged))

@@ -107,4 +107,4 @@ returns-in_err-filled-clause-damage g c = λ h none.
     ⊎ MayBreakAt c.args.cache.now n)
     c.from_residual.ensures.1
     (λ n damaged. said_before g.row.D old mid c.args.root n (changes.untouched before) h
-    (c.in_err-filled.ensures.damage (changes.gate.honest.0 h) none n damaged))
+    (c.in_err-filled.ensures.damage (changes.honest.0 h) none n damaged))

@@ -279,9 +279,8 @@ returns-then-level-eq0-clause-damage g t c = λ h none.
     if_err c.free.result (λ f. IsOfDevice f ⊎ (f ≡ fault.Damaged c.args.page))
     (λ f. (n : ℕ) → f ≡ fault.Damaged n → ComesInTree g.row.D (given c.args.cache.now) c.args.page n)
     (λ f either n damaged. comes_at g.row.D (given c.args.cache.now) c.args.page n f either damaged)
-    (free_untouched c.free.result c.args.page (next_of c.args.cache.now) (touched_of c.free.new.self)
-    c.free.ensures.touched
-    (λ out. (c.free.ensures.outside out).0) none)
+    (free_untouched c.free.result c.args.page (next_of c.args.cache.now)
+    (λ low below. c.free.ensures.untouched low below none) (λ out. (c.free.ensures.outside out).0))
 
 pub returns-in_err-bytes-clause-damage : goal.returns-in_err-bytes-clause-damage
 returns-in_err-bytes-clause-damage g t c = λ h none.
@@ -321,12 +320,12 @@ returns-in_err-free_node-clause-damage g t c = λ h none.
     (λ f. (n : ℕ) → f ≡ fault.Damaged n → ComesInTree g.row.D (given c.args.cache.now) c.args.page n)
     c.from_residual-in_err-free_node.ensures.1 (λ n damaged. comes_down D (given old) page p n names
     (comes_so D (given old) (given now) p n (keeps.given_stay h)
-    (c.in_err-free_node.ensures.damage (changes.gate.honest.0 h) none n damaged)))
+    (c.in_err-free_node.ensures.damage (changes.honest.0 h) none n damaged)))
 
 pub returns-clause-damage : goal.returns-clause-damage
 returns-clause-damage g t c = λ h none.
     if_err c.free-2.result (λ f. IsOfDevice f ⊎ (f ≡ fault.Damaged c.args.page))
     (λ f. (n : ℕ) → f ≡ fault.Damaged n → ComesInTree g.row.D (given c.args.cache.now) c.args.page n)
     (λ f either n damaged. comes_at g.row.D (given c.args.cache.now) c.args.page n f either damaged)
-    (free_untouched c.free-2.result c.args.page (next_of c.loop-place.cache) (touched_of c.free-2.new.self)
-    c.free-2.ensures.touched (λ out. (c.free-2.ensures.outside out).0) none)
+    (free_untouched c.free-2.result c.args.page (next_of c.loop-place.cache)
+    (λ low below. c.free-2.ensures.untouched low below none) (λ out. (c.free-2.ensures.outside out).0))

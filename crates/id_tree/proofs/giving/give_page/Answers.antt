@@ -9,6 +9,18 @@ use Rattle.node_page.proofs.NodeLemmas.{at_error}
 use Rattle.page_file.specs.declared.fault.Fault.TheVariants as fault
 use Rattle.id_tree.proofs.giving.give_page.Goals as goal
 
+pub returns-clause-given : goal.returns-clause-given
+returns-clause-given g c = λ map.
+    let fresh = c.in_ok-number.ensures.fresh map in
+    let honest = (c.in_ok-number.ensures.sound map).honest in
+    let live = is_there (pages c.allocate.new.self c.in_ok-number.number) _ fresh.1 in
+    record {
+      low = c.in_ok-number.ensures.number.0;
+      fresh = fresh.0;
+      others = λ k off. c.put.ensures.others honest live k off ∙ fresh.2 k off;
+      there = c.in_ok-put.ensures.written honest live;
+    }
+
 pub returns-clause-tidy : goal.returns-clause-tidy
 returns-clause-tidy g c = λ map dims node.
     let fresh = c.in_ok-number.ensures.fresh map in
@@ -38,7 +50,7 @@ returns-in_err-put-clause-damage g c = λ h.
     at_error c.from_residual-in_err-put.result f
     (λ e. (n : ℕ) → e ≡ fault.Damaged n → BreaksAt old n × MayBreakAt old n)
     c.from_residual-in_err-put.ensures.1 (λ n damaged. absurd (no_damage f n
-    (c.in_err-put.ensures.faults (c.in_ok-number.ensures.changes.gate.honest.0 h) low number.1) damaged))
+    (c.in_err-put.ensures.faults (c.in_ok-number.ensures.changes.honest.0 h) low number.1) damaged))
 
 pub returns-clause-touched : goal.returns-clause-touched
 returns-clause-touched g c = c.put.ensures.changes.touched c.in_ok-number.ensures.touched

@@ -68,7 +68,7 @@ pub returns-in_err-push-clause-damage : goal.returns-in_err-push-clause-damage
 returns-in_err-push-clause-damage g c = λ h.
     at_error c.from_residual.result c.in_err-push.field-0.0
     (λ f. IsOfDevice f ⊎ (f ≡ fault.Damaged c.args.leaf)) c.from_residual.ensures.1
-    (c.in_err-push.ensures.damage (c.loop-pushed.invariant.pushing.changes.gate.honest.0 h))
+    (c.in_err-push.ensures.damage (c.loop-pushed.invariant.pushing.changes.honest.0 h))
 
 pub returns-clause-sound : goal.returns-clause-sound
 returns-clause-sound g c = λ map t stands takes new.

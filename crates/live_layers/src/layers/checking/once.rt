@@ -7,8 +7,8 @@ ghost use Rattle.live_layers.specs.Checked.{IsOdd, NamesEach};
 use page_file::Fault;
 
 /// Sees that the list has each page given out once and no other, where `next` is one more than the greatest
-/// number given out: else `Damaged` with a page that is twice in it, or not, or was not given out. The list is
-/// left in the order of numbers.
+/// number given out: else `Damaged` with a page that is twice in it, or not, or was not given out. The list
+/// is left in the order of numbers.
 pub fn each_once(list: &mut [u32], next: u32) -> Result<(), Fault>
     requires { 2 ≤ next }
     ensures once { OnOk result (NamesEach next list.old) }

@@ -12,7 +12,8 @@ ghost use Rattle.page_cache.specs.Cache.{Grows, IsPageMap, gate_of, next_of, pag
 ghost use Rattle.page_file.specs.declared.gate.Gate.TheVariants.{Open};
 ghost use Rattle.plain_table.specs.Table.{Table, is_dims};
 ghost use Rattle.live_layers.specs.Begun.{BeginsChange};
-ghost use Rattle.live_layers.specs.Creating.{Admits, BringsTree, MayBeLayer, kind_in, new_layer, version_after};
+ghost use Rattle.live_layers.specs.Creating.{Admits, BringsTree, MayBeLayer, kind_in, new_layer};
+ghost use Rattle.live_layers.specs.Creating.{version_after};
 ghost use Rattle.live_layers.specs.Keeping.{Belongs, IsSound, cache_of, newest_of, records_in};
 
 use crate::broken::Broken;
@@ -98,7 +99,6 @@ fn make_pages<B: BlockDevice, A: Allocator + Copy>(
     kind: TableKind,
 ) -> Result<(Root, u32), Fault>
     requires dims { is_dims dims ≡ true }
-    requires open { gate_of cache.old ≡ Open }
     ensures changes { Changes cache.old cache.new result }
     ensures places { IfOk result (λ made. CanBeRoot made.0 × (3 ≤ made.1) × (made.1 < next_of cache.new)) }
     ensures sound { IsPageMap cache.old → IsPageMap cache.new }

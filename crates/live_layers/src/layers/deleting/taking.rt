@@ -22,8 +22,8 @@ use reinsert::Waiting;
 use std::alloc::Allocator;
 
 impl<B: BlockDevice, A: Allocator + Copy> Layers<B, A> {
-    // Takes out an object that the layer at a place has with that box and that tag, at that spot. The memory of
-    // what is inserted again, and of what waits in that, is taken before the gate is opened.
+    // Takes out an object that the layer at a place has with that box and that tag, at that spot. The memory
+    // of what is inserted again, and of what waits in that, is taken before the gate is opened.
     pub(crate) fn take_object<const D: usize>(
         &mut self,
         place: usize,

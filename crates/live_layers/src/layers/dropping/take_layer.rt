@@ -7,9 +7,8 @@ ghost use Rattle.layer_pages.specs.Layers.{CanBeRoot, IsLayerAt, LayerPages, Obj
 ghost use Rattle.page_cache.specs.Calls.{Changes};
 ghost use Rattle.page_file.specs.Fault.{IsOfDevice};
 ghost use Rattle.node_page.specs.Parts.{Moves, no_page};
-ghost use Rattle.page_cache.specs.Cache.{IsPageMap, gate_of, pages, version_of};
+ghost use Rattle.page_cache.specs.Cache.{IsPageMap, pages, version_of};
 ghost use Rattle.page_file.specs.Fault.{IsOfDevice};
-ghost use Rattle.page_file.specs.declared.gate.Gate.TheVariants.{Open};
 ghost use Rattle.plain_table.specs.Table.{Table};
 ghost use Rattle.live_layers.specs.Begun.{BeginsChange};
 ghost use Rattle.live_layers.specs.Dropping.{KeepsOtherTrees};
@@ -56,7 +55,6 @@ fn free_pages<B: BlockDevice, A: Allocator + Copy>(
     located: &Located,
 ) -> Result<(), Fault>
     requires dims { IsDims located.now.dims }
-    requires open { gate_of cache.old ≡ Open }
     requires root { CanBeRoot located.now.root }
     ensures changes { Changes cache.old cache.new result }
     ensures sound { IsPageMap cache.old → (l : LayerPages) (most : ℕ) (objects : Objects)

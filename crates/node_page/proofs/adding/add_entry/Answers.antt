@@ -6,14 +6,14 @@ use Rattle.std.specs.Prelude.{IsSomeAnd}
 use Rattle.page_file.specs.Fault.{IsOfDevice}
 use Rattle.page_file.specs.declared.fault.Fault.TheVariants as fault
 use Rattle.page_cache.specs.Cache.{IsHonest, pages}
-use Rattle.page_cache.specs.Calls.{AsksUntil, asks_changes, asks_in_turn, changes_and_refuses, changes_in_turn}
+use Rattle.page_cache.specs.Calls.{asks_changes, changes_and_refuses, changes_in_turn}
 use Rattle.page_cache.specs.Laws.{a_live_page_is_given, a_live_page_was_given_out}
 use Rattle.tree_node.specs.Boxes.{least_box}
 use Rattle.tree_node.specs.Nodes.{NodeContent, item_of}
 use Rattle.node_bytes.specs.Layout.{IsOfLevel, IsPageOfNode, IsTidy, node_at, pushed}
 use Rattle.node_page.proofs.GivenLemmas.{node_was_given_out}
 use Rattle.node_page.proofs.NodeLemmas.{at_error, bytes_of_node, node_of_page}
-use Rattle.node_page.proofs.ReadLemmas.{edit_refused}
+use Rattle.node_page.proofs.ReadLemmas.{edit_refused_after}
 use Rattle.node_bytes.proofs.TidyLemmas.{Left, at_page}
 use Rattle.node_page.proofs.adding.add_entry.Goals as goal
 
@@ -118,15 +118,13 @@ returns-in_err-edit_node-clause-named g c = λ h.
     (λ f. IsOfDevice f ⊎ (f ≡ fault.Damaged c.args.page)) c.from_residual-in_err-edit_node.ensures.1
     (inl (c.in_err-edit_node.ensures.faults (asks.gate.honest.0 h) out.0 (omega (arith, out.1, asks.map.next))))
 
+pub returns-in_err-edit_node-clause-held : goal.returns-in_err-edit_node-clause-held
+returns-in_err-edit_node-clause-held g c = λ was held.
+    let no = c.in_err-edit_node.ensures.held (c.in_ok-bounds.ensures.asks.gate.gate ∙ was)
+    c.in_ok-bounds.ensures.holds in absurd (cc)
+
 pub returns-in_err-edit_node-clause-refused : goal.returns-in_err-edit_node-clause-refused
 returns-in_err-edit_node-clause-refused g c =
-    let mid = c.least_with.new.cache in
-    let f = c.in_err-edit_node.field-0.0 in
-    at_error c.from_residual-in_err-edit_node.result f
-    (λ e. AsksUntil c.args.cache.now c.edit_node.new.self (Some e)) c.from_residual-in_err-edit_node.ensures.1
-    (asks_in_turn c.args.cache.now mid c.edit_node.new.self (Some f) c.in_ok-bounds.ensures.asks
-    (edit_refused mid c.edit_node.new.self c.args.page f c.in_err-edit_node.ensures))
-
-pub returns-in_err-edit_node-clause-held : goal.returns-in_err-edit_node-clause-held
-returns-in_err-edit_node-clause-held g c = λ held.
-    let no = c.in_err-edit_node.ensures.held c.in_ok-bounds.ensures.holds in absurd (cc)
+    edit_refused_after c.args.cache.now c.least_with.new.cache c.edit_node.new.self c.args.page c.in_err-edit_node.field-0.0
+    c.from_residual-in_err-edit_node.result c.from_residual-in_err-edit_node.ensures.1 c.in_ok-bounds.ensures.asks
+    c.in_err-edit_node.ensures

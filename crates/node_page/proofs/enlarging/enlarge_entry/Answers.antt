@@ -3,6 +3,7 @@ use Rattle.std.proofs.Common.{◌≡◌, ap, IfSome, is_some, subst, true}
 use Rattle.tree_node.specs.Boxes.{least_box}
 use Rattle.node_bytes.specs.Enlarged.{CanEnlarge, set_box}
 use Rattle.node_page.proofs.BoxedPages.{node_boxed, page_boxed}
+use Rattle.node_page.proofs.ReadLemmas.{edit_refused_after}
 use Rattle.node_page.proofs.enlarging.enlarge_entry.Goals as goal
 
 pub returns-clause-room : goal.returns-clause-room
@@ -31,3 +32,9 @@ returns-clause-is_page g c = λ h content there tidy.
     page_boxed g.row.D c.args.place c.args.page c.args.bounds.now c.args.cache.now c.least_enlarged.new.cache
     c.edit_box.new.cache c.in_ok-edit_box.field-0 (asks.map.pages_stay h c.args.page) (asks.gate.honest.0 h)
     c.in_ok-edit_box.ensures content there can.there tidy
+
+pub returns-in_err-edit_box-clause-refused : goal.returns-in_err-edit_box-clause-refused
+returns-in_err-edit_box-clause-refused g c =
+    edit_refused_after c.args.cache.now c.least_enlarged.new.cache c.edit_box.new.cache c.args.page c.in_err-edit_box.field-0.0
+    c.from_residual-in_err-edit_box.result c.from_residual-in_err-edit_box.ensures.1 c.in_ok-least.ensures.asks
+    c.in_err-edit_box.ensures

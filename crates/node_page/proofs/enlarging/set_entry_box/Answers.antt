@@ -3,6 +3,7 @@ use Rattle.std.proofs.Common.{◌≡◌, ap, IfSome, is_some, subst}
 use Rattle.tree_node.specs.Boxes.{least_box}
 use Rattle.node_bytes.specs.Enlarged.{set_box}
 use Rattle.node_page.proofs.BoxedPages.{node_boxed, page_boxed}
+use Rattle.node_page.proofs.ReadLemmas.{edit_refused_after}
 use Rattle.node_page.proofs.enlarging.set_entry_box.Goals as goal
 
 pub returns-clause-boxed : goal.returns-clause-boxed
@@ -25,3 +26,9 @@ returns-clause-is_page g c = λ h content there tidy.
     page_boxed g.row.D c.args.place c.args.page c.args.bounds.now c.args.cache.now c.least_with_box.new.cache
     c.edit_box.new.cache c.in_ok-edit_box.field-0 (asks.map.pages_stay h c.args.page) (asks.gate.honest.0 h)
     c.in_ok-edit_box.ensures content there within tidy
+
+pub returns-in_err-edit_box-clause-refused : goal.returns-in_err-edit_box-clause-refused
+returns-in_err-edit_box-clause-refused g c =
+    edit_refused_after c.args.cache.now c.least_with_box.new.cache c.edit_box.new.cache c.args.page c.in_err-edit_box.field-0.0
+    c.from_residual-in_err-edit_box.result c.from_residual-in_err-edit_box.ensures.1 c.in_ok-least.ensures.asks
+    c.in_err-edit_box.ensures

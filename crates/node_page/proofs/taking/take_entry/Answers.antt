@@ -9,6 +9,7 @@ use Rattle.node_bytes.specs.Layout.{IsPageOfNode, IsTidy, node_at}
 use Rattle.node_bytes.specs.Taken.{without_entry}
 use Rattle.node_page.proofs.NodeLemmas.{bytes_of_node, node_of_page}
 use Rattle.node_bytes.proofs.TidyLemmas.{Left, at_page}
+use Rattle.node_page.proofs.ReadLemmas.{edit_refused_after}
 use Rattle.node_page.proofs.taking.take_entry.Goals as goal
 
 -- the bytes that the edit left at the page
@@ -56,3 +57,9 @@ returns-clause-is_page g c = λ h content there tidy.
     let l = left g c h content was.0 was.1 was.2 in
     at_page D (pages c.edit_node.new.self c.args.page) l.now (without_entry content c.args.place) l.there
     (l.is_page (subst (λ (o : Option (List ℕ)). IsSomeAnd o (IsTidy D)) was.1 tidy))
+
+pub returns-in_err-edit_node-clause-refused : goal.returns-in_err-edit_node-clause-refused
+returns-in_err-edit_node-clause-refused g c =
+    edit_refused_after c.args.cache.now c.least_of_others.new.cache c.edit_node.new.self c.args.page c.in_err-edit_node.field-0.0
+    c.from_residual-in_err-edit_node.result c.from_residual-in_err-edit_node.ensures.1 c.in_ok-least.ensures.asks
+    c.in_err-edit_node.ensures

@@ -246,10 +246,8 @@ returns-clause-inserts g c = record {
   other_faults = search rules;
 }
 
--- ---- in any pages of a sound map, of which none was touched
-
 -- ---- in any pages of a sound map
 
 pub place_one-requires-in-Some : goal.place_one-requires-in-Some
 place_one-requires-in-Some g c =
-    (search rules, (search rules, (search rules, (search rules, (search rules, search rules)))))
+    (search rules, (search rules, (search rules, (search rules, search rules))))

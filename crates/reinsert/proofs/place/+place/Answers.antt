@@ -1,5 +1,5 @@
 -- The goals of `place` that are proved by hand.
-use Rattle.std.proofs.Common.{rules, ◌≡◌, ◌∙◌, ◌+◌, ◌-◌, ◌<◌, [], ◌∷◌, ◌++◌, IfSome, None, Ok, Result}
+use Rattle.std.proofs.Common.{rules, ◌≡◌, ◌∙◌, ◌+◌, ◌-◌, ◌<◌, [], ◌∷◌, ◌++◌, IfSome, None, Ok, Result, Some}
 use Rattle.std.proofs.Common.{inl, refl, sym, ap, subst, arith, ℕ, ◌⊎◌}
 use Rattle.page_file.specs.declared.fault.Fault.{Fault}
 use Rattle.page_file.specs.declared.fault.Fault.TheVariants as fault
@@ -19,7 +19,7 @@ use Rattle.reinsert.proofs.PlaceLemmas.{few_can, few_items, here_ok, over_ok, th
 use Rattle.reinsert.proofs.AboveLemmas.{items_kept}
 use Rattle.reinsert.proofs.SettledLemmas.{items_settled}
 use Rattle.reinsert.specs.declared.settled.Settled.{Settled}
-use Rattle.reinsert.proofs.FaultLemmas.{named_page, one_more}
+use Rattle.reinsert.proofs.FaultLemmas.{changes_refused, named_page, one_more}
 use Rattle.reinsert.proofs.place.+place.Goals as goal
 
 pub put_here-requires : goal.put_here-requires
@@ -32,10 +32,7 @@ put_here-requires g t c =
         search rules,
         (
           search rules,
-          (
-            c.requires.open,
-            ((omega (arith, c.requires.levels), omega (arith, c.requires.levels)), refers),
-          ),
+          ((omega (arith, c.requires.levels), omega (arith, c.requires.levels)), refers),
         ),
       ),
     )
@@ -65,6 +62,12 @@ returns-in_err-way-clause-faults g t c = λ h row branch item can few.
     c.from_residual.ensures.1
     (inl (c.in_err-way.ensures.faults h.honest (record { level = c.args.at.level; entries = row_items row })
     can.there refl (few_items g.row.D c.args.limits.fanout.most row few)))
+
+pub returns-in_err-way-clause-changes : goal.returns-in_err-way-clause-changes
+returns-in_err-way-clause-changes g t c =
+    let new = c.way_down.new.cache in
+    changes_refused c.args.cache.now new c.in_err-way.field-0.0 c.from_residual.result c.from_residual.ensures.1
+    (asks_changes c.args.cache.now new (Some c.in_err-way.field-0.0) c.in_err-way.ensures.asks)
 
 pub returns-in_err-way-clause-other_faults : goal.returns-in_err-way-clause-other_faults
 returns-in_err-way-clause-other_faults g t c =
@@ -106,8 +109,7 @@ returns-in_err-lower-clause-other_faults g t c =
 
 pub place-requires : goal.place-requires
 place-requires g t c κs within =
-    let above : c.args.target < c.args.at.level = omega (arith, c.requires.levels, c.if-at-target.false) in
-    let gate = c.in_ok-way.ensures.asks.gate.gate ∙ c.requires.open in (
+    let above : c.args.target < c.args.at.level = omega (arith, c.requires.levels, c.if-at-target.false) in (
       omega (arith, above, c.decreases),
       (
         search rules,
@@ -121,7 +123,7 @@ place-requires g t c κs within =
                 search rules,
                 (
                   search rules,
-                  (gate, (omega (arith, above, c.requires.levels), c.requires.refers)),
+                  (omega (arith, above, c.requires.levels), c.requires.refers),
                 ),
               ),
             ),
@@ -187,11 +189,7 @@ put_above-requires g t c =
       search rules,
       (
         search rules,
-        (
-          c.in_ok-lower.ensures.changes.gate.gate ∙ c.in_ok-way.ensures.asks.gate.gate
-              ∙ c.requires.open,
-          ((omega (arith, c.requires.levels), omega (arith, c.requires.levels)), beside),
-        ),
+        ((omega (arith, c.requires.levels), omega (arith, c.requires.levels)), beside),
       ),
     )
 

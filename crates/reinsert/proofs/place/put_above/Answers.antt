@@ -82,10 +82,7 @@ put_anew-requires-2 g c =
       search rules,
       (
         search rules,
-        (
-          asked.gate.gate ∙ c.requires.open,
-          (c.requires.top, c.requires.beside),
-        ),
+        (c.requires.top, c.requires.beside),
       ),
     )
 

@@ -111,11 +111,8 @@ settle-requires g c =
         (
           search rules,
           (
-            c.in_ok-read_fitting.ensures.asks.gate.gate ∙ c.requires.open,
-            (
-              (omega (arith, level, c.requires.top), omega (arith, c.requires.top)),
-              (new.some, (omega (arith, new.few, c.in_ok-read_fitting.ensures.few), refers)),
-            ),
+            (omega (arith, level, c.requires.top), omega (arith, c.requires.top)),
+            (new.some, (omega (arith, new.few, c.in_ok-read_fitting.ensures.few), refers)),
           ),
         ),
       ),

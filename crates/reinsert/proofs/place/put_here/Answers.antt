@@ -138,13 +138,10 @@ settle-requires g c =
         (
           search rules,
           (
-            c.in_ok-read_fitting.ensures.asks.gate.gate ∙ asked.gate.gate ∙ c.requires.open,
+            (omega (arith, level, c.requires.top), omega (arith, c.requires.top)),
             (
-              (omega (arith, level, c.requires.top), omega (arith, c.requires.top)),
-              (
-                omega (arith, c.push.ensures.len),
-                (omega (arith, c.push.ensures.len, c.in_ok-read_fitting.ensures.few), refers),
-              ),
+              omega (arith, c.push.ensures.len),
+              (omega (arith, c.push.ensures.len, c.in_ok-read_fitting.ensures.few), refers),
             ),
           ),
         ),

@@ -12,19 +12,16 @@ pub write_both-requires : goal.write_both-requires
 write_both-requires g c = (
   search rules,
   (
-    c.requires.open,
-    (
-      spellable_of c.args.node.now.level c.split-first.result.0.items
-          (omega (arith, c.split-first.ensures.whole, c.split-first.ensures.full, c.args.fanout.within))
-          (omega (arith, c.split-first.ensures.full))
-          (All-part c.args.node.now.level c.args.node.now.entries.items c.split-first.result.0.items _
-          c.split-first.ensures.divided.first_is c.requires.refers),
-      spellable_of c.args.node.now.level c.split-first.result.1.items
-          (omega (arith, c.split-first.ensures.whole, c.split-first.ensures.full, c.args.fanout.within))
-          (omega (arith, c.split-first.ensures.full))
-          (All-part c.args.node.now.level c.args.node.now.entries.items c.split-first.result.1.items _
-          c.split-first.ensures.divided.second_is c.requires.refers),
-    ),
+    spellable_of c.args.node.now.level c.split-first.result.0.items
+        (omega (arith, c.split-first.ensures.whole, c.split-first.ensures.full, c.args.fanout.within))
+        (omega (arith, c.split-first.ensures.full))
+        (All-part c.args.node.now.level c.args.node.now.entries.items c.split-first.result.0.items _
+        c.split-first.ensures.divided.first_is c.requires.refers),
+    spellable_of c.args.node.now.level c.split-first.result.1.items
+        (omega (arith, c.split-first.ensures.whole, c.split-first.ensures.full, c.args.fanout.within))
+        (omega (arith, c.split-first.ensures.full))
+        (All-part c.args.node.now.level c.args.node.now.entries.items c.split-first.result.1.items _
+        c.split-first.ensures.divided.second_is c.requires.refers),
   ),
 )
 

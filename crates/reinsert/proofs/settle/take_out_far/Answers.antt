@@ -35,20 +35,17 @@ wait_again-requires g c = (
 pub write_node-requires : goal.write_node-requires
 write_node-requires g c = (
   search rules,
-  (
-    c.requires.open,
-    spellable_of c.args.node.now.level c.farthest-near.result.0.items
-        (omega (
-          arith,
-          c.farthest-near.ensures.counts,
-          c.far_count.ensures.few,
-          c.requires.many,
-          c.args.fanout.within,
-        ))
-        (omega (arith, c.farthest-near.ensures.counts, c.requires.many, c.far_count.ensures.few))
-        (All-part c.args.node.now.level c.args.node.now.entries.items c.farthest-near.result.0.items _
-        c.farthest-near.ensures.divided.near_is c.requires.refers),
-  ),
+  spellable_of c.args.node.now.level c.farthest-near.result.0.items
+      (omega (
+        arith,
+        c.farthest-near.ensures.counts,
+        c.far_count.ensures.few,
+        c.requires.many,
+        c.args.fanout.within,
+      ))
+      (omega (arith, c.farthest-near.ensures.counts, c.requires.many, c.far_count.ensures.few))
+      (All-part c.args.node.now.level c.args.node.now.entries.items c.farthest-near.result.0.items _
+      c.farthest-near.ensures.divided.near_is c.requires.refers),
 )
 
 pub returns-clause-settled : goal.returns-clause-settled

@@ -12,11 +12,8 @@ use Rattle.reinsert.proofs.settle.write_fitting.Goals as goal
 pub write_node-requires : goal.write_node-requires
 write_node-requires g c = (
   search rules,
-  (
-    c.requires.open,
-    spellable_of c.args.node.now.level c.args.node.now.entries.items c.requires.few c.requires.some
-        c.requires.refers,
-  ),
+  spellable_of c.args.node.now.level c.args.node.now.entries.items c.requires.few c.requires.some
+      c.requires.refers,
 )
 
 pub returns-clause-settled : goal.returns-clause-settled

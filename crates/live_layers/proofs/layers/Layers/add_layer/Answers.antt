@@ -95,7 +95,7 @@ returns-clause-added g c = λ t sound belongs.
     c.args.fanout c.kind_in-kind.result root ids_root c.admit.ensures.pages_stay
     (c.in-Ok.ensures.made before.map c.args.fanout))
     c.in-Ok.ensures.places.0 (omega (arith, c.in-Ok.ensures.changes.next, c.admit.ensures.next))
-    (λ chains. c.admit.ensures.chains chains ∙ c.in-Ok.ensures.changes.gate.version before.map.honest)
+    (λ chains. c.admit.ensures.chains chains ∙ c.in-Ok.ensures.changes.version before.map.honest)
     c.admit.ensures.tree records
     (c.admit.ensures.sound (c.in-Ok.ensures.sound before.map)) refl refl
 
@@ -128,7 +128,7 @@ returns-clause-tree g c = λ t sound belongs.
     c.args.fanout c.kind_in-kind.result root ids_root c.admit.ensures.pages_stay
     (c.in-Ok.ensures.made before.map c.args.fanout))
     c.in-Ok.ensures.places.0 (omega (arith, c.in-Ok.ensures.changes.next, c.admit.ensures.next))
-    (λ chains. c.admit.ensures.chains chains ∙ c.in-Ok.ensures.changes.gate.version before.map.honest)
+    (λ chains. c.admit.ensures.chains chains ∙ c.in-Ok.ensures.changes.version before.map.honest)
     c.admit.ensures.tree records)
 
 pub returns-clause-begins : goal.returns-clause-begins
@@ -138,5 +138,5 @@ returns-clause-begins g c =
     (λ honest. version_made c.args.self.now.newest (version_of c.args.self.now.cache)
     (version_of c.make_pages.new.cache) (version_of c.admit.new.cache) c.kind_in-kind.result
     c.kind_in-kind.ensures c.admit.ensures.chains c.admit.ensures.tree
-    (c.in-Ok.ensures.changes.gate.version (c.begin.ensures.begins.honest.0 honest)
+    (c.in-Ok.ensures.changes.version (c.begin.ensures.begins.honest.0 honest)
     ∙ c.begin.ensures.keeps.map.version honest)) c.begin.ensures.keeps.newest

@@ -79,7 +79,7 @@ returns-clause-added g c = λ t name sound finds dims absent spot.
     c.insert.new.cache c.in-Ok.root became _ c.note.ensures.cache c.count_at.result
     c.saturating_add-count.result c.count_at.ensures
     c.saturating_add-count.ensures c.in-Ok.ensures.root c.in-Ok.ensures.changes.next
-    (c.in-Ok.ensures.changes.gate.version before.map.honest)
+    (c.in-Ok.ensures.changes.version before.map.honest)
     (omega (arith, c.requires.room, c.begin.ensures.count)) c.note.ensures.records
     (c.in-Ok.ensures.sound before.map l objects at here) (omega (arith, c.note.ensures.count))
     c.note.ensures.written
@@ -105,7 +105,7 @@ returns-clause-tree g c = λ t name sound finds dims absent spot.
     c.insert.new.cache c.in-Ok.root became _ c.note.ensures.cache c.count_at.result
     c.saturating_add-count.result c.count_at.ensures
     c.saturating_add-count.ensures c.in-Ok.ensures.root c.in-Ok.ensures.changes.next
-    (c.in-Ok.ensures.changes.gate.version before.map.honest)
+    (c.in-Ok.ensures.changes.version before.map.honest)
     (omega (arith, c.requires.room, c.begin.ensures.count)) c.note.ensures.records)
 
 pub returns-clause-begins : goal.returns-clause-begins

@@ -59,7 +59,7 @@ returns-clause-filled g c = λ t name all sound finds dims none same.
     sound_filled kept t name c.args.place before finds located by g.row.D dims none c.args.objects.now all
     same c.load.new.cache c.in-Ok.root became _ c.note.ensures.cache
     c.in-Ok.ensures.root c.in-Ok.ensures.changes.next
-    (c.in-Ok.ensures.changes.gate.version before.map.honest)
+    (c.in-Ok.ensures.changes.version before.map.honest)
     (omega (arith, c.requires.room, c.begin.ensures.count)) c.note.ensures.records
     (c.in-Ok.ensures.sound before.map l located.fanout.most all empty_there same)
     (omega (arith, c.note.ensures.count)) c.note.ensures.written
@@ -78,7 +78,7 @@ returns-clause-tree g c = λ t name all sound finds dims none same.
     (tree_filled kept t name c.args.place before finds located by g.row.D dims none c.args.objects.now all
     same c.load.new.cache c.in-Ok.root became _ c.note.ensures.cache
     c.in-Ok.ensures.root c.in-Ok.ensures.changes.next
-    (c.in-Ok.ensures.changes.gate.version before.map.honest)
+    (c.in-Ok.ensures.changes.version before.map.honest)
     (omega (arith, c.requires.room, c.begin.ensures.count)) c.note.ensures.records)
 
 pub returns-clause-begins : goal.returns-clause-begins

@@ -70,7 +70,7 @@ returns-clause-replaced g c = λ t name sound finds dims there spot.
     (c.in-Ok.ensures.replaced before.map l objects at here there) _ c.note.ensures.cache
     c.count_at-count.result c.count_at-count.ensures c.in-Ok.ensures.root
     c.in-Ok.ensures.changes.next
-    (c.in-Ok.ensures.changes.gate.version before.map.honest) c.note.ensures.records
+    (c.in-Ok.ensures.changes.version before.map.honest) c.note.ensures.records
     (c.in-Ok.ensures.sound before.map l objects at here there) c.note.ensures.count c.note.ensures.written
 
 pub returns-clause-tree : goal.returns-clause-tree
@@ -91,7 +91,7 @@ returns-clause-tree g c = λ t name sound finds dims there spot.
     (c.in-Ok.ensures.replaced before.map l (layer_at t name).objects at here there) _ c.note.ensures.cache
     c.count_at-count.result c.count_at-count.ensures c.in-Ok.ensures.root
     c.in-Ok.ensures.changes.next
-    (c.in-Ok.ensures.changes.gate.version before.map.honest) c.note.ensures.records)
+    (c.in-Ok.ensures.changes.version before.map.honest) c.note.ensures.records)
 
 pub returns-clause-begins : goal.returns-clause-begins
 returns-clause-begins g c =

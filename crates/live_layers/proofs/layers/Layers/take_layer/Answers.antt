@@ -60,7 +60,7 @@ returns-clause-taken g c = λ t name sound finds.
     sound_less kept _ t name c.args.place before finds
     (c.in-Ok.ensures.freed before.map l located.fanout.most objects at)
     c.in-Ok.ensures.changes.next
-    (c.in-Ok.ensures.changes.gate.version before.map.honest) records c.count_at-count.result
+    (c.in-Ok.ensures.changes.version before.map.honest) records c.count_at-count.result
     c.count_at-count.ensures
     (c.in-Ok.ensures.sound before.map l located.fanout.most objects at) c.saturating_sub-self.ensures
     refl
@@ -81,7 +81,7 @@ returns-clause-others g c = λ t name sound finds.
     (trees_left kept _ t name c.args.place before finds
     (c.in-Ok.ensures.freed before.map l located.fanout.most (layer_at t name).objects at)
     c.in-Ok.ensures.changes.next
-    (c.in-Ok.ensures.changes.gate.version before.map.honest) records)
+    (c.in-Ok.ensures.changes.version before.map.honest) records)
 
 pub returns-clause-begins : goal.returns-clause-begins
 returns-clause-begins g c =

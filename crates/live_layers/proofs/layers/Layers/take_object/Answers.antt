@@ -70,7 +70,7 @@ returns-clause-taken g c = λ t name sound finds dims there spot.
     (c.in-Ok.ensures.removed before.map l objects at here there) _ c.note.ensures.cache
     c.count_at.result c.saturating_sub-count.result c.count_at.ensures c.saturating_sub-count.ensures
     c.in-Ok.ensures.root c.in-Ok.ensures.changes.next
-    (c.in-Ok.ensures.changes.gate.version before.map.honest) c.note.ensures.records
+    (c.in-Ok.ensures.changes.version before.map.honest) c.note.ensures.records
     (c.in-Ok.ensures.sound before.map l objects at here)
     (omega (arith, c.note.ensures.count, c.saturating_sub-self.ensures)) c.note.ensures.written
 
@@ -92,7 +92,7 @@ returns-clause-tree g c = λ t name sound finds dims there spot.
     (c.in-Ok.ensures.removed before.map l (layer_at t name).objects at here there) _ c.note.ensures.cache
     c.count_at.result c.saturating_sub-count.result c.count_at.ensures c.saturating_sub-count.ensures
     c.in-Ok.ensures.root c.in-Ok.ensures.changes.next
-    (c.in-Ok.ensures.changes.gate.version before.map.honest) c.note.ensures.records)
+    (c.in-Ok.ensures.changes.version before.map.honest) c.note.ensures.records)
 
 pub returns-clause-begins : goal.returns-clause-begins
 returns-clause-begins g c =

@@ -44,12 +44,12 @@ returns-in_err-put-clause-stops g c = λ ts honest rests.
     (gate_opened cache c.begin_change.new.self ts honest
     (λ b left. g.met.B.BlockDevice.only_now (device_of cache) b honest left)
     (λ opened. (begun.was_open opened).0.device) (begun.stops honest) rests)
-    c.put.ensures.changes.gate
+    (c.put.ensures.changes.gate c.in_ok-begin_change.ensures.open)
 
 pub returns-in_err-put-clause-rests : goal.returns-in_err-put-clause-rests
 returns-in_err-put-clause-rests g c =
     λ ts honest rests closed. absurd
-    (closed (c.put.ensures.changes.gate.gate ∙ c.in_ok-begin_change.ensures.open))
+    (closed ((c.put.ensures.changes.gate c.in_ok-begin_change.ensures.open).gate ∙ c.in_ok-begin_change.ensures.open))
 
 pub returns-in_err-put-clause-sound : goal.returns-in_err-put-clause-sound
 returns-in_err-put-clause-sound g c = λ t sound.
@@ -58,7 +58,7 @@ returns-in_err-put-clause-sound g c = λ t sound.
     let live = the_catalog_is_live c.begin_change.new.self in
     sound_written c.args.self.now c.begin_change.new.self _ t sound keeps
     (c.put.ensures.others map.honest live) (c.put.ensures.live map.honest live)
-    (c.put.ensures.sound map live) c.put.ensures.next (c.put.ensures.changes.gate.version map.honest)
+    (c.put.ensures.sound map live) c.put.ensures.next (c.put.ensures.changes.version map.honest)
     refl refl
     (λ w. let e : c.args.self.now.written ≡ true = w in let f = c.if-self.false in absurd (cc))
 
@@ -80,12 +80,12 @@ returns-clause-stops g c = λ ts honest rests.
     (gate_opened cache c.begin_change.new.self ts honest
     (λ b left. g.met.B.BlockDevice.only_now (device_of cache) b honest left)
     (λ opened. (begun.was_open opened).0.device) (begun.stops honest) rests)
-    c.put.ensures.changes.gate
+    (c.put.ensures.changes.gate c.in_ok-begin_change.ensures.open)
 
 pub returns-clause-rests : goal.returns-clause-rests
 returns-clause-rests g c =
     λ ts honest rests closed. absurd
-    (closed (c.put.ensures.changes.gate.gate ∙ c.in_ok-begin_change.ensures.open))
+    (closed ((c.put.ensures.changes.gate c.in_ok-begin_change.ensures.open).gate ∙ c.in_ok-begin_change.ensures.open))
 
 pub returns-clause-sound : goal.returns-clause-sound
 returns-clause-sound g c = λ t sound.
@@ -94,7 +94,7 @@ returns-clause-sound g c = λ t sound.
     let live = the_catalog_is_live c.begin_change.new.self in
     sound_written c.args.self.now c.begin_change.new.self _ t sound keeps
     (c.put.ensures.others map.honest live) (c.put.ensures.live map.honest live)
-    (c.put.ensures.sound map live) c.put.ensures.next (c.put.ensures.changes.gate.version map.honest)
+    (c.put.ensures.sound map live) c.put.ensures.next (c.put.ensures.changes.version map.honest)
     refl refl
     (λ w. ap (option_and_then records_at) (c.in_ok-put.ensures.written map.honest live)
     ∙ c.encode.ensures.read_back)
@@ -106,7 +106,7 @@ returns-in_err-begin_change-clause-refused g c =
 pub returns-in_err-put-clause-refused : goal.returns-in_err-put-clause-refused
 returns-in_err-put-clause-refused g c =
     on_any_err c.from_residual-in_err-put.result _
-    (open_is_not_shut _ (c.put.ensures.changes.gate.gate ∙ c.in_ok-begin_change.ensures.open))
+    (open_is_not_shut _ ((c.put.ensures.changes.gate c.in_ok-begin_change.ensures.open).gate ∙ c.in_ok-begin_change.ensures.open))
 
 pub returns-in_err-begin_change-clause-trees : goal.returns-in_err-begin_change-clause-trees
 returns-in_err-begin_change-clause-trees g c = λ t sound.
@@ -161,12 +161,12 @@ returns-in_err-begin_change-clause-spelled g c = λ honest was unopened.
 pub returns-in_err-put-clause-spelled : goal.returns-in_err-put-clause-spelled
 returns-in_err-put-clause-spelled g c =
     λ honest was unopened. absurd
-    (unopened (c.put.ensures.changes.gate.gate ∙ c.in_ok-begin_change.ensures.open))
+    (unopened ((c.put.ensures.changes.gate c.in_ok-begin_change.ensures.open).gate ∙ c.in_ok-begin_change.ensures.open))
 
 pub returns-clause-spelled : goal.returns-clause-spelled
 returns-clause-spelled g c =
     λ honest was unopened. absurd
-    (unopened (c.put.ensures.changes.gate.gate ∙ c.in_ok-begin_change.ensures.open))
+    (unopened ((c.put.ensures.changes.gate c.in_ok-begin_change.ensures.open).gate ∙ c.in_ok-begin_change.ensures.open))
 
 pub returns-then-self-clause-versions : goal.returns-then-self-clause-versions
 returns-then-self-clause-versions g c = record { version = λ honest. refl; newest = refl }
@@ -179,7 +179,7 @@ pub returns-in_err-put-clause-versions : goal.returns-in_err-put-clause-versions
 returns-in_err-put-clause-versions g c =
     let begun = c.begin_change.ensures in
     record {
-      version = λ honest. c.put.ensures.changes.gate.version (begun.honest.0 honest)
+      version = λ honest. c.put.ensures.changes.version (begun.honest.0 honest)
           ∙ begun.map.version honest;
       newest = refl;
     }
@@ -188,7 +188,7 @@ pub returns-clause-versions : goal.returns-clause-versions
 returns-clause-versions g c =
     let begun = c.begin_change.ensures in
     record {
-      version = λ honest. c.put.ensures.changes.gate.version (begun.honest.0 honest)
+      version = λ honest. c.put.ensures.changes.version (begun.honest.0 honest)
           ∙ begun.map.version honest;
       newest = refl;
     }

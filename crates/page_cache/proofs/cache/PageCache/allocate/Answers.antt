@@ -16,18 +16,20 @@ use Rattle.page_file.specs.declared.fault.Fault.TheVariants as fault
 use Rattle.page_file.specs.declared.file.PageFile.{PageFile}
 use Rattle.page_file.specs.declared.header.Header.{Header}
 use Rattle.page_cache.specs.Cache.{IsHonest, KeepsMap, blocks_behind, blocks_of}
-use Rattle.page_cache.specs.Calls.{counted_by_end, fault_in, faults_behind}
+use Rattle.page_cache.specs.Calls.{asks_changes, changes_and_refuses, counted_by_end, fault_in}
+use Rattle.page_cache.specs.Calls.{faults_behind, no_call_changes}
 use Rattle.page_cache.specs.Frames.{changed_pages, frame_at, laid_over, newer_bytes}
 use Rattle.page_cache.specs.Keeps.{KeepsBlocks}
 use Rattle.page_cache.specs.Laid.{length-laid}
 use Rattle.page_cache.specs.Laws.{the_map_is_kept_in_turn}
 use Rattle.page_cache.specs.declared.cache.PageCache.{PageCache}
 use Rattle.page_cache.specs.declared.frame.Frame.{Frame}
-use Rattle.page_cache.proofs.Behind.{map_from, map_kept}
+use Rattle.page_cache.proofs.Behind.{kept_asks, map_from, map_kept}
 use Rattle.page_cache.proofs.Kept.{kept_below}
 use Rattle.page_cache.proofs.Results.{either, if_err_map, if_ok_both, none_lost, on_err_and, on_err_given}
 use Rattle.page_cache.proofs.Results.{on_err_map}
 use Rattle.page_cache.proofs.Results.{stays_unless_lost}
+use Rattle.page_cache.proofs.Opened.{gives_none, no_number, opened_allocates, refused_allocates}
 use Rattle.page_cache.proofs.Reused.{either_given, first_same, gives_behind, may_behind}
 use Rattle.page_cache.proofs.cache.PageCache.allocate.Goals as goal
 
@@ -140,7 +142,7 @@ invariant_of-self g c =
     (λ h n f is clean.
     let apart : n ≡ next_given mid.file.header
     → ⊥ = λ e. let none =
-    at_given c.args.self.now mid new c.release.ensures.kept c.first_free-first.result first
+    at_given c.open_gate.new.self mid new c.release.ensures.kept c.first_free-first.result first
     c.in_ok-release.ensures.gone in let some = sym (ap (frame_at mid.frames.entries) e) ∙ is in
     absurd (let bad = sym none ∙ some in cc) in
     either c.allocate-allocated.result (c.allocate-allocated.ensures.gives h)
@@ -157,9 +159,30 @@ invariant_of-self g c =
       counted = mid.counted;
     }
 
+-- the gate is refused
+pub returns-in_err-open_gate : goal.returns-in_err-open_gate
+returns-in_err-open_gate g c =
+    refused_allocates c.args.self.now c.open_gate.new.self c.in_err-open_gate.field-0.0 c.from_residual.result
+    c.from_residual.ensures.1 _ refl c.in_err-open_gate.ensures
+
+-- the first free page is not let go
+pub returns-in_err-release : goal.returns-in_err-release
+returns-in_err-release g c =
+    let old = c.open_gate.new.self in let new = c.release.new.self in
+    let r = c.from_residual-in_err-release.result in let f = c.in_err-release.field-0.0 in
+    let refused = c.from_residual-in_err-release.ensures.1 in let release = c.in_err-release.ensures in
+    opened_allocates c.args.self.now old new _ c.in_ok-open_gate.ensures r
+    (λ none. no_number old new f r refused release.other_faults none)
+    (gives_none old new f r refused release.other_faults
+    (changes_and_refuses old old new f r refused (no_call_changes old)
+    (asks_changes old new (Some f) (kept_asks old new (Some f) release.kept release.cause.refused)))
+    (map_kept old new release.kept) release.kept.touched release.kept.looks
+    (c.first_free-first.result, release.others) release.faults)
+
 pub returns : goal.returns
 returns g c =
-    let old = c.args.self.now in let mid = c.release.new.self in let new = c.allocate-allocated.new.self in
+    let before = c.args.self.now in let start = c.in_ok-open_gate.ensures in
+    let old = c.open_gate.new.self in let mid = c.release.new.self in let new = c.allocate-allocated.new.self in
     let r = c.allocate-allocated.result in let did = c.allocate-allocated.ensures in
     let k = c.release.ensures.kept in let at = c.first_free-first.result in
     let first = c.first_free-first.ensures ∙ ap (λ (x : Header). x.first) (sym k.header) in
@@ -170,9 +193,16 @@ returns g c =
     let roomy = λ (h : IsHonest old). room old mid new k at first gone h in
     let gave = λ (h : IsHonest old). gives old mid new k at first gone h in
     let may_have = λ (h : IsHonest old). may old mid new k at first gone h in
-    record {
+    let gate = the_gate_is_kept_in_turn old.file mid.file new k.gate did.gate in
+    opened_allocates before old _ _ start r
+    (λ is n low small. all_live (blocks_behind before) before.file.header
+    (sym (ap (λ (x : Header). x.count) start.header) ∙ sym counts ∙ (did.full is).0.1) n low
+    (omega (arith, small, (did.full is).0.0, ap (λ (x : Header). x.next) k.header, start.map.next)))
+    (record {
       changes = record {
-        gate = the_gate_is_kept_in_turn old.file mid.file new k.gate did.gate;
+        gate = λ opened. gate;
+        honest = gate.honest;
+        version = gate.version;
         next = omega (arith, did.next.0, ap (λ (x : Header). x.next) k.header);
         capacity = k.capacity;
         looks = omega (arith, k.looks);
@@ -226,6 +256,7 @@ returns g c =
             stays (c.free_count.ensures ∙ count ∙ sym counts ∙ sym c.free_count-free.ensures) ∙ k.touched,
           ));
       touched = search rules;
+      opens = search rules;
       holds = (at, c.release.ensures.others);
       sound = λ map. let h = map.honest in record {
         honest = did.gate.honest.0 (honest h);
@@ -274,4 +305,4 @@ returns g c =
           rest)
           is);
       other_faults = did.other_faults;
-    }
+    })

@@ -11,7 +11,7 @@ use Rattle.page_file.specs.Pages.{with_one_free}
 use Rattle.page_file.specs.Settled.{sound_says}
 use Rattle.page_file.specs.declared.file.PageFile.{PageFile}
 use Rattle.page_file.specs.declared.header.Header.{Header}
-use Rattle.page_cache.specs.Cache.{IsHonest, IsLive, blocks_behind, blocks_of}
+use Rattle.page_cache.specs.Cache.{IsHonest, IsLive, blocks_behind, blocks_of, next_of}
 use Rattle.page_cache.specs.Calls.{counted_by_end}
 use Rattle.page_cache.specs.Frames.{changed_pages, frame_at, laid_over}
 use Rattle.page_cache.specs.Laid.{length-laid}
@@ -20,6 +20,7 @@ use Rattle.page_cache.specs.declared.frame.Frame.{Frame}
 use Rattle.page_cache.proofs.Changed.{given_stay, gone_free, gone_none, gone_others, kept_free, kept_others}
 use Rattle.page_cache.proofs.Changed.{laid_gone}
 use Rattle.page_cache.proofs.Kept.{kept_below}
+use Rattle.page_cache.proofs.Opened.{opened_frees, refused_frees}
 use Rattle.page_cache.proofs.Results.{either_both, on_ok_both}
 use Rattle.page_cache.proofs.cache.PageCache.free.Goals as goal
 
@@ -95,16 +96,27 @@ invariant_of-self g c =
       counted = mid.counted;
     }
 
+-- the gate is refused
+pub returns-in_err-open_gate : goal.returns-in_err-open_gate
+returns-in_err-open_gate g c =
+    refused_frees c.args.self.now c.open_gate.new.self c.in_err-open_gate.field-0.0 c.from_residual.result
+    c.from_residual.ensures.1 _ refl c.in_err-open_gate.ensures c.args.n (omega (arith, c.if-n-lt3.false))
+    (omega (arith, c.if-n-next_number.false, c.next_number.ensures))
+
 pub returns : goal.returns
 returns g c =
-    let cache = c.args.self.now in let mid = c.forget.new.self in let new = c.free.new.self in
+    let low : 3 ≤ c.args.n = omega (arith, c.if-n-lt3.false) in
+    let given_out : c.args.n < next_of c.args.self.now =
+    omega (arith, c.if-n-next_number.false, c.next_number.ensures) in
+    opened_frees _ c.open_gate.new.self _ _ c.in_ok-open_gate.ensures c.free.result c.args.n
+    (omega (arith, low)) given_out low (
+    let cache = c.open_gate.new.self in let mid = c.forget.new.self in let new = c.free.new.self in
     let n = c.args.n in let d = g.met.D.BlockDevice in
     let r = c.free.result in let free = c.free.ensures in
     let file = c.forget.ensures.file in let frames = c.forget.ensures.frames in
     let Y = laid_over (changed_pages mid.frames.entries) (below.blocks_of new) in
-    let low : 3 ≤ n = omega (arith, c.if-n-lt3.false) in
     let within : n < cache.file.header.next =
-    omega (arith, c.if-n-next_number.false, c.next_number.ensures) in
+    omega (arith, given_out, c.in_ok-open_gate.ensures.map.next) in
     let still : IsHonest cache → IsHonest mid =
     λ h. subst (λ (f : PageFile _ _). below.IsHonest f) (sym file) h in
     let block : IsHonest cache → IsBlock (block_at n Y) =
@@ -145,7 +157,9 @@ returns g c =
       grows = search rules;
       looks = c.forget.ensures.looks;
       holds = search rules;
-      touched = λ low within. refl;
+      touched = search rules;
+      opens = search rules;
+      untouched = λ low within none. absurd (cc);
       outside = search rules;
       faults = λ map live other.
           let l = lives (blocks_behind cache) cache.file.header n live in
@@ -155,3 +169,4 @@ returns g c =
           (room_for_one (blocks_behind cache) cache.file.header n map.free low l));
       other_faults = search rules;
     }
+    )

@@ -13,14 +13,16 @@ use Rattle.page_file.specs.declared.file.PageFile.{PageFile}
 use Rattle.page_file.specs.declared.header.Header.{Header}
 use Rattle.page_cache.specs.declared.cache.PageCache.{PageCache}
 use Rattle.page_cache.specs.Cache.{IsHonest, capacity_of, device_of, held_pages, next_of}
-use Rattle.page_cache.specs.Calls.{asks_changes, changes_and_refuses, counted_by_end, no_call_changes}
-use Rattle.page_cache.specs.Frames.{frame_at, newer_bytes}
+use Rattle.page_cache.specs.Calls.{AsksUntil, asks_changes, changes_and_refuses, counted_by_end, no_call_asks}
+use Rattle.page_cache.specs.Calls.{no_call_changes}
+use Rattle.page_cache.specs.Frames.{frame_at}
 use Rattle.page_cache.specs.Keeps.{KeepsBlocks, SameFrames}
 use Rattle.page_cache.specs.PageSteps.{Refills}
 use Rattle.page_cache.specs.Uses.{with_room}
 use Rattle.page_cache.proofs.Behind.{kept_asks, keeps_in_turn, keeps_same, map_kept, map_through}
 use Rattle.page_cache.proofs.Behind.{unchanged}
 use Rattle.page_cache.proofs.Lookups.{first-found}
+use Rattle.page_cache.proofs.Opened.{opened_refills, refused_refills}
 use Rattle.page_cache.proofs.Putting.{given_others_there, given_there, held_after, held_within, held_written}
 use Rattle.page_cache.proofs.Putting.{live_there, others_there, sound_there, there}
 use Rattle.page_cache.proofs.Results.{at_error, either, no_device, no_success, on_err_all, on_err_map}
@@ -66,7 +68,8 @@ gives_up old new n r f refused kept faults room absent low within of_device othe
         uses = uses_refused old new n f r refused room;
         touched = kept.touched ∙ sym (untouched_by old.touched r f refused);
       };
-      held = λ is. absurd (false≢true (sym absent ∙ is));
+      opens = no_success r f _ refused;
+      held = λ was is. absurd (false≢true (sym absent ∙ is));
       outside = λ out. absurd (⊎_elim (λ (less : n < 2). omega (arith, less, low))
           (λ (more : next_of old ≤ n). omega (arith, more, within)) out);
       faults = λ h _ _. at_error r f IsOfDevice refused (of_device h);
@@ -76,7 +79,10 @@ gives_up old new n r f refused kept faults room absent low within of_device othe
 -- the page is held
 pub returns-then-promote : goal.returns-then-promote
 returns-then-promote g c =
-    let old = c.args.self.now in let mid = c.promote.new.self in let new = c.change_held.new.self in
+    opened_refills c.args.self.now c.open_gate.new.self c.change_held.new.self _ c.in_ok-open_gate.ensures _
+    c.args.n (omega (arith, c.if-n-lt2.false))
+    (omega (arith, c.if-n-next_number.false, c.next_number.ensures)) (
+    let old = c.open_gate.new.self in let mid = c.promote.new.self in let new = c.change_held.new.self in
     let n = c.args.n in let file = c.change_held.ensures.file in
     let kept = keeps_same old mid c.promote.ensures.same in
     let was = first-found n mid.frames.entries (c.promote.ensures.first c.if-promote.true) in
@@ -99,6 +105,7 @@ returns-then-promote g c =
           (λ h. subst (λ (f : PageFile _ _). below.IsHonest f) (sym file) (kept.gate.honest.0 h))
           (behind map.honest);
       next = search rules;
+      opens = search rules;
       in_memory = record {
         given_others = λ h. given_others_there old mid new n after kept file within h (behind h);
         refused = tt;
@@ -108,63 +115,77 @@ returns-then-promote g c =
         uses = search rules;
         touched = search rules;
       };
-      held = λ is. refl;
+      held = λ was is. refl;
       outside = search rules;
       faults = λ h low below. tt;
       other_faults = tt;
-    }
+    })
 
 -- its number is of no page given out
 pub returns-then-n-lt2 : goal.returns-then-n-lt2
 returns-then-n-lt2 g c =
-    let old = c.args.self.now in let mid = c.promote.new.self in let n = c.args.n in
-    let same = c.promote.ensures.same in let f = fault.Damaged n in
-    let kept = keeps_same old mid same in let map = map_kept old mid kept in
+    let old = c.args.self.now in let n = c.args.n in let f = fault.Damaged n in
+    let same = no_call_asks old in
+    let asks : AsksUntil old old (Some f) = record {
+      gate = same.gate;
+      map = same.map;
+      capacity = refl;
+      looks = same.looks;
+      touched = refl;
+      faults = refl;
+    } in
     let out : (n < 2) ⊎ (next_of old ≤ n) = elim c.then-n-lt2.branch [
       | then-n-lt2-via-then-n-lt2 w ↦ inl (omega (arith, w.if-n-lt2.true))
       | then-n-lt2-via-else-n-lt2+then-n-next_number w ↦ inr (omega (
         arith,
         w.if-n-next_number.true,
         w.next_number.ensures,
-        ap (λ (x : PageFile _ _). below.next_of x) same.file,
       ))
     ] in
     record {
-      changes = asks_changes old mid (Some f) (kept_asks old mid (Some f) kept
-          (ap (λ (x : PageFile _ _). g.D.BlockDevice.faults (below.device_of x)) same.file));
+      changes = asks_changes old old (Some f) asks;
       filled = λ h. tt;
-      live = λ h live. ap is_some (map.pages_stay h n) ∙ live;
-      others = λ h live k ne. map.pages_stay h k;
-      sound = λ was live. map.sound.0 was;
-      next = map.next;
+      live = λ h live. live;
+      others = λ h live k ne. refl;
+      sound = λ was live. was;
+      next = refl;
       in_memory = record {
-        given_others = λ h k ne. map.given_stay h k;
-        refused = map;
+        given_others = λ h k ne. refl;
+        refused = same.map;
         grows = search rules;
-        looks = same.looks;
+        looks = refl;
         holds = tt;
-        uses = record { used = tt; refused = inl (c.promote.ensures.absent c.if-promote.false) };
-        touched = same.touched ∙ sym (or_none old.touched);
+        uses = record { used = tt; refused = inl refl };
+        touched = sym (or_none old.touched);
       };
-      held = λ is. absurd (false≢true (sym (sym c.promote.ensures.answer ∙ c.if-promote.false) ∙ is));
-      outside = λ _. (
-        refl,
-        unchanged old mid same.file (λ k. ap newer_bytes (same.frames k)) same.looks same.capacity,
-      );
+      opens = tt;
+      held = λ was is. absurd (let w = old.within n is in ⊎_elim (λ (less : n < 2). omega (arith, less, w.0))
+          (λ (more : next_of old ≤ n). omega (arith, more, w.1)) out);
+      outside = λ _. (refl, unchanged old old refl (λ k. refl) refl refl);
       faults = λ h low within. absurd (⊎_elim (λ (less : n < 2). omega (arith, less, low))
           (λ (more : next_of old ≤ n). omega (arith, more, within)) out);
       other_faults = inr (n, refl);
     }
 
+-- the gate is refused
+pub returns-in_err-open_gate : goal.returns-in_err-open_gate
+returns-in_err-open_gate g c =
+    refused_refills c.args.self.now c.open_gate.new.self c.in_err-open_gate.field-0.0 c.from_residual.result
+    c.from_residual.ensures.1 _ refl c.in_err-open_gate.ensures c.args.n (omega (arith, c.if-n-lt2.false))
+    (omega (arith, c.if-n-next_number.false, c.next_number.ensures))
+
 -- no room is made for it
 pub returns-in_err-make_room : goal.returns-in_err-make_room
 returns-in_err-make_room g c =
-    let old = c.args.self.now in let mid = c.promote.new.self in let new = c.make_room.new.self in
-    let r = c.from_residual.result in let f = c.in_err-make_room.field-0.0 in
+    opened_refills c.args.self.now c.open_gate.new.self c.make_room.new.self _ c.in_ok-open_gate.ensures c.from_residual-in_err-make_room.result
+    c.args.n (omega (arith, c.if-n-lt2.false))
+    (omega (arith, c.if-n-next_number.false, c.next_number.ensures)) (
+    let old = c.open_gate.new.self in let mid = c.promote.new.self in let new = c.make_room.new.self in
+    let r = c.from_residual-in_err-make_room.result in let f = c.in_err-make_room.field-0.0 in
     let failed = c.in_err-make_room.ensures in
     let honest : IsHonest old → IsHonest mid =
     λ h. subst (λ (x : PageFile _ _). below.IsHonest x) (sym c.promote.ensures.same.file) h in
-    gives_up old new c.args.n r f c.from_residual.ensures.1
+    gives_up old new c.args.n r f c.from_residual-in_err-make_room.ensures.1
     (keeps_in_turn old mid new (keeps_same old mid c.promote.ensures.same) c.make_room.ensures.kept)
     (failed.cause.refused
     ∙ ap (λ (x : PageFile _ _). faults_after f (g.D.BlockDevice.faults (below.device_of x)))
@@ -172,18 +193,16 @@ returns-in_err-make_room g c =
     (inl (failed.refused ∙ c.promote.ensures.absent c.if-promote.false))
     (sym c.promote.ensures.answer ∙ c.if-promote.false)
     (omega (arith, c.if-n-lt2.false))
-    (omega (
-      arith,
-      c.if-n-next_number.false,
-      c.next_number.ensures,
-      ap (λ (x : PageFile _ _). below.next_of x) c.promote.ensures.same.file,
-    ))
-    (λ h. failed.faults (honest h)) failed.other_faults
+    (omega (arith, c.if-n-next_number.false, c.next_number.ensures, c.in_ok-open_gate.ensures.map.next))
+    (λ h. failed.faults (honest h)) failed.other_faults)
 
 -- no bytes are had for it
 pub returns-in_err-bytes : goal.returns-in_err-bytes
 returns-in_err-bytes g c =
-    let old = c.args.self.now in let mid = c.promote.new.self in let new = c.blank.new.self in
+    opened_refills c.args.self.now c.open_gate.new.self c.blank.new.self _ c.in_ok-open_gate.ensures c.from_residual-in_err-bytes.result
+    c.args.n (omega (arith, c.if-n-lt2.false))
+    (omega (arith, c.if-n-next_number.false, c.next_number.ensures)) (
+    let old = c.open_gate.new.self in let mid = c.promote.new.self in let new = c.blank.new.self in
     let r = c.from_residual-in_err-bytes.result in let f = c.in_err-bytes.field-0.0 in
     let memory = c.in_err-bytes.ensures.memory in
     let faults =
@@ -200,18 +219,16 @@ returns-in_err-bytes g c =
     (ap (λ d. keys_of d.entries) c.blank.ensures.frames ∙ c.in_ok-make_room.ensures.held)))
     (sym c.promote.ensures.answer ∙ c.if-promote.false)
     (omega (arith, c.if-n-lt2.false))
-    (omega (
-      arith,
-      c.if-n-next_number.false,
-      c.next_number.ensures,
-      ap (λ (x : PageFile _ _). below.next_of x) c.promote.ensures.same.file,
-    ))
-    (λ h. inl memory) (inl (inl memory))
+    (omega (arith, c.if-n-next_number.false, c.next_number.ensures, c.in_ok-open_gate.ensures.map.next))
+    (λ h. inl memory) (inl (inl memory)))
 
 -- it comes in, or there is no memory to hold it
 pub returns : goal.returns
 returns g c =
-    let old = c.args.self.now in let mid = c.blank.new.self in let new = c.hold-held.new.self in
+    opened_refills c.args.self.now c.open_gate.new.self _ _ c.in_ok-open_gate.ensures c.hold-held.result
+    c.args.n (omega (arith, c.if-n-lt2.false))
+    (omega (arith, c.if-n-next_number.false, c.next_number.ensures)) (
+    let old = c.open_gate.new.self in let mid = c.blank.new.self in let new = c.hold-held.new.self in
     let n = c.args.n in let r = c.hold-held.result in let after = c.fill.new.arg2 in
     let held = c.hold-held.ensures in let file = held.file in
     let kept =
@@ -221,12 +238,7 @@ returns g c =
     (keeps_same c.make_room.new.self mid c.blank.ensures.same) in
     let within : (2 ≤ n) × (n < old.file.header.next) = (
       omega (arith, c.if-n-lt2.false),
-      omega (
-        arith,
-        c.if-n-next_number.false,
-        c.next_number.ensures,
-        ap (λ (f : PageFile _ _). below.next_of f) c.promote.ensures.same.file,
-      ),
+      omega (arith, c.if-n-next_number.false, c.next_number.ensures, c.in_ok-open_gate.ensures.map.next),
     ) in
     let block = subst (λ b. IsBlock b) c.deref.ensures c.see_block.ensures in
     let written = λ (h : IsHonest old). held.written (kept.gate.honest.0 h) refl in
@@ -239,11 +251,14 @@ returns g c =
     room_made_for old c.promote.new.self c.promote.ensures.same
     (c.promote.ensures.absent c.if-promote.false) mid
     (ap (λ d. keys_of d.entries) c.blank.ensures.frames ∙ c.in_ok-make_room.ensures.held) in
+    let gate = subst (λ (x : PageFile _ _). below.KeepsGate old.file x) (sym file) kept.gate in
     let absent = ap (λ f. frame_at f.entries n) c.blank.ensures.frames
     ∙ c.make_room.ensures.absent n (c.promote.ensures.same.frames n ∙ was) in
     record {
       changes = record {
-        gate = subst (λ (x : PageFile _ _). below.KeepsGate old.file x) (sym file) kept.gate;
+        gate = λ opened. gate;
+        honest = gate.honest;
+        version = gate.version;
         next = omega (
           arith,
           ap (λ (x : PageFile _ _). below.next_of x) file,
@@ -280,6 +295,7 @@ returns g c =
           (λ h. subst (λ (f : PageFile _ _). below.IsHonest f) (sym file) (kept.gate.honest.0 h)))
           (λ (same : SameFrames mid new). (map_through old mid _ kept same.file same.frames).sound.0 map);
       next = search rules;
+      opens = search rules;
       in_memory = record {
         given_others = λ h.
             either r (written h) held.refused (given_others_there old mid new n after kept file within h)
@@ -302,8 +318,8 @@ returns g c =
         };
         touched = search rules;
       };
-      held = λ is. absurd (false≢true (sym (sym c.promote.ensures.answer ∙ c.if-promote.false) ∙ is));
+      held = λ was is. absurd (false≢true (sym (sym c.promote.ensures.answer ∙ c.if-promote.false) ∙ is));
       outside = search rules;
       faults = search rules;
       other_faults = search rules;
-    }
+    })
