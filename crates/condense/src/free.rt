@@ -25,8 +25,8 @@ use tree_node::Root;
 ///
 /// Where the pages are a sound map, and stand for a tree there, none of the tree's pages is live after `Ok`,
 /// and all others are as before. A refusal is of memory or of the device then, and the map stays sound. One
-/// after which the cache is not touched (`is_touched`) came before the first page was freed: pages were only
-/// asked for. Also after a refusal no more pages are live than before.
+/// after which the cache is not touched (`is_touched`) came before the first page was freed, and leaves the
+/// map. Also after a refusal no more pages are live than before.
 ///
 /// In other pages one may also be damaged. Where the map is sound, or no page is touched, `Damaged` names a
 /// page that a walk down the nodes, as they were before the first page was freed, comes to. In a sound map

@@ -20,7 +20,7 @@ impl<D: BlockDevice, A: Allocator + Copy> PageCache<D, A> {
     /// is touched by this change yet.
     ///
     /// A call that changes, gives out or frees a page opens the gate too, where it is not open. Where it is
-    /// opened before, that call has nothing more to be refused for.
+    /// open, no such call is refused for its sake.
     ///
     /// After a refusal, which is `Memory` or `Device`, the gate is unsure. The map stays.
     pub fn begin_change(&mut self) -> Result<(), Fault>
