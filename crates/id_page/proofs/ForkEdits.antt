@@ -3,7 +3,7 @@ use Rattle.std.proofs.Common.{◌≡◌, ℕ, ◌+◌, ◌-◌, ◌<◌, ◌≤�
 use Rattle.std.proofs.Common.{Some, sym, ◌∙◌, ap, arith, below_more, inl, inr, ⊎_elim}
 use Rattle.std.proofs.lemmas.Bool.{cases_eq}
 use Rattle.std.proofs.lemmas.List.{get_or-set_other, get_or-set_same, get_or-take, get_or_append_left}
-use Rattle.std.proofs.lemmas.List.{get_or_at, length-append, length-set, length-take-le, take_more}
+use Rattle.std.proofs.lemmas.List.{get_or_at, length-append, length-set, length-take-le}
 use Rattle.block_bytes.specs.Kinds.{HasHead}
 use Rattle.block_bytes.specs.Laws.{number_at-put, number_at-put_other}
 use Rattle.block_bytes.specs.Numbers.{number_at, put_number}
@@ -109,17 +109,3 @@ module _ (dims level : ℕ) (old : List ℕ) (long : length old ≡ 4096) (small
       let behind : 5 ≤ k = unnamed_behind 5 12 (number_at 2 2 (put_number 1 4 level old)) k unnamed in
       number_at-put_other 1 k 1 4 level old (omega (arith, long)) (inr (omega (arith, behind)))
       ∙ rest k (omega (arith, behind))
-
--- the first children of a list, and one more
-pub filled_links : (dims place : ℕ) (new : List ℕ) (level : ℕ) (links : List Link) (other : Link)
-    → place < length links
-    → fork_at dims new ≡ Some
-    (record {
-      level = level;
-      links = take place links
-          ++ ((get_or links place other).0, (get_or links place other).1) ∷ [];
-    })
-    → fork_at dims new ≡ Some (record { level = level; links = take (place + 1) links })
-filled_links dims place new level links other lt pushed = pushed
-    ∙ ap (λ (xs : List Link). Some (record { level = level; links = xs }))
-    (sym (take_more links place other lt))

@@ -3,10 +3,10 @@ use Rattle.std.proofs.Common.{◌≡◌, ℕ, ◌+◌, ◌-◌, ◌<◌, ◌≤�
 use Rattle.std.proofs.Common.{Some, sym, ◌∙◌, ap, subst, arith, below_more, inl, ⊎_elim}
 use Rattle.std.proofs.lemmas.Bool.{cases_eq}
 use Rattle.std.proofs.lemmas.List.{get_or-set_other, get_or-set_same, get_or-take, get_or_append_left}
-use Rattle.std.proofs.lemmas.List.{get_or_at, length-append, length-set, length-take-le, take_more}
+use Rattle.std.proofs.lemmas.List.{get_or_at, length-append, length-set, length-take-le}
 use Rattle.block_bytes.specs.Kinds.{HasHead}
 use Rattle.block_bytes.specs.Numbers.{number_at}
-use Rattle.box_math.specs.Bounds.{IsBox}
+use Rattle.box_math.specs.Bounds.{IsBox, IsDims}
 use Rattle.box_math.specs.Objects.{bounds_of}
 use Rattle.bucket_page.proofs.Writing.{nothing}
 use Rattle.bucket_page.specs.Layout.{Entry, HasOrderedBox}
@@ -19,6 +19,7 @@ module _ (dims place count : ℕ) (old new : List ℕ) (objects : List Entry)
     (is : leaf_at dims old ≡ Some objects) (edits : Edits (object_size dims) place count old new) where
   still_head : count ≤ most_objects dims → HasLeafHead dims new
   still_head few = let head = (leaf_spells dims old objects is).head in record {
+    axes = head.axes;
     kind = head_byte (object_size dims) place count 0 old new edits (inl (omega arith)) (omega arith)
         ∙ head.kind;
     dims_is = head_byte (object_size dims) place count 1 old new edits (inl (omega arith)) (omega arith)
@@ -106,16 +107,8 @@ leaf_popped dims less old new objects is some edits =
     ∙ ap (λ (n : ℕ). Some (take n objects))
     (let e : less ≡ length objects - 1 = omega (arith, long, some) in e)
 
-pub leaf_empty : (dims : ℕ) (page : List ℕ) → HasHead 9 dims 0 page → leaf_at dims page ≡ Some []
-leaf_empty dims page h = leaf_is dims page []
-    (record { kind = h.kind_is; dims_is = h.dims_is; few = omega (arith, h.count_is) }) h.count_is
+pub leaf_empty : (dims : ℕ) (page : List ℕ) → HasHead 9 dims 0 page → IsDims dims
+    → leaf_at dims page ≡ Some []
+leaf_empty dims page h axes = leaf_is dims page []
+    (record { axes = axes; kind = h.kind_is; dims_is = h.dims_is; few = omega (arith, h.count_is) }) h.count_is
     (λ k lt. absurd (omega (arith, lt))) (λ k lt. absurd (omega (arith, lt)))
-
--- the first objects of a list, and one more
-pub filled_more : (dims place : ℕ) (new : List ℕ) (objects : List Entry) (object : Entry)
-    → place < length objects → object ≡ get_or objects place object
-    → leaf_at dims new ≡ Some (take place objects ++ object ∷ [])
-    → leaf_at dims new ≡ Some (take (place + 1) objects)
-filled_more dims place new objects object lt is pushed =
-    pushed ∙ ap (λ (x : Entry). Some (take place objects ++ x ∷ [])) is
-    ∙ ap (λ (os : List Entry). Some os) (sym (take_more objects place object lt))

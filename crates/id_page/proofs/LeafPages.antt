@@ -45,6 +45,7 @@ module _ (dims : ℕ) (a b : List ℕ) (same : SameNamed (leaf_names dims) a b) 
       let few = s.head.few in
       leaf_is dims b objects
       (record {
+        axes = s.head.axes;
         kind = sym (head_same 1 0 (omega arith))
             ∙ s.head.kind;
         dims_is = sym (head_same 1 1 (omega arith))

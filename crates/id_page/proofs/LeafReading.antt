@@ -9,20 +9,27 @@ use Rattle.block_bytes.specs.PlaceLaws.{first_places-are, get_or-first_places, l
 use Rattle.block_bytes.specs.Places.{first_places}
 use Rattle.box_bytes.specs.Laws.{all_over-each, all_over-from}
 use Rattle.box_math.proofs.TestLaws.{ordered_test_true}
-use Rattle.box_math.specs.Bounds.{all_over}
+use Rattle.box_math.specs.Bounds.{IsDims, all_over, dims_test}
 use Rattle.box_math.specs.Objects.{bounds_of}
 use Rattle.bucket_page.proofs.Writing.{nothing}
 use Rattle.bucket_page.specs.Layout.{Entry, HasOrderedBox, is_ordered}
 use Rattle.id_page.specs.Leaf.{HasLeafHead, SpellsLeaf, leaf_at, leaf_object, leaf_test, most_objects}
 
-head_means : (kind d dims n most : ℕ) (b : Bool) → (kind == 9 && d == dims && nat_le n most && b) ≡ true
-    → (kind ≡ 9) × (d ≡ dims) × (n ≤ most) × (b ≡ true)
-head_means kind d dims n most b h =
-    (grind (arith, nat_tests), grind (arith, nat_tests), grind (arith, nat_tests), grind (arith, nat_tests))
+head_means : (kind d dims n most : ℕ) (b : Bool)
+    → (dims_test dims && kind == 9 && d == dims && nat_le n most && b) ≡ true
+    → IsDims dims × (kind ≡ 9) × (d ≡ dims) × (n ≤ most) × (b ≡ true)
+head_means kind d dims n most b h = (
+  (grind (arith, nat_tests), grind (arith, nat_tests)),
+  grind (arith, nat_tests),
+  grind (arith, nat_tests),
+  grind (arith, nat_tests),
+  grind (arith, nat_tests),
+)
 
-head_test : (kind d dims n most : ℕ) (b : Bool) → kind ≡ 9 → d ≡ dims → n ≤ most → b ≡ true
-    → (kind == 9 && d == dims && nat_le n most && b) ≡ true
-head_test kind d dims n most b is same few holds = grind (arith, nat_tests)
+head_test : (kind d dims n most : ℕ) (b : Bool) → IsDims dims → kind ≡ 9 → d ≡ dims → n ≤ most → b ≡ true
+    → (dims_test dims && kind == 9 && d == dims && nat_le n most && b) ≡ true
+head_test kind d dims n most b axes is same few holds = let low = axes.0 in let high = axes.1 in
+    grind (arith, nat_tests)
 
 -- where the page spells a leaf, reading it gives that leaf
 pub leaf_spelled : (dims : ℕ) (page : List ℕ) (objects : List Entry) → SpellsLeaf dims page objects
@@ -37,6 +44,7 @@ leaf_spelled dims page objects s =
     (ordered_test_true dims (bounds_of (leaf_object dims page place).1).low
     (bounds_of (leaf_object dims page place).1).high).1 (s.ordered place lt)) in
     let passes = head_test (number_at 1 0 page) (number_at 1 1 page) dims n (most_objects dims) test
+    s.head.axes
     s.head.kind s.head.dims_is s.head.few each in
     rw passes (ap (λ (os : List Entry). Some os) (sym s.objects_are))
 
@@ -49,17 +57,18 @@ leaf_spells dims page objects h =
     let test = all_over n (λ place. is_ordered dims (leaf_object dims page place)) in
     let parts =
     cond_some
-    (number_at 1 0 page == 9 && number_at 1 1 page == dims && nat_le n (most_objects dims) && test)
+    (dims_test dims && number_at 1 0 page == 9 && number_at 1 1 page == dims && nat_le n (most_objects dims)
+    && test)
     (first_places (leaf_object dims page) n) objects h in
     let means = head_means (number_at 1 0 page) (number_at 1 1 page) dims n (most_objects dims) test
     parts.0 in
     record {
-      head = record { kind = means.0; dims_is = means.1; few = means.2 };
+      head = record { axes = means.0; kind = means.1; dims_is = means.2; few = means.3 };
       ordered =
           λ place lt.
           (ordered_test_true dims (bounds_of (leaf_object dims page place).1).low
           (bounds_of (leaf_object dims page place).1).high).0
-          (all_over-each n (λ k. is_ordered dims (leaf_object dims page k)) means.3 place lt);
+          (all_over-each n (λ k. is_ordered dims (leaf_object dims page k)) means.4 place lt);
       objects_are = sym parts.1;
     }
 

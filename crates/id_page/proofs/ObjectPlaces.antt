@@ -1,5 +1,5 @@
 -- Where the objects of a leaf lie, and what stays of them.
-use Rattle.std.proofs.Common.{◌≡◌, ℕ, ◌+◌, ◌*◌, ◌<◌, ◌≤◌, ◌==◌, false, List, length, refl, sym, ◌∙◌, ap}
+use Rattle.std.proofs.Common.{◌≡◌, ◌⊎◌, ℕ, ◌+◌, ◌*◌, ◌<◌, ◌≤◌, ◌==◌, false, List, length, refl, sym, ◌∙◌, ap}
 use Rattle.std.proofs.Common.{subst, arith, inl, inr, ⊎_elim}
 use Rattle.std.proofs.lemmas.Bool.{cases_eq}
 use Rattle.block_bytes.specs.Laws.{number_at-put_other}
@@ -15,27 +15,44 @@ pub most_flat : (dims : ℕ) → dims ≡ 2 → 145 ≡ most_objects dims
 unfolding most_objects
 most_flat dims is = rw is refl
 
-pub most_solid : (dims : ℕ) → ¬ (dims ≡ 2) → 113 ≡ most_objects dims
+pub most_solid : (dims : ℕ) → dims ≡ 3 → 113 ≡ most_objects dims
 unfolding most_objects
-most_solid dims other = let no : (dims == 2) ≡ false = grind arith in rw no refl
+most_solid dims is = rw is refl
 
--- all places are within the page
-pub object_within : (dims place : ℕ) → IsDims dims → place < most_objects dims
-    → 16 + (12 + 8 * dims) * place + (12 + 8 * dims) ≤ 4096
-object_within dims place is within = ⊎_elim
-    (λ (flat : dims ≡ 2). let most = most_flat dims flat in
-    let few : place < 145 = omega (arith, within, most) in
-    subst (λ (d : ℕ). 16 + (12 + 8 * d) * place + (12 + 8 * d) ≤ 4096) (sym flat) (omega (arith, few)))
-    (λ (other : ¬ (dims ≡ 2)). let most = most_solid dims other in
-    let few : place < 113 = omega (arith, within, most) in
-    let solid : dims ≡ 3 = let low = is.0 in let high = is.1 in grind (arith, other) in
-    subst (λ (d : ℕ). 16 + (12 + 8 * d) * place + (12 + 8 * d) ≤ 4096) (sym solid) (omega (arith, few)))
-    (cases_eq dims 2)
+pub most_none : (dims : ℕ) → ¬ (dims ≡ 2) → ¬ (dims ≡ 3) → 0 ≡ most_objects dims
+unfolding most_objects
+most_none dims no_plane no_space =
+    let flat : (dims == 2) ≡ false = grind arith in
+    let solid : (dims == 3) ≡ false = grind arith in rw flat (rw solid refl)
+
+-- A leaf has a place for an object in two dimensions only, so a place tells the dimension.
+module _ (dims place : ℕ) (within : place < most_objects dims) where
+  pub planar_or_spatial : (dims ≡ 2) ⊎ (dims ≡ 3)
+  planar_or_spatial = ⊎_elim (λ (flat : dims ≡ 2). inl flat)
+      (λ (other : ¬ (dims ≡ 2)). ⊎_elim (λ (solid : dims ≡ 3). inr solid)
+      (λ (none : ¬ (dims ≡ 3)). absurd (omega (arith, within, most_none dims other none)))
+      (cases_eq dims 3)) (cases_eq dims 2)
+
+  pub dims_there : IsDims dims
+  dims_there = ⊎_elim (λ (flat : dims ≡ 2). (omega (arith, flat), omega (arith, flat)))
+      (λ (solid : dims ≡ 3). (omega (arith, solid), omega (arith, solid))) planar_or_spatial
+
+  -- all places are within the page
+  pub object_within : 16 + (12 + 8 * dims) * place + (12 + 8 * dims) ≤ 4096
+  object_within = ⊎_elim
+      (λ (flat : dims ≡ 2). let few : place < 145 = omega (arith, within, most_flat dims flat) in
+      subst (λ (d : ℕ). 16 + (12 + 8 * d) * place + (12 + 8 * d) ≤ 4096) (sym flat) (omega (arith, few)))
+      (λ (solid : dims ≡ 3). let few : place < 113 = omega (arith, within, most_solid dims solid) in
+      subst (λ (d : ℕ). 16 + (12 + 8 * d) * place + (12 + 8 * d) ≤ 4096) (sym solid) (omega (arith, few)))
+      planar_or_spatial
 
 pub few_objects : (dims : ℕ) → most_objects dims ≤ 145
 few_objects dims = ⊎_elim
     (λ (flat : dims ≡ 2). omega (arith, most_flat dims flat))
-    (λ (other : ¬ (dims ≡ 2)). omega (arith, most_solid dims other))
+    (λ (other : ¬ (dims ≡ 2)). ⊎_elim
+    (λ (solid : dims ≡ 3). omega (arith, most_solid dims solid))
+    (λ (none : ¬ (dims ≡ 3)). omega (arith, most_none dims other none))
+    (cases_eq dims 3))
     (cases_eq dims 2)
 
 pub object_place-is : (dims place : ℕ) → 16 + (12 + 8 * dims) * place ≡ entry_place (object_size dims) place

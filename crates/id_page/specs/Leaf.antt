@@ -4,13 +4,13 @@ use Rattle.std.specs.Prelude.{if◌then◌else◌}
 use Rattle.block_bytes.specs.Kinds.{bucket_kind}
 use Rattle.block_bytes.specs.Numbers.{number_at}
 use Rattle.block_bytes.specs.Places.{first_places}
-use Rattle.box_math.specs.Bounds.{all_over}
+use Rattle.box_math.specs.Bounds.{IsDims, all_over, dims_test}
 use Rattle.bucket_page.specs.Layout.{Entry, HasOrderedBox, entry_size, is_ordered, object_in}
 use Rattle.id_page.specs.Layout.{IsNamed, IsTidy, leaf_kind}
 
--- as many objects as fit
+-- as many objects as fit, and none in a dimension that no layer has
 unfoldable pub most_objects : ℕ → ℕ
-most_objects dims = if dims == 2 then 145 else 113
+most_objects dims = if dims == 2 then 145 else if dims == 3 then 113 else 0
 
 -- an object stands as in a bucket page with tags
 abbrev pub object_size : ℕ → ℕ
@@ -19,8 +19,9 @@ object_size dims = entry_size dims bucket_kind
 abbrev pub leaf_object : ℕ → List ℕ → ℕ → Entry
 leaf_object dims page place = object_in dims bucket_kind page place
 
--- the page begins as a leaf of this dimension does
+-- the page begins as a leaf of this dimension, of two or three axes, does
 pub record HasLeafHead (dims : ℕ) (page : List ℕ) : Type 0 where
+  pub axes : IsDims dims
   pub kind : number_at 1 0 page ≡ leaf_kind
   pub dims_is : number_at 1 1 page ≡ dims
   pub few : number_at 2 2 page ≤ most_objects dims
@@ -33,8 +34,8 @@ pub record SpellsLeaf (dims : ℕ) (page : List ℕ) (objects : List Entry) : Ty
 
 -- whether it spells one, and which
 unfoldable pub leaf_test : ℕ → List ℕ → Bool
-leaf_test dims page = number_at 1 0 page == leaf_kind && number_at 1 1 page == dims && nat_le
-    (number_at 2 2 page) (most_objects dims)
+leaf_test dims page = dims_test dims && number_at 1 0 page == leaf_kind && number_at 1 1 page == dims
+    && nat_le (number_at 2 2 page) (most_objects dims)
     && all_over (number_at 2 2 page) (λ place. is_ordered dims (leaf_object dims page place))
 
 unfoldable pub leaf_at : ℕ → List ℕ → Option (List Entry)

@@ -3,22 +3,21 @@
 ghost use Rattle.std.specs.Prelude.{◌≡◌, ℕ, ◌+◌, ◌-◌, ◌<◌, ◌≤◌, Some, [], ◌∷◌, ◌++◌, length};
 ghost use Rattle.std.specs.Prelude.{insert, remove, slice_index_or, slice_set, take};
 ghost use Rattle.block_bytes.specs.Numbers.{number_at};
-ghost use Rattle.box_math.specs.Bounds.{IsDims};
 ghost use Rattle.id_page.specs.Fork.{ForkContent, IsTidyFork, Link, fork_at, with_links};
 
 use crate::head::{FORK_KIND, clear_bytes, count_at};
 use crate::links::{key_at, link_place, page_at, write_link};
 use block_bytes::{write_head, write_u8, write_u16};
 
-/// Makes the page a fork of that level without children, with zeros in all bytes that it does not name.
-pub fn start_fork<const D: usize>(page: &mut [u8; 4096], level: u8)
-    requires dims { IsDims D }
+/// Makes the page a fork of that dimension and level without children, with zeros in all bytes that it does
+/// not name.
+pub fn start_fork(page: &mut [u8; 4096], dims: u8, level: u8)
     requires high { 1 ≤ level }
-    ensures empty { fork_at D page.new ≡ Some (record { level = level; links = [] }) }
+    ensures empty { fork_at dims page.new ≡ Some (record { level = level; links = [] }) }
     ensures count { number_at 2 2 page.new ≡ 0 }
     ensures tidy { IsTidyFork page.new }
 {
-    write_head(page, FORK_KIND, D as u8, 0);
+    write_head(page, FORK_KIND, dims, 0);
     write_u8(page, 4, level);
 }
 

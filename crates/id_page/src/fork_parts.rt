@@ -1,27 +1,12 @@
-//! Fork pages filled, joined and cut.
+//! Fork pages joined and cut.
 
 ghost use Rattle.std.specs.Prelude.{◌≡◌, ℕ, ◌+◌, ◌-◌, ◌≤◌, Some, ◌++◌, length, take, drop};
 ghost use Rattle.block_bytes.specs.Numbers.{number_at};
-ghost use Rattle.box_math.specs.Bounds.{IsDims};
 ghost use Rattle.id_page.specs.Fork.{ForkContent, IsTidyFork, fork_at, with_links};
 
-use crate::fork_edits::{pop_link, push_link, start_fork};
+use crate::fork_edits::{pop_link, push_link};
 use crate::head::count_at;
 use crate::links::{key_at, page_at};
-
-/// Makes the page the fork of that level with these children, with zeros in all bytes that it does not name.
-pub fn fill_fork<const D: usize>(page: &mut [u8; 4096], level: u8, links: &[(u64, u32)])
-    requires dims { IsDims D }
-    requires high { 1 ≤ level }
-    requires few { length links.now ≤ 340 }
-    ensures filled { fork_at D page.new ≡ Some (record { level = level; links = links.now }) }
-    ensures tidy { IsTidyFork page.new }
-{
-    start_fork::<D>(page, level);
-    for place in 0..links.len() {
-        push_link(page, links[place].0, links[place].1);
-    }
-}
 
 /// Adds the children of another fork page from a place on, in their order, to a fork page that has room for
 /// them.

@@ -7,7 +7,7 @@ ghost use Rattle.bucket_page.specs.Layout.{Entry};
 ghost use Rattle.id_page.specs.Fork.{ForkContent, fork_at};
 ghost use Rattle.id_page.specs.Leaf.{leaf_at};
 
-use block_bytes::{read_u16, write_u8};
+use block_bytes::{read_u8, read_u16, write_u8};
 
 /// The kind of a fork page, its byte 0.
 pub const FORK_KIND: u8 = 8;
@@ -25,6 +25,15 @@ pub fn count_at(page: &[u8; 4096]) -> usize
         → result ≡ length c.links }
 {
     usize::from(read_u16(page, 2))
+}
+
+/// The dimension that the page says it is of: its byte 1.
+#[inline]
+pub fn dims_at(page: &[u8; 4096]) -> u8
+    ensures of_leaf { (dims : ℕ) (objects : List Entry) → leaf_at dims page.now ≡ Some objects → result ≡ dims }
+    ensures of_fork { (dims : ℕ) (c : ForkContent) → fork_at dims page.now ≡ Some c → result ≡ dims }
+{
+    read_u8(page, 1)
 }
 
 /// Makes so many bytes from a place zeros.

@@ -17,7 +17,6 @@ use box_math::BBox;
 /// Whether the page is a leaf of that dimension: its kind is 9, its count at most the most that fit, and no
 /// object has a low above its high.
 pub fn is_leaf<const D: usize>(page: &[u8; 4096]) -> bool
-    requires dims { IsDims D }
     ensures { IsTrue result ↔ IsSome (leaf_at D page.now) }
 {
     if !has_leaf_head::<D>(page) {
@@ -33,7 +32,6 @@ pub fn is_leaf<const D: usize>(page: &[u8; 4096]) -> bool
 
 /// The place of an object with an identifier, if there is one.
 pub fn place_of_id<const D: usize>(page: &[u8; 4096], id: u64) -> Option<usize>
-    requires dims { IsDims D }
     requires few { number_at 2 2 page.now ≤ most_objects D }
     ensures within { IfSome result (λ place. place < number_at 2 2 page.now) }
     ensures found { (objects : List Entry) (other : Entry) → leaf_at D page.now ≡ Some objects
@@ -50,19 +48,17 @@ pub fn place_of_id<const D: usize>(page: &[u8; 4096], id: u64) -> Option<usize>
     None
 }
 
-/// Makes the page a leaf without objects, with zeros in all bytes that it does not name.
-pub fn start_leaf<const D: usize>(page: &mut [u8; 4096])
-    requires dims { IsDims D }
-    ensures empty { leaf_at D page.new ≡ Some [] }
+/// Makes the page a leaf of that dimension without objects, with zeros in all bytes that it does not name.
+pub fn start_leaf(page: &mut [u8; 4096], dims: u8)
+    ensures empty { IsDims dims → leaf_at dims page.new ≡ Some [] }
     ensures count { number_at 2 2 page.new ≡ 0 }
-    ensures tidy { IsTidyLeaf D page.new }
+    ensures tidy { (of : ℕ) → IsTidyLeaf of page.new }
 {
-    write_head(page, LEAF_KIND, D as u8, 0);
+    write_head(page, LEAF_KIND, dims, 0);
 }
 
 /// Adds an object to a leaf page that has room: it is written in the place after the last one, and counted.
 pub fn push_object<const D: usize>(page: &mut [u8; 4096], object: &(u64, (BBox<D>, u32)))
-    requires dims { IsDims D }
     requires room { number_at 2 2 page.old < most_objects D }
     ensures count { number_at 2 2 page.new ≡ number_at 2 2 page.old + 1 }
     ensures pushed { (objects : List Entry) → leaf_at D page.old ≡ Some objects
@@ -80,7 +76,6 @@ pub fn set_object<const D: usize>(
     place: usize,
     object: &(u64, (BBox<D>, u32)),
 )
-    requires dims { IsDims D }
     requires within { place < most_objects D }
     ensures count { number_at 2 2 page.new ≡ number_at 2 2 page.old }
     ensures replaced { (objects : List Entry) → leaf_at D page.old ≡ Some objects → place < length objects
@@ -93,7 +88,6 @@ pub fn set_object<const D: usize>(
 
 /// Takes the last object from a leaf page that has one: it is no longer counted, and its bytes are zeros.
 pub fn pop_object<const D: usize>(page: &mut [u8; 4096])
-    requires dims { IsDims D }
     requires some { 0 < number_at 2 2 page.old }
     requires few { number_at 2 2 page.old ≤ most_objects D }
     ensures count { number_at 2 2 page.new + 1 ≡ number_at 2 2 page.old }
@@ -109,7 +103,6 @@ pub fn pop_object<const D: usize>(page: &mut [u8; 4096])
 /// Takes the object in the place from a leaf page: the last one comes into its place, whose own bytes are
 /// zeros then.
 pub fn take_object<const D: usize>(page: &mut [u8; 4096], place: usize)
-    requires dims { IsDims D }
     requires within { place < number_at 2 2 page.old }
     requires few { number_at 2 2 page.old ≤ most_objects D }
     ensures count { number_at 2 2 page.new + 1 ≡ number_at 2 2 page.old }
@@ -124,7 +117,6 @@ pub fn take_object<const D: usize>(page: &mut [u8; 4096], place: usize)
 
 // Writes the object in one place into another one too.
 fn copy_object<const D: usize>(page: &mut [u8; 4096], from: usize, to: usize)
-    requires dims { IsDims D }
     requires from { from < number_at 2 2 page.old }
     requires to { to < number_at 2 2 page.old }
     requires few { number_at 2 2 page.old ≤ most_objects D }

@@ -1,34 +1,18 @@
-//! Leaf pages filled, joined and cut.
+//! Leaf pages joined and cut.
 
 ghost use Rattle.std.specs.Prelude.{◌≡◌, ℕ, ◌+◌, ◌-◌, ◌<◌, ◌≤◌, Some, List, ◌∷◌, ◌++◌, []};
 ghost use Rattle.std.specs.Prelude.{length, slice_index_or, take, drop};
 ghost use Rattle.block_bytes.specs.Numbers.{number_at};
-ghost use Rattle.box_math.specs.Bounds.{IsDims};
 ghost use Rattle.bucket_page.specs.Layout.{Entry};
 ghost use Rattle.id_page.specs.Leaf.{IsTidyLeaf, leaf_at, most_objects};
 
 use crate::head::count_at;
-use crate::leaf::{pop_object, push_object, start_leaf};
+use crate::leaf::{pop_object, push_object};
 use crate::objects::object_at;
-use box_math::BBox;
-
-/// Makes the page the leaf of these objects, with zeros in all bytes that it does not name.
-pub fn fill_leaf<const D: usize>(page: &mut [u8; 4096], objects: &[(u64, (BBox<D>, u32))])
-    requires dims { IsDims D }
-    requires few { length objects.now ≤ most_objects D }
-    ensures filled { leaf_at D page.new ≡ Some objects.now }
-    ensures tidy { IsTidyLeaf D page.new }
-{
-    start_leaf::<D>(page);
-    for place in 0..objects.len() {
-        push_object(page, &objects[place]);
-    }
-}
 
 /// Adds the objects of another leaf page from a place on, in their order, to a leaf page that has room for
 /// them.
 pub fn append_objects<const D: usize>(page: &mut [u8; 4096], other: &[u8; 4096], from: usize)
-    requires dims { IsDims D }
     requires from { from ≤ number_at 2 2 other.now }
     requires few { number_at 2 2 other.now ≤ most_objects D }
     requires room { number_at 2 2 page.old + (number_at 2 2 other.now - from) ≤ most_objects D }
@@ -43,7 +27,6 @@ pub fn append_objects<const D: usize>(page: &mut [u8; 4096], other: &[u8; 4096],
 
 // Adds the object in the place of another leaf page.
 fn push_from<const D: usize>(page: &mut [u8; 4096], other: &[u8; 4096], place: usize)
-    requires dims { IsDims D }
     requires within { place < number_at 2 2 other.now }
     requires few { number_at 2 2 other.now ≤ most_objects D }
     requires room { number_at 2 2 page.old < most_objects D }
@@ -61,7 +44,6 @@ fn push_from<const D: usize>(page: &mut [u8; 4096], other: &[u8; 4096], place: u
 
 /// Keeps the first objects of a leaf page, and takes all others. Their bytes are zeros then.
 pub fn keep_objects<const D: usize>(page: &mut [u8; 4096], many: usize)
-    requires dims { IsDims D }
     requires few { number_at 2 2 page.old ≤ most_objects D }
     ensures kept { (objects : List Entry) → leaf_at D page.old ≡ Some objects
         → leaf_at D page.new ≡ Some (take many objects) }

@@ -3,7 +3,7 @@
 ghost use Rattle.std.specs.Prelude.{◌≡◌, ℕ, ◌+◌, ◌*◌, ◌<◌, ◌≤◌, ◌↔◌, Some, List, length, slice_index_or};
 ghost use Rattle.std.specs.Prelude.{IsSome, IsTrue, IfSome};
 ghost use Rattle.block_bytes.specs.Numbers.{number_at};
-ghost use Rattle.box_math.specs.Bounds.{IsDims, IsBox};
+ghost use Rattle.box_math.specs.Bounds.{IsBox};
 ghost use Rattle.box_math.specs.Objects.{bounds_of};
 ghost use Rattle.box_bytes.specs.Corners.{Keeps};
 ghost use Rattle.bucket_page.specs.Layout.{Entry, HasOrderedBox, IsClearOfEntry, entry_place};
@@ -14,7 +14,7 @@ use block_bytes::{read_u8, read_u32, read_u64, write_u32, write_u64};
 use box_bytes::{read_box, write_box};
 use box_math::BBox;
 
-/// How many objects a leaf has at most: 145 in two axes, and 113 in three.
+/// How many objects a leaf has at most: 145 in two axes, 113 in three, and none in another dimension.
 #[inline]
 pub fn objects_that_fit<const D: usize>() -> usize
     ensures { result ≡ most_objects D }
@@ -22,7 +22,10 @@ pub fn objects_that_fit<const D: usize>() -> usize
     if D == 2 {
         return 145;
     }
-    113
+    if D == 3 {
+        return 113;
+    }
+    0
 }
 
 /// Whether the page begins as a leaf of that dimension does. Its boxes are not looked at.
@@ -30,7 +33,9 @@ pub fn objects_that_fit<const D: usize>() -> usize
 pub fn has_leaf_head<const D: usize>(page: &[u8; 4096]) -> bool
     ensures { IsTrue result ↔ HasLeafHead D page.now }
 {
-    read_u8(page, 0) == LEAF_KIND
+    2 <= D
+        && D <= 3
+        && read_u8(page, 0) == LEAF_KIND
         && usize::from(read_u8(page, 1)) == D
         && count_at(page) <= objects_that_fit::<D>()
 }
@@ -38,7 +43,6 @@ pub fn has_leaf_head<const D: usize>(page: &[u8; 4096]) -> bool
 // Where the object in the place begins.
 #[inline]
 pub(crate) fn object_place<const D: usize>(place: usize) -> usize
-    requires dims { IsDims D }
     requires within { place < most_objects D }
     ensures value { result ≡ entry_place (object_size D) place }
     ensures bound { result + 12 + 8 * D ≤ 4096 }
@@ -49,7 +53,6 @@ pub(crate) fn object_place<const D: usize>(place: usize) -> usize
 /// The identifier of the object in the place, of which nothing else is read.
 #[inline]
 pub fn id_at<const D: usize>(page: &[u8; 4096], place: usize) -> u64
-    requires dims { IsDims D }
     requires within { place < most_objects D }
     ensures value { result ≡ (leaf_object D page.now place).0 }
     ensures of_leaf { (objects : List Entry) (other : Entry) → leaf_at D page.now ≡ Some objects
@@ -62,7 +65,6 @@ pub fn id_at<const D: usize>(page: &[u8; 4096], place: usize) -> u64
 /// each place below the count has one.
 #[inline]
 pub fn object_at<const D: usize>(page: &[u8; 4096], place: usize) -> Option<(u64, (BBox<D>, u32))>
-    requires dims { IsDims D }
     requires within { place < most_objects D }
     ensures value { IfSome result (λ object. object ≡ leaf_object D page.now place) }
     ensures some { IsSome result ↔ HasOrderedBox D (leaf_object D page.now place) }
@@ -82,7 +84,6 @@ pub(crate) fn write_object<const D: usize>(
     place: usize,
     object: &(u64, (BBox<D>, u32)),
 )
-    requires dims { IsDims D }
     requires within { place < most_objects D }
     ensures is_box { IsBox D (bounds_of object.now.1) }
     ensures written { leaf_object D page.new place ≡ object.now }

@@ -3,12 +3,14 @@ use Rattle.std.proofs.Common.{◌≡◌, ◌∙◌, ℕ, zero, suc, ◌+◌, ◌
 use Rattle.std.proofs.Common.{Some, None, List, [], ◌∷◌, ◌++◌, length, get_or, take, drop, All, refl, sym, ap}
 use Rattle.std.proofs.Common.{subst, arith, length-drop}
 use Rattle.std.proofs.lemmas.List.{drop_more, length-take-le}
+use Rattle.box_math.specs.Bounds.{IsDims}
 use Rattle.bucket_page.specs.Layout.{Entry}
 use Rattle.block_bytes.specs.Numbers.{number_at}
 use Rattle.id_page.specs.Fork.{ForkContent, Link, fork_at}
 use Rattle.id_page.specs.Leaf.{leaf_at, most_objects}
 use Rattle.id_page.proofs.ForkReading.{count_of_fork, fork_spells}
 use Rattle.id_page.proofs.LeafReading.{count_of_leaf, leaf_spells}
+use Rattle.id_page.proofs.ObjectPlaces.{dims_there}
 use Rattle.node_page.specs.Standing.{PageMap}
 use Rattle.id_tree.specs.Cutting.{Cuts, CutsFork, CutsLeaf, FitsOne}
 use Rattle.id_tree.specs.Halving.{from_key, under_key}
@@ -26,20 +28,32 @@ use Rattle.id_tree.proofs.RowLemmas.{occurs-joined, parted-behind, parted-front,
 
 -- ---- the places of a leaf
 
--- what is used of their numbers
+-- of some objects there are many
+pub least_some : (dims : ℕ) → 29 ≤ least_objects dims
+unfolding least_objects
+least_some dims = by_dims (eqb dims 2)
+  where
+    by_dims : (b : Bool) → 29 ≤ cond b 37 29
+    by_dims true = omega arith
+    by_dims false = omega arith
+
+-- what else is used of their numbers in two and three axes
 pub record AreSizes (least most : ℕ) : Type 0 where
-  pub some : 29 ≤ least
   pub half : least + least + 2 ≤ most
-  pub few : most ≤ 145
   pub ample : least < most * 2 / 5
 
-pub sizes : (dims : ℕ) → AreSizes (least_objects dims) (most_objects dims)
+pub sizes : (dims : ℕ) → IsDims dims → AreSizes (least_objects dims) (most_objects dims)
 unfolding least_objects most_objects
-sizes dims = by_dims (eqb dims 2)
-  where
-    by_dims : (b : Bool) → AreSizes (cond b 37 29) (cond b 145 113)
-    by_dims true = record { some = omega arith; half = omega arith; few = omega arith; ample = omega arith }
-    by_dims false = record { some = omega arith; half = omega arith; few = omega arith; ample = omega arith }
+sizes zero axes = absurd (omega (arith, axes.0))
+sizes (suc zero) axes = absurd (omega (arith, axes.0))
+sizes (suc (suc zero)) axes = record { half = omega arith; ample = omega arith }
+sizes (suc (suc (suc zero))) axes = record { half = omega arith; ample = omega arith }
+sizes (suc (suc (suc (suc n)))) axes = absurd (omega (arith, axes.1))
+
+-- some objects that fit into a leaf tell the dimension
+pub sizes_there : (dims count : ℕ) → 0 < count → count ≤ most_objects dims
+    → AreSizes (least_objects dims) (most_objects dims)
+sizes_there dims count some few = sizes dims (dims_there dims 0 (omega (arith, some, few)))
 
 -- ---- leaves
 
@@ -51,7 +65,7 @@ leaf_cut dims edge row key first second leaf c =
     let lefts = objects_of_row (under_key key xs) in
     let rights = objects_of_row (from_key key xs) in
     let both = both_lengths key xs in
-    let size = sizes dims in
+    let some = least_some dims in
     record {
       left = row_of (under_key key xs);
       right = row_of (from_key key xs);
@@ -85,7 +99,7 @@ leaf_cut dims edge row key first second leaf c =
             fork =
                 λ high. absurd (omega (arith, high));
           };
-      some_left = omega (arith, size.some, c.large, ap length lefts);
+      some_left = omega (arith, some, c.large, ap length lefts);
       some_right = omega (arith, c.some, ap length rights);
       room_left =
           λ one. record {
@@ -96,7 +110,7 @@ leaf_cut dims edge row key first second leaf c =
       room_right =
           λ one. record {
             leaf = λ low. let few = one.leaf low in omega
-                (arith, ap length rights, both, few, size.some, c.large);
+                (arith, ap length rights, both, few, some, c.large);
             fork =
                 λ high. absurd (omega (arith, high));
           };

@@ -10,7 +10,7 @@ use Rattle.id_tree.specs.Laws.{HasFewPages}
 use Rattle.id_tree.specs.Tree.{IsFilled, IsLarge, Row, end, more, object, child, RowStands, at_edge, links_of}
 use Rattle.id_tree.specs.Tree.{objects_in, occurs}
 use Rattle.id_tree.proofs.CountLemmas.{nodes}
-use Rattle.id_tree.proofs.CutLemmas.{sizes}
+use Rattle.id_tree.proofs.CutLemmas.{least_some}
 
 -- the pages below a row, counted by number
 sum_nodes : (limit : ℕ) (row : Row) → sum_over limit (λ n. occurs n row) ≤ nodes row
@@ -51,7 +51,7 @@ large_children dims pages level (more (child key page below) rest) stands filled
     (λ (low : level - 1 ≡ 0).
     let none = leaf_nodes dims pages below (subst (λ l. RowStands dims pages l below) low stands.4) in
     let many = large.leaf low in
-    omega (arith, none, many, (sizes dims).some, later, sum))
+    omega (arith, none, many, least_some dims, later, sum))
     (λ (up : ¬ (level - 1 ≡ 0)).
     let above : 0 < level - 1 = omega (arith, up) in
     let many = large.fork above in
@@ -70,7 +70,7 @@ large_node dims pages level row stands filled large = ⊎_elim
     (λ (low : level ≡ 0).
     let none = leaf_nodes dims pages row (subst (λ l. RowStands dims pages l row) low stands) in
     let many = large.leaf low in
-    omega (arith, none, many, (sizes dims).some))
+    omega (arith, none, many, least_some dims))
     (λ (up : ¬ (level ≡ 0)).
     let high : 0 < level = omega (arith, up) in
     let many = large.fork high in

@@ -23,7 +23,7 @@ use Rattle.id_tree.specs.Steps.{Keeps}
 use Rattle.id_tree.specs.Tree.{HasNode, Row, end, more, child, RowStands, at_edge, fork_in, links_of}
 use Rattle.id_tree.specs.Tree.{objects_in, occurs}
 use Rattle.id_tree.proofs.AddLemmas.{some_links}
-use Rattle.id_tree.proofs.CutLemmas.{sizes}
+use Rattle.id_tree.proofs.CutLemmas.{least_some}
 use Rattle.id_tree.proofs.MeetLemmas.{many_links, many_objects, met_filled, met_parted, met_some, met_stands}
 use Rattle.id_tree.proofs.MeetLemmas.{objects-met, occurs-met}
 use Rattle.id_tree.proofs.NodeLemmas.{below_there, is_there, not_there, occurs_here, row_stays, stands_same}
@@ -418,13 +418,13 @@ module _ (dims : ℕ) (old : PageMap) (page level : ℕ) (edge : Bool) (row : Ro
 
     left_spare : HasSpare dims (level - 1) false cut.left
     left_spare =
-        let size = sizes dims in
+        let some = least_some dims in
         record {
           leaf = λ low. let many = balanced.first_leaf low in
               omega (
                 arith,
                 many,
-                size.some,
+                some,
                 count_of_leaf dims less (objects_in cut.left)
                     (cut.spells_left.leaf low),
               );
@@ -448,13 +448,13 @@ module _ (dims : ℕ) (old : PageMap) (page level : ℕ) (edge : Bool) (row : Ro
 
     right_spare : (e : Bool) → HasSpare dims (level - 1) e cut.right
     right_spare e =
-        let size = sizes dims in
+        let some = least_some dims in
         record {
           leaf = λ low. let many = balanced.second_leaf low in
               omega (
                 arith,
                 many,
-                size.some,
+                some,
                 count_of_leaf dims more_of (objects_in cut.right)
                     (cut.spells_right.leaf low),
               );

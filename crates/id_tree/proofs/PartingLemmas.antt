@@ -3,12 +3,12 @@ use Rattle.std.proofs.Common.{◌≡◌, ◌∙◌, ℕ, ◌+◌, ◌<◌, ◌�
 use Rattle.std.proofs.Common.{◌^◌, All, Some, refl, sym, ap, subst, ⊎_elim, arith, length-append}
 use Rattle.std.proofs.lemmas.Bool.{cases_lt}
 use Rattle.std.proofs.lemmas.List.{append-nil, drop_more, take-append-drop, take_more}
-use Rattle.box_math.specs.Bounds.{origin_box}
+use Rattle.box_math.specs.Bounds.{IsDims, origin_box}
 use Rattle.block_bytes.specs.Laws.{number_at-lt}
 use Rattle.block_bytes.specs.Numbers.{AreBytes, number_at}
 use Rattle.bucket_page.specs.Layout.{Entry, entry_place, object_in}
 use Rattle.id_page.specs.Leaf.{leaf_at, object_size}
-use Rattle.id_page.proofs.LeafReading.{id_of_leaf}
+use Rattle.id_page.proofs.LeafReading.{id_of_leaf, leaf_spells}
 use Rattle.id_words.specs.Objects.{times_in}
 use Rattle.std.proofs.lemmas.List.Elements.{All-from_get_or}
 use Rattle.id_tree.specs.Halving.{from_key, under_key}
@@ -132,3 +132,12 @@ most_below dims page objects bytes is single =
   where
     few_more : (n m t : ℕ) → n ≡ m + t → t ≤ 1 → n ≤ m + 1
     few_more n m t is few = omega arith
+
+-- ---- pages started like others
+
+-- a page that was started with the dimension of a leaf is a leaf of that dimension
+pub leaf_like : (dims byte : ℕ) (other new : List ℕ) (objects : List Entry) → leaf_at dims other ≡ Some objects
+    → byte ≡ dims → (IsDims byte → leaf_at byte new ≡ Some []) → leaf_at dims new ≡ Some []
+leaf_like dims byte other new objects is same started =
+    subst (λ (d : ℕ). leaf_at d new ≡ Some []) same
+    (started (subst IsDims (sym same) (leaf_spells dims other objects is).head.axes))

@@ -15,7 +15,7 @@ use Rattle.id_tree.specs.Cutting.{CutsFork, CutsLeaf}
 use Rattle.id_tree.specs.Halving.{from_key, under_key}
 use Rattle.id_tree.specs.Joining.{IsBalanced}
 use Rattle.id_tree.specs.Tree.{least_objects}
-use Rattle.id_tree.proofs.CutLemmas.{sizes}
+use Rattle.id_tree.proofs.CutLemmas.{sizes_there}
 use Rattle.id_tree.proofs.HalvingLemmas.{all_below_key, both_lengths, skip_under, step_under}
 use Rattle.id_tree.proofs.PartingLemmas.{under-append}
 
@@ -111,7 +111,7 @@ module _ (dims : ℕ) (xs ys : List Entry) (key a b : ℕ) (few_a : a ≤ most_o
   pub leaf_halves : AreHalves (least_objects dims) (most_objects dims) (length (under_key key (xs ++ ys)))
       (length (from_key key (xs ++ ys)))
   leaf_halves = halves (least_objects dims) (most_objects dims) a b (length (under_key key (xs ++ ys)))
-      (length (from_key key (xs ++ ys))) (sizes dims).half few_a few_b many middle
+      (length (from_key key (xs ++ ys))) (sizes_there dims b (omega (arith, few_a, many)) few_b).half few_a few_b many middle
       (omega (arith, both_lengths key (xs ++ ys), a_is, b_is, length-append xs ys))
 
   pub leaf_shared : (edge : Bool) (first second : List ℕ)

@@ -3,7 +3,6 @@
 ghost use Rattle.std.specs.Prelude.{◌≡◌, ◌<◌, ◌≤◌, ◌⊎◌, ◌+◌, ◌-◌, ◌/◌, ℕ, Bool, List, length, Some};
 ghost use Rattle.std.specs.Prelude.{true, false, IfErr, IfOk};
 ghost use Rattle.block_bytes.specs.Numbers.{number_at};
-ghost use Rattle.box_math.specs.Bounds.{IsDims};
 ghost use Rattle.bucket_page.specs.Layout.{Entry};
 ghost use Rattle.page_file.specs.Fault.{IsDamage, IsOfDevice};
 ghost use Rattle.page_file.specs.declared.fault.Fault.TheVariants as fault;
@@ -44,7 +43,6 @@ pub(crate) fn plan<const D: usize, B: BlockDevice, A: Allocator + Copy>(
     edge: bool,
     id: u64,
 ) -> Result<Cut, Fault>
-    requires dims { IsDims D }
     ensures asks { Asks cache.old cache.new result }
     ensures cuts { IsHonest cache.old → (row : Row) → MayHalve D (pages cache.old) page level edge row
         → IfOk result (λ cut. Cuts D level edge row cut.key cut.first cut.second) }
@@ -58,6 +56,9 @@ pub(crate) fn plan<const D: usize, B: BlockDevice, A: Allocator + Copy>(
     let bytes = copy_page(cache, page)?;
     let count = count_at(&bytes);
     if level == 0 {
+        if count == 0 {
+            return Err(Fault::Damaged(page));
+        }
         if count != objects_that_fit::<D>() {
             return Err(Fault::Damaged(page));
         }
@@ -66,12 +67,12 @@ pub(crate) fn plan<const D: usize, B: BlockDevice, A: Allocator + Copy>(
     if count != MOST_CHILDREN {
         return Err(Fault::Damaged(page));
     }
-    Ok(cut_fork::<D>(&bytes, level, edge))
+    Ok(cut_fork(&bytes, level, edge))
 }
 
 // Cuts a full leaf.
 fn cut_leaf<const D: usize>(page: &[u8; 4096], edge: bool, id: u64) -> Cut
-    requires dims { IsDims D }
+    requires some { 0 < number_at 2 2 page.now }
     requires full { number_at 2 2 page.now ≡ most_objects D }
     ensures cuts { (objects : List Entry) → leaf_at D page.now ≡ Some objects
         → ((q : ℕ) → times_in q objects ≤ 1)
@@ -91,7 +92,7 @@ fn cut_leaf<const D: usize>(page: &[u8; 4096], edge: bool, id: u64) -> Cut
 // How many of its objects a full leaf keeps: half of them, or all but the last at the edge of its tree where
 // the identifier is above all.
 fn objects_kept<const D: usize>(page: &[u8; 4096], edge: bool, id: u64) -> usize
-    requires dims { IsDims D }
+    requires some { 0 < number_at 2 2 page.now }
     requires few { number_at 2 2 page.now ≤ most_objects D }
     ensures large { least_objects D ≤ result }
     ensures some { result < most_objects D }
@@ -113,12 +114,11 @@ fn objects_kept<const D: usize>(page: &[u8; 4096], edge: bool, id: u64) -> usize
 }
 
 // Cuts a full fork of that level.
-fn cut_fork<const D: usize>(page: &[u8; 4096], level: u8, edge: bool) -> Cut
-    requires dims { IsDims D }
+fn cut_fork(page: &[u8; 4096], level: u8, edge: bool) -> Cut
     requires high { 0 < level }
     requires full { number_at 2 2 page.now ≡ 340 }
-    ensures cuts { (c : ForkContent) → fork_at D page.now ≡ Some c → c.level ≡ level
-        → CutsFork D level edge c.links result.key result.first result.second }
+    ensures cuts { (dims : ℕ) (c : ForkContent) → fork_at dims page.now ≡ Some c → c.level ≡ level
+        → CutsFork dims level edge c.links result.key result.first result.second }
     ensures tidy_first { IsTidyFork page.now → IsTidyFork result.first }
     ensures tidy_second { IsTidyFork result.second }
 {
@@ -126,7 +126,7 @@ fn cut_fork<const D: usize>(page: &[u8; 4096], level: u8, edge: bool) -> Cut
     Cut {
         key: key_at(page, many),
         first: fork_upto(page, many),
-        second: fork_beyond::<D>(page, level, many),
+        second: fork_beyond(page, level, many),
     }
 }
 

@@ -3,7 +3,6 @@
 ghost use Rattle.std.specs.Prelude.{◌≡◌, ◌<◌, ◌≤◌, ◌⊎◌, ◌+◌, ◌-◌, ◌*◌, ◌/◌, ℕ, Bool, true, IfErr, IfOk, OnOk};
 ghost use Rattle.std.specs.Prelude.{Some, false};
 ghost use Rattle.block_bytes.specs.Numbers.{number_at};
-ghost use Rattle.box_math.specs.Bounds.{IsDims};
 ghost use Rattle.page_file.specs.Fault.{IsDamage, IsOfDevice};
 ghost use Rattle.page_file.specs.declared.fault.Fault.TheVariants as fault;
 ghost use Rattle.page_cache.specs.Cache.{Grows, IsHonest, IsPageMap, pages, given, touched_of};
@@ -72,7 +71,6 @@ pub(crate) fn join<const D: usize, B: BlockDevice, A: Allocator + Copy>(
     place: usize,
     id: u64,
 ) -> Result<(u32, bool), Fault>
-    requires dims { IsDims D }
     requires high { 0 < level }
     ensures changes { Changes cache.old cache.new result }
     ensures made { IsPageMap cache.old → (child : ℕ) (row : Row)
@@ -105,7 +103,6 @@ fn join_pair<const D: usize, B: BlockDevice, A: Allocator + Copy>(
     id: u64,
     pair: &Pair,
 ) -> Result<(u32, bool), Fault>
-    requires dims { IsDims D }
     requires high { 0 < level }
     requires within { pair.now.left + 1 < number_at 2 2 pair.now.fork }
     requires few { number_at 2 2 pair.now.fork ≤ 340 }
@@ -146,7 +143,6 @@ fn make_one<const D: usize, B: BlockDevice, A: Allocator + Copy>(
     level: u8,
     pair: &Pair,
 ) -> Result<(u32, bool), Fault>
-    requires dims { IsDims D }
     requires high { 0 < level }
     requires within { pair.now.left + 1 < number_at 2 2 pair.now.fork }
     requires few { number_at 2 2 pair.now.fork ≤ 340 }
@@ -190,7 +186,6 @@ fn share<const D: usize, B: BlockDevice, A: Allocator + Copy>(
     id: u64,
     pair: &Pair,
 ) -> Result<(u32, bool), Fault>
-    requires dims { IsDims D }
     requires high { 0 < level }
     requires within { pair.now.left + 1 < number_at 2 2 pair.now.fork }
     requires few { number_at 2 2 pair.now.fork ≤ 340 }

@@ -133,7 +133,6 @@ pub(crate) fn step<const D: usize, B: BlockDevice, A: Allocator + Copy>(
 // The place of an identifier in a leaf page and what is kept of its object, if it is there. `None` where the
 // page begins as no leaf of this dimension, or that object has no box.
 fn found_on<const D: usize>(page: &[u8; 4096], id: u64) -> Option<Option<(usize, (BBox<D>, u32))>>
-    requires dims { IsDims D }
     ensures of_leaf { (objects : List Entry) → leaf_at D page.now ≡ Some objects
         → IsSomeAnd result (IsFoundAt id objects) }
     ensures absent { result ≡ Some None → (k : ℕ) → k < number_at 2 2 page.now

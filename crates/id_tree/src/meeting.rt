@@ -4,7 +4,6 @@ ghost use Rattle.std.specs.Prelude.{◌≡◌, ◌<◌, ◌≤◌, ◌+◌, ◌-
 ghost use Rattle.std.specs.Prelude.{All};
 ghost use Rattle.std.specs.Prelude.{length, take, drop, slice_index_or, IfErr, IfOk};
 ghost use Rattle.block_bytes.specs.Numbers.{number_at};
-ghost use Rattle.box_math.specs.Bounds.{IsDims};
 ghost use Rattle.bucket_page.specs.Layout.{Entry};
 ghost use Rattle.page_file.specs.Fault.{IsDamage, IsOfDevice};
 ghost use Rattle.page_file.specs.declared.fault.Fault.TheVariants as fault;
@@ -25,7 +24,7 @@ use crate::parting::{append_from, append_under, fork_beyond, fork_upto, key_with
 use block_bytes::zero_block;
 use block_device::BlockDevice;
 use id_page::{
-    MOST_CHILDREN, append_links, append_objects, count_at, key_at, objects_that_fit, set_key,
+    MOST_CHILDREN, append_links, append_objects, count_at, dims_at, key_at, objects_that_fit, set_key,
     start_leaf,
 };
 use page_cache::PageCache;
@@ -82,7 +81,6 @@ pub(crate) fn joined<const D: usize, B: BlockDevice, A: Allocator + Copy>(
     key: u64,
     level: u8,
 ) -> Result<[u8; 4096], Fault>
-    requires dims { IsDims D }
     ensures asks { Asks cache.old cache.new result }
     ensures all { IsHonest cache.old → (one two : Row) → HasNode D (pages cache.old) first level one
         → HasNode D (pages cache.old) second level two → FitTogether D level one two
@@ -113,7 +111,6 @@ pub(crate) fn joined<const D: usize, B: BlockDevice, A: Allocator + Copy>(
 
 // The leaf of the objects of two leaf pages.
 fn joined_leaf<const D: usize>(one: &[u8; 4096], two: &[u8; 4096]) -> [u8; 4096]
-    requires dims { IsDims D }
     requires few { number_at 2 2 one.now + number_at 2 2 two.now ≤ most_objects D }
     ensures all { (xs ys : List Entry) → leaf_at D one.now ≡ Some xs → leaf_at D two.now ≡ Some ys
         → leaf_at D result ≡ Some (xs ++ ys) }
@@ -164,7 +161,6 @@ pub(crate) fn shared<const D: usize, B: BlockDevice, A: Allocator + Copy>(
     key: u64,
     level: u8,
 ) -> Result<Cut, Fault>
-    requires dims { IsDims D }
     ensures asks { Asks cache.old cache.new result }
     ensures cuts { IsHonest cache.old → (edge : Bool) (one two : Row)
         → AreNeighbours D (pages cache.old) level edge first second key one two → AreTooMany D level one two
@@ -193,7 +189,7 @@ pub(crate) fn shared<const D: usize, B: BlockDevice, A: Allocator + Copy>(
     if !are_many(count_at(&one), count_at(&two), MOST_CHILDREN) {
         return Err(Fault::Damaged(first));
     }
-    Ok(shared_fork::<D>(&one, &two, level, key))
+    Ok(shared_fork(&one, &two, level, key))
 }
 
 // Whether so many and so many fit into a page each, and not into one together.
@@ -213,7 +209,6 @@ fn are_many(one: usize, two: usize, most: usize) -> bool
 
 // The objects of two leaf pages, which this key parts, cut in two in the middle.
 fn shared_leaf<const D: usize>(one: &[u8; 4096], two: &[u8; 4096], key: u64) -> Cut
-    requires dims { IsDims D }
     requires few_one { number_at 2 2 one.now ≤ most_objects D }
     requires few_two { number_at 2 2 two.now ≤ most_objects D }
     requires many { most_objects D < number_at 2 2 one.now + number_at 2 2 two.now }
@@ -237,7 +232,6 @@ fn shared_leaf<const D: usize>(one: &[u8; 4096], two: &[u8; 4096], key: u64) -> 
 
 // The key with so many objects of two leaf pages below it, where this one parts them.
 fn middle_key<const D: usize>(one: &[u8; 4096], two: &[u8; 4096], key: u64, many: usize) -> u64
-    requires dims { IsDims D }
     requires few_one { number_at 2 2 one.now ≤ most_objects D }
     requires few_two { number_at 2 2 two.now ≤ most_objects D }
     ensures { (xs ys : List Entry) → leaf_at D one.now ≡ Some xs → leaf_at D two.now ≡ Some ys
@@ -257,7 +251,6 @@ fn middle_key<const D: usize>(one: &[u8; 4096], two: &[u8; 4096], key: u64, many
 
 // The leaf of the objects of two leaf pages below a key, and that of those from it on.
 fn both_under<const D: usize>(one: &[u8; 4096], two: &[u8; 4096], key: u64) -> [u8; 4096]
-    requires dims { IsDims D }
     requires few_one { number_at 2 2 one.now ≤ most_objects D }
     requires few_two { number_at 2 2 two.now ≤ most_objects D }
     ensures under { (xs ys : List Entry) → leaf_at D one.now ≡ Some xs → leaf_at D two.now ≡ Some ys
@@ -266,14 +259,13 @@ fn both_under<const D: usize>(one: &[u8; 4096], two: &[u8; 4096], key: u64) -> [
     ensures tidy { IsTidyLeaf D result }
 {
     let mut under = zero_block();
-    start_leaf::<D>(&mut under);
+    start_leaf(&mut under, dims_at(one));
     append_under::<D>(&mut under, one, key);
     append_under::<D>(&mut under, two, key);
     under
 }
 
 fn both_from<const D: usize>(one: &[u8; 4096], two: &[u8; 4096], key: u64) -> [u8; 4096]
-    requires dims { IsDims D }
     requires few_one { number_at 2 2 one.now ≤ most_objects D }
     requires few_two { number_at 2 2 two.now ≤ most_objects D }
     ensures from { (xs ys : List Entry) → leaf_at D one.now ≡ Some xs → leaf_at D two.now ≡ Some ys
@@ -282,7 +274,7 @@ fn both_from<const D: usize>(one: &[u8; 4096], two: &[u8; 4096], key: u64) -> [u
     ensures tidy { IsTidyLeaf D result }
 {
     let mut from = zero_block();
-    start_leaf::<D>(&mut from);
+    start_leaf(&mut from, dims_at(one));
     append_from::<D>(&mut from, one, key);
     append_from::<D>(&mut from, two, key);
     from
@@ -290,17 +282,16 @@ fn both_from<const D: usize>(one: &[u8; 4096], two: &[u8; 4096], key: u64) -> [u
 
 // The children of two fork pages of that level, the first one of the second page with this key, cut in two in
 // the middle.
-fn shared_fork<const D: usize>(one: &[u8; 4096], two: &[u8; 4096], level: u8, key: u64) -> Cut
-    requires dims { IsDims D }
+fn shared_fork(one: &[u8; 4096], two: &[u8; 4096], level: u8, key: u64) -> Cut
     requires high { 0 < level }
     requires few_one { number_at 2 2 one.now ≤ 340 }
     requires few_two { number_at 2 2 two.now ≤ 340 }
     requires many { 340 < number_at 2 2 one.now + number_at 2 2 two.now }
-    ensures cuts { (edge : Bool) (c d : ForkContent) → fork_at D one.now ≡ Some c → c.level ≡ level
-        → fork_at D two.now ≡ Some d → d.level ≡ level
-        → CutsFork D level edge (c.links ++ with_key key d.links) result.key result.first result.second }
-    ensures balanced { (c d : ForkContent) → fork_at D one.now ≡ Some c → fork_at D two.now ≡ Some d
-        → IsBalanced D level result.first result.second }
+    ensures cuts { (dims : ℕ) (edge : Bool) (c d : ForkContent) → fork_at dims one.now ≡ Some c
+        → c.level ≡ level → fork_at dims two.now ≡ Some d → d.level ≡ level
+        → CutsFork dims level edge (c.links ++ with_key key d.links) result.key result.first result.second }
+    ensures balanced { (dims : ℕ) (c d : ForkContent) → fork_at dims one.now ≡ Some c
+        → fork_at dims two.now ≡ Some d → IsBalanced dims level result.first result.second }
     ensures tidy_first { IsTidyFork one.now → IsTidyFork result.first }
     ensures tidy_second { IsTidyFork result.second }
 {
@@ -308,52 +299,52 @@ fn shared_fork<const D: usize>(one: &[u8; 4096], two: &[u8; 4096], level: u8, ke
     let count = count_at(one);
     let many = (count + count_at(two)) / 2;
     if many < count {
-        return cut_first::<D>(one, &behind, level, many);
+        return cut_first(one, &behind, level, many);
     }
-    cut_second::<D>(one, &behind, level, many - count)
+    cut_second(one, &behind, level, many - count)
 }
 
 // Both forks where the cut is before a child of the first one.
-fn cut_first<const D: usize>(one: &[u8; 4096], two: &[u8; 4096], level: u8, many: usize) -> Cut
-    requires dims { IsDims D }
+fn cut_first(one: &[u8; 4096], two: &[u8; 4096], level: u8, many: usize) -> Cut
     requires high { 0 < level }
     requires few_one { number_at 2 2 one.now ≤ 340 }
     requires within { many < number_at 2 2 one.now }
     requires room { (number_at 2 2 one.now - many) + number_at 2 2 two.now ≤ 340 }
-    ensures key { (c : ForkContent) (other : Link) → fork_at D one.now ≡ Some c
+    ensures key { (dims : ℕ) (c : ForkContent) (other : Link) → fork_at dims one.now ≡ Some c
         → result.key ≡ (slice_index_or c.links many other).0 }
-    ensures first { (c : ForkContent) → fork_at D one.now ≡ Some c
-        → fork_at D result.first ≡ Some (with_links c (take many c.links)) }
-    ensures second { (c d : ForkContent) → fork_at D one.now ≡ Some c → fork_at D two.now ≡ Some d
-        → fork_at D result.second ≡ Some (record { level = level; links = drop many c.links ++ d.links }) }
+    ensures first { (dims : ℕ) (c : ForkContent) → fork_at dims one.now ≡ Some c
+        → fork_at dims result.first ≡ Some (with_links c (take many c.links)) }
+    ensures second { (dims : ℕ) (c d : ForkContent) → fork_at dims one.now ≡ Some c
+        → fork_at dims two.now ≡ Some d
+        → fork_at dims result.second ≡ Some (record { level = level; links = drop many c.links ++ d.links }) }
     ensures tidy_first { IsTidyFork one.now → IsTidyFork result.first }
     ensures tidy_second { IsTidyFork result.second }
 {
     let key = key_at(one, many);
     let first = fork_upto(one, many);
-    let mut second = fork_beyond::<D>(one, level, many);
+    let mut second = fork_beyond(one, level, many);
     append_links(&mut second, two, 0);
     Cut { key, first, second }
 }
 
 // Both forks where the cut is before a child of the second one.
-fn cut_second<const D: usize>(one: &[u8; 4096], two: &[u8; 4096], level: u8, many: usize) -> Cut
-    requires dims { IsDims D }
+fn cut_second(one: &[u8; 4096], two: &[u8; 4096], level: u8, many: usize) -> Cut
     requires high { 0 < level }
     requires few_two { number_at 2 2 two.now ≤ 340 }
     requires within { many < number_at 2 2 two.now }
     requires room { number_at 2 2 one.now + many ≤ 340 }
-    ensures key { (d : ForkContent) (other : Link) → fork_at D two.now ≡ Some d
+    ensures key { (dims : ℕ) (d : ForkContent) (other : Link) → fork_at dims two.now ≡ Some d
         → result.key ≡ (slice_index_or d.links many other).0 }
-    ensures first { (c d : ForkContent) → fork_at D one.now ≡ Some c → fork_at D two.now ≡ Some d
-        → fork_at D result.first ≡ Some (with_links c (c.links ++ take many d.links)) }
-    ensures second { (d : ForkContent) → fork_at D two.now ≡ Some d
-        → fork_at D result.second ≡ Some (record { level = level; links = drop many d.links }) }
+    ensures first { (dims : ℕ) (c d : ForkContent) → fork_at dims one.now ≡ Some c
+        → fork_at dims two.now ≡ Some d
+        → fork_at dims result.first ≡ Some (with_links c (c.links ++ take many d.links)) }
+    ensures second { (dims : ℕ) (d : ForkContent) → fork_at dims two.now ≡ Some d
+        → fork_at dims result.second ≡ Some (record { level = level; links = drop many d.links }) }
     ensures tidy_first { IsTidyFork one.now → IsTidyFork result.first }
     ensures tidy_second { IsTidyFork result.second }
 {
     let key = key_at(two, many);
-    let second = fork_beyond::<D>(two, level, many);
+    let second = fork_beyond(two, level, many);
     let upto = fork_upto(two, many);
     let mut first = *one;
     append_links(&mut first, &upto, 0);

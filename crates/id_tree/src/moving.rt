@@ -62,7 +62,6 @@ fn set_where_there<const D: usize>(
     place: usize,
     object: &(u64, (BBox<D>, u32)),
 )
-    requires { IsDims D }
     ensures { SetsObject D place object.now page.old page.new }
 {
     if count_at(page) > objects_that_fit::<D>() {
@@ -80,7 +79,6 @@ pub(crate) fn take_at<const D: usize, B: BlockDevice, A: Allocator + Copy>(
     number: u32,
     place: usize,
 ) -> Result<(), Fault>
-    requires dims { IsDims D }
     ensures changes { Changes cache.old cache.new result }
     ensures refused { OnErr result (KeepsMap cache.old cache.new) }
     ensures taken { IsHonest cache.old → (objects : List Entry) (other : Entry)
@@ -101,7 +99,6 @@ pub(crate) fn take_at<const D: usize, B: BlockDevice, A: Allocator + Copy>(
     cache.edit(
         number,
         |page: &mut [u8; 4096]|
-            requires { IsDims D }
             ensures { TakesObject D place page.old page.new }
         { take_where_there::<D>(page, place) },
     )
@@ -109,7 +106,6 @@ pub(crate) fn take_at<const D: usize, B: BlockDevice, A: Allocator + Copy>(
 
 // Takes the object in a place of a leaf page that has one there.
 fn take_where_there<const D: usize>(page: &mut [u8; 4096], place: usize)
-    requires { IsDims D }
     ensures { TakesObject D place page.old page.new }
 {
     if count_at(page) > objects_that_fit::<D>() {

@@ -5,7 +5,6 @@ ghost use Rattle.std.specs.Prelude.{◌≡◌, ℕ, ◌+◌, ◌*◌, ◌<◌, �
 ghost use Rattle.std.specs.Prelude.{All, drop};
 ghost use Rattle.std.specs.Prelude.{slice_index_or};
 ghost use Rattle.block_bytes.specs.Numbers.{number_at};
-ghost use Rattle.box_math.specs.Bounds.{IsDims};
 ghost use Rattle.bucket_page.specs.Layout.{Entry};
 ghost use Rattle.id_words.specs.Objects.{times_in};
 ghost use Rattle.id_page.specs.Fork.{ForkContent, fork_at, with_links, IsTidyFork};
@@ -14,13 +13,12 @@ ghost use Rattle.id_tree.specs.Halving.{from_key, under_key};
 
 use block_bytes::zero_block;
 use id_page::{
-    append_links, count_at, id_at, keep_links, object_at, objects_that_fit, push_object,
+    append_links, count_at, dims_at, id_at, keep_links, object_at, objects_that_fit, push_object,
     start_fork, start_leaf,
 };
 
 // How many objects of a leaf page have an identifier below a key.
 pub(crate) fn count_under<const D: usize>(page: &[u8; 4096], key: u64) -> usize
-    requires dims { IsDims D }
     requires few { number_at 2 2 page.now ≤ most_objects D }
     ensures count { (objects : List Entry) → leaf_at D page.now ≡ Some objects
         → result ≡ length (under_key key objects) }
@@ -38,7 +36,6 @@ pub(crate) fn count_under<const D: usize>(page: &[u8; 4096], key: u64) -> usize
 // The key with so many objects of a leaf page below it, where each has an identifier of its own and there are
 // more. It is looked for by halves of the keys between the least and the greatest identifier.
 pub(crate) fn key_with<const D: usize>(page: &[u8; 4096], many: usize) -> u64
-    requires dims { IsDims D }
     requires few { number_at 2 2 page.now ≤ most_objects D }
     ensures parts { (objects : List Entry) → leaf_at D page.now ≡ Some objects
         → ((id : ℕ) → times_in id objects ≤ 1) → 0 < many → many < length objects
@@ -58,7 +55,6 @@ pub(crate) fn key_with<const D: usize>(page: &[u8; 4096], many: usize) -> u64
 // Two keys, of which fewer than so many objects are below the first, and as many or more below the second:
 // the least and the greatest identifier, or the ends of all keys where they are none.
 fn ends_with<const D: usize>(page: &[u8; 4096], many: usize) -> (u64, u64)
-    requires dims { IsDims D }
     requires few { number_at 2 2 page.now ≤ most_objects D }
     ensures some { result.0 < result.1 }
     ensures low { (objects : List Entry) → leaf_at D page.now ≡ Some objects
@@ -79,7 +75,6 @@ fn ends_with<const D: usize>(page: &[u8; 4096], many: usize) -> (u64, u64)
 
 // The least and the greatest identifier of a leaf page.
 fn ends_of<const D: usize>(page: &[u8; 4096]) -> (u64, u64)
-    requires dims { IsDims D }
     requires few { number_at 2 2 page.now ≤ most_objects D }
     ensures { (objects : List Entry) → leaf_at D page.now ≡ Some objects
         → All (λ o. (result.0 ≤ o.0) × (o.0 ≤ result.1)) objects }
@@ -96,7 +91,6 @@ fn ends_of<const D: usize>(page: &[u8; 4096]) -> (u64, u64)
 
 // The half of the keys from `low` to `high` with a key with so many objects below it.
 fn half_with<const D: usize>(page: &[u8; 4096], many: usize, low: u64, high: u64) -> (u64, u64)
-    requires dims { IsDims D }
     requires few { number_at 2 2 page.now ≤ most_objects D }
     requires two { low + 1 < high }
     ensures some { result.0 < result.1 }
@@ -116,7 +110,6 @@ fn half_with<const D: usize>(page: &[u8; 4096], many: usize, low: u64, high: u64
 
 // Adds the objects of another leaf page with an identifier below a key to a leaf page that has room for them.
 pub(crate) fn append_under<const D: usize>(page: &mut [u8; 4096], other: &[u8; 4096], key: u64)
-    requires dims { IsDims D }
     requires few { number_at 2 2 other.now ≤ most_objects D }
     ensures appended { (objects more : List Entry) → leaf_at D page.old ≡ Some objects
         → leaf_at D other.now ≡ Some more → length objects + length (under_key key more) ≤ most_objects D
@@ -133,7 +126,6 @@ pub(crate) fn append_under<const D: usize>(page: &mut [u8; 4096], other: &[u8; 4
 // Adds the objects of another leaf page with an identifier from a key on to a leaf page that has room for
 // them.
 pub(crate) fn append_from<const D: usize>(page: &mut [u8; 4096], other: &[u8; 4096], key: u64)
-    requires dims { IsDims D }
     requires few { number_at 2 2 other.now ≤ most_objects D }
     ensures appended { (objects more : List Entry) → leaf_at D page.old ≡ Some objects
         → leaf_at D other.now ≡ Some more → length objects + length (from_key key more) ≤ most_objects D
@@ -149,7 +141,6 @@ pub(crate) fn append_from<const D: usize>(page: &mut [u8; 4096], other: &[u8; 40
 
 // Adds the object in the place of another leaf page, where there is room for it.
 fn push_from<const D: usize>(page: &mut [u8; 4096], other: &[u8; 4096], place: usize)
-    requires dims { IsDims D }
     requires within { place < most_objects D }
     ensures pushed { (objects more : List Entry) (none : Entry) → leaf_at D page.old ≡ Some objects
         → leaf_at D other.now ≡ Some more → place < length more → length objects < most_objects D
@@ -166,27 +157,25 @@ fn push_from<const D: usize>(page: &mut [u8; 4096], other: &[u8; 4096], place: u
 
 // The leaf of the objects with an identifier below a key, and that of those from it on.
 pub(crate) fn leaf_under<const D: usize>(page: &[u8; 4096], key: u64) -> [u8; 4096]
-    requires dims { IsDims D }
     requires few { number_at 2 2 page.now ≤ most_objects D }
     ensures under { (objects : List Entry) → leaf_at D page.now ≡ Some objects
         → leaf_at D result ≡ Some (under_key key objects) }
     ensures tidy { IsTidyLeaf D result }
 {
     let mut under = zero_block();
-    start_leaf::<D>(&mut under);
+    start_leaf(&mut under, dims_at(page));
     append_under::<D>(&mut under, page, key);
     under
 }
 
 pub(crate) fn leaf_from<const D: usize>(page: &[u8; 4096], key: u64) -> [u8; 4096]
-    requires dims { IsDims D }
     requires few { number_at 2 2 page.now ≤ most_objects D }
     ensures from { (objects : List Entry) → leaf_at D page.now ≡ Some objects
         → leaf_at D result ≡ Some (from_key key objects) }
     ensures tidy { IsTidyLeaf D result }
 {
     let mut from = zero_block();
-    start_leaf::<D>(&mut from);
+    start_leaf(&mut from, dims_at(page));
     append_from::<D>(&mut from, page, key);
     from
 }
@@ -204,18 +193,17 @@ pub(crate) fn fork_upto(page: &[u8; 4096], many: usize) -> [u8; 4096]
     first
 }
 
-pub(crate) fn fork_beyond<const D: usize>(page: &[u8; 4096], level: u8, many: usize) -> [u8; 4096]
-    requires dims { IsDims D }
+pub(crate) fn fork_beyond(page: &[u8; 4096], level: u8, many: usize) -> [u8; 4096]
     requires high { 1 ≤ level }
     requires few { number_at 2 2 page.now ≤ 340 }
     requires within { many ≤ number_at 2 2 page.now }
     ensures count { number_at 2 2 result + many ≡ number_at 2 2 page.now }
-    ensures beyond { (c : ForkContent) → fork_at D page.now ≡ Some c
-        → fork_at D result ≡ Some (record { level = level; links = drop many c.links }) }
+    ensures beyond { (dims : ℕ) (c : ForkContent) → fork_at dims page.now ≡ Some c
+        → fork_at dims result ≡ Some (record { level = level; links = drop many c.links }) }
     ensures tidy { IsTidyFork result }
 {
     let mut last = zero_block();
-    start_fork::<D>(&mut last, level);
+    start_fork(&mut last, dims_at(page), level);
     append_links(&mut last, page, many);
     last
 }

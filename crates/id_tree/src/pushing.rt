@@ -56,7 +56,6 @@ pub(crate) fn push<const D: usize, B: BlockDevice, A: Allocator + Copy>(
 
 // Adds an object to a leaf page that has room.
 fn push_where_room<const D: usize>(page: &mut [u8; 4096], object: &(u64, (BBox<D>, u32)))
-    requires { IsDims D }
     ensures { PushesObject D object.now page.old page.new }
 {
     if count_at(page) < objects_that_fit::<D>() {

@@ -62,7 +62,7 @@ fn only_child<const D: usize>(level: u8, number: u32) -> [u8; 4096]
     ensures tidy { IsTidyFork result }
 {
     let mut fork = zero_block();
-    start_fork::<D>(&mut fork, level);
+    start_fork(&mut fork, D as u8, level);
     push_link(&mut fork, 0, number);
     fork
 }
@@ -74,7 +74,7 @@ pub(crate) fn no_child<const D: usize>() -> [u8; 4096]
     ensures tidy { IsTidyFork result }
 {
     let mut fork = zero_block();
-    start_fork::<D>(&mut fork, 1);
+    start_fork(&mut fork, D as u8, 1);
     fork
 }
 
@@ -110,7 +110,7 @@ fn leaf_of<const D: usize>(object: &(u64, (BBox<D>, u32))) -> [u8; 4096]
     ensures tidy { IsTidyLeaf D result }
 {
     let mut leaf = zero_block();
-    start_leaf::<D>(&mut leaf);
+    start_leaf(&mut leaf, D as u8);
     push_object::<D>(&mut leaf, object);
     leaf
 }

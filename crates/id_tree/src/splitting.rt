@@ -3,7 +3,6 @@
 ghost use Rattle.std.specs.Prelude.{◌≡◌, ◌<◌, ◌≤◌, ◌+◌, ◌⊎◌, ◌-◌, ℕ, Bool, Some, insert, IfErr, IfOk, OnOk};
 ghost use Rattle.std.specs.Prelude.{true, false};
 ghost use Rattle.block_bytes.specs.Numbers.{number_at};
-ghost use Rattle.box_math.specs.Bounds.{IsDims};
 ghost use Rattle.page_file.specs.Fault.{IsDamage, IsOfDevice};
 ghost use Rattle.page_file.specs.declared.fault.Fault.TheVariants as fault;
 ghost use Rattle.page_cache.specs.Cache.{Grows, IsHonest, IsLive, IsPageMap, pages, touched_of};
@@ -35,7 +34,6 @@ pub(crate) fn split<const D: usize, B: BlockDevice, A: Allocator + Copy>(
     below: &Below,
     id: u64,
 ) -> Result<(u32, bool), Fault>
-    requires dims { IsDims D }
     requires high { 0 < level }
     ensures changes { Changes cache.old cache.new result }
     ensures made { IsPageMap cache.old → (edge : Bool) (row : Row)
@@ -81,7 +79,6 @@ fn plan_split<const D: usize, B: BlockDevice, A: Allocator + Copy>(
     below: &Below,
     id: u64,
 ) -> Result<Plan, Fault>
-    requires dims { IsDims D }
     requires high { 0 < level }
     ensures asks { Asks cache.old cache.new result }
     ensures fork { IsHonest cache.old → (edge : Bool) (row : Row)

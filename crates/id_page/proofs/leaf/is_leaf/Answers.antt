@@ -1,7 +1,9 @@
 -- A page with the head and a box in each place is a leaf, and no other is.
-use Rattle.std.proofs.Common.{◌≡◌, true, arith, refl}
+use Rattle.std.proofs.Common.{◌≡◌, true, arith, refl, rules}
 use Rattle.std.proofs.lemmas.Grind.{common_steps}
 use Rattle.id_page.proofs.LeafReading.{leaf_if, no_leaf, no_object, none_is_none}
+use Rattle.box_math.specs.Bounds.{IsDims}
+use Rattle.id_page.proofs.ObjectPlaces.{dims_there}
 use Rattle.id_page.proofs.leaf.is_leaf.Goals as goal
 
 pub returns-then-not-has_leaf_head : goal.returns-then-not-has_leaf_head
@@ -27,3 +29,8 @@ returns g c = (
       (λ k lt. c.loop-place.invariant k (omega (arith, lt))),
   λ some. refl,
 )
+
+pub object_at-requires : goal.object_at-requires
+object_at-requires g c =
+    let few = (c.has_leaf_head.ensures.0 c.if-not-has_leaf_head.false).few in
+    let dims : IsDims g.row.D = dims_there g.row.D c.loop-place.place (omega (arith, few)) in search rules

@@ -1,9 +1,11 @@
 -- The object is that of the place, and each object of a leaf has a box.
-use Rattle.std.proofs.Common.{◌≡◌, ◌+◌, ◌*◌, ℕ, false, true, arith, refl, ◌∙◌, ap}
+use Rattle.std.proofs.Common.{◌≡◌, ◌+◌, ◌*◌, ℕ, false, true, arith, refl, ◌∙◌, ap, rules}
 use Rattle.block_bytes.specs.Numbers.{number_at}
 use Rattle.box_bytes.specs.Corners.{box_at}
 use Rattle.bucket_page.proofs.Places.{object_is, ordered_at, tag_in-tagged}
 use Rattle.id_page.proofs.LeafReading.{box_of_leaf, some_of_leaf}
+use Rattle.box_math.specs.Bounds.{IsDims}
+use Rattle.id_page.proofs.ObjectPlaces.{dims_there}
 use Rattle.id_page.proofs.objects.object_at.Goals as goal
 
 pub returns-in-Some-clause-value : goal.returns-in-Some-clause-value
@@ -40,3 +42,7 @@ pub returns-in-None-clause-of_leaf : goal.returns-in-None-clause-of_leaf
 returns-in-None-clause-of_leaf g c = λ objects other is lt.
     let never : false ≡ true = (returns-in-None-clause-some g c).1
     (box_of_leaf g.row.D c.args.page.now objects c.args.place is lt) in absurd (cc)
+
+pub read_box-requires : goal.read_box-requires
+read_box-requires g c =
+    let dims : IsDims g.row.D = dims_there g.row.D c.args.place c.requires.within in search rules

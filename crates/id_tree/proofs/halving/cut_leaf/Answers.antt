@@ -1,7 +1,7 @@
 -- Both pages are made of the objects on their sides of a key with so many below it.
 use Rattle.std.proofs.Common.{arith}
 use Rattle.id_page.proofs.LeafReading.{count_of_leaf}
-use Rattle.id_tree.proofs.CutLemmas.{sizes}
+use Rattle.id_tree.proofs.CutLemmas.{least_some}
 use Rattle.id_tree.proofs.HalvingLemmas.{both_lengths}
 use Rattle.id_tree.proofs.halving.cut_leaf.Goals as goal
 
@@ -10,9 +10,8 @@ returns-clause-cuts g c = λ objects is single.
     let key = c.key_with-key.result in
     let kept = c.objects_kept-many.ensures in
     let count = count_of_leaf g.row.D c.args.page.now objects is in
-    let size = sizes g.row.D in
     let both = both_lengths key objects in
-    let under = c.key_with-key.ensures.parts objects is single (omega (arith, size.some, kept.large))
+    let under = c.key_with-key.ensures.parts objects is single (omega (arith, least_some g.row.D, kept.large))
     (omega (arith, count, c.requires.full, kept.some)) in
     record {
       under = c.leaf_under.ensures.under objects is;

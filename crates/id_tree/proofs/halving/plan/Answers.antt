@@ -4,7 +4,8 @@ use Rattle.page_file.specs.Fault.{IsOfDevice}
 use Rattle.page_cache.specs.Cache.{pages}
 use Rattle.node_page.proofs.NodeLemmas.{at_error}
 use Rattle.id_tree.specs.Tree.{links_of, objects_in}
-use Rattle.id_tree.proofs.CutLemmas.{cut_of_leaf, fork_cut, fork_full, leaf_full}
+use Rattle.id_tree.proofs.CutLemmas.{cut_of_leaf, fork_cut, fork_full, leaf_full, sizes}
+use Rattle.id_page.proofs.LeafReading.{leaf_spells}
 use Rattle.id_tree.proofs.NodeLemmas.{node_there}
 use Rattle.id_tree.proofs.TidyLemmas.{bytes_tidy, fork_node, leaf_node, tidy_fork}
 use Rattle.id_page.specs.Fork.{ForkContent}
@@ -18,6 +19,17 @@ returns-in_err-bytes-clause-there g c = λ h row may.
     at_error c.from_residual.result c.in_err-bytes.field-0.0 IsOfDevice c.from_residual.ensures.1
     (c.in_err-bytes.ensures.there h
     (node_there g.row.D (pages c.args.cache.now) c.args.page c.args.level row may.stands.node))
+
+pub returns-then-count-eq0-clause-there : goal.returns-then-count-eq0-clause-there
+returns-then-count-eq0-clause-there g c = λ h row may.
+    let D = g.row.D in
+    let old = pages c.args.cache.now in
+    let there = c.in_ok-bytes.ensures.bytes h (node_there D old c.args.page c.args.level row may.stands.node)
+    in
+    let full = leaf_full D old c.args.page c.args.level c.args.edge row c.in_ok-bytes.bytes
+    c.if-level-eq0.true may there in
+    let size = sizes D (leaf_spells D c.in_ok-bytes.bytes (objects_in row) full.0).head.axes in
+    absurd (omega (arith, c.if-count-eq0.true, c.count_at-count.ensures.value, full.1, size.half))
 
 pub returns-then-count-objects_that_fit-clause-there : goal.returns-then-count-objects_that_fit-clause-there
 returns-then-count-objects_that_fit-clause-there g c = λ h row may.
@@ -60,7 +72,7 @@ returns-clause-cuts g c = λ h row may.
     there in
     fork_cut g.row.D old c.args.level c.args.edge row c.cut_fork.result.key c.cut_fork.result.first
     c.cut_fork.result.second high may.stands.below may.stands.parted may.stands.filled
-    (c.cut_fork.ensures.cuts (record { level = c.args.level; links = links_of row }) full.0 refl)
+    (c.cut_fork.ensures.cuts g.row.D (record { level = c.args.level; links = links_of row }) full.0 refl)
 
 pub returns-then-level-eq0-clause-tidy : goal.returns-then-level-eq0-clause-tidy
 returns-then-level-eq0-clause-tidy g c = λ h row may.
@@ -88,7 +100,7 @@ returns-clause-tidy g c = λ h row may.
     in
     let full = fork_full D old c.args.page c.args.level c.args.edge row c.in_ok-bytes.bytes high may there in
     let content : ForkContent = record { level = c.args.level; links = links_of row } in
-    let cuts = c.cut_fork.ensures.cuts content full.0 refl in
+    let cuts = c.cut_fork.ensures.cuts g.row.D content full.0 refl in
     let cut = c.cut_fork.result in
     record {
       first = λ tidy. fork_node D cut.first

@@ -2,15 +2,18 @@
 use Rattle.std.proofs.Common.{◌<◌, arith, ◌≡◌, ◌⊎◌}
 use Rattle.page_cache.specs.Cache.{pages}
 use Rattle.id_tree.proofs.AddLemmas.{fork_counted, leaf_counted}
-use Rattle.id_tree.proofs.CutLemmas.{sizes}
-use Rattle.id_tree.proofs.NodeLemmas.{there_bytes}
+use Rattle.id_tree.proofs.CutLemmas.{least_some, sizes}
+use Rattle.id_page.proofs.LeafReading.{leaf_spells}
+use Rattle.id_page.proofs.ObjectPlaces.{few_objects}
+use Rattle.id_tree.specs.Tree.{objects_in}
+use Rattle.id_tree.proofs.NodeLemmas.{leaf_bytes, there_bytes}
 use Rattle.page_file.specs.declared.fault.Fault.TheVariants as fault
 use Rattle.page_file.specs.Fault.{IsOfDevice}
 use Rattle.node_page.proofs.NodeLemmas.{at_error}
 use Rattle.id_tree.proofs.joining.is_ample.Goals as goal
 
 pub are_two_fifths-requires : goal.are_two_fifths-requires
-are_two_fifths-requires g c = omega (arith, c.objects_that_fit.ensures, (sizes g.row.D).few)
+are_two_fifths-requires g c = omega (arith, c.objects_that_fit.ensures, few_objects g.row.D)
 
 pub returns-then-level-eq0-clause-ample : goal.returns-then-level-eq0-clause-ample
 returns-then-level-eq0-clause-ample g c = λ h edge row node yes.
@@ -20,10 +23,11 @@ returns-then-level-eq0-clause-ample g c = λ h edge row node yes.
     let there = there_bytes D old c.args.number c.args.level row node in
     let count = c.in_ok-count.ensures.count h there.0 there.1 in
     let long = leaf_counted D old c.args.number c.args.level row there.0 node low there.1 in
-    let size = sizes D in
+    let leaf = leaf_bytes D (old c.args.number) there.0 (objects_in row) there.1 (node.leaf low) in
+    let size = sizes D (leaf_spells D there.0 (objects_in row) leaf).head.axes in
     let many = c.are_two_fifths.ensures.yes yes in
     record {
-      leaf = λ is. omega (arith, many, count, long, c.objects_that_fit.ensures, size.ample, size.some);
+      leaf = λ is. omega (arith, many, count, long, c.objects_that_fit.ensures, size.ample, least_some D);
       fork = λ up. absurd (omega (arith, up, low));
       large_leaf = λ is off. omega (arith, many, count, long, c.objects_that_fit.ensures, size.ample);
       large_fork = λ up off. absurd (omega (arith, up, low));

@@ -5,11 +5,11 @@ use Rattle.id_page.proofs.ForkReading.{count_of_fork}
 use Rattle.id_tree.proofs.meeting.cut_second.Goals as goal
 
 pub returns-clause-key : goal.returns-clause-key
-returns-clause-key g c = λ more other is.
-    let count = count_of_fork g.row.D c.args.two.now more is in
-    c.key_at-key.ensures.of_fork g.row.D more other is (omega (arith, count, c.requires.within))
+returns-clause-key c = λ dims more other is.
+    let count = count_of_fork dims c.args.two.now more is in
+    c.key_at-key.ensures.of_fork dims more other is (omega (arith, count, c.requires.within))
 
 pub returns-clause-first : goal.returns-clause-first
-returns-clause-first g c = λ content more is two.
-    c.append_links.ensures.appended g.row.D content (with_links more (take c.args.many more.links)) is
-    (c.fork_upto-upto.ensures.upto g.row.D more two)
+returns-clause-first c = λ dims content more is two.
+    c.append_links.ensures.appended dims content (with_links more (take c.args.many more.links)) is
+    (c.fork_upto-upto.ensures.upto dims more two)

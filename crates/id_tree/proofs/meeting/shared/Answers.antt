@@ -183,7 +183,7 @@ returns-clause-cuts g c = λ h edge one two n many.
     (met_parted D old level edge first second key one two n)
     (met_filled D old level edge first second key one two n)
     (subst (λ ls. CutsFork D level edge ls r.key r.first r.second) (sym (links-met key one two))
-    (c.shared_fork.ensures.cuts edge a b one_is refl two_is refl))
+    (c.shared_fork.ensures.cuts D edge a b one_is refl two_is refl))
 
 pub returns-clause-balanced : goal.returns-clause-balanced
 returns-clause-balanced g c = λ h edge one two n many.
@@ -204,7 +204,7 @@ returns-clause-balanced g c = λ h edge one two n many.
     let b : ForkContent = record { level = level; links = links_of two } in
     let one_is = fork_bytes D (old first) c.in_ok-one.one a there_one (n.one_stands.node.fork up) in
     let two_is = fork_bytes D (old second) c.in_ok-two.two b there_two (n.two_stands.node.fork up) in
-    c.shared_fork.ensures.balanced a b one_is two_is
+    c.shared_fork.ensures.balanced D a b one_is two_is
 
 pub returns-then-level-eq0-clause-tidy : goal.returns-then-level-eq0-clause-tidy
 returns-then-level-eq0-clause-tidy g c = λ h edge one two n many.
@@ -253,7 +253,7 @@ returns-clause-tidy g c = λ h edge one two n many.
     let one_is = fork_bytes D (old first) c.in_ok-one.one a there_one (n.one_stands.node.fork up) in
     let two_is = fork_bytes D (old second) c.in_ok-two.two b there_two (n.two_stands.node.fork up) in
     let r = c.shared_fork.result in
-    let cuts = c.shared_fork.ensures.cuts edge a b one_is refl two_is refl in
+    let cuts = c.shared_fork.ensures.cuts D edge a b one_is refl two_is refl in
     record {
       first = λ tidy. fork_node D r.first _ cuts.upto (c.shared_fork.ensures.tidy_first
           (tidy_fork D c.in_ok-one.one a one_is (bytes_tidy D old first c.in_ok-one.one there_one tidy)));

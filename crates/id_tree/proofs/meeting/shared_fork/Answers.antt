@@ -10,8 +10,7 @@ use Rattle.id_tree.proofs.ShareLemmas.{fork_balanced, fork_first, fork_second}
 use Rattle.id_tree.proofs.meeting.shared_fork.Goals as goal
 
 pub returns-then-many-count-clause-cuts : goal.returns-then-many-count-clause-cuts
-returns-then-many-count-clause-cuts g c = λ edge content d one level_is two d_level.
-    let D = g.row.D in
+returns-then-many-count-clause-cuts c = λ D edge content d one level_is two d_level.
     let level = c.args.level in
     let behind = c.with_first_key-behind.ensures.keyed D d two in
     let ys = with_key c.args.key d.links in
@@ -28,14 +27,13 @@ returns-then-many-count-clause-cuts g c = λ edge content d one level_is two d_l
     (omega (arith, count, other_count, c.requires.many))
     (omega (arith, a, b, same, count, other_count, c.requires.many))
     (omega (arith, a, count, c.if-many-count.true))
-    (λ other. c.cut_first.ensures.key content other one)
-    (c.cut_first.ensures.first content one
+    (λ other. c.cut_first.ensures.key D content other one)
+    (c.cut_first.ensures.first D content one
     ∙ ap (λ l. Some (record { level = l; links = take m content.links })) level_is)
-    (c.cut_first.ensures.second content (with_links d ys) one behind)
+    (c.cut_first.ensures.second D content (with_links d ys) one behind)
 
 pub returns-then-many-count-clause-balanced : goal.returns-then-many-count-clause-balanced
-returns-then-many-count-clause-balanced g c = λ content d one two.
-    let D = g.row.D in
+returns-then-many-count-clause-balanced c = λ D content d one two.
     let level = c.args.level in
     let behind = c.with_first_key-behind.ensures.keyed D d two in
     let ys = with_key c.args.key d.links in
@@ -51,13 +49,12 @@ returns-then-many-count-clause-balanced g c = λ content d one two.
     fork_balanced D level c.cut_first.result.first c.cut_first.result.second
     (with_links content (take m content.links))
     (record { level = level; links = drop m content.links ++ ys }) c.requires.high
-    (c.cut_first.ensures.first content one) (c.cut_first.ensures.second content (with_links d ys) one behind)
+    (c.cut_first.ensures.first D content one) (c.cut_first.ensures.second D content (with_links d ys) one behind)
     (omega (arith, front, count, other_count, c.requires.many))
     (omega (arith, sum, back, same, a, b, count, other_count, c.requires.many, c.if-many-count.true))
 
 pub returns-clause-cuts : goal.returns-clause-cuts
-returns-clause-cuts g c = λ edge content d one level_is two d_level.
-    let D = g.row.D in
+returns-clause-cuts c = λ D edge content d one level_is two d_level.
     let level = c.args.level in
     let behind = c.with_first_key-behind.ensures.keyed D d two in
     let ys = with_key c.args.key d.links in
@@ -75,14 +72,13 @@ returns-clause-cuts g c = λ edge content d one level_is two d_level.
     (omega (arith, count, other_count, c.requires.many))
     (omega (arith, a, b, same, count, other_count, c.requires.many)) n
     (omega (arith, a, count, c.if-many-count.false))
-    (λ other. c.cut_second.ensures.key (with_links d ys) other behind)
-    (c.cut_second.ensures.first content (with_links d ys) one behind
+    (λ other. c.cut_second.ensures.key D (with_links d ys) other behind)
+    (c.cut_second.ensures.first D content (with_links d ys) one behind
     ∙ ap (λ l. Some (record { level = l; links = content.links ++ take n ys })) level_is)
-    (c.cut_second.ensures.second (with_links d ys) behind)
+    (c.cut_second.ensures.second D (with_links d ys) behind)
 
 pub returns-clause-balanced : goal.returns-clause-balanced
-returns-clause-balanced g c = λ content d one two.
-    let D = g.row.D in
+returns-clause-balanced c = λ D content d one two.
     let level = c.args.level in
     let behind = c.with_first_key-behind.ensures.keyed D d two in
     let ys = with_key c.args.key d.links in
@@ -101,7 +97,7 @@ returns-clause-balanced g c = λ content d one two.
     fork_balanced D level c.cut_second.result.first c.cut_second.result.second
     (with_links content (content.links ++ take n ys)) (record { level = level; links = drop n ys })
     c.requires.high
-    (c.cut_second.ensures.first content (with_links d ys) one behind)
-    (c.cut_second.ensures.second (with_links d ys) behind)
+    (c.cut_second.ensures.first D content (with_links d ys) one behind)
+    (c.cut_second.ensures.second D (with_links d ys) behind)
     (omega (arith, sum, front, a, count, other_count, c.requires.many, c.if-many-count.false))
     (omega (arith, back, same, a, b, count, other_count, c.requires.many, c.if-many-count.false))

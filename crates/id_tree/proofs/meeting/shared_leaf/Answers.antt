@@ -2,7 +2,7 @@
 use Rattle.std.proofs.Common.{◌≡◌, ◌<◌, ◌≤◌, ◌+◌, ◌/◌, ◌++◌, length, arith}
 use Rattle.id_page.specs.Leaf.{most_objects}
 use Rattle.id_tree.specs.Halving.{under_key}
-use Rattle.id_tree.proofs.CutLemmas.{sizes}
+use Rattle.id_page.proofs.ObjectPlaces.{few_objects}
 use Rattle.id_tree.proofs.ShareLemmas.{leaf_balanced, leaf_halves, leaf_shared}
 use Rattle.id_tree.proofs.meeting.shared_leaf.Goals as goal
 
@@ -14,7 +14,7 @@ overflow_add-many g c =
       c.count_at-2.ensures.value,
       c.requires.few_one,
       c.requires.few_two,
-      (sizes g.row.D).few,
+      few_objects g.row.D,
     )
 
 pub returns-clause-cuts : goal.returns-clause-cuts
