@@ -25,9 +25,10 @@ here=$(cd "$(dirname "$0")" && pwd)
 sizes=${1:-100000} shapes=${2:-uniform} axes=${3:-2} places=${4:-memory}
 work=$(mktemp -d)
 trap 'rm -rf "$work"' EXIT
+march=$(grep -qw avx2 /proc/cpuinfo && echo x86-64-v3 || echo x86-64-v2) # as the program is built (rstore)
 for peer in sqlite spatialindex boost; do
     library=$([ $peer = boost ] || echo "-l${peer/sqlite/sqlite3}")
-    g++ -O2 -std=c++17 "-D${peer^^}" -o "$work/$peer" "$here/peers.cpp" $library 2>"$work/log" ||
+    g++ -O2 -std=c++17 "-march=$march" "-D${peer^^}" -o "$work/$peer" "$here/peers.cpp" $library 2>"$work/log" ||
         { cat "$work/log" >&2; exit 1; }
 done
 "$here/../rstore" </dev/null # proves and builds the program where needed

@@ -50,7 +50,8 @@ pub(crate) fn descend<const D: usize, B: BlockDevice, A: Allocator + Copy, H: Al
     if root.level == 0 {
         return add_sought::<D, B, A, H>(cache, root.page, query, tag, rows);
     }
-    let children = admitted_children::<D, B, A>(cache, root, query)?;
+    let mut children = ArrayVec::new();
+    find_children::<D, B, A>(cache, root, query, &mut children)?;
     for page in children.as_slice() {
         let below = Root {
             page: *page,
@@ -115,20 +116,21 @@ fn is_tagged<const D: usize>(asked: Option<u32>, entry: &Entry<D>) -> bool
     }
 }
 
-// The pages of the children of a node that are admitted, by position.
-fn admitted_children<const D: usize, B: BlockDevice, A: Allocator + Copy>(
+// Writes down the pages of the children of a node that are admitted, by position. They are answered in place, since
+// there is room for a hundred, which would be moved.
+fn find_children<const D: usize, B: BlockDevice, A: Allocator + Copy>(
     cache: &mut PageCache<B, A>,
     root: Root,
     query: &Query<D>,
-) -> Result<ArrayVec<u32, 100>, Fault>
+    children: &mut ArrayVec<u32, 100>,
+) -> Result<(), Fault>
     requires above { 0 < root.level }
     ensures asks { Asks cache.old cache.new result }
     ensures children { IsHonest cache.old → (c : NodeContent) → node_in D (pages cache.old root.page) ≡ Some c
         → c.level ≡ root.level
-        → IfOk result (λ children. children.items ≡ map reference_of (passing_entries
-        (admits query.now) c.entries)) }
-    ensures named { IsHonest cache.old → IfOk result (λ children. (c : NodeContent)
-        × (node_in D (given cache.old root.page) ≡ Some c) × All (Names c) children.items) }
+        → OnOk result (children.new.items ≡ map reference_of (passing_entries (admits query.now) c.entries)) }
+    ensures named { IsHonest cache.old → OnOk result ((c : NodeContent)
+        × (node_in D (given cache.old root.page) ≡ Some c) × All (Names c) children.new.items) }
     ensures looks { OnOk result (looks_of cache.new ≡ one_more (looks_of cache.old)) }
     ensures there { IsHonest cache.old → (c : NodeContent) → node_in D (pages cache.old root.page) ≡ Some c
         → c.level ≡ root.level → IfErr result IsOfDevice }
@@ -137,7 +139,7 @@ fn admitted_children<const D: usize, B: BlockDevice, A: Allocator + Copy>(
 {
     let node = view_node::<D, B, A>(cache, root.page, root.level)?;
     let mask = node.mask(&query.reach());
-    let mut children = ArrayVec::new();
+    children.clear();
     let count = node.len();
     let mut place = next_set(mask, 0);
     'entries: while place < count {
@@ -148,5 +150,5 @@ fn admitted_children<const D: usize, B: BlockDevice, A: Allocator + Copy>(
         }
         children.push(entry.reference as u32);
     }
-    Ok(children)
+    Ok(())
 }

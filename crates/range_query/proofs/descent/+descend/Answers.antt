@@ -45,7 +45,7 @@ returns-in_err-descend-clause-stands g t c = λ h row at.
     let guard = admits c.args.query.now in
     let above : 0 < c.args.root.level = omega (arith, c.if-root-eq0.false) in
     let named = children_named g.row.D m c.args.root.level guard row above at.below
-    ∙ sym (c.in_ok-children.ensures.children h _ at.node refl)
+    ∙ sym (c.in_ok-find_children.ensures.children h _ at.node refl)
     ∙ sym c.as_slice-page-items.ensures.value in
     let here =
     stands_here c.loop-page.invariant _ (omega (arith, c.loop-page-test.true)) refl h
@@ -68,7 +68,7 @@ returns-clause-rows g t c = λ h row at.
     let test = seeks c.args.query.now in
     let above : 0 < c.args.root.level = omega (arith, c.if-root-eq0.false) in
     let named = children_named g.row.D m c.args.root.level guard row above at.below
-    ∙ sym (c.in_ok-children.ensures.children h _ at.node refl)
+    ∙ sym (c.in_ok-find_children.ensures.children h _ at.node refl)
     ∙ sym c.as_slice-page-items.ensures.value in
     all_found c.loop-page.invariant (omega (arith, c.loop-page-test.false)) h (children_of guard row) named
     (children_stand g.row.D m c.args.root.level guard row at.below)
@@ -81,7 +81,7 @@ returns-clause-looks g t c = λ h row at.
     let guard = admits c.args.query.now in
     let above : 0 < c.args.root.level = omega (arith, c.if-root-eq0.false) in
     let named = children_named g.row.D m c.args.root.level guard row above at.below
-    ∙ sym (c.in_ok-children.ensures.children h _ at.node refl)
+    ∙ sym (c.in_ok-find_children.ensures.children h _ at.node refl)
     ∙ sym c.as_slice-page-items.ensures.value in
     all_looked c.loop-page.invariant (omega (arith, c.loop-page-test.false)) h (children_of guard row) named
     (children_stand g.row.D m c.args.root.level guard row at.below)
@@ -95,21 +95,21 @@ returns-then-root-eq0-clause-damage g t c = λ h.
     (λ f is n damaged. ([], damaged_read f c.args.root.page n is damaged))
     (c.add_sought.ensures.faults h)
 
-pub returns-in_err-children-clause-damage : goal.returns-in_err-children-clause-damage
-returns-in_err-children-clause-damage g t c = λ h.
-    at_error c.from_residual.result c.in_err-children.field-0.0
+pub returns-in_err-find_children-clause-damage : goal.returns-in_err-find_children-clause-damage
+returns-in_err-find_children-clause-damage g t c = λ h.
+    at_error c.from_residual.result c.in_err-find_children.field-0.0
     (λ f. (n : ℕ) → f ≡ fault.Damaged n → ComesTo g.row.D (given c.args.cache.now) c.args.root.page n)
     c.from_residual.ensures.1
     (λ n damaged. (
       [],
-      damaged_read c.in_err-children.field-0.0 c.args.root.page n (c.in_err-children.ensures.faults h)
+      damaged_read c.in_err-find_children.field-0.0 c.args.root.page n (c.in_err-find_children.ensures.faults h)
           damaged,
     ))
 
 pub returns-in_err-descend-clause-damage : goal.returns-in_err-descend-clause-damage
 returns-in_err-descend-clause-damage g t c = λ h.
     let asks = c.loop-page.invariant.asks in
-    let node = c.in_ok-children.ensures.named h in
+    let node = c.in_ok-find_children.ensures.named h in
     let named = subst (λ (ns : List ℕ). All (Names node.0) ns) (sym c.as_slice-page-items.ensures.value)
     node.2 in
     at_error c.from_residual-in_err-descend.result c.in_err-descend.field-0.0

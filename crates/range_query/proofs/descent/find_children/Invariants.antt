@@ -1,10 +1,10 @@
--- What holds at each turn of the loop of `admitted_children`, and that it ends.
+-- What holds at each turn of the loop of `find_children`, and that it ends.
 use Rattle.std.proofs.Common.{[], ◌-◌, ◌≤◌, length}
 use Rattle.node_bytes.specs.Views.{content_in}
 use Rattle.range_query.specs.Entries.{reference_of}
 use Rattle.box_math.specs.Queries.{admits}
 use Rattle.range_query.proofs.EntryLemmas.{Taken}
-use Rattle.range_query.proofs.descent.admitted_children.Given as goal
+use Rattle.range_query.proofs.descent.find_children.Given as goal
 
 -- the pages of the entries so far that are admitted are taken, and they are no more than these
 abbrev pub invariant-entries : goal.invariant-entries

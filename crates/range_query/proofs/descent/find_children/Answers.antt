@@ -1,4 +1,4 @@
--- The goals of `admitted_children` that are proved by hand.
+-- The goals of `find_children` that are proved by hand.
 use Rattle.std.proofs.Common.{◌≡◌, ◌∙◌, ◌+◌, ap, sym, subst, map, arith, length, []}
 use Rattle.page_cache.specs.Cache.{pages}
 use Rattle.tree_node.specs.Nodes.{Item, item_of}
@@ -9,7 +9,7 @@ use Rattle.range_query.specs.Entries.{passing_entries, reference_of}
 use Rattle.box_math.specs.Queries.{admits}
 use Rattle.range_query.proofs.EntryLemmas.{Taken, admitted_to, all_taken, none_taken, one_passed, one_taken}
 use Rattle.range_query.proofs.DamageLemmas.{taken_are_named}
-use Rattle.range_query.proofs.descent.admitted_children.Goals as goal
+use Rattle.range_query.proofs.descent.find_children.Goals as goal
 
 pub entries-init : goal.entries-init
 entries-init g c = (
@@ -17,10 +17,10 @@ entries-init g c = (
       c.in_ok-node.ensures.boxes c.mask-mask.ensures.met c.next_set-place.ensures.within
       c.next_set-place.ensures.unset
       (subst (λ xs. Taken reference_of (λ (item : Item). admits c.args.query.now item.bounds)
-      (content_in c.in_ok-node.node).entries 0 [] xs) (sym c.new-children.ensures)
+      (content_in c.in_ok-node.node).entries 0 [] xs) (sym c.clear.ensures)
       (none_taken reference_of (λ (item : Item). admits c.args.query.now item.bounds)
       (content_in c.in_ok-node.node).entries [])),
-  omega (arith, ap length c.new-children.ensures),
+  omega (arith, ap length c.clear.ensures),
 )
 
 pub entries-preserved-then-not-admits : goal.entries-preserved-then-not-admits
