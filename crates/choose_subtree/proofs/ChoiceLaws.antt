@@ -53,6 +53,13 @@ first_least-of_zero o key n b h z = record {
   first = λ j l s. h.first j l (cc);
 }
 
+-- what grows less is at most
+pub grows_less : (o g a p dims : ℕ) (items : List Item) (new : Bounds) (k position : ℕ)
+    → (o ∷ g ∷ a ∷ p ∷ []) ≡ numbers_with 0 dims items new position → g < growth_of dims (box_at items k) new
+    → AtMost (o ∷ g ∷ a ∷ p ∷ []) (numbers_with 0 dims items new k)
+grows_less o g a p dims items new k position is less = let none : o ≡ 0 = cc in
+    (omega (arith, none), λ _. (omega (arith, less), λ same. absurd (omega (arith, less, same))))
+
 -- of the first n positions the best so far is one below `count`, with its key, and none of them is less
 pub record IsBest (key : ℕ → List ℕ) (count n : ℕ) (best : List ℕ) (position : ℕ) : Type 0 where
   pub within : position < count

@@ -1,6 +1,6 @@
 -- The child that a new box goes to (Beckmann, Kriegel, Schneider and Seeger 1990; ties go to the least
 -- position, which is our rule, docs/RULES.md).
-use Rattle.std.specs.Prelude.{ℕ, ◌-◌, ◌==◌, List, [], ◌∷◌, length, if◌then◌else◌}
+use Rattle.std.specs.Prelude.{ℕ, ◌-◌, ◌<◌, ◌≤◌, ◌==◌, List, [], ◌∷◌, length, slice_index, if◌then◌else◌}
 use Rattle.box_math.specs.Bounds.{Bounds, join_of}
 use Rattle.box_math.specs.Measures.{sum_over, volume_of, overlap_of}
 use Rattle.tree_node.specs.Nodes.{Item}
@@ -32,6 +32,11 @@ area_key dims items new k = growth_of dims (box_at items k) new ∷ volume_of di
 -- before these, how much its overlap with the others grows
 abbrev pub overlap_key : ℕ → List Item → Bounds → ℕ → List ℕ
 overlap_key dims items new k = overlap_growth dims items new k ∷ area_key dims items new k
+
+-- the area of each of the first entries grows at least so much
+abbrev pub GrowSoMuch : ℕ → List Item → Bounds → ℕ → List ℕ → Type 0
+GrowSoMuch dims items new count growths = (k : ℕ) → k < count
+    → slice_index growths k ≤ growth_of dims (box_at items k) new
 
 -- what decides between the children of a node on a level: above the leaves the growth of the overlap comes
 -- first

@@ -2,24 +2,42 @@
 
 ghost use Rattle.std.specs.Prelude.{◌≡◌, ℕ, ◌<◌, ◌≤◌, All, length};
 ghost use Rattle.box_math.specs.Bounds.{IsBox};
-ghost use Rattle.choose_subtree.specs.Choice.{area_key, overlap_key, IsChosenChild};
+ghost use Rattle.choose_subtree.specs.Choice.{area_key, overlap_key, GrowSoMuch, IsChosenChild};
 ghost use Rattle.node_bytes.specs.Views.{content_in};
 ghost use Rattle.tree_node.specs.Keys.{IsFirstLeast};
 
+use crate::entries::box_in;
 use crate::holder::least_holder;
-use crate::key::{at_most, key_of};
+use crate::key::{at_most, growth_at_least, key_of};
 use crate::overlap::{overlap_growth_up_to, whole_overlap_growth};
 use box_math::BBox;
 use node_page::NodeView;
 
-// The first entry whose area grows least, and of those with equal growth the least.
+// How much the area of each entry grows at least, by place. The loop has no branches, so that several are measured
+// at once.
+fn growths_at_least<const D: usize>(node: &NodeView<D>, new: &BBox<D>) -> [u64; 100]
+    ensures { GrowSoMuch D (content_in node.now).entries new.now (length (content_in node.now).entries) result }
+{
+    let mut growths = [0u64; 100];
+    for place in 0..node.len() {
+        growths[place] = growth_at_least(&box_in(node, place), new);
+    }
+    growths
+}
+
+// The first entry whose area grows least, and of those with equal growth the least. In two axes most are passed over
+// by what 64 bits hold.
 fn least_area<const D: usize>(node: &NodeView<D>, new: &BBox<D>) -> usize
     requires some { 0 < length (content_in node.now).entries }
     ensures { IsFirstLeast (length (content_in node.now).entries)
         (area_key D (content_in node.now).entries new.now) result }
 {
+    let growths = growths_at_least(node, new);
     let mut best = key_of(node, new, 0, 0);
     for k in 1..node.len() {
+        if D == 2 && best.growth < u128::from(growths[k]) {
+            continue;
+        }
         let key = key_of(node, new, k, 0);
         if !at_most(&best, &key) {
             best = key;

@@ -1,6 +1,6 @@
 //! What decides between the entries of a node.
 
-ghost use Rattle.std.specs.Prelude.{◌≡◌, ℕ, ◌^◌, ◌<◌, ◌↔◌, List, length, IsTrue};
+ghost use Rattle.std.specs.Prelude.{◌≡◌, ℕ, ◌-◌, ◌^◌, ◌<◌, ◌≤◌, ◌↔◌, List, length, IsTrue};
 ghost use Rattle.box_math.specs.Bounds.{IsDims};
 ghost use Rattle.box_math.specs.Measures.{volume_of};
 ghost use Rattle.choose_subtree.specs.Choice.{numbers_of, growth_of};
@@ -30,6 +30,26 @@ fn growth<const D: usize>(a: &BBox<D>, b: &BBox<D>) -> u128
     let joined = a.join(b);
     let _ = a.low();
     joined.volume() - a.volume()
+}
+
+// The number, or the greatest of 64 bits where it is above that.
+fn in_64_bits(number: u128) -> u64
+    ensures exact { number < 2 ^ 64 → result ≡ number }
+    ensures greatest { 2 ^ 64 ≤ number → result ≡ 2 ^ 64 - 1 }
+{
+    number.min(u128::from(u64::MAX)) as u64
+}
+
+/// How much the area of a box grows at least where it takes in another: just so much where 64 bits hold both
+/// areas, as they do in two axes.
+#[inline]
+pub(crate) fn growth_at_least<const D: usize>(a: &BBox<D>, b: &BBox<D>) -> u64
+    requires { IsDims D }
+    ensures { result ≤ growth_of D a.now b.now }
+{
+    let joined = a.join(b);
+    let _ = a.low();
+    in_64_bits(joined.volume()) - in_64_bits(a.volume())
 }
 
 /// Whether a key is at most another.

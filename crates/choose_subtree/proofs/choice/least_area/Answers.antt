@@ -4,7 +4,7 @@ use Rattle.node_bytes.specs.Views.{content_in}
 use Rattle.choose_subtree.specs.declared.key.Key.{Key}
 use Rattle.choose_subtree.specs.Choice.{numbers_with, numbers_of}
 use Rattle.choose_subtree.proofs.ChoiceLaws.{IsBest, best_of_one, best_keeps, best_takes}
-use Rattle.choose_subtree.proofs.ChoiceLaws.{first_least-of_best_area}
+use Rattle.choose_subtree.proofs.ChoiceLaws.{first_least-of_best_area, grows_less}
 use Rattle.choose_subtree.proofs.choice.least_area.Goals as goal
 use Rattle.choose_subtree.proofs.choice.least_area.Goals.{then-not-at_most, else-not-at_most}
 
@@ -13,6 +13,22 @@ loop-k-init g c =
     best_of_one (numbers_with 0 g.row.D (content_in c.args.node.now).entries c.args.new.now)
     (length (content_in c.args.node.now).entries) _ _ c.requires.some (ap (λ (x : Key). x.position) c.key_of-best.ensures)
     (ap numbers_of c.key_of-best.ensures)
+
+pub loop-k-preserved-then-best-from : goal.loop-k-preserved-then-best-from
+loop-k-preserved-then-best-from g c =
+    let items = (content_in c.args.node.now).entries in
+    let new = c.args.new.now in
+    let k = c.loop-k.k in
+    let best = c.loop-k.best in
+    let least = c.loop-k.invariant in
+    best_keeps (numbers_with 0 g.row.D items new) (length items) k (numbers_of best) best.position least
+    (grows_less best.overlap best.growth best.area best.position g.row.D items new k best.position least.is
+    (omega (
+      arith,
+      c.if-best-from.true,
+      c.from.ensures,
+      c.growths_at_least-growths.ensures k (omega (arith, c.loop-k-test.true, c.len-k-end.ensures.count)),
+    )))
 
 pub loop-k-preserved : goal.loop-k-preserved
 loop-k-preserved g c =
