@@ -33,7 +33,7 @@ use Rattle.condense.specs.Spelled.{HasLevel, HasPlace, KeepsNodes}
 use Rattle.condense.specs.Taken.{LeadsTo, TookBelow, held_now, tree_at}
 use Rattle.condense.specs.declared.hand.Became.{Became}
 use Rattle.condense.specs.declared.hand.Next.{Next}
-use Rattle.condense.specs.declared.kept.Kept.{Kept}
+use Rattle.condense.specs.declared.kept.Orphans.{Orphans}
 
 -- ---- a node
 
@@ -105,12 +105,12 @@ pub record Alters {D : ℕ} {B A : Type 0} {m : _} (most place : ℕ) (after : L
 -- The child in a place, below which the object was taken out, leaves the node, or its box there is made
 -- least, or this was refused.
 pub record PutsChild {D : ℕ} {B A : Type 0} {m : _} (most : ℕ) (at : Root) (next : Next) (became : Became D)
-    (old new : PageCache B A m) (hand hand' : Node D) (kept kept' : Kept D)
+    (old new : PageCache B A m) (hand hand' : Node D) (kept kept' : Orphans D)
     (result : Result (Became D) Fault) : Type 0 where
   pub changes : Changes old new result
   pub grows : Grows 0 old new
   pub cut : IfOk result (IsFewInHand most at.level hand')
-  pub room : array_vec_len kept'.orphans ≤ array_vec_len kept.orphans + 39
+  pub room : array_vec_len kept'.list ≤ array_vec_len kept.list + 39
   pub taken : IsPageMap old → (above : LeadsDown D (pages old) at next)
       → IsStill most next.below.page next.below.level (pages old) became
       → (m m1 : PageMap) (id : ℕ) (removed : Object) (row : Row) (held : List Held) (lower : List Item)
@@ -129,7 +129,7 @@ pub record PutsChild {D : ℕ} {B A : Type 0} {m : _} (most : ℕ) (at : Root) (
   pub faults : IsPageMap old → LeadsDown D (pages old) at next
       → IsStill most next.below.page next.below.level (pages old) became → IfErr result IsOfDevice
   pub touched : IsPageMap old → IsLive old next.below.page
-      → OnOk result ((kept'.orphans.items ≡ kept.orphans.items) ⊎ (touched_of new ≡ true))
+      → OnOk result ((kept'.list.items ≡ kept.list.items) ⊎ (touched_of new ≡ true))
   pub other_faults : IfErr result (λ f. IsOfDevice f ⊎ IsDamage f)
 
 -- ---- a tree
@@ -137,14 +137,14 @@ pub record PutsChild {D : ℕ} {B A : Type 0} {m : _} (most : ℕ) (at : Root) (
 -- The object was taken out below a node, where a leaf there has it, or this was refused: the answer is what
 -- the node has become, where one has it.
 pub record TakesOutBelow {D : ℕ} {B A : Type 0} {m : _} (most : ℕ) (at : Root) (id : ℕ) (object : Object)
-    (old new : PageCache B A m) (kept kept' : Kept D) (hand : Node D)
+    (old new : PageCache B A m) (kept kept' : Orphans D) (hand : Node D)
     (result : Result (Option (Became D)) Fault) : Type 0 where
   pub changes : Changes old new result
   pub grows : Grows 0 old new
   pub cut : IfOk result (λ found. IfSome found (IsFewInHand most at.level hand))
-  pub room : array_vec_len kept'.orphans ≤ array_vec_len kept.orphans + 39 * at.level
+  pub room : array_vec_len kept'.list ≤ array_vec_len kept.list + 39 * at.level
   pub none : IfOk result (λ found. IfNone found
-      (AsksUntil old new None × (kept'.orphans.items ≡ kept.orphans.items)))
+      (AsksUntil old new None × (kept'.list.items ≡ kept.list.items)))
   pub taken : IsPageMap old → (row : Row) → Stands D (pages old) (tree_at at row)
       → IfOk result (λ found. IfSome found
       (HasBecome most (pages old) (pages new) at id object row (held_now kept) (held_now kept') hand))
@@ -157,7 +157,7 @@ pub record TakesOutBelow {D : ℕ} {B A : Type 0} {m : _} (most : ℕ) (at : Roo
   pub stays : IsPageMap old → IfOk result (λ found. IfSome found
       (StaysAbove most at (pages old) (pages new)))
   pub touched : IsPageMap old → IfOk result (λ found. IfSome found
-      (λ _. (kept'.orphans.items ≡ kept.orphans.items) ⊎ (touched_of new ≡ true)))
+      (λ _. (kept'.list.items ≡ kept.list.items) ⊎ (touched_of new ≡ true)))
   pub damage : IsPageMap old
       → IfErr result (λ f. (n : ℕ) → f ≡ fault.Damaged n → ComesTo D (given old) at.page n)
   pub other_faults : IfErr result (λ f. IsOfDevice f ⊎ IsDamage f)

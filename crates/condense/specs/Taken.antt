@@ -14,7 +14,7 @@ use Rattle.node_page.specs.Parts.{Moves}
 use Rattle.node_page.specs.Standing.{PageMap, RowStands, Stands}
 use Rattle.reinsert.specs.Children.{Child, child_at}
 use Rattle.reinsert.specs.Placed.{Held, held_in}
-use Rattle.condense.specs.declared.kept.Kept.{Kept}
+use Rattle.condense.specs.declared.kept.Orphans.{Orphans}
 use Rattle.condense.specs.declared.kept.Orphan.{Orphan}
 use Rattle.condense.specs.Removal.{Condensed, TakesOut}
 
@@ -27,8 +27,8 @@ tree_at root row = record { page = root.page; level = root.level; row = row }
 abbrev pub orphan_held : {D : ℕ} → Orphan D → Held
 orphan_held orphan = record { item = item_of orphan.entry; level = orphan.level }
 
-abbrev pub held_now : {D : ℕ} → Kept D → List Held
-held_now kept = map orphan_held kept.orphans.items
+abbrev pub held_now : {D : ℕ} → Orphans D → List Held
+held_now kept = map orphan_held kept.list.items
 
 -- ---- nodes in hand
 

@@ -14,7 +14,7 @@ ghost use Rattle.condense.specs.Filled.{CanFill, CanFillShaped, FillsTo};
 ghost use Rattle.condense.specs.Removed.{IsRoot};
 ghost use Rattle.condense.specs.Taken.{held_now};
 
-use crate::kept::Kept;
+use crate::kept::Orphans;
 use block_device::BlockDevice;
 use page_cache::PageCache;
 use page_file::Fault;
@@ -28,13 +28,13 @@ pub(crate) fn insert_kept<const D: usize, B: BlockDevice, A: Allocator + Copy>(
     root: Root,
     fanout: Fanout,
     waiting: &mut Waiting<D>,
-    kept: &mut Kept<D>,
+    kept: &mut Orphans<D>,
 ) -> Result<Root, Fault>
     requires root { IsRoot root }
     ensures changes { Changes cache.old cache.new result }
-    ensures grows { Grows (most_new_pages * array_vec_len kept.old.orphans) cache.old cache.new }
+    ensures grows { Grows (most_new_pages * array_vec_len kept.old.list) cache.old cache.new }
     ensures root { IfOk result IsRoot }
-    ensures none { kept.old.orphans.items ≡ [] → (result ≡ Ok root) × AsksUntil cache.old cache.new None }
+    ensures none { kept.old.list.items ≡ [] → (result ≡ Ok root) × AsksUntil cache.old cache.new None }
     ensures filled { IsPageMap cache.old → (t : Tree) (ws : List Waiter) (elsewhere : ℕ → ℕ)
         → CanFill D (pages cache.old) root t ws elsewhere (held_now kept.old)
         → IfOk result (λ after. IsPageMap cache.new

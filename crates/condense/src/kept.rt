@@ -6,6 +6,7 @@ ghost use Rattle.node_bytes.specs.Layout.{IsOfLevel};
 
 mod list;
 
+use crate::hand::InHand;
 use arrayvec::ArrayVec;
 use tree_node::Entry;
 
@@ -16,12 +17,20 @@ pub(crate) struct Orphan<const D: usize> {
     pub(crate) level: u8,
 }
 
-/// Room for all entries that a removal keeps: at most 39 of each of 40 levels. It serves one removal after
-/// the other.
+/// All entries that a removal keeps: at most 39 of each of 40 levels.
+#[derive(Drop)]
+pub(crate) struct Orphans<const D: usize> {
+    // the first to be inserted is the last
+    list: ArrayVec<Orphan<D>, 1560>,
+    pub ghost dims: { IsDims D },
+    ghost refers: { All (λ o. IsOfLevel o.level o.entry.reference o.entry.tag) list.items },
+}
+
+/// Room for what a removal keeps to insert it again, and for the node that it has in hand. It serves one removal
+/// after the other.
 #[derive(Drop)]
 pub struct Kept<const D: usize> {
-    // the first to be inserted is the last
-    orphans: ArrayVec<Orphan<D>, 1560>,
+    pub(crate) orphans: Orphans<D>,
+    pub(crate) hand: InHand<D>,
     pub ghost dims: { IsDims D },
-    ghost refers: { All (λ o. IsOfLevel o.level o.entry.reference o.entry.tag) orphans.items },
 }

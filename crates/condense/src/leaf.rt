@@ -4,7 +4,7 @@ ghost use Rattle.std.specs.Prelude.{◌≡◌, ◌<◌, ℕ, IfNone, IfSome, len
 ghost use Rattle.tree_node.specs.Nodes.{Item};
 ghost use Rattle.node_bytes.specs.Views.{content_in};
 ghost use Rattle.condense.specs.Steps.{FindsHere, TakesOutBelow};
-ghost use Rattle.condense.specs.declared.kept.Kept.{Kept};
+ghost use Rattle.condense.specs.declared.kept.Orphans.{Orphans};
 
 use crate::cut::take_at;
 use crate::hand::Became;
@@ -68,7 +68,7 @@ pub(crate) fn take_here<const D: usize, B: BlockDevice, A: Allocator + Copy>(
     hand: &mut Node<D>,
 ) -> Result<Option<Became<D>>, Fault>
     requires leaf { at.level ≡ 0 }
-    ensures { (kept : Kept D) → TakesOutBelow fanout.most at object.now.reference
+    ensures { (kept : Orphans D) → TakesOutBelow fanout.most at object.now.reference
         (object.now.bounds, object.now.tag) cache.old cache.new kept kept hand.new result }
 {
     let Some(place) = find_here(cache, at.page, object)? else {

@@ -12,7 +12,7 @@ ghost use Rattle.condense.specs.declared.hand.Became.TheVariants as became;
 
 use crate::cut::{set_least, take_at};
 use crate::hand::{Became, Descent};
-use crate::kept::Kept;
+use crate::kept::Orphans;
 use block_device::BlockDevice;
 use node_page::read_into;
 use page_cache::PageCache;
@@ -27,12 +27,12 @@ pub(crate) fn put_child<const D: usize, B: BlockDevice, A: Allocator + Copy>(
     step: Descent,
     child: &Became<D>,
     fanout: Fanout,
-    kept: &mut Kept<D>,
+    kept: &mut Orphans<D>,
     hand: &mut Node<D>,
 ) -> Result<Became<D>, Fault>
     requires is_next { IsNext step.at step.next }
     requires cut { IsFewInHand fanout.most step.next.below.level hand.old child.now }
-    requires room { array_vec_len kept.old.orphans + 39 ≤ 1560 }
+    requires room { array_vec_len kept.old.list + 39 ≤ 1560 }
     ensures { PutsChild fanout.most step.at step.next child.now cache.old cache.new hand.old hand.new kept.old
         kept.new
         result }
@@ -49,11 +49,11 @@ fn leave_read<const D: usize, B: BlockDevice, A: Allocator + Copy>(
     cache: &mut PageCache<B, A>,
     step: Descent,
     fanout: Fanout,
-    kept: &mut Kept<D>,
+    kept: &mut Orphans<D>,
     hand: &mut Node<D>,
 ) -> Result<Became<D>, Fault>
     requires is_next { IsNext step.at step.next }
-    requires room { array_vec_len kept.old.orphans + 39 ≤ 1560 }
+    requires room { array_vec_len kept.old.list + 39 ≤ 1560 }
     ensures { PutsChild fanout.most step.at step.next became.Few cache.old cache.new hand.old hand.new
         kept.old kept.new
         result }
@@ -71,13 +71,13 @@ fn leave_out<const D: usize, B: BlockDevice, A: Allocator + Copy>(
     cache: &mut PageCache<B, A>,
     step: Descent,
     fanout: Fanout,
-    kept: &mut Kept<D>,
+    kept: &mut Orphans<D>,
     hand: &mut Node<D>,
 ) -> Result<Became<D>, Fault>
     requires is_next { IsNext step.at step.next }
     requires cut { IsCut step.next.below.level (content_of hand.old) }
     requires few { array_vec_len hand.old.entries < Shape.least_entries fanout.most }
-    requires room { array_vec_len kept.old.orphans + 39 ≤ 1560 }
+    requires room { array_vec_len kept.old.list + 39 ≤ 1560 }
     ensures { PutsChild fanout.most step.at step.next became.Unwritten cache.old cache.new hand.old hand.new
         kept.old kept.new result }
 {

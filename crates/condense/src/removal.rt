@@ -24,10 +24,9 @@ ghost use Rattle.condense.specs.Taken.{IsCut, held_now};
 
 use crate::fill::insert_kept;
 use crate::hand::InHand;
-use crate::kept::Kept;
+use crate::kept::{Kept, Orphans};
 use crate::lower::give_way;
 use crate::take::take_out;
-use arrayvec::ArrayVec;
 use block_device::BlockDevice;
 use node_page::write_node;
 use page_cache::PageCache;
@@ -83,19 +82,14 @@ pub fn remove_with<const D: usize, B: BlockDevice, A: Allocator + Copy>(
     ensures { Removes D fanout.most root object.now.reference (object.now.bounds, object.now.tag)
         cache.old cache.new result }
 {
-    kept.begin();
-    let mut hand = InHand {
-        node: Node {
-            level: 0,
-            entries: ArrayVec::new(),
-        },
-        settled: false,
-    };
-    let Some(became) = take_out(cache, root, object, fanout, kept, &mut hand.node)? else {
+    let orphans = &mut kept.orphans;
+    let hand = &mut kept.hand;
+    orphans.begin();
+    let Some(became) = take_out(cache, root, object, fanout, orphans, &mut hand.node)? else {
         return Err(Fault::Damaged(root.page));
     };
     hand.settled = became.is_written();
-    put_root(cache, root, &hand, fanout, waiting, kept)
+    put_root(cache, root, hand, fanout, waiting, orphans)
 }
 
 // Writes what the root has become, where it is not settled, inserts what is kept, and lets the root give way.
@@ -105,12 +99,12 @@ fn put_root<const D: usize, B: BlockDevice, A: Allocator + Copy>(
     hand: &InHand<D>,
     fanout: Fanout,
     waiting: &mut Waiting<D>,
-    kept: &mut Kept<D>,
+    kept: &mut Orphans<D>,
 ) -> Result<Root, Fault>
     requires root { IsRoot root }
     requires cut { hand.now.settled ≡ false → IsCut root.level (content_of hand.now.node) }
     ensures changes { Changes cache.old cache.new result }
-    ensures grows { Grows (most_new_pages * array_vec_len kept.old.orphans) cache.old cache.new }
+    ensures grows { Grows (most_new_pages * array_vec_len kept.old.list) cache.old cache.new }
     ensures root { IfOk result IsRoot }
     ensures removed { IsPageMap cache.old → IsLive cache.old root.page → (m m1 : PageMap) (t : Tree)
         (elsewhere : ℕ → ℕ) (id : ℕ) (removed : Object) (items : List Item)
@@ -125,7 +119,7 @@ fn put_root<const D: usize, B: BlockDevice, A: Allocator + Copy>(
         → HasShape D fanout.most t → RowHasBoxes D t.row
         → IfErr result (IsNoDamage cache.new) }
     ensures damage { IsPageMap cache.old → IsLive cache.old root.page
-        → (kept.old.orphans.items ≡ []) ⊎ (touched_of cache.old ≡ true) → touched_of cache.new ≡ false
+        → (kept.old.list.items ≡ []) ⊎ (touched_of cache.old ≡ true) → touched_of cache.new ≡ false
         → IfErr result (λ f. IsOfDevice f ⊎ (f ≡ fault.Damaged root.page)) }
     ensures number { IsPageMap cache.old → IsLive cache.old root.page → IfErr result NamesInRange }
     ensures other_faults { IfErr result IsChangeFault }

@@ -5,7 +5,7 @@ ghost use Rattle.arrayvec.specs.ArrayVec.{array_vec_len};
 ghost use Rattle.condense.specs.Steps.{TakesOutBelow};
 
 use crate::hand::{Became, Descent};
-use crate::kept::Kept;
+use crate::kept::Orphans;
 use crate::leaf::take_here;
 use crate::look::next_child;
 use crate::put::put_child;
@@ -25,10 +25,10 @@ pub(crate) fn take_out<const D: usize, B: BlockDevice, A: Allocator + Copy>(
     at: Root,
     object: &Entry<D>,
     fanout: Fanout,
-    kept: &mut Kept<D>,
+    kept: &mut Orphans<D>,
     hand: &mut Node<D>,
 ) -> Result<Option<Became<D>>, Fault>
-    requires room { array_vec_len kept.old.orphans + 39 * at.level ≤ 1560 }
+    requires room { array_vec_len kept.old.list + 39 * at.level ≤ 1560 }
     ensures { TakesOutBelow fanout.most at object.now.reference (object.now.bounds, object.now.tag)
         cache.old cache.new kept.old kept.new hand.new result }
 {

@@ -24,8 +24,8 @@ use crate::parting::{append_from, append_under, fork_beyond, fork_upto, key_with
 use block_bytes::zero_block;
 use block_device::BlockDevice;
 use id_page::{
-    MOST_CHILDREN, append_links, append_objects, count_at, dims_at, key_at, objects_that_fit, set_key,
-    start_leaf,
+    MOST_CHILDREN, append_links, append_objects, count_at, dims_at, key_at, objects_that_fit,
+    set_key, start_leaf,
 };
 use page_cache::PageCache;
 use page_file::Fault;

@@ -17,17 +17,17 @@ abbrev pub invariant-inserting : goal.invariant-inserting
 invariant-inserting g l =
     ChangesUntil l.fn.cache l.cache None
     × IsRoot l.now
-    × (array_vec_len l.kept.orphans ≤ array_vec_len l.fn.kept.orphans)
-    × Grows (most_new_pages * (array_vec_len l.fn.kept.orphans - array_vec_len l.kept.orphans)) l.fn.cache
+    × (array_vec_len l.kept.list ≤ array_vec_len l.fn.kept.list)
+    × Grows (most_new_pages * (array_vec_len l.fn.kept.list - array_vec_len l.kept.list)) l.fn.cache
     l.cache
     × (IsPageMap l.fn.cache → (t : Tree) (ws : List Waiter) (elsewhere : ℕ → ℕ)
     → CanFill g.row.D (pages l.fn.cache) l.fn.root t ws elsewhere (held_now l.fn.kept)
     → IsPageMap l.cache
     × Filled g.row.D l.fn.fanout.most (pages l.fn.cache) (pages l.cache) t ws elsewhere l.now
     (held_now l.kept))
-    × (l.fn.kept.orphans.items ≡ [] → (l.kept.orphans.items ≡ []) × (l.now ≡ l.fn.root)
+    × (l.fn.kept.list.items ≡ [] → (l.kept.list.items ≡ []) × (l.now ≡ l.fn.root)
     × AsksUntil l.fn.cache l.cache None)
     × (IsPageMap l.fn.cache → IsPageMap l.cache)
 
 abbrev pub decreases-inserting : goal.decreases-inserting
-decreases-inserting g l = array_vec_len l.kept.orphans
+decreases-inserting g l = array_vec_len l.kept.list

@@ -144,7 +144,7 @@ returns-clause-other_faults g c =
 pub returns-in_err-filled-clause-damage : goal.returns-in_err-filled-clause-damage
 returns-in_err-filled-clause-damage g c = λ h live either none.
     ⊎_elim
-    (λ (empty : c.args.kept.now.orphans.items ≡ []).
+    (λ (empty : c.args.kept.now.list.items ≡ []).
     let is = (c.in_err-filled.ensures.none empty).0 in absurd (cc))
     (λ (touched : touched_of c.args.cache.now ≡ true).
     let still =
@@ -158,7 +158,7 @@ returns-clause-damage g c = λ h live either none.
     c.in_ok-filled.ensures.changes.honest.0
     (c.in_ok-write_root.ensures.changes.honest.0 h.honest) in
     ⊎_elim
-    (λ (empty : c.args.kept.now.orphans.items ≡ []).
+    (λ (empty : c.args.kept.now.list.items ≡ []).
     let is = (c.in_ok-filled.ensures.none empty).0 in
     let same : c.in_ok-filled.filled ≡ c.args.root = cc in
     subst (λ (root : Root). IfErr c.give_way.result (λ f. IsOfDevice f ⊎ (f ≡ Damaged root.page))) same

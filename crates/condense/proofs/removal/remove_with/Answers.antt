@@ -93,9 +93,9 @@ put_root-requires g c =
     let few : IsFewInHand c.args.fanout.most c.args.root.level hand became =
     subst (λ o. IfSome o (IsFewInHand c.args.fanout.most c.args.root.level hand)) c.in-Some.is
     c.in_ok-became.ensures.cut in
-    let cut : c.is_written.result ≡ false → IsCut c.args.root.level (content_of hand) = λ unwritten.
+    let cut : c.is_written-hand.result ≡ false → IsCut c.args.root.level (content_of hand) = λ unwritten.
     cut_in_hand c.args.fanout.most c.args.root.level hand became few
-    (sym c.is_written.ensures ∙ unwritten) in (
+    (sym c.is_written-hand.ensures ∙ unwritten) in (
       search rules,
       (search rules, (search rules, (c.requires.root, cut))),
     )
@@ -140,9 +140,9 @@ returns g c =
           put.removed (sound h) (live h) (pages old) d.between t elsewhere c.args.object.now.reference
           (c.args.object.now.bounds, c.args.object.now.tag) d.items took d.others (
             λ settled. in_page most (pages low page) root.level d.items hand became d.now
-                (sym c.is_written.ensures ∙ settled),
+                (sym c.is_written-hand.ensures ∙ settled),
             λ unwritten. in_hand most (pages low page) root.level d.items hand became d.now
-                (sym c.is_written.ensures ∙ unwritten),
+                (sym c.is_written-hand.ensures ∙ unwritten),
           );
       shape = λ h t elsewhere can shape boxes.
           let d = done h t (stands_there D (pages old) root t can.at can.stands) in
@@ -157,9 +157,9 @@ returns g c =
           (put.removed (sound h) (live h) (pages old) d.between t elsewhere c.args.object.now.reference
           (c.args.object.now.bounds, c.args.object.now.tag) d.items took d.others (
             λ settled. in_page most (pages low page) root.level d.items hand became d.now
-                (sym c.is_written.ensures ∙ settled),
+                (sym c.is_written-hand.ensures ∙ settled),
             λ unwritten. in_hand most (pages low page) root.level d.items hand became d.now
-                (sym c.is_written.ensures ∙ unwritten),
+                (sym c.is_written-hand.ensures ∙ unwritten),
           ));
       absent = λ h t elsewhere can lacks.
           let d = done h t (stands_there D (pages old) root t can.at can.stands) in
@@ -176,16 +176,16 @@ returns g c =
           put.faults (sound h) (live h) (pages old) d.between t elsewhere c.args.object.now.reference
           (c.args.object.now.bounds, c.args.object.now.tag) d.items took d.others (
             λ settled. in_page most (pages low page) root.level d.items hand became d.now
-                (sym c.is_written.ensures ∙ settled),
+                (sym c.is_written-hand.ensures ∙ settled),
             λ unwritten. in_hand most (pages low page) root.level d.items hand became d.now
-                (sym c.is_written.ensures ∙ unwritten),
+                (sym c.is_written-hand.ensures ∙ unwritten),
           ) shape boxes;
       damage = λ h none.
           let either =
-          subst (λ o. IfSome o (λ _. (c.take_out.new.kept.orphans.items ≡ c.begin.new.self.orphans.items)
+          subst (λ o. IfSome o (λ _. (c.take_out.new.kept.list.items ≡ c.begin.new.self.list.items)
           ⊎ (touched_of low ≡ true))) c.in-Some.is (ok.touched h) in
           let kept = ⊎_elim
-          (λ (same : c.take_out.new.kept.orphans.items ≡ c.begin.new.self.orphans.items).
+          (λ (same : c.take_out.new.kept.list.items ≡ c.begin.new.self.list.items).
           inl (same ∙ c.begin.ensures))
           (λ (touched : touched_of low ≡ true). inr touched)
           either in

@@ -368,11 +368,11 @@ returns-in-children g t c =
       touched = λ h.
           let live = page_of_node D (pages low next.below.page) (stays h).still.node (stays h).still.there in
           let either =
-          subst (λ o. IfSome o (λ _. (c.take_out.new.kept.orphans.items ≡ c.children.kept.orphans.items)
+          subst (λ o. IfSome o (λ _. (c.take_out.new.kept.list.items ≡ c.children.kept.list.items)
           ⊎ (touched_of low ≡ true))) c.in-Some-2.is (ok.touched (walked.map.sound.0 h)) in
           ⊎_elim
-          (λ (same : c.put_child.new.kept.orphans.items ≡ c.take_out.new.kept.orphans.items). ⊎_elim
-          (λ (before : c.take_out.new.kept.orphans.items ≡ c.children.kept.orphans.items).
+          (λ (same : c.put_child.new.kept.list.items ≡ c.take_out.new.kept.list.items). ⊎_elim
+          (λ (before : c.take_out.new.kept.list.items ≡ c.children.kept.list.items).
           inl (same ∙ before ∙ c.children.invariant.1))
           (λ (touched : touched_of low ≡ true). inr (put.changes.touched touched))
           either)

@@ -16,7 +16,7 @@ decreases-take_out g l = l.at.level
 abbrev pub invariant-children : goal.invariant-children
 invariant-children g l =
     AsksUntil l.fn.cache l.cache None
-    × (l.kept.orphans.items ≡ l.fn.kept.orphans.items)
+    × (l.kept.list.items ≡ l.fn.kept.list.items)
     × (l.from ≤ 100)
     × (IsPageMap l.fn.cache → (row : Row) → Stands g.row.D (pages l.fn.cache) (tree_at l.fn.at row)
     → LeadsTo g.row.D l.fn.object.reference (l.fn.object.bounds, l.fn.object.tag) row

@@ -6,7 +6,7 @@ use Rattle.node_bytes.specs.Layout.{IsOfLevel}
 use Rattle.reinsert.proofs.WaitLemmas.{All-one}
 use Rattle.condense.specs.declared.kept.Orphan.{Orphan}
 use Rattle.condense.proofs.KeptLemmas.{held_more}
-use Rattle.condense.proofs.kept.Kept.keep.Goals as goal
+use Rattle.condense.proofs.kept.Orphans.keep.Goals as goal
 
 pub push-requires : goal.push-requires
 push-requires g c = (
@@ -35,7 +35,7 @@ invariant_of-self g c =
     record {
       dims = c.loop-passed.self.dims;
       refers = subst (λ xs. All P xs) (sym c.push.ensures.items)
-          (All-append P c.loop-passed.self.orphans.items (record { entry = e; level = c.args.level } ∷ [])
+          (All-append P c.loop-passed.self.list.items (record { entry = e; level = c.args.level } ∷ [])
           c.loop-passed.self.refers (All-one P (record { entry = e; level = c.args.level }) one));
     }
 
@@ -46,7 +46,7 @@ loop-passed-preserved g c =
     let this : e ≡ get_or entries (length entries - 1 - c.loop-passed.passed) e =
     c.index-deref-len.is ∙ ap (λ xs. get_or xs (c.len.result - 1 - c.loop-passed.passed) e) c.deref.ensures.0
     ∙ ap (λ (n : ℕ). get_or entries (n - 1 - c.loop-passed.passed) e) c.len.ensures.value in (
-      held_more c.args.self.now.orphans.items c.loop-passed.self.orphans.items c.push.new.self.items entries
+      held_more c.args.self.now.list.items c.loop-passed.self.list.items c.push.new.self.items entries
           c.args.level c.loop-passed.passed e
           c.loop-passed.invariant.0 c.push.ensures.items
           (omega (arith, c.loop-passed-test.true, c.len-passed-end.ensures.value)) this,
