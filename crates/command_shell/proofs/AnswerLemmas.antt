@@ -16,9 +16,8 @@ use Rattle.command_shell.specs.Meanings.{Meaning}
 use Rattle.command_shell.specs.Meanings.Meaning.{Means, Bad, Blank}
 use Rattle.command_shell.specs.Serving.{WroteAs}
 use Rattle.command_shell.specs.Strict.{TellsCalls, TellsRefusal}
-use Rattle.command_shell.specs.Texts.{answer_text, reply_answer}
+use Rattle.command_shell.specs.Texts.{answer_text}
 use Rattle.command_shell.specs.Writing.{Writes}
-use Rattle.command_shell.specs.declared.replies.Reply.{Reply}
 use Rattle.command_shell.proofs.CommandLemmas.{append_none}
 use Rattle.command_shell.proofs.SessionLemmas.{appends_none}
 
@@ -48,24 +47,24 @@ pub replied_blank : (So : List Request → List Answer → Type 0) (m : Meaning)
 replied_blank So m e so =
     record { requests = []; asked = subst (λ x. AsksAlone x []) (sym e) refl; lawful = so }
 
-pub wrote_reply : {A E T : Type 0} (r : Reply A) (a b : Option (List ℕ)) (result : Result T E)
-    → Writes a b result (answer_text (reply_answer r)) → WroteAs a b result (reply_answer r ∷ [])
-wrote_reply r a b (Ok u) h = rw append_none h
-wrote_reply r a b (Err e) h =
-    record { before = []; last = reply_answer r; are = refl; shown = h.0; is_part = h.1; written = h.2 }
+pub wrote_answer : {E T : Type 0} (answer : Answer) (a b : Option (List ℕ)) (result : Result T E)
+    → Writes a b result (answer_text answer) → WroteAs a b result (answer ∷ [])
+wrote_answer answer a b (Ok u) h = rw append_none h
+wrote_answer answer a b (Err e) h =
+    record { before = []; last = answer; are = refl; shown = h.0; is_part = h.1; written = h.2 }
 
--- a reply was written
-pub written : {A E : Type 0} (m : Meaning) (So : List Request → List Answer → Type 0)
-    (w w' : Option (List ℕ)) (r : Reply A) (result : Result (Option Refusal) E)
-    → Replies m So (reply_answer r ∷ []) → Writes w w' result (answer_text (reply_answer r))
-    → TellsRefusal result (reply_answer r ∷ []) → AnswersLine m (TellsCalls result So) w w' result
-written m So w w' r result h k tells =
+-- an answer was written
+pub written : {E : Type 0} (m : Meaning) (So : List Request → List Answer → Type 0)
+    (w w' : Option (List ℕ)) (answer : Answer) (result : Result (Option Refusal) E)
+    → Replies m So (answer ∷ []) → Writes w w' result (answer_text answer)
+    → TellsRefusal result (answer ∷ []) → AnswersLine m (TellsCalls result So) w w' result
+written m So w w' answer result h k tells =
     record {
       requests = h.requests;
       asked = h.asked;
-      answers = reply_answer r ∷ [];
+      answers = answer ∷ [];
       lawful = record { lawful = h.lawful; tells = tells };
-      written = wrote_reply r w w' result k;
+      written = wrote_answer answer w w' result k;
     }
 
 -- there was no reply to write

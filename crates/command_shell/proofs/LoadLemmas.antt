@@ -30,7 +30,7 @@ use Rattle.command_shell.specs.declared.session.RunEnd.{RunEnd}
 use Rattle.command_shell.specs.declared.session.RunEnd.TheVariants.{Finished, ReadFault, WriteFault}
 use Rattle.command_shell.specs.declared.session.Stepped.{Stepped}
 use Rattle.command_shell.specs.declared.session.Stepped.TheVariants.{End}
-use Rattle.command_shell.proofs.AnswerLemmas.{wrote_reply}
+use Rattle.command_shell.proofs.AnswerLemmas.{wrote_answer}
 use Rattle.command_shell.proofs.CommandLemmas.{lines_of-line, lines_of-whole}
 use Rattle.command_shell.proofs.ReadLemmas.{reads_more}
 use Rattle.command_shell.proofs.SessionLemmas.{IsOneWhereRefused, serves_kept, serves_none, steps_after}
@@ -119,7 +119,7 @@ loads_full So r0 r1 r2 w w1 w2 unread mid left first text layer count lines fron
     result e
     (reads_more ended r0 r1 r2 unread mid left (first ++ newline ∷ []) text p q)
     (asks_load ended first text layer count one means all) so
-    (wrote_reply reply w w2 result
+    (wrote_answer (reply_answer reply) w w2 result
     (writes_after w w1 w2 result (answer_text (reply_answer reply)) kept written)) tells
     (λ _. load_counted first text count lines one all is)
     (load_refused front first text layer count _ (reply_answer reply) one means front_is)
@@ -140,7 +140,7 @@ loads_short So r0 r1 r2 w w1 w2 unread mid left first text layer count lines fro
     (reply_answer reply ∷ []) front lines true step result e
     (reads_more true r0 r1 r2 unread mid left (first ++ newline ∷ []) text p q)
     (asks_short first text layer count one means few) so
-    (wrote_reply reply w w2 result
+    (wrote_answer (reply_answer reply) w w2 result
     (writes_after w w1 w2 result (answer_text (reply_answer reply)) kept written)) tells
     (λ more. absurd (cc))
     (load_refused front first text layer count BadCommand (reply_answer reply) one means front_is)

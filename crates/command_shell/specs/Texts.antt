@@ -99,7 +99,6 @@ reply_answer (reply.Boxes rows) = Boxes (map row_of rows.items)
 reply_answer (reply.Count n) = Counted n
 reply_answer (reply.Distances rows) = Distances rows.items
 reply_answer (reply.Pairs rows) = Pairs rows.items
-reply_answer (reply.Layers layers) = Listed (map line_of_layer layers.items)
 reply_answer (reply.Dump rows) = Dumped (map line_of_row rows.items)
 
 -- what the program says where its store was refused: at its making, or at its closing

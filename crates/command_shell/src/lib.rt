@@ -28,7 +28,7 @@ pub use in_memory::answers_to;
 pub use parse::{Line, MAX_LINE, parse_entry, parse_line};
 pub use program::{Ended, run_and_close, tell_refusal};
 pub use refused::{LineFront, RefusedLine, Stop};
-pub use replies::{Reply, write_reply};
+pub use replies::{Reply, write_layers, write_reply};
 pub use reply_line::put;
 pub use session::{LinesEnd, RunEnd, run, run_strictly};
 pub use strict::{Outcome, Settled, run_strictly_and_close};

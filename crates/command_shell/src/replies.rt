@@ -1,21 +1,23 @@
 //! Replies, and the texts that are written for them.
 #![tactic(auto, using(crate::proofs::WriteLemmas::writing))]
 
-ghost use Rattle.std.specs.Prelude.{◌++◌};
+ghost use Rattle.std.specs.Prelude.{◌++◌, map};
+ghost use Rattle.plain_table.specs.Answers.{line_of_layer};
+ghost use Rattle.plain_table.specs.Step.Answer.{Listed};
 ghost use Rattle.command_shell.specs.Texts.{refusal_text, count_text, number_text};
 ghost use Rattle.command_shell.specs.Texts.{answer_text, reply_answer};
 ghost use Rattle.command_shell.specs.Writing.{Writes};
 
 use crate::reply_line::{ReplyLine, put};
 use crate::rows::{write_count, write_rows};
-use arrayvec::ArrayVec;
 use layer_store::{AnyBox, Refusal};
-use plain_table::{DumpRow, LayerInfo, MOST_LAYERS};
+use plain_table::{DumpRow, LayerInfo};
 use std::alloc::{Allocator, Global};
 use std::io;
 use std::io::Write;
 
-/// What a command line is answered (docs/COMMANDS.md).
+/// What a command line is answered (docs/COMMANDS.md), but for a listing of the layers: `write_layers` writes that where
+/// it is, and no reply has room for it.
 #[derive(Drop)]
 pub enum Reply<A: Allocator = Global> {
     /// A change was made.
@@ -32,8 +34,6 @@ pub enum Reply<A: Allocator = Global> {
     Distances(Vec<(u64, u128), A>),
     /// The pairs of a join: their identifiers.
     Pairs(Vec<(u64, u64), A>),
-    /// The layers.
-    Layers(ArrayVec<LayerInfo, MOST_LAYERS>),
     /// The lines of a dump.
     Dump(Vec<DumpRow, A>),
 }
@@ -52,9 +52,16 @@ pub fn write_reply<A: Allocator, W: Write>(reply: &Reply<A>, writer: &mut W) -> 
         Reply::Count(count) => write_counted(writer, *count),
         Reply::Distances(rows) => write_rows(writer, rows),
         Reply::Pairs(rows) => write_rows(writer, rows),
-        Reply::Layers(layers) => write_rows(writer, layers.as_slice()),
         Reply::Dump(rows) => write_rows(writer, rows),
     }
+}
+
+/// Writes the text of a listing of the layers, as `write_reply` does that of a reply.
+pub fn write_layers<W: Write>(layers: &[LayerInfo], writer: &mut W) -> io::Result<()>
+    ensures { Writes (W.contents writer.old) (W.contents writer.new) result
+        (answer_text (Listed (map line_of_layer layers.now))) }
+{
+    write_rows(writer, layers)
 }
 
 // Writes the line of a refusal.

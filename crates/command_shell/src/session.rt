@@ -1,6 +1,6 @@
 //! The session of a reader's lines with a store, and how it ends.
 
-ghost use Rattle.std.specs.Prelude.{◌≡◌, ◌<◌, ◌≤◌, ◌++◌, ◌∷◌, [], ℕ, false, List, Option, None};
+ghost use Rattle.std.specs.Prelude.{◌≡◌, ◌≢◌, ◌<◌, ◌≤◌, ◌++◌, ◌∷◌, [], ℕ, false, List, Option, None};
 ghost use Rattle.std.specs.Prelude.{MatchResult, OnErr, IfSome};
 ghost use Rattle.std.specs.Io.KnownBytes.{Keeps};
 ghost use Rattle.plain_table.specs.Answers.{done_answer, object_answer, boxes_answer, count_answer};
@@ -19,7 +19,8 @@ ghost use Rattle.command_shell.specs.Entries.{objects_in};
 ghost use Rattle.command_shell.specs.Gathering.{IsGathered};
 ghost use Rattle.command_shell.specs.Lines.{IsOneLine, newline};
 ghost use Rattle.command_shell.specs.Meanings.{meaning_of};
-ghost use Rattle.command_shell.specs.Meanings.Meaning.{Loads};
+ghost use Rattle.command_shell.specs.Meanings.Meaning.{Loads, Means};
+ghost use Rattle.plain_table.specs.Commands.Command.{Layers};
 ghost use Rattle.command_shell.specs.Pending.{AreCounted, pending, work_left};
 ghost use Rattle.command_shell.specs.Reading.{BeginsLine, IsReadersFault, Reads, ReadsTo};
 ghost use Rattle.command_shell.specs.Runs.{IfOn, Runs, RunsOnceChecked, StepsTo};
@@ -36,12 +37,12 @@ use crate::lines::{Found, LineReader};
 use crate::loading::{Gathered, Gathering, gather};
 use crate::parse::{Line, parse_line};
 use crate::refused::{LineFront, RefusedLine, Stop};
-use crate::replies::{Reply, write_reply};
+use crate::replies::{Reply, write_layers, write_reply};
 use arrayvec::ArrayVec;
 use block_device::BlockDevice;
 use layer_store::{AnyBox, Refusal, Store};
 use plain_table::{DumpRow, LayerInfo, MOST_LAYERS};
-use std::alloc::Allocator;
+use std::alloc::{Allocator, Global};
 use std::io;
 use std::io::Write;
 
@@ -407,9 +408,30 @@ fn answer<D: BlockDevice, A: Allocator + Copy, W: Write>(
     ensures { AnswersLine (said line.entry) (TellsCalls result (Calls store.old store.new))
         (W.contents output.old) (W.contents output.new) result }
 {
+    if let Line::Layers = line {
+        return give_layers(store.layers(), output);
+    }
     match reply_to(store, line) {
         None => Ok(None),
         Some(reply) => give(&reply, output),
+    }
+}
+
+// Writes what the outcome of a listing is answered, and tells the refusal that it is, if it is one.
+fn give_layers<W: Write>(
+    outcome: Result<ArrayVec<LayerInfo, MOST_LAYERS>, Refusal>,
+    output: &mut W,
+) -> io::Result<Option<Refusal>>
+    ensures written { Writes (W.contents output.old) (W.contents output.new) result
+        (answer_text (layers_answer outcome)) }
+    ensures tells { TellsRefusal result (layers_answer outcome ∷ []) }
+{
+    match outcome {
+        Ok(layers) => match write_layers(layers.as_slice(), output) {
+            Ok(()) => Ok(None),
+            Err(error) => Err(error),
+        },
+        Err(refusal) => give(&Reply::<Global>::Refused(refusal), output),
     }
 }
 
@@ -435,12 +457,13 @@ fn refusal_in<A: Allocator>(reply: &Reply<A>) -> Option<Refusal>
     }
 }
 
-// The reply to a line, if it has one.
+// The reply to a line, if it has one. A listing of the layers has none here.
 fn reply_to<D: BlockDevice, A: Allocator + Copy>(
     store: &mut Store<D, A>,
     line: Line<'_>,
 ) -> Option<Reply<A>>
-    requires { IsPlain (said line) }
+    requires plain { IsPlain (said line) }
+    requires unlisted { said line ≢ Means Layers }
     ensures replies { Replies (said line.entry) (Calls store.old store.new) (reply_answers result) }
     ensures checked { D.honest (device_in store.old) →
         SaysChecked (said line.entry) store.old store.new (reply_answers result) }
@@ -475,7 +498,7 @@ fn reply_to<D: BlockDevice, A: Allocator + Copy>(
             second,
             within,
         } => Some(pairs_reply(store.join(first, second, within))),
-        Line::Layers => Some(layers_reply(store.layers())),
+        Line::Layers => None,
         Line::Dump => Some(dump_reply(store.dump())),
         Line::Check => Some(change_reply(store.check())),
         Line::Reopen => Some(change_reply(store.reopen())),
@@ -538,18 +561,6 @@ fn pairs_reply<A: Allocator>(outcome: Result<Vec<(u64, u64), A>, Refusal>) -> Re
 {
     match outcome {
         Ok(pairs) => Reply::Pairs(pairs),
-        Err(refusal) => Reply::Refused(refusal),
-    }
-}
-
-// The reply that the outcome of a listing is.
-fn layers_reply<A: Allocator>(
-    outcome: Result<ArrayVec<LayerInfo, MOST_LAYERS>, Refusal>,
-) -> Reply<A>
-    ensures { reply_answer result ≡ layers_answer outcome }
-{
-    match outcome {
-        Ok(layers) => Reply::Layers(layers),
         Err(refusal) => Reply::Refused(refusal),
     }
 }

@@ -1,8 +1,7 @@
 //! The texts of replies: of all refusals, and of numbers that no store reaches. Others stand with the worked
 //! rows.
 
-use arrayvec::ArrayVec;
-use command_shell::{Reply, write_reply};
+use command_shell::{Reply, write_layers, write_reply};
 use layer_store::Refusal;
 use plain_table::{LayerInfo, LayerName};
 use std::alloc::Global;
@@ -47,18 +46,16 @@ const COUNTS: [(u64, &[u8]); 2] = [
 // The longest row of a layer, of a name of 24 bytes.
 const LAYER: &[u8] = b"ok 1\nabcdefghijklmnopqrstuvwx 3 100 18446744073709551615\n";
 
-// The reply with that row.
-fn longest_layer() -> Reply {
+// The layer of that row.
+fn longest_layer() -> LayerInfo {
     let mut name = LayerName::new();
     let _ = name.try_extend_from_slice(b"abcdefghijklmnopqrstuvwx");
-    let mut layers = ArrayVec::new();
-    layers.push(LayerInfo {
+    LayerInfo {
         name,
         dims: 3,
         fanout: 100,
         count: u64::MAX,
-    });
-    Reply::Layers(layers)
+    }
 }
 
 // Whether the reply's text is this one.
@@ -79,7 +76,9 @@ fn first_other(alloc: Global) -> Option<&'static [u8]> {
             return Some(text);
         }
     }
-    if is_written(alloc, &longest_layer(), LAYER) {
+    let mut listed = Vec::new(alloc);
+    let written = write_layers(&[longest_layer()], &mut listed);
+    if written.is_ok() && listed.as_slice() == LAYER {
         None
     } else {
         Some(LAYER)

@@ -1,7 +1,7 @@
 -- The goals of `write_reply` that are proved by hand.
 use Rattle.std.proofs.Common.{◌≡◌, ◌∙◌, ℕ, List, ◌++◌, length, map, flat_map, ap, refl, sym, subst}
-use Rattle.plain_table.specs.Answers.{line_of_layer, line_of_row, row_of}
-use Rattle.command_shell.specs.Texts.{answer_text, count_text, dump_text, layer_text, reply_answer, row_text}
+use Rattle.plain_table.specs.Answers.{line_of_row, row_of}
+use Rattle.command_shell.specs.Texts.{answer_text, count_text, dump_text, reply_answer, row_text}
 use Rattle.command_shell.specs.Writing.{Writes}
 use Rattle.command_shell.specs.declared.replies.Reply.{Reply}
 use Rattle.command_shell.proofs.WriteLemmas.{mapped_rows}
@@ -22,13 +22,6 @@ returns-in-Boxes g c =
     (g.W.Write.contents c.write_rows-in-Boxes.new.writer) c.write_rows-in-Boxes.result)
     (rows_told row_of row_text c.deref.result.now c.in-Boxes.rows.items c.args.reply.now _
     c.deref.ensures.value c.in-Boxes.is refl) c.write_rows-in-Boxes.ensures
-
-pub returns-in-Layers : goal.returns-in-Layers
-returns-in-Layers g c =
-    subst (Writes (g.W.Write.contents c.args.writer.now)
-    (g.W.Write.contents c.write_rows-in-Layers.new.writer) c.write_rows-in-Layers.result)
-    (rows_told line_of_layer layer_text c.as_slice.result.now c.in-Layers.layers.items c.args.reply.now _
-    c.as_slice.ensures.value c.in-Layers.is refl) c.write_rows-in-Layers.ensures
 
 pub returns-in-Dump : goal.returns-in-Dump
 returns-in-Dump g c =

@@ -5,7 +5,7 @@ use Rattle.command_shell.specs.Said.{said}
 use Rattle.command_shell.specs.TextCommands.{AreCommands, AsksAlone}
 use Rattle.command_shell.specs.TextCommands.AreCommands.{none, one}
 use Rattle.command_shell.specs.Texts.{reply_answer}
-use Rattle.command_shell.proofs.AnswerLemmas.{wrote_reply}
+use Rattle.command_shell.proofs.AnswerLemmas.{wrote_answer}
 use Rattle.command_shell.proofs.CommandLemmas.{append_none}
 use Rattle.command_shell.proofs.session.answer_last.Goals as goal
 
@@ -17,7 +17,7 @@ returns-in-Load g c = λ text is. let k =
       answers = reply_answer c.last_load_reply-reply.result ∷ [];
       lawful = record { lawful = (_, k.step, refl); tells = c.give.ensures.tells };
       written =
-          wrote_reply c.last_load_reply-reply.result (g.W.Write.contents c.args.output.now)
+          wrote_answer (reply_answer c.last_load_reply-reply.result) (g.W.Write.contents c.args.output.now)
           (g.W.Write.contents c.give.new.output) c.give.result c.give.ensures.written;
     }
 

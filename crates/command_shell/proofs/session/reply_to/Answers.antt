@@ -1,9 +1,9 @@
 -- The goals of `reply_to` that are proved by hand.
 use Rattle.std.proofs.Common.{◌≡◌, [], ◌∷◌, Result, Ok, Err, ap, refl, subst}
 use Rattle.plain_table.specs.Answers.{done_answer, object_answer, boxes_answer, count_answer}
-use Rattle.plain_table.specs.Answers.{distances_answer, dump_answer, layers_answer, pairs_answer}
+use Rattle.plain_table.specs.Answers.{distances_answer, dump_answer, pairs_answer}
 use Rattle.plain_table.specs.Commands.Command.{Create, Insert, Move, Delete, Drop, Get, Count, Range, Nearest}
-use Rattle.plain_table.specs.Commands.Command.{Join, Layers, Dump, Check, Reopen}
+use Rattle.plain_table.specs.Commands.Command.{Join, Dump, Check, Reopen}
 use Rattle.plain_table.specs.Step.{Answer}
 use Rattle.plain_table.specs.Step.Answer.{Done}
 use Rattle.plain_table.specs.declared.refusal.Refusal.{Refusal}
@@ -131,9 +131,7 @@ returns-in-Join-clause-replies g c =
     (_, asked_by_question (λ e. absurd (cc)) c.join.ensures.answers, refl)
 
 pub returns-in-Layers-clause-replies : goal.returns-in-Layers-clause-replies
-returns-in-Layers-clause-replies g c =
-    replied _ _ Layers (layers_answer c.layers.result) _ (ap said c.in-Layers.is) c.layers_reply.ensures
-    (_, asked_by_question (λ e. absurd (cc)) c.layers.ensures.answers, refl)
+returns-in-Layers-clause-replies g c = absurd (c.requires.unlisted (ap said c.in-Layers.is))
 
 pub returns-in-Dump-clause-replies : goal.returns-in-Dump-clause-replies
 returns-in-Dump-clause-replies g c =
@@ -146,7 +144,7 @@ returns-in-Check-clause-replies g c =
     (_, asked_by_check c.check.ensures.answers c.check.ensures.sound c.check.ensures.begins, refl)
 
 pub returns-in-Load-clause-replies : goal.returns-in-Load-clause-replies
-returns-in-Load-clause-replies g c = absurd (subst IsPlain (ap said c.in-Load.is) c.requires)
+returns-in-Load-clause-replies g c = absurd (subst IsPlain (ap said c.in-Load.is) c.requires.plain)
 
 pub returns-in-Check-clause-checked : goal.returns-in-Check-clause-checked
 returns-in-Check-clause-checked g c = λ honest asks answered.
