@@ -13,8 +13,8 @@ use crate::overlap::{overlap_growth_up_to, whole_overlap_growth};
 use box_math::BBox;
 use node_page::NodeView;
 
-// How much the area of each entry grows at least, by place. The loop has no branches, so that several are measured
-// at once.
+// How much the area of each entry grows at least, by place. The loop has no branches, so that several are
+// measured at once.
 fn growths_at_least<const D: usize>(node: &NodeView<D>, new: &BBox<D>) -> [u64; 100]
     ensures { GrowSoMuch D (content_in node.now).entries new.now (length (content_in node.now).entries) result }
 {
@@ -25,8 +25,8 @@ fn growths_at_least<const D: usize>(node: &NodeView<D>, new: &BBox<D>) -> [u64; 
     growths
 }
 
-// The first entry whose area grows least, and of those with equal growth the least. In two axes most are passed over
-// by what 64 bits hold.
+// The first entry whose area grows least, and of those with equal growth the least. In two axes most are
+// passed over by what 64 bits hold.
 fn least_area<const D: usize>(node: &NodeView<D>, new: &BBox<D>) -> usize
     requires some { 0 < length (content_in node.now).entries }
     ensures { IsFirstLeast (length (content_in node.now).entries)

@@ -16,8 +16,8 @@ use std::alloc::{Allocator, Global};
 use std::io;
 use std::io::Write;
 
-/// What a command line is answered (docs/COMMANDS.md), but for a listing of the layers: `write_layers` writes that where
-/// it is, and no reply has room for it.
+/// What a command line is answered (docs/COMMANDS.md), but for a listing of the layers: `write_layers` writes
+/// that where it is, and no reply has room for it.
 #[derive(Drop)]
 pub enum Reply<A: Allocator = Global> {
     /// A change was made.

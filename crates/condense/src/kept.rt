@@ -26,8 +26,8 @@ pub(crate) struct Orphans<const D: usize> {
     ghost refers: { All (λ o. IsOfLevel o.level o.entry.reference o.entry.tag) list.items },
 }
 
-/// Room for what a removal keeps to insert it again, and for the node that it has in hand. It serves one removal
-/// after the other.
+/// Room for what a removal keeps to insert it again, and for the node that it has in hand. It serves one
+/// removal after the other.
 #[derive(Drop)]
 pub struct Kept<const D: usize> {
     pub(crate) orphans: Orphans<D>,

@@ -116,8 +116,8 @@ fn is_tagged<const D: usize>(asked: Option<u32>, entry: &Entry<D>) -> bool
     }
 }
 
-// Writes down the pages of the children of a node that are admitted, by position. They are answered in place, since
-// there is room for a hundred, which would be moved.
+// Writes down the pages of the children of a node that are admitted, by position. They are answered in
+// place: there is room for a hundred, which would be moved.
 fn find_children<const D: usize, B: BlockDevice, A: Allocator + Copy>(
     cache: &mut PageCache<B, A>,
     root: Root,
