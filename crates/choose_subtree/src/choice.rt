@@ -16,7 +16,8 @@ use node_page::NodeView;
 // How much the area of each entry grows at least, by place. The loop has no branches, so that several are
 // measured at once.
 fn growths_at_least<const D: usize>(node: &NodeView<D>, new: &BBox<D>) -> [u64; 100]
-    ensures { GrowSoMuch D (content_in node.now).entries new.now (length (content_in node.now).entries) result }
+    ensures { GrowSoMuch D (content_in node.now).entries new.now (length (content_in node.now).entries)
+        result }
 {
     let mut growths = [0u64; 100];
     for place in 0..node.len() {
