@@ -1,7 +1,7 @@
 //! What decides between the entries of a node.
 
 ghost use Rattle.std.specs.Prelude.{◌≡◌, ℕ, ◌-◌, ◌^◌, ◌<◌, ◌≤◌, ◌↔◌, List, length, IsTrue};
-ghost use Rattle.box_math.specs.Bounds.{IsDims};
+ghost use Rattle.box_math.specs.Bounds.{IsDims, join_of};
 ghost use Rattle.box_math.specs.Measures.{volume_of};
 ghost use Rattle.choose_subtree.specs.Choice.{numbers_of, growth_of};
 ghost use Rattle.node_bytes.specs.Views.{content_in};
@@ -45,7 +45,8 @@ fn in_64_bits(number: u128) -> u64
 #[inline]
 pub(crate) fn growth_at_least<const D: usize>(a: &BBox<D>, b: &BBox<D>) -> u64
     requires { IsDims D }
-    ensures { result ≤ growth_of D a.now b.now }
+    ensures least { result ≤ growth_of D a.now b.now }
+    ensures exact { volume_of D (join_of D a.now b.now) < 2 ^ 64 → result ≡ growth_of D a.now b.now }
 {
     let joined = a.join(b);
     let _ = a.low();

@@ -14,8 +14,8 @@ use crate::objects::{has_leaf_head, id_at, object_at, object_place, write_object
 use block_bytes::{write_head, write_u16};
 use box_math::BBox;
 
-/// Whether the page is a leaf of that dimension: its kind is 9, its count at most the most that fit, and no
-/// object has a low above its high.
+/// Whether the page is a leaf of that dimension, which is 2 or 3: its kind is 9, its count at most the most
+/// that fit, and no object has a low above its high.
 pub fn is_leaf<const D: usize>(page: &[u8; 4096]) -> bool
     ensures { IsTrue result ↔ IsSome (leaf_at D page.now) }
 {

@@ -29,3 +29,19 @@ overflow_sub-result g c =
     ))
     (λ (wider : 2 ^ 64 ≤ wide). omega (arith, c.in_64_bits.ensures.greatest wider))
     (cases_lt wide (2 ^ 64))
+
+pub returns-clause-exact : goal.returns-clause-exact
+returns-clause-exact g c = λ fits.
+    let D = g.row.D in
+    let a = c.args.a.now in
+    let wide = ap (volume_of D) c.join-joined.ensures.value in
+    let grown = volume_of-grows D a (join_of D a c.args.b.now) c.low.ensures.is_box
+    (join_of-encloses D a c.args.b.now).0 in
+    omega (
+      arith,
+      wide,
+      c.volume.ensures.value,
+      c.volume-2.ensures.value,
+      c.in_64_bits.ensures.exact (omega (arith, fits, wide, c.volume.ensures.value)),
+      c.in_64_bits-2.ensures.exact (omega (arith, fits, grown, c.volume-2.ensures.value)),
+    )
