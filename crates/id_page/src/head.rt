@@ -30,6 +30,7 @@ pub fn count_at(page: &[u8; 4096]) -> usize
 /// The dimension that the page says it is of: its byte 1.
 #[inline]
 pub fn dims_at(page: &[u8; 4096]) -> u8
+    ensures value { result ≡ number_at 1 1 page.now }
     ensures of_leaf { (dims : ℕ) (objects : List Entry) → leaf_at dims page.now ≡ Some objects
         → result ≡ dims }
     ensures of_fork { (dims : ℕ) (c : ForkContent) → fork_at dims page.now ≡ Some c → result ≡ dims }
