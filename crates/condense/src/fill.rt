@@ -27,7 +27,7 @@ pub(crate) fn insert_kept<const D: usize, B: BlockDevice, A: Allocator + Copy>(
     cache: &mut PageCache<B, A>,
     root: Root,
     fanout: Fanout,
-    waiting: &mut Waiting<D>,
+    waiting: &mut Waiting<D, A>,
     kept: &mut Orphans<D>,
 ) -> Result<Root, Fault>
     requires root { IsRoot root }

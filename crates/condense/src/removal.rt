@@ -31,7 +31,7 @@ use block_device::BlockDevice;
 use node_page::write_node;
 use page_cache::PageCache;
 use page_file::Fault;
-use reinsert::Waiting;
+use reinsert::{Waiting, fits_in_memory};
 use std::alloc::Allocator;
 use tree_node::{Entry, Fanout, Node, Root};
 
@@ -51,8 +51,8 @@ use tree_node::{Entry, Fanout, Node, Root};
 /// Whatever nodes the pages are, where the map is sound `Damaged` names a page from 3 to 2^31 - 1. Where the
 /// cache is not touched after it, that is one that a walk down the nodes comes to; else it may be that of a
 /// node that came meanwhile.
-pub fn remove<const D: usize, B: BlockDevice, A: Allocator + Copy, H: Allocator + Copy>(
-    alloc: H,
+pub fn remove<const D: usize, B: BlockDevice, A: Allocator + Copy>(
+    alloc: A,
     cache: &mut PageCache<B, A>,
     root: Root,
     object: &Entry<D>,
@@ -63,25 +63,30 @@ pub fn remove<const D: usize, B: BlockDevice, A: Allocator + Copy, H: Allocator 
     ensures { Removes D fanout.most root object.now.reference (object.now.bounds, object.now.tag)
         cache.old cache.new result }
 {
-    let mut waiting = Waiting::make(alloc)?;
+    // always so, and known when this is compiled
+    if !fits_in_memory::<Waiting<D, A>>() {
+        return Err(Fault::Memory);
+    }
+    let mut waiting = Waiting::new(alloc);
     let mut kept = Kept::make(alloc)?;
     remove_with(cache, root, object, fanout, &mut waiting, &mut kept)
 }
 
-/// Removes an object as `remove` does, and takes no memory but what the cache takes. The `Waiting` and the
-/// `Kept` serve again afterwards, also after a refusal.
+/// Removes an object as `remove` does. The `Waiting` and the `Kept` serve again afterwards, also after a
+/// refusal; before the first write the `Waiting` gets room for insertions into a tree one level higher.
 pub fn remove_with<const D: usize, B: BlockDevice, A: Allocator + Copy>(
     cache: &mut PageCache<B, A>,
     root: Root,
     object: &Entry<D>,
     fanout: Fanout,
-    waiting: &mut Waiting<D>,
+    waiting: &mut Waiting<D, A>,
     kept: &mut Kept<D>,
 ) -> Result<Root, Fault>
     requires root { IsRoot root }
     ensures { Removes D fanout.most root object.now.reference (object.now.bounds, object.now.tag)
         cache.old cache.new result }
 {
+    waiting.make_room(root.level + 1)?;
     let orphans = &mut kept.orphans;
     let hand = &mut kept.hand;
     orphans.begin();
@@ -98,7 +103,7 @@ fn put_root<const D: usize, B: BlockDevice, A: Allocator + Copy>(
     root: Root,
     hand: &InHand<D>,
     fanout: Fanout,
-    waiting: &mut Waiting<D>,
+    waiting: &mut Waiting<D, A>,
     kept: &mut Orphans<D>,
 ) -> Result<Root, Fault>
     requires root { IsRoot root }

@@ -28,7 +28,7 @@ pub fn insert<const D: usize, B: BlockDevice, A: Allocator + Copy>(
     cache: &mut PageCache<B, A>,
     layer: Layer,
     object: &ObjectAt<D>,
-    waiting: &mut Waiting<D>,
+    waiting: &mut Waiting<D, A>,
 ) -> Result<Root, Fault>
     requires root { CanBeRoot layer.root }
     ensures changes { Changes cache.old cache.new result }

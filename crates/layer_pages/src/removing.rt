@@ -32,7 +32,7 @@ pub fn remove<const D: usize, B: BlockDevice, A: Allocator + Copy>(
     cache: &mut PageCache<B, A>,
     layer: Layer,
     object: &ObjectAt<D>,
-    waiting: &mut Waiting<D>,
+    waiting: &mut Waiting<D, A>,
     kept: &mut Kept<D>,
 ) -> Result<Root, Fault>
     requires root { CanBeRoot layer.root }

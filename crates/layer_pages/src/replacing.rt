@@ -35,7 +35,7 @@ pub fn replace<const D: usize, B: BlockDevice, A: Allocator + Copy>(
     layer: Layer,
     object: &ObjectAt<D>,
     new: &BBox<D>,
-    waiting: &mut Waiting<D>,
+    waiting: &mut Waiting<D, A>,
     kept: &mut Kept<D>,
 ) -> Result<Root, Fault>
     requires root { CanBeRoot layer.root }

@@ -42,7 +42,7 @@ free_below-le zero called = omega arith
 free_below-le (suc top) called = omega (arith, free_below-le top called, is_free-le called top)
 
 -- a level that was called now is called, also above all that the list has
-called_now : (called : List Bool) (level : ℕ) → is_called (set called level true) level ≡ true
+pub called_now : (called : List Bool) (level : ℕ) → is_called (set called level true) level ≡ true
 called_now [] level = refl
 called_now (b ∷ bs) zero = refl
 called_now (b ∷ bs) (suc level) = called_now bs level

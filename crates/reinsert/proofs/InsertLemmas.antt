@@ -22,16 +22,17 @@ use Rattle.node_page.specs.Changes.{AllWait}
 use Rattle.node_page.proofs.PartLemmas.{there_not_missing, none_or_some, moves_same, moves_in_turn}
 use Rattle.reinsert.specs.declared.settled.Settled.{Settled}
 use Rattle.reinsert.specs.declared.waiting.Wait.{Wait}
-use Rattle.reinsert.specs.Called.{none_called}
+use Rattle.reinsert.specs.Called.{called_from}
 use Rattle.reinsert.specs.Children.{occurs_at, Child, boxed}
 use Rattle.reinsert.specs.Placing.{State, Placing, IsRootAfter}
-use Rattle.reinsert.specs.Insertion.{Placings, at_first}
+use Rattle.reinsert.specs.Insertion.{Placings}
 use Rattle.reinsert.specs.Placed.{Held, held_of, held_in, Holds, BesideStands, occurs_beside, occurs_after}
 use Rattle.reinsert.specs.Placed.{CanPlace, PlacesTo, ComesIn}
 use Rattle.reinsert.specs.Inserted.{IsRootOf, CanInsert, InsertsTo, IsAt, StepsTo, occurs_in_state}
 use Rattle.reinsert.proofs.StandLemmas.{zero_there, one_at_most, moves_with, rest_same, rest_once}
 use Rattle.reinsert.proofs.SettledLemmas.{AllWait_frame, of_sum, hit_live, waiting_live, outcome_live}
 use Rattle.reinsert.proofs.PlaceLemmas.{AllWait-append}
+use Rattle.reinsert.proofs.FromLemmas.{at_begin, insertion_from}
 
 -- ---- the placings so far
 
@@ -89,12 +90,12 @@ nothing_left (w ∷ ws) h =
     (h ∙ reverse-append (held_in w ∷ []) (map held_in ws)))
 
 -- where nothing waits, the entry is inserted
-pub inserted_end : {D : ℕ} (dims most level : ℕ) (elsewhere : ℕ → ℕ) (m m' : PageMap) (t : Tree)
-    (branch : Branch) (root : Root) (waits : List (Wait D)) (called : List Bool)
-    → Reached dims most elsewhere m m' (at_first t branch level) root waits called → waits ≡ []
-    → InsertsTo dims most m m' level t branch elsewhere root
-inserted_end dims most level elsewhere m m' t branch root waits called h none =
-    let s : State = at_first t branch level in
+pub inserted_end : {D : ℕ} (dims most top level : ℕ) (elsewhere : ℕ → ℕ) (m m' : PageMap) (t : Tree)
+    (branch : Branch) (root : Root) (waits : List (Wait D)) (called : List Bool) → top ≤ 41
+    → t.level ≡ top → Reached dims most elsewhere m m' (at_begin top t branch level) root waits called
+    → waits ≡ [] → InsertsTo dims most m m' level t branch elsewhere root
+inserted_end dims most top level elsewhere m m' t branch root waits called low high h none =
+    let s : State = at_begin top t branch level in
     let left : h.last.waiting ≡ [] =
     nothing_left h.last.waiting (sym (ap (map held_of) none) ∙ h.isat.holds) in
     let last : h.last ≡ record { tree = h.last.tree; waiting = []; called = h.last.called } =
@@ -109,19 +110,16 @@ inserted_end dims most level elsewhere m m' t branch root waits called h none =
       stands =
           record { root = h.isat.there; below = h.isat.below; distinct = λ n. omega (arith, h.isat.apart n) };
       insertion =
-          record {
-            count = h.count;
-            called = h.last.called;
-            placed = subst (λ x. Placings dims most elsewhere h.count s x) last h.run;
-          };
+          insertion_from dims most top level elsewhere branch t h.last.tree h.last.called h.count low high
+          (subst (λ x. Placings dims most elsewhere h.count s x) last h.run);
       moves = moves_same m m' _ _ _ _ (λ n. omega arith) counts h.moves;
     }
 
 -- the entry alone waits
-pub begun : {D : ℕ} (dims : ℕ) (m : PageMap) (root : Root) (first : Wait D) (t : Tree) (branch : Branch)
+pub begun : {D : ℕ} (dims top : ℕ) (m : PageMap) (root : Root) (first : Wait D) (t : Tree) (branch : Branch)
     (elsewhere : ℕ → ℕ) → CanInsert dims m root (item_of first.entry) first.level t branch elsewhere
-    → IsAt dims m root (first ∷ []) none_called elsewhere (at_first t branch first.level)
-begun dims m root first t branch elsewhere can = record {
+    → IsAt dims m root (first ∷ []) (called_from top) elsewhere (at_begin top t branch first.level)
+begun dims top m root first t branch elsewhere can = record {
   at = can.at;
   there = can.stands.root;
   below = can.stands.below;

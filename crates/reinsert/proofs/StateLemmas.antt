@@ -12,11 +12,12 @@ use Rattle.node_page.specs.Changes.{AllWait}
 use Rattle.node_page.specs.Standing.{PageMap, Stands}
 use Rattle.node_page.proofs.StandingBoxes.{child_pages_are_references}
 use Rattle.reinsert.specs.Inserted.{IsAt}
-use Rattle.reinsert.specs.Insertion.{Placings, at_first}
+use Rattle.reinsert.specs.Insertion.{Placings}
 use Rattle.reinsert.specs.Kept.{AllHaveShape, EntryHasShape, StateHasShape}
 use Rattle.reinsert.specs.Placed.{CanPlace, HasFewEntries, Held}
 use Rattle.reinsert.specs.Placing.{State}
 use Rattle.reinsert.specs.declared.waiting.Wait.{Wait}
+use Rattle.reinsert.proofs.FromLemmas.{at_begin}
 use Rattle.reinsert.proofs.InsertLemmas.{ready}
 use Rattle.reinsert.proofs.LevelLemmas.{shape_bounds_level}
 use Rattle.reinsert.proofs.ShapeLemmas.{placing_keeps_loose_shape}
@@ -33,10 +34,10 @@ placings_keep_shape dims most elsewhere (suc count) old new h enough shape =
     (placing_keeps_loose_shape dims most elsewhere old h.0 h.1 enough shape)
 
 -- the state at first
-pub first_has_shape : (dims most level : ℕ) (t : Tree) (branch : Branch) → level ≤ t.level
+pub first_has_shape : (dims most top level : ℕ) (t : Tree) (branch : Branch) → level ≤ t.level
     → HasLooseShape dims most t → RowHasBoxes dims t.row → EntryHasShape dims most level branch
-    → StateHasShape dims most (at_first t branch level)
-first_has_shape dims most level t branch fits shape boxes entry =
+    → StateHasShape dims most (at_begin top t branch level)
+first_has_shape dims most top level t branch fits shape boxes entry =
     record { tree = shape; boxes = boxes; waiting = (fits, entry, tt) }
 
 -- what the first that waits needs: it can be placed below the root, which has few entries

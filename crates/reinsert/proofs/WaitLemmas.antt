@@ -1,8 +1,12 @@
 -- The far set waits, one entry after the other from the last.
-use Rattle.std.proofs.Common.{◌≡◌, ℕ, ◌+◌, ◌-◌, ◌<◌, List, [], ◌∷◌, ◌++◌, length, map, take, reverse, get_or}
-use Rattle.std.proofs.Common.{sym, ap, ◌∙◌, arith, append_assoc, All, zero, suc}
+use Rattle.std.proofs.Common.{◌≡◌, ◌↔◌, ℕ, ◌+◌, ◌-◌, ◌<◌, List, [], ◌∷◌, ◌++◌, length, map, take, reverse}
+use Rattle.std.proofs.Common.{get_or, sym, ap, subst, refl, ◌∙◌, arith, append_assoc, All, zero, suc, Option}
+use Rattle.std.proofs.Common.{Some, None, IsSome, IsNone, IfSome}
+use Rattle.std.proofs.Math.Seq.{get_or-append_seam}
+use Rattle.std.proofs.lemmas.Bool.{false≢true, true≢false}
 use Rattle.std.proofs.lemmas.List.{take_more, get_or-reverse, length-map, get_or-map, map-append}
-use Rattle.std.proofs.lemmas.List.{length-reverse}
+use Rattle.std.proofs.lemmas.List.{get_or_append_left, length-append, length-reverse}
+use Rattle.std.specs.Option.{option_to_list}
 use Rattle.tree_node.specs.declared.node.Entry.{Entry}
 use Rattle.reinsert.specs.declared.waiting.Wait.{Wait}
 use Rattle.reinsert.specs.Placed.{held_of, held_with}
@@ -35,3 +39,36 @@ held_more olds waits new far level p e before is within this =
 pub All-one : {A : Type 0} (P : A → Type 0) (x : A) → P x → All P (x ∷ [])
 All-one P x h zero d lt = h
 All-one P x h (suc k) d lt = absurd (omega (arith, lt))
+
+pub All-none : {A : Type 0} (P : A → Type 0) (xs : List A) → xs ≡ [] → All P xs
+All-none P xs none = λ k d within. absurd (omega (arith, within, ap length none))
+
+-- ---- the last taken off
+
+pub popped_none : {A : Type 0} (xs ys : List A) (o : Option A) → xs ≡ ys ++ option_to_list o
+    → (IsSome o ↔ (0 < length xs)) → IsNone o → xs ≡ []
+popped_none [] ys o is some none = refl
+popped_none (x ∷ xs) ys None is some none = absurd (false≢true (some.1 (omega arith)))
+popped_none (x ∷ xs) ys (Some w) is some none = absurd (true≢false none)
+
+pub popped_some : {A : Type 0} (xs ys : List A) (o : Option A) → xs ≡ ys ++ option_to_list o
+    → IfSome o (λ w. xs ≡ ys ++ w ∷ [])
+popped_some xs ys None is = tt
+popped_some xs ys (Some w) is = is
+
+pub popped_fewer : {A : Type 0} (xs ys : List A) (o : Option A) (n : ℕ) → xs ≡ ys ++ option_to_list o
+    → IfSome o (λ _. length ys + n < length xs + n)
+popped_fewer xs ys None n is = tt
+popped_fewer xs ys (Some w) n is = omega (arith, ap length is, length-append ys (w ∷ []))
+
+pub popped_has : {A : Type 0} (P : A → Type 0) (xs ys : List A) (o : Option A)
+    → xs ≡ ys ++ option_to_list o → All P xs → IfSome o P
+popped_has P xs ys None is all = tt
+popped_has P xs ys (Some w) is all =
+    let whole : All P (ys ++ w ∷ []) = subst (All P) is all in
+    subst P (get_or-append_seam ys w [] w) (whole (length ys) w (omega (arith, length-append ys (w ∷ []))))
+
+pub rest_has : {A : Type 0} (P : A → Type 0) (xs ys zs : List A) → xs ≡ ys ++ zs → All P xs → All P ys
+rest_has P xs ys zs is all = λ k d within.
+    let whole : All P (ys ++ zs) = subst (All P) is all in
+    subst P (get_or_append_left ys zs d k within) (whole k d (omega (arith, within, length-append ys zs)))

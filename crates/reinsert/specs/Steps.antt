@@ -69,7 +69,7 @@ SettlesNode {D = D} most top page level items old new waits called waits' called
 -- A node of these entries, at most one too many, was in hand for the page, and has settled there, or this was
 -- refused.
 pub record SettlesAt {D : ℕ} {B A : Type 0} {m : _} (most top page level : ℕ) (items : List Item)
-    (old new : PageCache B A m) (waiting waiting' : Room D) (result : Result (Settled D) Fault) : Type 0
+    (old new : PageCache B A m) (waiting waiting' : Room D A) (result : Result (Settled D) Fault) : Type 0
   where
     pub changes : Changes old new result
     pub grows : Grows 1 old new
@@ -85,7 +85,7 @@ pub record SettlesAt {D : ℕ} {B A : Type 0} {m : _} (most top page level : ℕ
 -- The node at a page was read, got other entries and settled, or this was refused: by no damage where it has
 -- few enough entries, and those that are asked for.
 pub record SettlesThere {D : ℕ} {B A : Type 0} {m : _} (most top : ℕ) (at : Root) (Asked : List Item → Type 0)
-    (after : List Item → List Item) (old new : PageCache B A m) (waiting waiting' : Room D)
+    (after : List Item → List Item) (old new : PageCache B A m) (waiting waiting' : Room D A)
     (result : Result (Settled D) Fault) : Type 0 where
   pub changes : Changes old new result
   pub grows : Grows 1 old new
@@ -106,7 +106,7 @@ pub record SettlesThere {D : ℕ} {B A : Type 0} {m : _} (most top : ℕ) (at : 
 
 -- One entry was placed in the tree at a root, and waits no longer, or this was refused.
 pub record PlacesOne {D : ℕ} {B A : Type 0} {m : _} (most : ℕ) (from : Root) (first : Wait D)
-    (old new : PageCache B A m) (waiting waiting' : Room D) (result : Result Root Fault) : Type 0 where
+    (old new : PageCache B A m) (waiting waiting' : Room D A) (result : Result Root Fault) : Type 0 where
   pub changes : Changes old new result
   pub grows : Grows most_placing_pages old new
   pub measure : measure_of waiting' ≤ measure_of waiting

@@ -7,6 +7,7 @@ ghost use Rattle.page_cache.specs.Cache.{IsUnchanged};
 ghost use Rattle.node_bytes.specs.Layout.{IsOfLevel};
 ghost use Rattle.reinsert.specs.Steps.{Inserts, PlacesOne};
 
+use crate::fits::fits_in_memory;
 use crate::grow::grow;
 use crate::place::place;
 use crate::settled::{Limits, Settled};
@@ -34,8 +35,8 @@ use tree_node::{Entry, Fanout, Root};
 /// Whatever nodes the pages are, a sound map stays sound after `Ok`, and there `Damaged` names a page from 3
 /// to 2^31 - 1. Where the cache is not touched after it, that is one that a walk down the nodes comes to;
 /// else it may be that of a node that came meanwhile.
-pub fn insert_at<const D: usize, B: BlockDevice, A: Allocator + Copy, H: Allocator>(
-    alloc: H,
+pub fn insert_at<const D: usize, B: BlockDevice, A: Allocator + Copy>(
+    alloc: A,
     cache: &mut PageCache<B, A>,
     root: Root,
     entry: &Entry<D>,
@@ -48,19 +49,23 @@ pub fn insert_at<const D: usize, B: BlockDevice, A: Allocator + Copy, H: Allocat
     requires refers { IsOfLevel level entry.now.reference entry.now.tag }
     ensures { Inserts fanout.most root entry.now level cache.old cache.new result }
 {
-    let mut waiting = Waiting::make(alloc)?;
+    // always so, and known when this is compiled
+    if !fits_in_memory::<Waiting<D, A>>() {
+        return Err(Fault::Memory);
+    }
+    let mut waiting = Waiting::new(alloc);
     insert_with(cache, root, entry, level, fanout, &mut waiting)
 }
 
-/// Inserts an entry as `insert_at` does, and takes no memory but what the cache takes. The `Waiting` serves
-/// again afterwards, also after a refusal.
+/// Inserts an entry as `insert_at` does. The `Waiting` serves again afterwards, also after a refusal; it takes
+/// memory only where it was not made for as high a root (`make_room`), and where more than 32 entries may wait.
 pub fn insert_with<const D: usize, B: BlockDevice, A: Allocator + Copy>(
     cache: &mut PageCache<B, A>,
     root: Root,
     entry: &Entry<D>,
     level: u8,
     fanout: Fanout,
-    waiting: &mut Waiting<D>,
+    waiting: &mut Waiting<D, A>,
 ) -> Result<Root, Fault>
     requires levels { (level ≤ root.level) × (root.level ≤ 40) }
     requires root { (3 ≤ root.page) × (root.page < 2 ^ 31) }
@@ -72,7 +77,7 @@ pub fn insert_with<const D: usize, B: BlockDevice, A: Allocator + Copy>(
     if root.level >= 40 {
         return Err(Fault::Damaged(root.page));
     }
-    waiting.begin();
+    waiting.begin(root.level)?;
     let first = Wait {
         entry: *entry,
         level,
@@ -90,7 +95,7 @@ fn place_one<const D: usize, B: BlockDevice, A: Allocator + Copy>(
     root: Root,
     first: &Wait<D>,
     fanout: Fanout,
-    waiting: &mut Waiting<D>,
+    waiting: &mut Waiting<D, A>,
 ) -> Result<Root, Fault>
     requires level { root.level ≤ 40 }
     requires root { (3 ≤ root.page) × (root.page < 2 ^ 31) }

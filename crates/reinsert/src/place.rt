@@ -35,7 +35,7 @@ pub(crate) fn place<const D: usize, B: BlockDevice, A: Allocator + Copy>(
     entry: &Entry<D>,
     target: u8,
     limits: Limits,
-    waiting: &mut Waiting<D>,
+    waiting: &mut Waiting<D, A>,
 ) -> Result<Settled<D>, Fault>
     requires levels { (target ≤ at.level) × (at.level ≤ limits.top) × (limits.top ≤ 40) }
     requires refers { IsOfLevel target entry.now.reference entry.now.tag }
@@ -83,7 +83,7 @@ fn put_here<const D: usize, B: BlockDevice, A: Allocator + Copy>(
     at: Root,
     entry: &Entry<D>,
     limits: Limits,
-    waiting: &mut Waiting<D>,
+    waiting: &mut Waiting<D, A>,
 ) -> Result<Settled<D>, Fault>
     requires top { (at.level ≤ limits.top) × (limits.top ≤ 40) }
     requires refers { IsOfLevel at.level entry.now.reference entry.now.tag }
@@ -138,7 +138,7 @@ fn put_above<const D: usize, B: BlockDevice, A: Allocator + Copy>(
     place: usize,
     lower: Settled<D>,
     limits: Limits,
-    waiting: &mut Waiting<D>,
+    waiting: &mut Waiting<D, A>,
 ) -> Result<Settled<D>, Fault>
     requires top { (at.level ≤ limits.top) × (limits.top ≤ 40) }
     requires beside { IfSome lower.beside (λ e. IsOfLevel at.level e.reference e.tag) }
@@ -165,7 +165,7 @@ fn put_anew<const D: usize, B: BlockDevice, A: Allocator + Copy>(
     place: usize,
     lower: Settled<D>,
     limits: Limits,
-    waiting: &mut Waiting<D>,
+    waiting: &mut Waiting<D, A>,
 ) -> Result<Settled<D>, Fault>
     requires top { (at.level ≤ limits.top) × (limits.top ≤ 40) }
     requires beside { IfSome lower.beside (λ e. IsOfLevel at.level e.reference e.tag) }

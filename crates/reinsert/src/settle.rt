@@ -41,7 +41,7 @@ pub(crate) fn settle<const D: usize, B: BlockDevice, A: Allocator + Copy>(
     page: u32,
     node: &Node<D>,
     limits: Limits,
-    waiting: &mut Waiting<D>,
+    waiting: &mut Waiting<D, A>,
 ) -> Result<Settled<D>, Fault>
     requires top { (node.now.level ≤ limits.top) × (limits.top ≤ 40) }
     requires some { 0 < array_vec_len node.now.entries }
@@ -93,7 +93,7 @@ fn take_out_far<const D: usize, B: BlockDevice, A: Allocator + Copy>(
     page: u32,
     node: &Node<D>,
     fanout: Fanout,
-    waiting: &mut Waiting<D>,
+    waiting: &mut Waiting<D, A>,
 ) -> Result<Settled<D>, Fault>
     requires level { node.now.level < 41 }
     requires many { array_vec_len node.now.entries ≡ fanout.most + 1 }
@@ -132,7 +132,7 @@ fn split_off<const D: usize, B: BlockDevice, A: Allocator + Copy>(
     page: u32,
     node: &Node<D>,
     fanout: Fanout,
-    waiting: &mut Waiting<D>,
+    waiting: &mut Waiting<D, A>,
 ) -> Result<Settled<D>, Fault>
     requires level { node.now.level < 41 }
     requires many { array_vec_len node.now.entries ≡ fanout.most + 1 }

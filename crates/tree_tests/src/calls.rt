@@ -61,7 +61,7 @@ pub fn insert<B: BlockDevice, A: Allocator + Copy>(
     root: Root,
     object: &Entry<2>,
     fanout: Fanout,
-    waiting: &mut Waiting<2>,
+    waiting: &mut Waiting<2, A>,
 ) -> Result<Root, Fault> {
     let root = checked(root)?;
     cache.begin_change()?;
@@ -74,7 +74,7 @@ pub fn take_out<B: BlockDevice, A: Allocator + Copy>(
     root: Root,
     object: &Entry<2>,
     fanout: Fanout,
-    waiting: &mut Waiting<2>,
+    waiting: &mut Waiting<2, A>,
     kept: &mut Kept<2>,
 ) -> Result<Root, Fault> {
     let root = checked(root)?;
@@ -88,7 +88,7 @@ pub fn insert_all<B: BlockDevice, A: Allocator + Copy>(
     root: Root,
     objects: &[Entry<2>],
     fanout: Fanout,
-    waiting: &mut Waiting<2>,
+    waiting: &mut Waiting<2, A>,
 ) -> Result<Root, Fault> {
     let mut now = root;
     for object in objects {
@@ -100,11 +100,11 @@ pub fn insert_all<B: BlockDevice, A: Allocator + Copy>(
 /// Adds a tree, and inserts these objects into it.
 pub fn insert_tree<B: BlockDevice, A: Allocator + Copy>(
     cache: &mut PageCache<B, A>,
-    alloc: Global,
+    alloc: A,
     objects: &[Entry<2>],
     fanout: Fanout,
 ) -> Result<Root, Fault> {
-    let mut waiting = Waiting::make(alloc)?;
+    let mut waiting = Waiting::new(alloc);
     let root = add_tree(cache)?;
     insert_all(cache, root, objects, fanout, &mut waiting)
 }

@@ -151,7 +151,7 @@ fn grow(
     alloc: Global,
     objects: &[Entry<2>],
     fanout: Fanout,
-    waiting: &mut Waiting<2>,
+    waiting: &mut Waiting<2, Global>,
 ) -> Answer {
     let mut root = add_tree(cache)?;
     let mut done: usize = 0;
@@ -168,7 +168,7 @@ fn grow(
 // The same of a new cache.
 fn grown(alloc: Global, fanout: Fanout) -> Answer {
     let objects = boxes(alloc, Spread::Uniform, MANY)?;
-    let mut waiting = Waiting::make(alloc)?;
+    let mut waiting = Waiting::new(alloc);
     let mut cache = bare(alloc)?;
     grow(&mut cache, alloc, objects.as_slice(), fanout, &mut waiting)
 }

@@ -25,7 +25,7 @@ const PARTS: u64 = 110;
 struct Scene {
     root: Root,
     fanout: Fanout,
-    waiting: Box<Waiting<2>, Global>,
+    waiting: Waiting<2, Global>,
     kept: Box<Kept<2>, Global>,
     objects: Vec<Entry<2>>,
     dice: Dice,
@@ -34,7 +34,7 @@ struct Scene {
 impl Scene {
     // No tree.
     fn new(alloc: Global, fanout: Fanout) -> Result<Scene, Fault> {
-        let waiting = Waiting::make(alloc)?;
+        let waiting = Waiting::new(alloc);
         let kept = Kept::make(alloc)?;
         Ok(Scene {
             root: Root { page: 0, level: 0 },

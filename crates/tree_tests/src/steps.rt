@@ -130,7 +130,7 @@ fn remove_all<B: BlockDevice, A: Allocator + Copy>(
     root: Root,
     points: Points,
 ) -> Result<Root, Fault> {
-    let mut waiting = Waiting::make(alloc)?;
+    let mut waiting = Waiting::new(alloc);
     let mut kept = Kept::make(alloc)?;
     let mut now = root;
     for &(id, x, y) in points {

@@ -11,9 +11,11 @@ mod delete_at;
 mod taking;
 
 use crate::layers::Layers;
-use crate::rooms::Rooms;
+use crate::rooms::{Rooms, both_fit};
 use crate::unmade::Unmade;
 use block_device::BlockDevice;
+use plain_table::Refusal;
+use reinsert::Waiting;
 use std::alloc::Allocator;
 
 impl<B: BlockDevice, A: Allocator + Copy> Layers<B, A> {
@@ -26,6 +28,9 @@ impl<B: BlockDevice, A: Allocator + Copy> Layers<B, A> {
         ensures tree { (t : Table) → IsSound self.old t → OnOk result
             (ChangesTree self.old self.new name.now (HasLost (layer_at t name.now) id)) }
     {
+        if !both_fit::<Waiting<2, A>, Waiting<3, A>>() {
+            return Err(Unmade::Refused(Refusal::Memory));
+        }
         let place = match self.named(name) {
             Ok(place) => place,
             Err(refusal) => return Err(Unmade::Refused(refusal)),

@@ -15,10 +15,11 @@ mod move_box;
 mod replacing;
 
 use crate::layers::Layers;
-use crate::rooms::Rooms;
+use crate::rooms::{Rooms, both_fit};
 use crate::unmade::Unmade;
 use block_device::BlockDevice;
-use plain_table::RawBox;
+use plain_table::{RawBox, Refusal};
+use reinsert::Waiting;
 use std::alloc::Allocator;
 
 impl<B: BlockDevice, A: Allocator + Copy> Layers<B, A> {
@@ -40,6 +41,9 @@ impl<B: BlockDevice, A: Allocator + Copy> Layers<B, A> {
         ensures same { (t : Table) → IsSound self.old t → changes t (Move name.now id bounds) ≡ false →
             KeepsPagesAndRecords self.old self.new }
     {
+        if !both_fit::<Waiting<2, A>, Waiting<3, A>>() {
+            return Err(Unmade::Refused(Refusal::Memory));
+        }
         let place = match self.named(name) {
             Ok(place) => place,
             Err(refusal) => return Err(Unmade::Refused(refusal)),

@@ -29,7 +29,7 @@ impl<B: BlockDevice, A: Allocator + Copy> Layers<B, A> {
         place: usize,
         located: &Located,
         id: u64,
-        waiting_room: &mut Room<Waiting<D>, A>,
+        waiting_room: &mut Room<Waiting<D, A>, A>,
         kept_room: &mut Room<Kept<D>, A>,
     ) -> Result<(), Unmade>
         requires dims { IsDims D }

@@ -28,7 +28,7 @@ impl<B: BlockDevice, A: Allocator + Copy> Layers<B, A> {
         &mut self,
         place: usize,
         object: &ObjectAt<D>,
-        waiting_room: &mut Room<Waiting<D>, A>,
+        waiting_room: &mut Room<Waiting<D, A>, A>,
         kept_room: &mut Room<Kept<D>, A>,
     ) -> Result<(), Broken>
         requires dims { IsDims D }

@@ -27,7 +27,7 @@ impl<B: BlockDevice, A: Allocator + Copy> Layers<B, A> {
         &mut self,
         place: usize,
         object: &ObjectAt<D>,
-        waiting_room: &mut Room<Waiting<D>, A>,
+        waiting_room: &mut Room<Waiting<D, A>, A>,
     ) -> Result<(), Broken>
         requires dims { IsDims D }
         requires within { place < length (records_in self.old) }

@@ -31,7 +31,7 @@ impl<B: BlockDevice, A: Allocator + Copy> Layers<B, A> {
         low: [i32; D],
         high: [i32; D],
         tag: u32,
-        waiting_room: &mut Room<Waiting<D>, A>,
+        waiting_room: &mut Room<Waiting<D, A>, A>,
     ) -> Result<(), Unmade>
         requires dims { IsDims D }
         requires within { place < length (records_in self.old) }

@@ -33,7 +33,7 @@ impl<B: BlockDevice, A: Allocator + Copy> Layers<B, A> {
         id: u64,
         low: [i32; D],
         high: [i32; D],
-        waiting_room: &mut Room<Waiting<D>, A>,
+        waiting_room: &mut Room<Waiting<D, A>, A>,
         kept_room: &mut Room<Kept<D>, A>,
     ) -> Result<(), Unmade>
         requires dims { IsDims D }

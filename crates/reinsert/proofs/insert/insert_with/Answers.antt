@@ -11,13 +11,14 @@ use Rattle.node_page.specs.Checked.{ComesTo}
 use Rattle.node_page.proofs.DamageLemmas.{comes_in_range, comes_so, damaged_read}
 use Rattle.node_page.proofs.NodeLemmas.{at_error}
 use Rattle.reinsert.specs.declared.waiting.Wait.{Wait}
-use Rattle.reinsert.specs.Called.{none_called}
+use Rattle.reinsert.specs.Called.{called_from}
 use Rattle.node_page.specs.Faults.{IsNoDamage, IsChangeFault, NamesInRange}
 use Rattle.reinsert.specs.Inserted.{IsAt}
-use Rattle.reinsert.specs.Insertion.{at_first}
 use Rattle.reinsert.specs.Placing.{State}
+use Rattle.reinsert.proofs.FromLemmas.{at_begin}
 use Rattle.reinsert.proofs.FaultLemmas.{changes_refused, damaged_at_once, no_answer, no_success}
 use Rattle.reinsert.proofs.FaultLemmas.{none_before}
+use Rattle.reinsert.proofs.RoomLemmas.{no_room_inserts}
 use Rattle.reinsert.proofs.InsertLemmas.{begun, inserted_end, reached_first, reached_more}
 use Rattle.reinsert.proofs.StateLemmas.{first_has_shape, low_root, placings_keep_shape}
 use Rattle.reinsert.proofs.insert.insert_with.Goals as goal
@@ -33,10 +34,10 @@ returns-then-root-ge40-clause-inserts g c = record {
       let m : PageMap = pages c.args.cache.now in
       let first : Wait D = record { entry = c.args.entry.now; level = c.args.level } in
       let low =
-      low_root c.args.fanout.most elsewhere m c.args.root [] first none_called
-      (at_first t branch c.args.level)
-      (begun D m c.args.root first t branch elsewhere can)
-      (first_has_shape D c.args.fanout.most c.args.level t branch can.fits shape boxes entry)
+      low_root c.args.fanout.most elsewhere m c.args.root [] first (called_from c.args.root.level)
+      (at_begin c.args.root.level t branch c.args.level)
+      (begun D c.args.root.level m c.args.root first t branch elsewhere can)
+      (first_has_shape D c.args.fanout.most c.args.root.level c.args.level t branch can.fits shape boxes entry)
       c.requires.root.1 in
       absurd (omega (arith, low, c.if-root-ge40.true));
   damage = λ h none n damaged.
@@ -49,62 +50,67 @@ returns-then-root-ge40-clause-inserts g c = record {
   other_faults = search rules;
 }
 
+pub returns-in_err-begin-clause-inserts : goal.returns-in_err-begin-clause-inserts
+returns-in_err-begin-clause-inserts g c =
+    no_room_inserts c.args.cache.now c.in_err-begin.field-0.0 c.from_residual.result
+    c.from_residual.ensures.1 c.in_err-begin.ensures.refused
+
 pub returns-in_err-now-clause-inserts : goal.returns-in_err-now-clause-inserts
 returns-in_err-now-clause-inserts g c = record {
   changes = changes_refused c.args.cache.now c.place_one.new.cache c.in_err-now.field-0.0
-      c.from_residual.result c.from_residual.ensures.1 c.in_err-now.ensures.changes;
+      c.from_residual-in_err-now.result c.from_residual-in_err-now.ensures.1 c.in_err-now.ensures.changes;
   grows = omega (arith, c.in_err-now.ensures.grows);
-  root = no_answer c.from_residual.result c.in_err-now.field-0.0 _ c.from_residual.ensures.1;
-  inserted = λ h t branch elsewhere can. no_answer c.from_residual.result c.in_err-now.field-0.0 _
-      c.from_residual.ensures.1;
+  root = no_answer c.from_residual-in_err-now.result c.in_err-now.field-0.0 _ c.from_residual-in_err-now.ensures.1;
+  inserted = λ h t branch elsewhere can. no_answer c.from_residual-in_err-now.result c.in_err-now.field-0.0 _
+      c.from_residual-in_err-now.ensures.1;
   faults = λ h t branch elsewhere can shape boxes entry.
       let D = g.row.D in
       let m : PageMap = pages c.args.cache.now in
       let first : Wait D = record { entry = c.args.entry.now; level = c.args.level } in
-      let s : State = at_first t branch c.args.level in
-      let at = begun D m c.args.root first t branch elsewhere can in
+      let s : State = at_begin c.args.root.level t branch c.args.level in
+      let at = begun D c.args.root.level m c.args.root first t branch elsewhere can in
       let at1 =
-      subst (λ (ws : List (Wait D)). IsAt D m c.args.root (ws ++ first ∷ []) none_called elsewhere s)
-      (sym c.begin.ensures.waits) at in
+      subst (λ (ws : List (Wait D)). IsAt D m c.args.root (ws ++ first ∷ []) (called_from c.args.root.level) elsewhere s)
+      (sym c.in_ok-begin.ensures.waits) at in
       let at2 =
       subst (λ (cs : List Bool). IsAt D m c.args.root (c.begin.new.self.waits.items ++ first ∷ []) cs
-      elsewhere s) (sym c.begin.ensures.called) at1 in
-      at_error c.from_residual.result c.in_err-now.field-0.0 (IsNoDamage c.place_one.new.cache)
-      c.from_residual.ensures.1
+      elsewhere s) (sym c.in_ok-begin.ensures.called) at1 in
+      at_error c.from_residual-in_err-now.result c.in_err-now.field-0.0 (IsNoDamage c.place_one.new.cache)
+      c.from_residual-in_err-now.ensures.1
       (c.in_err-now.ensures.faults h s elsewhere at2
-      (first_has_shape D c.args.fanout.most c.args.level t branch can.fits shape boxes entry));
+      (first_has_shape D c.args.fanout.most c.args.root.level c.args.level t branch can.fits shape boxes entry));
   damage = λ h none.
-      at_error c.from_residual.result c.in_err-now.field-0.0
+      at_error c.from_residual-in_err-now.result c.in_err-now.field-0.0
       (λ f. (n : ℕ) → f ≡ fault.Damaged n → ComesTo g.row.D (given c.args.cache.now) c.args.root.page n)
-      c.from_residual.ensures.1 (c.in_err-now.ensures.damage h);
-  sound = λ h. no_success c.from_residual.result c.in_err-now.field-0.0 _ c.from_residual.ensures.1;
+      c.from_residual-in_err-now.ensures.1 (c.in_err-now.ensures.damage h);
+  sound = λ h. no_success c.from_residual-in_err-now.result c.in_err-now.field-0.0 _ c.from_residual-in_err-now.ensures.1;
   number = λ h.
-      at_error c.from_residual.result c.in_err-now.field-0.0 NamesInRange
-      c.from_residual.ensures.1
+      at_error c.from_residual-in_err-now.result c.in_err-now.field-0.0 NamesInRange
+      c.from_residual-in_err-now.ensures.1
       (λ n damaged. comes_in_range g.row.D (given c.args.cache.now) c.args.root.page n c.requires.root
       (c.in_err-now.ensures.damage h n damaged));
-  other_faults = at_error c.from_residual.result c.in_err-now.field-0.0 IsChangeFault
-      c.from_residual.ensures.1 c.in_err-now.ensures.other_faults;
+  other_faults = at_error c.from_residual-in_err-now.result c.in_err-now.field-0.0 IsChangeFault
+      c.from_residual-in_err-now.ensures.1 c.in_err-now.ensures.other_faults;
 }
 
 pub placing-init : goal.placing-init
 placing-init g c = (
   c.in_ok-now.ensures.changes,
   c.in_ok-now.ensures.root,
-  omega (arith, c.in_ok-now.ensures.measure, c.begin.ensures.measure),
-  omega (arith, c.in_ok-now.ensures.measure, c.begin.ensures.measure, c.in_ok-now.ensures.grows),
+  omega (arith, c.in_ok-now.ensures.measure, c.in_ok-begin.ensures.measure),
+  omega (arith, c.in_ok-now.ensures.measure, c.in_ok-begin.ensures.measure, c.in_ok-now.ensures.grows),
   λ h t branch elsewhere can.
       let D = g.row.D in
       let m : PageMap = pages c.args.cache.now in
       let first : Wait D = record { entry = c.args.entry.now; level = c.args.level } in
-      let s : State = at_first t branch c.args.level in
-      let at = begun D m c.args.root first t branch elsewhere can in
+      let s : State = at_begin c.args.root.level t branch c.args.level in
+      let at = begun D c.args.root.level m c.args.root first t branch elsewhere can in
       let at1 =
-      subst (λ (ws : List (Wait D)). IsAt D m c.args.root (ws ++ first ∷ []) none_called elsewhere s)
-      (sym c.begin.ensures.waits) at in
+      subst (λ (ws : List (Wait D)). IsAt D m c.args.root (ws ++ first ∷ []) (called_from c.args.root.level) elsewhere s)
+      (sym c.in_ok-begin.ensures.waits) at in
       let at2 =
       subst (λ (cs : List Bool). IsAt D m c.args.root (c.begin.new.self.waits.items ++ first ∷ []) cs
-      elsewhere s) (sym c.begin.ensures.called) at1 in
+      elsewhere s) (sym c.in_ok-begin.ensures.called) at1 in
       let step = c.in_ok-now.ensures.placed h s elsewhere at2 in (
         step.0,
         reached_first D c.args.fanout.most elsewhere m (pages c.place_one.new.cache) s c.in_ok-now.now
@@ -141,9 +147,9 @@ returns-in_err-now-2-clause-inserts g c = record {
       (c.next.new.self.waits.items ++ c.in-Some.wait ∷ []) cs elsewhere r.1.last)
       (sym c.next.ensures.called) at1 in
       let last =
-      placings_keep_shape D c.args.fanout.most elsewhere r.1.count (at_first t branch c.args.level) r.1.last
+      placings_keep_shape D c.args.fanout.most elsewhere r.1.count (at_begin c.args.root.level t branch c.args.level) r.1.last
       r.1.run (omega (arith, c.args.fanout.within))
-      (first_has_shape D c.args.fanout.most c.args.level t branch can.fits shape boxes entry) in
+      (first_has_shape D c.args.fanout.most c.args.root.level c.args.level t branch can.fits shape boxes entry) in
       at_error c.from_residual-in_err-now-2.result c.in_err-now-2.field-0.0
       (IsNoDamage c.place_one-in-Some.new.cache) c.from_residual-in_err-now-2.ensures.1
       (c.in_err-now-2.ensures.faults r.0 r.1.last elsewhere at2 last);
@@ -198,7 +204,7 @@ placing-preserved g c = (
       let D = g.row.D in
       let m : PageMap = pages c.args.cache.now in
       let m1 : PageMap = pages c.placing.cache in
-      let s : State = at_first t branch c.args.level in
+      let s : State = at_begin c.args.root.level t branch c.args.level in
       let r = c.placing.invariant.4 h t branch elsewhere can in
       let at1 =
       subst (λ (ws : List (Wait D)). IsAt D m1 c.placing.now ws c.placing.waiting.called elsewhere
@@ -234,10 +240,10 @@ returns-clause-inserts g c = record {
   inserted = λ h t branch elsewhere can.
       let r = c.placing.invariant.4 h t branch elsewhere can in (
         r.0,
-        inserted_end g.row.D c.args.fanout.most c.args.level elsewhere (pages c.args.cache.now)
-            (pages c.placing.cache) t branch c.placing.now c.placing.waiting.waits.items
-            c.placing.waiting.called
-            r.1 (c.in_default.ensures.none refl),
+        inserted_end g.row.D c.args.fanout.most c.args.root.level c.args.level elsewhere
+            (pages c.args.cache.now) (pages c.placing.cache) t branch c.placing.now
+            c.placing.waiting.waits.items c.placing.waiting.called (omega (arith, c.requires.levels))
+            can.at.level r.1 (c.in_default.ensures.none refl),
       );
   faults = λ h t branch elsewhere can shape boxes entry. tt;
   damage = λ h none. tt;
@@ -250,4 +256,13 @@ returns-clause-inserts g c = record {
 
 pub place_one-requires-in-Some : goal.place_one-requires-in-Some
 place_one-requires-in-Some g c =
-    (search rules, (search rules, (search rules, (search rules, search rules))))
+    (
+      search rules,
+      (
+        search (c.requires-raw),
+        (
+          c.placing.invariant.1.low,
+          (c.placing.invariant.1.page, c.in-Some.ensures.refers),
+        ),
+      ),
+    )

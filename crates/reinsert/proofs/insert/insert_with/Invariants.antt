@@ -4,7 +4,7 @@ use Rattle.page_cache.specs.Cache.{Grows, IsPageMap, pages, touched_of}
 use Rattle.page_cache.specs.Calls.{ChangesUntil}
 use Rattle.tree_node.specs.Nodes.{item_of}
 use Rattle.tree_node.specs.Trees.{Branch, Tree}
-use Rattle.reinsert.specs.Insertion.{at_first}
+use Rattle.reinsert.proofs.FromLemmas.{at_begin}
 use Rattle.reinsert.specs.Inserted.{CanInsert, IsRootFrom, most_placing_pages}
 use Rattle.reinsert.specs.Placed.{measure_of}
 use Rattle.reinsert.proofs.InsertLemmas.{Reached}
@@ -21,7 +21,7 @@ invariant-placing g l =
     → CanInsert g.row.D (pages l.fn.cache) l.fn.root (item_of l.fn.entry) l.fn.level t branch elsewhere
     → IsPageMap l.cache
     × Reached g.row.D l.fn.fanout.most elsewhere (pages l.fn.cache) (pages l.cache)
-    (at_first t branch l.fn.level)
+    (at_begin l.fn.root.level t branch l.fn.level)
     l.now l.waiting.waits.items l.waiting.called)
     × (IsPageMap l.fn.cache → IsPageMap l.cache × ((l.now ≡ l.fn.root) ⊎ (touched_of l.cache ≡ true)))
 

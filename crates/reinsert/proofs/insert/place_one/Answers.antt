@@ -16,6 +16,19 @@ use Rattle.reinsert.proofs.InsertLemmas.{first_alone, first_grown}
 use Rattle.reinsert.proofs.StateLemmas.{first_can, low_root}
 use Rattle.reinsert.proofs.insert.place_one.Goals as goal
 
+pub place-requires : goal.place-requires
+place-requires g c =
+    (
+      search rules,
+      (
+        search,
+        (
+          search rules,
+          ((c.if-first-root.false, omega arith, c.requires.level), c.requires.refers),
+        ),
+      ),
+    )
+
 pub returns-then-first-root : goal.returns-then-first-root
 returns-then-first-root g c = record {
   changes = damaged_at_once c.args.cache.now c.args.root.page;

@@ -29,7 +29,7 @@ put_here-requires g t c =
     c.requires.refers in (
       search rules,
       (
-        search rules,
+        search,
         (
           search rules,
           ((omega (arith, c.requires.levels), omega (arith, c.requires.levels)), refers),
@@ -188,7 +188,7 @@ put_above-requires g t c =
     c.in_ok-lower.ensures.beside in (
       search rules,
       (
-        search rules,
+        search (c.requires-raw),
         ((omega (arith, c.requires.levels), omega (arith, c.requires.levels)), beside),
       ),
     )

@@ -134,7 +134,7 @@ settle-requires g c =
     (All-one P c.args.entry.now too)) in (
       search rules,
       (
-        search rules,
+        search (c.requires-raw),
         (
           search rules,
           (
@@ -269,3 +269,9 @@ returns-in_err-bounds g c = record {
   other_faults = at_error c.from_residual.result c.in_err-bounds.field-0.0 IsChangeFault
       c.from_residual.ensures.1 (one_more _ _ _ c.in_err-bounds.ensures.other_faults);
 }
+
+-- ---- it is added where there is room
+
+pub add_entry-requires : goal.add_entry-requires
+add_entry-requires g c =
+    (search rules, (search rules, (omega (arith, c.entries-most.ensures, c.args.limits.fanout.within), c.requires.refers)))

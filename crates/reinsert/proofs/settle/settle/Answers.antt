@@ -1,5 +1,6 @@
 -- The goals of `settle` that are proved by hand.
-use Rattle.std.proofs.Common.{rules, ◌≡◌, ◌+◌, ◌<◌, true, sym, arith}
+use Rattle.std.proofs.Common.{rules, ◌≡◌, ◌∙◌, ◌+◌, ◌<◌, true, sym, arith}
+use Rattle.arrayvec.specs.ArrayVec.{array_vec_len}
 use Rattle.tree_node.specs.declared.node.Entry.{Entry}
 use Rattle.node_bytes.specs.Layout.{IsOfLevel}
 use Rattle.reinsert.specs.Called.{is_called}
@@ -44,6 +45,32 @@ returns-then-not-is_called g c = record {
   faults = c.take_out_far.ensures.faults;
   other_faults = c.take_out_far.ensures.other_faults;
 }
+
+pub take_out_far-requires : goal.take_out_far-requires
+take_out_far-requires g c =
+    let many : array_vec_len c.args.node.now.entries ≡ c.args.limits.fanout.most + 1 =
+    omega (arith, c.if-len-entries.false, c.len.ensures.value, c.entries.ensures, c.requires.few) in
+    let first = sym c.is_called.ensures ∙ c.if-not-is_called.true in (
+      search rules,
+      (
+        search,
+        (
+          search rules,
+          (omega (arith, c.if-node-limits.true, c.requires.top), (many, (c.requires.refers, first))),
+        ),
+      ),
+    )
+
+pub split_off-requires : goal.split_off-requires
+split_off-requires g c =
+    let many : array_vec_len c.args.node.now.entries ≡ c.args.limits.fanout.most + 1 =
+    omega (arith, c.if-len-entries.false, c.len.ensures.value, c.entries.ensures, c.requires.few) in (
+      search rules,
+      (
+        search,
+        (search rules, (omega (arith, c.requires.top), (many, c.requires.refers))),
+      ),
+    )
 
 pub returns : goal.returns
 returns g c = record {
