@@ -11,6 +11,7 @@ pub mod LeadLemmas
 pub mod LowerLemmas
 pub mod ObjectLemmas
 pub mod RemoveLemmas
+pub mod RoomLemmas
 pub mod RootLemmas
 pub mod ShapeLemmas
 pub mod TakeLemmas

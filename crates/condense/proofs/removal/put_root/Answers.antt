@@ -46,6 +46,12 @@ returns-in_err-write_root-clause-faults g c =
     at_error c.from_residual.result c.in_err-write_root.field-0.0 (IsNoDamage c.write_root.new.cache)
     c.from_residual.ensures.1 (inl (c.in_err-write_root.ensures.faults h.honest live some))
 
+pub returns-in_err-write_root-clause-damage : goal.returns-in_err-write_root-clause-damage
+returns-in_err-write_root-clause-damage g c = λ h live either none.
+    at_error c.from_residual.result c.in_err-write_root.field-0.0
+    (λ f. IsOfDevice f ⊎ (f ≡ Damaged c.args.root.page)) c.from_residual.ensures.1
+    (c.in_err-write_root.ensures.named h.honest live)
+
 pub returns-in_err-write_root-clause-number : goal.returns-in_err-write_root-clause-number
 returns-in_err-write_root-clause-number g c = λ h live.
     let page = c.args.root.page in
