@@ -1,10 +1,16 @@
 -- The layer is found or not, and the object is deleted from it.
-use Rattle.std.proofs.Common.{inl}
+use Rattle.std.proofs.Common.{inl, inr, refl}
 use Rattle.plain_table.specs.Commands.Command.{Delete}
 use Rattle.plain_table.specs.Step.{missing_refusals}
 use Rattle.plain_table.specs.Table.{layer_at}
 use Rattle.live_layers.proofs.ChangeLemmas.{refused_by}
+use Rattle.plain_table.specs.declared.refusal.Refusal.TheVariants as refusal
 use Rattle.live_layers.proofs.layers.Layers.delete.Goals as goal
+
+pub returns-then-not-both_fit-clause-change : goal.returns-then-not-both_fit-clause-change
+returns-then-not-both_fit-clause-change g c =
+    refused_by c.args.self.now (Delete c.args.name.now c.args.id)
+    refusal.Memory g.met.B.BlockDevice.only_now refl (λ t sound. inr tt)
 
 pub returns-in-Err-clause-change : goal.returns-in-Err-clause-change
 returns-in-Err-clause-change g c =
@@ -43,3 +49,27 @@ returns-else-located-eq2-clause-change g c = record {
         recorded = c.locate-located.ensures.by_record;
       });
 }
+
+pub returns-then-located-eq2-clause-tree : goal.returns-then-located-eq2-clause-tree
+returns-then-located-eq2-clause-tree g c = λ t sound.
+    let name = c.args.name.now in
+    let finds = c.in-Ok.ensures.found t sound in
+    c.delete_at.ensures.tree t name sound
+    (record {
+      named = c.in-Ok.ensures.named t sound;
+      finds = finds;
+      located = c.locate-located.ensures.located t name sound finds;
+      recorded = c.locate-located.ensures.by_record;
+    })
+
+pub returns-else-located-eq2-clause-tree : goal.returns-else-located-eq2-clause-tree
+returns-else-located-eq2-clause-tree g c = λ t sound.
+    let name = c.args.name.now in
+    let finds = c.in-Ok.ensures.found t sound in
+    c.delete_at-else-located-eq2.ensures.tree t name sound
+    (record {
+      named = c.in-Ok.ensures.named t sound;
+      finds = finds;
+      located = c.locate-located.ensures.located t name sound finds;
+      recorded = c.locate-located.ensures.by_record;
+    })

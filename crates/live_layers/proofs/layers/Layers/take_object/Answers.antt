@@ -1,6 +1,6 @@
 -- The object is in neither the tree nor the table, and the record says so; or the change was refused, or
 -- broke off.
-use Rattle.std.proofs.Common.{Err, refl, arith, subst, sym}
+use Rattle.std.proofs.Common.{Err, refl, inl, arith, subst, sym}
 use Rattle.plain_table.specs.Table.{layer_at}
 use Rattle.condense.specs.Removed.{most_removal_pages}
 use Rattle.page_file.specs.Fault.{IsOfDevice}
@@ -10,6 +10,7 @@ use Rattle.live_layers.specs.Rules.{HasLost}
 use Rattle.live_layers.proofs.AddLemmas.{stands_at}
 use Rattle.live_layers.proofs.BegunLemmas.{broke_behind, made_behind, no_memory, not_opened}
 use Rattle.live_layers.proofs.ReplaceLemmas.{changes_before, reading}
+use Rattle.live_layers.proofs.Results.{the_err}
 use Rattle.live_layers.proofs.SpotLemmas.{spot_begun}
 use Rattle.live_layers.proofs.TakeLemmas.{sound_taken, tree_taken}
 use Rattle.live_layers.proofs.layers.Layers.take_object.Goals as goal
@@ -98,3 +99,18 @@ pub returns-clause-begins : goal.returns-clause-begins
 returns-clause-begins g c =
     made_behind c.args.self.now c.begin.new.self _ c.remove.new.cache c.note.ensures.cache
     c.in_ok-begin.ensures.begins c.begin.ensures.keeps c.in-Ok.ensures.changes c.note.ensures.newest
+
+pub returns-in_err-waiting-clause-faults : goal.returns-in_err-waiting-clause-faults
+returns-in_err-waiting-clause-faults g c =
+    λ t name sound finds dims has spot. the_err c.from_residual.result _ _ c.from_residual.ensures.1
+    (inl c.in_err-waiting.ensures)
+
+pub returns-in_err-kept-clause-faults : goal.returns-in_err-kept-clause-faults
+returns-in_err-kept-clause-faults g c =
+    λ t name sound finds dims has spot. the_err c.from_residual-in_err-kept.result _ _
+    c.from_residual-in_err-kept.ensures.1 (inl c.in_err-kept.ensures)
+
+pub returns-in_err-begin-clause-faults : goal.returns-in_err-begin-clause-faults
+returns-in_err-begin-clause-faults g c =
+    λ t name sound finds dims has spot. the_err c.from_residual-in_err-begin.result _ _
+    c.from_residual-in_err-begin.ensures.1 c.in_err-begin.ensures.faults
