@@ -133,8 +133,8 @@ pub record LeaveRoom (dims level : ℕ) (one two : Row) : Type 0 where
 
 -- two pages say that they have less than fits
 pub record HaveRoom (dims : ℕ) (first second : List ℕ) : Type 0 where
-  pub first : number_at 2 2 first < most_objects dims
-  pub second : number_at 2 2 second < most_objects dims
+  pub few_first : number_at 2 2 first < most_objects dims
+  pub few_second : number_at 2 2 second < most_objects dims
 
 -- a fork, and two of its children, which are leaves: too much for one page, and so little that both have room
 -- once they shared it
