@@ -1,7 +1,9 @@
 -- A full leaf and a neighbour with which it shares.
-use Rattle.std.proofs.Common.{◌≡◌, ℕ, zero, suc, ◌+◌, ◌-◌, ◌<◌, Bool, List, length, arith}
+use Rattle.std.proofs.Common.{◌≡◌, ℕ, zero, suc, ◌+◌, ◌-◌, ◌<◌, ◌≤◌, Bool, List, length, arith}
+use Rattle.std.proofs.lemmas.Bool.Decides.{nat_tests}
+use Rattle.block_bytes.specs.Numbers.{number_at}
 use Rattle.node_page.specs.Standing.{PageMap}
-use Rattle.id_tree.specs.Joining.{HasChildren, IsPair, MayJoin, MayMeet}
+use Rattle.id_tree.specs.Joining.{HasChildren, IsPair, MayJoin, MayMeet, emptier_left}
 use Rattle.id_tree.specs.Steps.{MaySplit}
 use Rattle.id_tree.specs.Tree.{Row, end, more, object, child, RowStands, links_of}
 use Rattle.id_tree.proofs.NodeLemmas.{node_there, stands_same}
@@ -44,3 +46,12 @@ split_joins dims old new page level edge row id p place last fork left first sec
       single = may.single;
       pair = pair;
     }
+
+-- the emptier one of both neighbours
+pub emptier_behind : (place : ℕ) (before behind : List ℕ) → number_at 2 2 behind < number_at 2 2 before
+    → place ≡ emptier_left place before behind
+emptier_behind place before behind less = grind (arith, nat_tests)
+
+pub emptier_before : (place : ℕ) (before behind : List ℕ) → number_at 2 2 before ≤ number_at 2 2 behind
+    → place - 1 ≡ emptier_left place before behind
+emptier_before place before behind le = grind (arith, nat_tests)

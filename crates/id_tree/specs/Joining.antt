@@ -1,6 +1,7 @@
 -- Two neighbouring nodes made one, or cut in two again elsewhere.
 use Rattle.std.specs.Prelude.{◌≡◌, ℕ, ◌+◌, ◌-◌, ◌*◌, ◌/◌, ◌<◌, ◌≤◌, Bool, true, false, List, [], ◌∷◌, ◌++◌}
-use Rattle.std.specs.Prelude.{length, remove, slice_index_or, slice_set, All, Some, None, IsSome}
+use Rattle.std.specs.Prelude.{length, remove, slice_index_or, slice_set, All, Some, None, IsSome, nat_lt}
+use Rattle.std.specs.Prelude.{if◌then◌else◌}
 use Rattle.block_bytes.specs.Numbers.{number_at}
 use Rattle.id_page.specs.Fork.{ForkContent, Link, fork_at, route_place, with_links}
 use Rattle.id_page.specs.Leaf.{most_objects}
@@ -143,6 +144,12 @@ pub record MayShare (dims : ℕ) (pages : PageMap) (page level : ℕ) (edge : Bo
   pub join : MayJoin dims pages page level edge row id fork left first second key last
   pub many : AreTooMany dims (level - 1) join.pair.at.one join.pair.at.two
   pub room : LeaveRoom dims (level - 1) join.pair.at.one join.pair.at.two
+
+-- of both neighbours of the child in a place, the pages of which these are, the one that says less, or the one
+-- before it where both say as much: the place of the first one of the two children
+abbrev pub emptier_left : ℕ → List ℕ → List ℕ → ℕ
+emptier_left place before behind =
+    if nat_lt (number_at 2 2 behind) (number_at 2 2 before) then place else place - 1
 
 -- the pages of all children are live
 abbrev pub HasChildren : PageMap → List Link → Type 0

@@ -1,20 +1,21 @@
 //! Room in a full child: a leaf shares with a neighbour that has room enough, and else the child is split.
 
-ghost use Rattle.std.specs.Prelude.{◌≡◌, ◌<◌, ◌≤◌, ◌⊎◌, ◌+◌, ◌*◌, ◌/◌, ℕ, Bool, true, false, Some, List};
-ghost use Rattle.std.specs.Prelude.{length, IfErr, IfOk, IfSome, OnOk};
+ghost use Rattle.std.specs.Prelude.{◌≡◌, ◌<◌, ◌≤◌, ◌⊎◌, ◌+◌, ◌-◌, ◌*◌, ◌/◌, ℕ, Bool, true, false, Some};
+ghost use Rattle.std.specs.Prelude.{List, length, slice_index_or, IfErr, IfOk, IfSome, IsSome, OnOk};
 ghost use Rattle.block_bytes.specs.Numbers.{number_at};
 ghost use Rattle.page_file.specs.Fault.{IsDamage, IsOfDevice};
 ghost use Rattle.page_file.specs.declared.fault.Fault.TheVariants as fault;
 ghost use Rattle.page_cache.specs.Cache.{Grows, IsHonest, IsLive, IsPageMap, given, pages, touched_of};
 ghost use Rattle.page_cache.specs.Calls.{Asks, Changes};
 ghost use Rattle.node_page.specs.Faults.{IsNoDamage};
-ghost use Rattle.id_page.specs.Fork.{ForkContent};
+ghost use Rattle.id_page.specs.Fork.{ForkContent, Link};
+ghost use Rattle.id_page.specs.Leaf.{most_objects};
 ghost use Rattle.id_words.specs.Damage.{MayBreakAt};
 ghost use Rattle.id_tree.specs.Checked.{ComesInTree, Names, NamesChild};
-ghost use Rattle.id_tree.specs.Joining.{AreTooMany, HasChildren, LeaveRoom, MayShare};
+ghost use Rattle.id_tree.specs.Joining.{AreTooMany, HasChildren, LeaveRoom, MayShare, emptier_left};
 ghost use Rattle.id_tree.specs.Steps.{MakesRoom, MaySplit};
 ghost use Rattle.id_tree.specs.Tidy.{KeepsTidy};
-ghost use Rattle.id_tree.specs.Tree.{HasNode, Row, fork_in};
+ghost use Rattle.id_tree.specs.Tree.{HasNode, Row, fork_in, objects_in};
 
 use crate::below::Below;
 use crate::joining::share;
@@ -127,6 +128,13 @@ fn look_beside<const D: usize, B: BlockDevice, A: Allocator + Copy>(
     ensures beside { IfOk result (λ r. IfSome r (λ left. (left ≤ place) × (place ≤ left + 1))) }
     ensures within { IsHonest cache.old → (c : ForkContent) → fork_in D (pages cache.old page) ≡ Some c
         → IfOk result (λ r. IfSome r (λ left. left + 1 < length c.links)) }
+    ensures some { IsHonest cache.old → (c : ForkContent) → fork_in D (pages cache.old page) ≡ Some c
+        → 1 < length c.links → place < length c.links → IfOk result (λ r. IsSome r) }
+    ensures emptier { IsHonest cache.old → (c : ForkContent) (other : Link) (before behind : List ℕ)
+        → fork_in D (pages cache.old page) ≡ Some c → 0 < place → place + 1 < length c.links
+        → pages cache.old (slice_index_or c.links (place - 1) other).1 ≡ Some before
+        → pages cache.old (slice_index_or c.links (place + 1) other).1 ≡ Some behind
+        → IfOk result (λ r. r ≡ Some (emptier_left place before behind)) }
     ensures there { IsHonest cache.old → (c : ForkContent) → fork_in D (pages cache.old page) ≡ Some c
         → HasChildren (pages cache.old) c.links → IfErr result IsOfDevice }
     ensures damage { IsHonest cache.old → (c : ForkContent) → fork_in D (given cache.old page) ≡ Some c
@@ -199,6 +207,11 @@ fn may_share<const D: usize, B: BlockDevice, A: Allocator + Copy>(
     ensures room { IsHonest cache.old → (level : ℕ) (one two : Row) → level ≡ 0
         → HasNode D (pages cache.old) first level one → HasNode D (pages cache.old) second level two
         → IfOk result (λ share. share ≡ true → LeaveRoom D level one two) }
+    ensures accepts { IsHonest cache.old → (level : ℕ) (one two : Row) → level ≡ 0
+        → HasNode D (pages cache.old) first level one → HasNode D (pages cache.old) second level two
+        → AreTooMany D level one two
+        → length (objects_in one) + length (objects_in two) ≤ most_objects D + most_objects D * 4 / 5
+        → IfOk result (λ share. share ≡ true) }
     ensures there { IsHonest cache.old → IsLive cache.old first → IsLive cache.old second
         → IfErr result IsOfDevice }
     ensures damage { IsHonest cache.old → IfErr result (λ f. (n : ℕ) → f ≡ fault.Damaged n

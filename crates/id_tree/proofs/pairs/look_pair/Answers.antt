@@ -1,5 +1,5 @@
 -- The pages and the key in the fork are those of two children next to one another.
-use Rattle.std.proofs.Common.{◌∙◌, ap, arith, ◌≡◌, ◌⊎◌, ◌+◌, ◌<◌, ◌≤◌, length, sym}
+use Rattle.std.proofs.Common.{◌∙◌, ap, arith, ◌≡◌, ◌⊎◌, ◌+◌, ◌<◌, length, sym}
 use Rattle.page_file.specs.Fault.{IsOfDevice}
 use Rattle.page_cache.specs.Cache.{pages, given}
 use Rattle.node_page.proofs.NodeLemmas.{at_error}

@@ -1,5 +1,5 @@
 -- The places and the pages are those of children of the fork.
-use Rattle.std.proofs.Common.{◌≡◌, ◌∙◌, ◌⊎◌, ◌+◌, ◌-◌, ◌<◌, ◌≤◌, ℕ, IsSome, length, refl, sym, subst, arith}
+use Rattle.std.proofs.Common.{◌≡◌, ◌∙◌, ◌+◌, ◌-◌, ◌<◌, ℕ, IsSome, Some, length, refl, sym, ap, subst, arith}
 use Rattle.page_file.specs.Fault.{IsOfDevice}
 use Rattle.page_file.specs.declared.fault.Fault.TheVariants as fault
 use Rattle.page_cache.specs.Cache.{pages, given}
@@ -10,6 +10,7 @@ use Rattle.id_tree.specs.Checked.{ComesInTree}
 use Rattle.id_tree.proofs.DamageLemmas.{comes_at, comes_down, comes_to_one, damaged_is}
 use Rattle.id_tree.proofs.GivenLemmas.{comes_here}
 use Rattle.id_tree.proofs.NodeLemmas.{fork_bytes, there_of_fork}
+use Rattle.id_tree.proofs.SharingLemmas.{emptier_before, emptier_behind}
 use Rattle.id_tree.proofs.SplitLemmas.{live_same}
 use Rattle.id_tree.proofs.sharing.look_beside.Goals as goal
 
@@ -62,6 +63,90 @@ returns-in_err-more-clause-there g c = λ h content there live.
     (subst (λ n. IsSome (map n)) (sym (c.page_at-behind.ensures.of_fork D content some_link is two))
     (live (c.args.place + 1) some_link two))))
 
+pub returns-then-count-lt2-clause-some : goal.returns-then-count-lt2-clause-some
+returns-then-count-lt2-clause-some g c = λ h content there two within.
+    let D = g.row.D in
+    let map = pages c.args.cache.now in
+    let old = map c.args.page in
+    let is = fork_bytes D old c.in_ok-fork.fork content
+    (c.in_ok-fork.ensures.bytes h (there_of_fork D old content there)) there in
+    let count = c.count_at-count.ensures.of_fork D content is in
+    absurd (omega (arith, count, two, within, c.if-count-lt2.true))
+
+pub returns-then-count-lt2-clause-emptier : goal.returns-then-count-lt2-clause-emptier
+returns-then-count-lt2-clause-emptier g c = λ h content other before behind there some within first second.
+    let D = g.row.D in
+    let map = pages c.args.cache.now in
+    let old = map c.args.page in
+    let is = fork_bytes D old c.in_ok-fork.fork content
+    (c.in_ok-fork.ensures.bytes h (there_of_fork D old content there)) there in
+    let count = c.count_at-count.ensures.of_fork D content is in
+    absurd (omega (arith, count, some, within, c.if-count-lt2.true))
+
+pub returns-then-place-count-clause-some : goal.returns-then-place-count-clause-some
+returns-then-place-count-clause-some g c = λ h content there two within.
+    let D = g.row.D in
+    let map = pages c.args.cache.now in
+    let old = map c.args.page in
+    let is = fork_bytes D old c.in_ok-fork.fork content
+    (c.in_ok-fork.ensures.bytes h (there_of_fork D old content there)) there in
+    let count = c.count_at-count.ensures.of_fork D content is in
+    absurd (omega (arith, count, two, within, c.if-place-count.true))
+
+pub returns-then-place-count-clause-emptier : goal.returns-then-place-count-clause-emptier
+returns-then-place-count-clause-emptier g c = λ h content other before behind there some within first second.
+    let D = g.row.D in
+    let map = pages c.args.cache.now in
+    let old = map c.args.page in
+    let is = fork_bytes D old c.in_ok-fork.fork content
+    (c.in_ok-fork.ensures.bytes h (there_of_fork D old content there)) there in
+    let count = c.count_at-count.ensures.of_fork D content is in
+    absurd (omega (arith, count, some, within, c.if-place-count.true))
+
+pub returns-then-place-count-2-clause-emptier : goal.returns-then-place-count-2-clause-emptier
+returns-then-place-count-2-clause-emptier g c = λ h content other before behind there some within first second.
+    let D = g.row.D in
+    let map = pages c.args.cache.now in
+    let old = map c.args.page in
+    let is = fork_bytes D old c.in_ok-fork.fork content
+    (c.in_ok-fork.ensures.bytes h (there_of_fork D old content there)) there in
+    let count = c.count_at-count.ensures.of_fork D content is in
+    absurd (omega (arith, count, some, within, c.if-place-count-2.true))
+
+pub returns-then-more-clause-emptier : goal.returns-then-more-clause-emptier
+returns-then-more-clause-emptier g c = λ h content other before behind there some within first second.
+    let D = g.row.D in
+    let map = pages c.args.cache.now in
+    let old = map c.args.page in
+    let is = fork_bytes D old c.in_ok-fork.fork content
+    (c.in_ok-fork.ensures.bytes h (there_of_fork D old content there)) there in
+    let count = c.count_at-count.ensures.of_fork D content is in
+    let asks = c.in_ok-fork.ensures.asks in
+    let one : c.args.place - 1 < length content.links = omega (arith, within) in
+    let is_first = asks.map.pages_stay h c.page_at-before.result
+    ∙ ap map (c.page_at-before.ensures.of_fork D content other is one) ∙ first in
+    let is_second = asks.map.pages_stay h c.page_at-behind.result
+    ∙ ap map (c.page_at-behind.ensures.of_fork D content other is within) ∙ second in
+    ap (λ (k : ℕ). Some k) (emptier_behind c.args.place before behind
+    (c.in_ok-more.ensures.more (asks.gate.honest.0 h) before behind is_first is_second c.if-more.true))
+
+pub returns-clause-emptier : goal.returns-clause-emptier
+returns-clause-emptier g c = λ h content other before behind there some within first second.
+    let D = g.row.D in
+    let map = pages c.args.cache.now in
+    let old = map c.args.page in
+    let is = fork_bytes D old c.in_ok-fork.fork content
+    (c.in_ok-fork.ensures.bytes h (there_of_fork D old content there)) there in
+    let count = c.count_at-count.ensures.of_fork D content is in
+    let asks = c.in_ok-fork.ensures.asks in
+    let one : c.args.place - 1 < length content.links = omega (arith, within) in
+    let is_first = asks.map.pages_stay h c.page_at-before.result
+    ∙ ap map (c.page_at-before.ensures.of_fork D content other is one) ∙ first in
+    let is_second = asks.map.pages_stay h c.page_at-behind.result
+    ∙ ap map (c.page_at-behind.ensures.of_fork D content other is within) ∙ second in
+    ap (λ (k : ℕ). Some k) (emptier_before c.args.place before behind
+    (c.in_ok-more.ensures.less (asks.gate.honest.0 h) before behind is_first is_second c.if-more.false))
+
 pub returns-in_err-fork-clause-damage : goal.returns-in_err-fork-clause-damage
 returns-in_err-fork-clause-damage g c = λ h content there.
     at_error c.from_residual.result c.in_err-fork.field-0.0
@@ -87,8 +172,7 @@ returns-in_err-more-clause-damage g c = λ h content there.
     let one : c.args.place - 1 < length content.links = omega (arith, count, c.if-place-count.false) in
     let two : c.args.place + 1 < length content.links =
     omega (arith, count, c.if-place-count.false, c.if-place-count-2.false) in
-    let first : ComesInTree D m page before = comes_down D m page before before
-    (
+    let first : ComesInTree D m page before = comes_down D m page before before (
       content,
       there,
       (
@@ -98,8 +182,7 @@ returns-in_err-more-clause-damage g c = λ h content there.
       ),
     )
     (comes_here D m before before refl) in
-    let second : ComesInTree D m page behind = comes_down D m page behind behind
-    (
+    let second : ComesInTree D m page behind = comes_down D m page behind behind (
       content,
       there,
       (
