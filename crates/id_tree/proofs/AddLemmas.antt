@@ -302,20 +302,21 @@ pub widens_after : (dims : ℕ) (old mid new : PageMap) (page level : ℕ) (row 
     → Becomes dims mid new below (level - 1) last made.room.way.below id (adds kept)
     → Widens dims old new page level row id (adds kept)
 widens_after dims old mid new page level row id below last kept high made b =
-    let then = by_child dims mid page level true id below made.room.now high made.room.stands made.room.way new (adds kept)
+    let room = made.room in
+    let then = by_child dims mid page level true id below room.now high room.stands room.way new (adds kept)
     (λ (never : true ≡ false). absurd (cc))
-    (subst (λ e. Becomes dims mid new below (level - 1) e made.room.way.below id (adds kept)) made.room.last_is b) in
+    (subst (λ e. Becomes dims mid new below (level - 1) e room.way.below id (adds kept)) room.last_is b) in
     record {
       becomes = record {
         now = then.now;
         stands = then.stands;
-        turns = turns_after id (adds kept) (objects_in row) (objects_in made.room.now) (objects_in then.now)
-            made.room.keeps then.turns;
+        turns = turns_after id (adds kept) (objects_in row) (objects_in room.now) (objects_in then.now)
+            room.keeps then.turns;
         some = then.some;
         large = then.large;
         wide = omega (arith, made.wider, then.wide);
-        moves = moves_in_turn old mid new (part_at page row) (part_at page made.room.now) (part_at page then.now)
-            made.room.moves then.moves;
+        moves = moves_in_turn old mid new (part_at page row) (part_at page room.now) (part_at page then.now)
+            room.moves then.moves;
       };
       wider = omega (arith, made.wider, then.wide);
     }

@@ -145,8 +145,16 @@ pub record MayShare (dims : ℕ) (pages : PageMap) (page level : ℕ) (edge : Bo
   pub many : AreTooMany dims (level - 1) join.pair.at.one join.pair.at.two
   pub room : LeaveRoom dims (level - 1) join.pair.at.one join.pair.at.two
 
--- of both neighbours of the child in a place, the pages of which these are, the one that says less, or the one
--- before it where both say as much: the place of the first one of the two children
+-- A child where an identifier is may share with each neighbour that it has: what both have is too much for
+-- one page, and no more than fits into one and four fifths of that.
+abbrev pub MayShareEach : ℕ → ℕ → ℕ → Row → Type 0
+MayShareEach dims level id row = (first second : ℕ) (at : AtPair id first second row)
+    → AreTooMany dims level at.one at.two
+    × (length (objects_in at.one) + length (objects_in at.two)
+    ≤ most_objects dims + most_objects dims * 4 / 5)
+
+-- of both neighbours of the child in a place, the pages of which these are, the one that says less, or the
+-- one before it where both say as much: the place of the first one of the two children
 abbrev pub emptier_left : ℕ → List ℕ → List ℕ → ℕ
 emptier_left place before behind =
     if nat_lt (number_at 2 2 behind) (number_at 2 2 before) then place else place - 1

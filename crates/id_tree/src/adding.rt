@@ -39,8 +39,8 @@ pub(crate) const MOST_LEVELS: u8 = 6;
 /// would come.
 ///
 /// A leaf with room is all that it looks at, which no clause says; else it walks down from the root. There a
-/// full leaf shares with the emptier one of the leaves next to it in their fork, where that one has at most four
-/// fifths of what fits, and else is cut in two.
+/// full leaf shares with the emptier one of the leaves next to it in their fork, where that one has at most
+/// four fifths of what fits, and else is cut in two.
 ///
 /// Pages with zeros in all bytes that they do not name stay so, and so are new ones.
 ///

@@ -1,4 +1,5 @@
-//! A child with little, joined with the one next to it before one of what it has is taken.
+//! Two children next to one another made one, or cut in two elsewhere: before a child with little loses some
+//! of what it has, and before a full leaf gets one object more.
 
 ghost use Rattle.std.specs.Prelude.{◌≡◌, ◌<◌, ◌≤◌, ◌⊎◌, ◌+◌, ◌-◌, ◌*◌, ◌/◌, ℕ, Bool, true, IfErr, IfOk, OnOk};
 ghost use Rattle.std.specs.Prelude.{Some, false};
@@ -189,8 +190,8 @@ fn make_one<const D: usize, B: BlockDevice, A: Allocator + Copy>(
     Ok((pair.first, pair.last))
 }
 
-// Cuts what two children have in two in the middle, so that both have room where that is not too much. Answers
-// the page where an identifier is then, and whether that one is at the edge of the tree.
+// Cuts what two children have in two in the middle, so that both have room where that is not too much.
+// Answers the page where an identifier is then, and whether that one is at the edge of the tree.
 #[tactic(auto, using(page_cache::specs::Calls::changing))]
 pub(crate) fn share<const D: usize, B: BlockDevice, A: Allocator + Copy>(
     cache: &mut PageCache<B, A>,

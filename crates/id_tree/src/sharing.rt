@@ -12,10 +12,11 @@ ghost use Rattle.id_page.specs.Fork.{ForkContent, Link};
 ghost use Rattle.id_page.specs.Leaf.{most_objects};
 ghost use Rattle.id_words.specs.Damage.{MayBreakAt};
 ghost use Rattle.id_tree.specs.Checked.{ComesInTree, Names, NamesChild};
-ghost use Rattle.id_tree.specs.Joining.{AreTooMany, HasChildren, LeaveRoom, MayShare, emptier_left};
+ghost use Rattle.id_tree.specs.Joining.{AreTooMany, HasChildren, LeaveRoom, MayShare, MayShareEach};
+ghost use Rattle.id_tree.specs.Joining.{emptier_left};
 ghost use Rattle.id_tree.specs.Steps.{MakesRoom, MaySplit};
 ghost use Rattle.id_tree.specs.Tidy.{KeepsTidy};
-ghost use Rattle.id_tree.specs.Tree.{HasNode, Row, fork_in, objects_in};
+ghost use Rattle.id_tree.specs.Tree.{HasNode, Row, fork_in, links_of, objects_in};
 
 use crate::below::Below;
 use crate::joining::share;
@@ -28,9 +29,9 @@ use page_cache::PageCache;
 use page_file::Fault;
 use std::alloc::Allocator;
 
-// Makes room in the full child in a place of a fork, where an identifier is: a leaf shares with the emptier one
-// of its neighbours, where that one has at most four fifths of what fits, and else the child is split. Answers
-// the page where the identifier is then, and whether that one is at the edge of the tree.
+// Makes room in the full child in a place of a fork, where an identifier is: a leaf shares with the emptier
+// one of its neighbours, where that one has at most four fifths of what fits, and else the child is split.
+// Answers the page where the identifier is then, and whether that one is at the edge of the tree.
 #[tactic(auto, using(page_cache::specs::Calls::changing))]
 pub(crate) fn make_room<const D: usize, B: BlockDevice, A: Allocator + Copy>(
     cache: &mut PageCache<B, A>,
@@ -55,6 +56,10 @@ pub(crate) fn make_room<const D: usize, B: BlockDevice, A: Allocator + Copy>(
         below.now.child below.now.place below.now.last
         → IsPageMap cache.new }
     ensures grows { Grows 1 cache.old cache.new }
+    ensures shares { IsPageMap cache.old → (row : Row)
+        → MaySplit D (pages cache.old) page level edge row id
+        below.now.child below.now.place below.now.last → level ≡ 1
+        → 1 < length (links_of row) → MayShareEach D (level - 1) id row → Grows 0 cache.old cache.new }
     ensures faults { IsPageMap cache.old → (row : Row)
         → MaySplit D (pages cache.old) page level edge row id
         below.now.child below.now.place below.now.last
@@ -88,6 +93,9 @@ fn look_roomy<const D: usize, B: BlockDevice, A: Allocator + Copy>(
         → MaySplit D (pages cache.old) page level edge row id child place last
         → IfOk result (λ r. IfSome r (λ p.
         MayShare D (pages cache.old) page level edge row id p.fork p.left p.first p.second p.key p.last)) }
+    ensures shares { IsHonest cache.old → (id child : ℕ) (last : Bool) (row : Row)
+        → MaySplit D (pages cache.old) page level edge row id child place last → level ≡ 1
+        → 1 < length (links_of row) → MayShareEach D (level - 1) id row → IfOk result (λ r. IsSome r) }
     ensures bytes { IsHonest cache.old → IsLive cache.old page
         → IfOk result (λ r. IfSome r (λ p. pages cache.old page ≡ Some p.fork)) }
     ensures within { IfOk result (λ r. IfSome r (λ p. p.left + 1 < number_at 2 2 p.fork)) }

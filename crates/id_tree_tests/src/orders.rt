@@ -207,8 +207,8 @@ fn first_wrong(alloc: Global, rounds: &[Round]) -> Result<Option<(usize, (u32, u
     Ok(None)
 }
 
-// As many identifiers are looked for that are not there. Those that ascend leave full leaves, and others leaves
-// that are 78 % full.
+// As many identifiers are looked for that are not there. Those that ascend leave full leaves, and others
+// leaves that are 78 % full.
 const MOVED: &[Round] = &[
     (2, Order::Ascending, (12000, 24000), Fate::Move, 90),
     (3, Order::Descending, (8000, 16000), Fate::Move, 94),

@@ -132,8 +132,8 @@ const MOVED_EARLY: Run = Run {
     ..ONE
 };
 
-// The first leaf of the 400 is cut, so that the root changes too, where the second one is nearly full, and loses
-// and moves objects.
+// The first leaf of the 400 is cut, since the second one is nearly full, so that the root changes too, and
+// loses and moves objects.
 const CUT: Step = Each(Add, Run { count: 2, ..ZERO });
 
 const LOSE: Step = Each(Remove, Run { first: 40, ..ZERO });

@@ -1,5 +1,6 @@
 -- The pair that was found is one of leaves that may share.
-use Rattle.std.proofs.Common.{◌≡◌, ◌∙◌, ◌+◌, ◌-◌, ◌<◌, ◌≤◌, ℕ, None, length, refl, sym, ap, arith}
+use Rattle.std.proofs.Common.{◌≡◌, ◌∙◌, ◌-◌, ℕ, None, IsSome, refl, sym, ap}
+use Rattle.std.proofs.Common.{subst, arith}
 use Rattle.page_file.specs.Fault.{IsOfDevice}
 use Rattle.page_file.specs.declared.fault.Fault.TheVariants as fault
 use Rattle.page_cache.specs.Cache.{pages, given}
@@ -7,15 +8,13 @@ use Rattle.page_cache.specs.Calls.{asks_and_refuses, asks_in_turn}
 use Rattle.node_page.proofs.NodeLemmas.{at_error}
 use Rattle.id_page.specs.Fork.{ForkContent}
 use Rattle.id_tree.specs.Checked.{ComesInTree}
-use Rattle.id_tree.specs.Joining.{IsBeside}
 use Rattle.id_tree.specs.Tree.{fork_in, links_of}
 use Rattle.id_tree.proofs.DamageLemmas.{comes_at, comes_down, comes_to_one}
 use Rattle.id_tree.proofs.GivenLemmas.{comes_here}
 use Rattle.id_tree.proofs.JoinLemmas.{join_apart, one_node, two_node}
 use Rattle.id_tree.proofs.NodeLemmas.{node_stays}
-use Rattle.id_tree.proofs.ResultLemmas.{some_is}
-use Rattle.id_tree.proofs.SharingLemmas.{links_live, split_joins, split_meets}
-use Rattle.id_tree.proofs.SplitLemmas.{live_same}
+use Rattle.id_tree.proofs.SharingLemmas.{is_beside, links_live, split_joins, split_meets}
+use Rattle.id_tree.proofs.SplitLemmas.{live_same, place_within}
 use Rattle.id_tree.proofs.sharing.look_roomy.Goals as goal
 
 pub returns-in_err-share-clause-asks : goal.returns-in_err-share-clause-asks
@@ -57,16 +56,12 @@ returns-in_err-pair-clause-there g c = λ h id child last row may.
     let asks = c.in_ok-beside.ensures.asks in
     let same = asks.map.pages_stay h in
     let content : ForkContent = record { level = level; links = links_of row } in
-    let within : left + 1 < length (links_of row) = some_is c.in_ok-beside.beside left
-    (λ (l : ℕ). l + 1 < length (links_of row)) c.in-Some.is
+    let beside = is_beside c.in_ok-beside.beside left place row c.in-Some.is c.in_ok-beside.ensures.beside
     (c.in_ok-beside.ensures.within h content (may.stands.node.fork may.high)) in
-    let near : (left ≤ place) × (place ≤ left + 1) = some_is c.in_ok-beside.beside left
-    (λ (l : ℕ). (l ≤ place) × (place ≤ l + 1)) c.in-Some.is c.in_ok-beside.ensures.beside in
-    let beside : IsBeside left place row = record { from = near.0; upto = near.1; within = within } in
     at_error c.from_residual-in_err-pair.result c.in_err-pair.field-0.0 IsOfDevice
     c.from_residual-in_err-pair.ensures.1
     (c.in_err-pair.ensures.there (asks.gate.honest.0 h) level id child place row
-    (split_meets D old mid page level edge row id child place last left same may within) beside)
+    (split_meets D old mid page level edge row id child place last left same may beside) beside)
 
 pub returns-in_err-share-clause-there : goal.returns-in_err-share-clause-there
 returns-in_err-share-clause-there g c = λ h id child last row may.
@@ -84,15 +79,11 @@ returns-in_err-share-clause-there g c = λ h id child last row may.
     let h1 = asks.gate.honest.0 h in
     let asks2 = c.in_ok-pair.ensures.asks in
     let content : ForkContent = record { level = level; links = links_of row } in
-    let within : left + 1 < length (links_of row) = some_is c.in_ok-beside.beside left
-    (λ (l : ℕ). l + 1 < length (links_of row)) c.in-Some.is
+    let beside = is_beside c.in_ok-beside.beside left place row c.in-Some.is c.in_ok-beside.ensures.beside
     (c.in_ok-beside.ensures.within h content (may.stands.node.fork may.high)) in
-    let near : (left ≤ place) × (place ≤ left + 1) = some_is c.in_ok-beside.beside left
-    (λ (l : ℕ). (l ≤ place) × (place ≤ l + 1)) c.in-Some.is c.in_ok-beside.ensures.beside in
-    let beside : IsBeside left place row = record { from = near.0; upto = near.1; within = within } in
     let p = c.in_ok-pair.pair in
     let pair = c.in_ok-pair.ensures.pair h1 level id child place row
-    (split_meets D old mid page level edge row id child place last left same may within) beside in
+    (split_meets D old mid page level edge row id child place last left same may beside) beside in
     let joins = split_joins D old mid page level edge row id child place last p.fork p.left p.first p.second
     p.key p.last same may pair in
     let apart = join_apart D mid page level edge row id p.fork p.left p.first p.second p.key p.last joins in
@@ -119,15 +110,11 @@ returns-then-share-clause-pair g c = λ h id child last row may.
     let asks2 = c.in_ok-pair.ensures.asks in
     let h2 = asks2.gate.honest.0 h1 in
     let content : ForkContent = record { level = level; links = links_of row } in
-    let within : left + 1 < length (links_of row) = some_is c.in_ok-beside.beside left
-    (λ (l : ℕ). l + 1 < length (links_of row)) c.in-Some.is
+    let beside = is_beside c.in_ok-beside.beside left place row c.in-Some.is c.in_ok-beside.ensures.beside
     (c.in_ok-beside.ensures.within h content (may.stands.node.fork may.high)) in
-    let near : (left ≤ place) × (place ≤ left + 1) = some_is c.in_ok-beside.beside left
-    (λ (l : ℕ). (l ≤ place) × (place ≤ l + 1)) c.in-Some.is c.in_ok-beside.ensures.beside in
-    let beside : IsBeside left place row = record { from = near.0; upto = near.1; within = within } in
     let p = c.in_ok-pair.pair in
     let pair = c.in_ok-pair.ensures.pair h1 level id child place row
-    (split_meets D old mid page level edge row id child place last left same may within) beside in
+    (split_meets D old mid page level edge row id child place last left same may beside) beside in
     let joins = split_joins D old old page level edge row id child place last p.fork p.left p.first p.second
     p.key p.last (λ n. refl) may pair in
     let now : (n : ℕ) → then n ≡ old n = λ n. asks2.map.pages_stay h1 n ∙ same n in
@@ -141,6 +128,52 @@ returns-then-share-clause-pair g c = λ h id child last row may.
       many = c.in_ok-share.ensures.many h2 (level - 1) pair.at.one pair.at.two low one two c.if-share.true;
       room = c.in_ok-share.ensures.room h2 (level - 1) pair.at.one pair.at.two low one two c.if-share.true;
     }
+
+pub returns-then-level-ne1-clause-shares : goal.returns-then-level-ne1-clause-shares
+returns-then-level-ne1-clause-shares g c = λ h id child last row may is wide each.
+    absurd (c.if-level-ne1.true is)
+
+pub returns-in_default-clause-shares : goal.returns-in_default-clause-shares
+returns-in_default-clause-shares g c = λ h id child last row may is wide each.
+    let some = c.in_ok-beside.ensures.some h (record { level = c.args.level; links = links_of row })
+    (may.stands.node.fork may.high) wide
+    (place_within g.row.D (pages c.args.cache.now) c.args.page c.args.level c.args.edge row id child
+    c.args.place last may) in
+    absurd (let never = subst IsSome c.in_default.is some in cc)
+
+pub returns-clause-shares : goal.returns-clause-shares
+returns-clause-shares g c = λ h id child last row may is wide each.
+    let D = g.row.D in
+    let old = pages c.args.cache.now in
+    let mid = pages c.look_beside.new.cache in
+    let then = pages c.look_pair.new.cache in
+    let page = c.args.page in
+    let level = c.args.level in
+    let edge = c.args.edge in
+    let place = c.args.place in
+    let left = c.in-Some.left in
+    let asks = c.in_ok-beside.ensures.asks in
+    let same = asks.map.pages_stay h in
+    let h1 = asks.gate.honest.0 h in
+    let asks2 = c.in_ok-pair.ensures.asks in
+    let h2 = asks2.gate.honest.0 h1 in
+    let content : ForkContent = record { level = level; links = links_of row } in
+    let beside = is_beside c.in_ok-beside.beside left place row c.in-Some.is c.in_ok-beside.ensures.beside
+    (c.in_ok-beside.ensures.within h content (may.stands.node.fork may.high)) in
+    let p = c.in_ok-pair.pair in
+    let pair = c.in_ok-pair.ensures.pair h1 level id child place row
+    (split_meets D old mid page level edge row id child place last left same may beside) beside in
+    let joins = split_joins D old old page level edge row id child place last p.fork p.left p.first p.second
+    p.key p.last (λ n. refl) may pair in
+    let now : (n : ℕ) → then n ≡ old n = λ n. asks2.map.pages_stay h1 n ∙ same n in
+    let one = node_stays D old then p.first (level - 1) pair.at.one (now p.first)
+    (one_node D old page level edge row id p.fork p.left p.first p.second p.key p.last joins) in
+    let two = node_stays D old then p.second (level - 1) pair.at.two (now p.second)
+    (two_node D old page level edge row id p.fork p.left p.first p.second p.key p.last joins) in
+    let low : level - 1 ≡ 0 = omega (arith, c.if-level-ne1.false) in
+    let few = each p.first p.second pair.at in
+    let yes = c.in_ok-share.ensures.accepts h2 (level - 1) pair.at.one pair.at.two low one two few.0 few.1 in
+    absurd (let never = sym yes ∙ c.if-share.false in cc)
 
 pub returns-then-share-clause-bytes : goal.returns-then-share-clause-bytes
 returns-then-share-clause-bytes g c = λ h live.

@@ -1,5 +1,6 @@
 -- The pair shares, or the child is split.
-use Rattle.std.proofs.Common.{◌≡◌, ◌+◌, ◌<◌, ◌≤◌, ◌⊎◌, ⊎_elim, ℕ, Some, inl, inr, refl}
+use Rattle.std.proofs.Common.{◌≡◌, ◌+◌, ◌<◌, ◌≤◌, ◌⊎◌, ⊎_elim, ℕ, Some, IsSome, inl, inr, refl}
+use Rattle.std.proofs.Common.{subst, arith}
 use Rattle.block_bytes.specs.Numbers.{number_at}
 use Rattle.page_file.specs.Fault.{IsOfDevice}
 use Rattle.page_file.specs.declared.fault.Fault.TheVariants as fault
@@ -79,7 +80,8 @@ returns-in_default-clause-tidy g c = λ map row may.
     let same = asks.map.pages_stay map.honest in
     tidy_from c.split.result D old mid (pages c.split.new.cache) same
     (c.split.ensures.tidy (asks.map.sound.0 map) c.args.edge row
-    (split_again D old mid c.args.page c.args.level c.args.edge row c.args.id b.child b.place b.last same may))
+    (split_again D old mid c.args.page c.args.level c.args.edge row c.args.id b.child b.place b.last same
+    may))
 
 pub returns-in_default-clause-sound : goal.returns-in_default-clause-sound
 returns-in_default-clause-sound g c = λ map row may.
@@ -90,7 +92,8 @@ returns-in_default-clause-sound g c = λ map row may.
     let asks = c.in_ok-roomy.ensures.asks in
     let same = asks.map.pages_stay map.honest in
     c.split.ensures.sound (asks.map.sound.0 map) c.args.edge row
-    (split_again D old mid c.args.page c.args.level c.args.edge row c.args.id b.child b.place b.last same may)
+    (split_again D old mid c.args.page c.args.level c.args.edge row c.args.id b.child b.place b.last same
+    may)
 
 pub returns-in_default-clause-faults : goal.returns-in_default-clause-faults
 returns-in_default-clause-faults g c = λ map row may.
@@ -101,7 +104,8 @@ returns-in_default-clause-faults g c = λ map row may.
     let asks = c.in_ok-roomy.ensures.asks in
     let same = asks.map.pages_stay map.honest in
     c.split.ensures.faults (asks.map.sound.0 map) c.args.edge row
-    (split_again D old mid c.args.page c.args.level c.args.edge row c.args.id b.child b.place b.last same may)
+    (split_again D old mid c.args.page c.args.level c.args.edge row c.args.id b.child b.place b.last same
+    may)
 
 pub returns-in_default-clause-touched : goal.returns-in_default-clause-touched
 returns-in_default-clause-touched g c = c.split.ensures.touched
@@ -125,7 +129,18 @@ returns-in_default-clause-damage g c = λ h none names.
     (either n damaged))
     (c.split.ensures.damage (asks.gate.honest.0 h) none)
 
+pub returns-in_default-clause-shares : goal.returns-in_default-clause-shares
+returns-in_default-clause-shares g c = λ map row may is wide each.
+    let some = c.in_ok-roomy.ensures.shares map.honest c.args.id c.args.below.now.child c.args.below.now.last
+    row may is wide each in
+    absurd (let never = subst IsSome c.in_default.is some in cc)
+
 -- ---- it shares
+
+pub returns-clause-shares : goal.returns-clause-shares
+returns-clause-shares g c = λ map row may is wide each.
+    let asks = c.in_ok-roomy.ensures.asks in
+    omega (arith, c.share.ensures.grows, asks.map.next, asks.map.free_count)
 
 pub returns-clause-made : goal.returns-clause-made
 returns-clause-made g c = λ map row may.
