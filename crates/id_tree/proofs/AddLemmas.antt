@@ -12,8 +12,8 @@ use Rattle.id_page.proofs.LeafReading.{count_of_leaf}
 use Rattle.id_words.specs.Objects.{kept_in, times_in}
 use Rattle.id_tree.specs.Changes.{Sets}
 use Rattle.id_tree.specs.Rows.{At, HasRoom, NodeStands, part_at}
-use Rattle.id_tree.specs.Steps.{Becomes, IsBeneath, IsFullBelow, IsFullTree, Keeps, MakesRoom, MayGrow}
-use Rattle.id_tree.specs.Steps.{MaySplit, Step, adds, Turns, Widens}
+use Rattle.id_tree.specs.Steps.{Becomes, IsBeneath, IsFullBelow, IsFullTree, Keeps, MakesHalves, MakesRoom}
+use Rattle.id_tree.specs.Steps.{MayGrow, MaySplit, Step, adds, Turns, Widens}
 use Rattle.id_tree.specs.Writes.{Deepens, NamesNew, Starts}
 use Rattle.id_tree.specs.Tree.{HasNode, IdTree, IsLarge, Row, end, more, object, child, RowStands, TreeStands}
 use Rattle.id_tree.specs.Tree.{at_edge, fork_in, leaf_in, links_of, objects_in, occurs}
@@ -93,7 +93,7 @@ pub becomes_after : (dims : ℕ) (old mid new : PageMap) (page level : ℕ) (edg
 becomes_after dims old mid new page level edge row id below last kept high large made b =
     let larger : edge ≡ false → IsLarge dims level made.now = λ off. record {
       leaf = λ low. absurd (omega (arith, low, high));
-      fork = λ up. let before = (large off).fork up in omega (arith, before, made.wider);
+      fork = λ up. let before = (large off).fork up in omega (arith, before, made.wide);
     } in
     let then = by_child dims mid page level edge id below made.now high made.stands made.way new (adds kept)
     larger
@@ -105,7 +105,7 @@ becomes_after dims old mid new page level edge row id below last kept high large
           made.keeps then.turns;
       some = then.some;
       large = then.large;
-      wide = omega (arith, made.wider, then.wide);
+      wide = omega (arith, made.wide, then.wide);
       moves = moves_in_turn old mid new (part_at page row) (part_at page made.now) (part_at page then.now)
           made.moves then.moves;
     }
@@ -298,24 +298,25 @@ module _ (dims : ℕ) (old mid : PageMap) (t : IdTree) (root level number : ℕ)
 -- an only child that was split and took an object
 pub widens_after : (dims : ℕ) (old mid new : PageMap) (page level : ℕ) (row : Row) (id below : ℕ)
     (last : Bool) (kept : Object) → 0 < level
-    → (made : MakesRoom dims old mid page level true row id below last)
-    → Becomes dims mid new below (level - 1) last made.way.below id (adds kept)
+    → (made : MakesHalves dims old mid page level true row id below last)
+    → Becomes dims mid new below (level - 1) last made.room.way.below id (adds kept)
     → Widens dims old new page level row id (adds kept)
 widens_after dims old mid new page level row id below last kept high made b =
-    let then = by_child dims mid page level true id below made.now high made.stands made.way new (adds kept)
+    let room = made.room in
+    let then = by_child dims mid page level true id below room.now high room.stands room.way new (adds kept)
     (λ (never : true ≡ false). absurd (cc))
-    (subst (λ e. Becomes dims mid new below (level - 1) e made.way.below id (adds kept)) made.last_is b) in
+    (subst (λ e. Becomes dims mid new below (level - 1) e room.way.below id (adds kept)) room.last_is b) in
     record {
       becomes = record {
         now = then.now;
         stands = then.stands;
-        turns = turns_after id (adds kept) (objects_in row) (objects_in made.now) (objects_in then.now)
-            made.keeps then.turns;
+        turns = turns_after id (adds kept) (objects_in row) (objects_in room.now) (objects_in then.now)
+            room.keeps then.turns;
         some = then.some;
         large = then.large;
         wide = omega (arith, made.wider, then.wide);
-        moves = moves_in_turn old mid new (part_at page row) (part_at page made.now) (part_at page then.now)
-            made.moves then.moves;
+        moves = moves_in_turn old mid new (part_at page row) (part_at page room.now) (part_at page then.now)
+            room.moves then.moves;
       };
       wider = omega (arith, made.wider, then.wide);
     }

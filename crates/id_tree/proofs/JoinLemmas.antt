@@ -16,10 +16,11 @@ use Rattle.node_page.specs.Parts.{Moves}
 use Rattle.node_page.specs.Standing.{PageMap}
 use Rattle.node_page.proofs.PartLemmas.{moves_from}
 use Rattle.id_tree.specs.Cutting.{Cuts, SpellsNode}
-use Rattle.id_tree.specs.Joining.{AreApart, AreNeighbours, AtPair, HasSpare, IsBalanced, IsPair, Joins}
-use Rattle.id_tree.specs.Joining.{MakesSpare, MayJoin, MayMeet, PutsAndFrees, PutsBoth, Shares, met}
+use Rattle.id_tree.specs.Joining.{AreApart, AreNeighbours, AtPair, HasSpare, HaveRoom, IsBalanced, IsPair}
+use Rattle.id_tree.specs.Joining.{Joins, MakesSpare, MayJoin, MayMeet, MayShare, PutsAndFrees, PutsBoth}
+use Rattle.id_tree.specs.Joining.{Shares, met}
 use Rattle.id_tree.specs.Rows.{NodeStands, joined, part_at}
-use Rattle.id_tree.specs.Steps.{Keeps}
+use Rattle.id_tree.specs.Steps.{Keeps, MakesRoom}
 use Rattle.id_tree.specs.Tree.{HasNode, Row, end, more, child, RowStands, at_edge, fork_in, links_of}
 use Rattle.id_tree.specs.Tree.{objects_in, occurs}
 use Rattle.id_tree.proofs.AddLemmas.{some_links}
@@ -407,14 +408,17 @@ module _ (dims : ℕ) (old : PageMap) (page level : ℕ) (edge : Bool) (row : Ro
     share_renamed = swapped_written dims old mid new page level edge row all high s share_swapped others
         (named ∙ ap (λ (xs : List Link). Some (record { level = level; links = xs })) share_links)
 
-    wide : length (links_of row) ≤ length (links_of all) + 1
-    wide = omega (
+    as_wide : length (links_of row) ≤ length (links_of all)
+    as_wide = omega (
       arith,
       ap length row_links,
       ap length all_links,
       length-append (links_of at.front) ((at.key, first) ∷ (at.between, second) ∷ links_of at.rest),
       length-append (links_of at.front) ((at.key, first) ∷ (key, second) ∷ links_of at.rest),
     )
+
+    wide : length (links_of row) ≤ length (links_of all) + 1
+    wide = omega (arith, as_wide)
 
     left_spare : HasSpare dims (level - 1) false cut.left
     left_spare =
@@ -525,6 +529,66 @@ module _ (dims : ℕ) (old : PageMap) (page level : ℕ) (edge : Bool) (row : Ro
       last_is = is;
     }
 
+    -- leaves of few objects have room
+    module _ (few : HaveRoom dims less more_of) (low : level - 1 ≡ 0) where
+      pub roomy_left : id < key → MakesRoom dims old new page level edge row id first false
+      unfolding all
+      roomy_left lt = record {
+        now = all;
+        stands = share_renamed.stands;
+        keeps = share_keeps;
+        wide = as_wide;
+        moves = share_renamed.moves;
+        way = record {
+          front = at.front;
+          key = at.key;
+          below = cut.left;
+          rest = more (child key second cut.right) at.rest;
+          is = refl;
+          passes = at.passes;
+          stops = lt;
+        };
+        room = record {
+          leaf = λ is. omega (
+            arith,
+            few.few_first,
+            count_of_leaf dims less (objects_in cut.left) (cut.spells_left.leaf is),
+          );
+          fork = λ up. absurd (omega (arith, up, low));
+        };
+        last_is = refl;
+      }
+
+      pub roomy_right : key ≤ id → (last : Bool) → last ≡ at_edge edge at.rest
+          → MakesRoom dims old new page level edge row id second last
+      unfolding all
+      roomy_right le last is = record {
+        now = all;
+        stands = share_renamed.stands;
+        keeps = share_keeps;
+        wide = as_wide;
+        moves = share_renamed.moves;
+        way = record {
+          front = joined at.front (more (child at.key first cut.left) end);
+          key = key;
+          below = cut.right;
+          rest = at.rest;
+          is = sym (joined-joined at.front (more (child at.key first cut.left) end)
+              (more (child key second cut.right) at.rest));
+          passes = passes-more id at.key key first at.front cut.left at.passes le;
+          stops = at.stops;
+        };
+        room = record {
+          leaf = λ here. omega (
+            arith,
+            few.few_second,
+            count_of_leaf dims more_of (objects_in cut.right) (cut.spells_right.leaf here),
+          );
+          fork = λ up. absurd (omega (arith, up, low));
+        };
+        last_is = is;
+      }
+
 -- ---- the same pages, and the pair as the code names it
 
 pub spare_from : (dims : ℕ) (old mid new : PageMap) (page level : ℕ) (edge : Bool) (row : Row) (id below : ℕ)
@@ -551,6 +615,16 @@ join_same dims old new page level edge row id fork left first second key last sa
   high = may.high;
   single = may.single;
   pair = may.pair;
+}
+
+abbrev pub share_same : (dims : ℕ) (old new : PageMap) (page level : ℕ) (edge : Bool) (row : Row) (id : ℕ)
+    (fork : List ℕ) (left first second key : ℕ) (last : Bool) → ((n : ℕ) → new n ≡ old n)
+    → MayShare dims old page level edge row id fork left first second key last
+    → MayShare dims new page level edge row id fork left first second key last
+share_same dims old new page level edge row id fork left first second key last same may = record {
+  join = join_same dims old new page level edge row id fork left first second key last same may.join;
+  many = may.many;
+  room = may.room;
 }
 
 pub pair_may_join : (dims : ℕ) (old new : PageMap) (page level : ℕ) (edge : Bool) (row : Row) (id q place : ℕ)
@@ -645,3 +719,14 @@ module _ (dims : ℕ) (old : PageMap) (page level : ℕ) (edge : Bool) (row : Ro
     shared_right le = made_right dims old page level edge row id first second may.high may.stands may.pair.at
         may.single sh.mid new middle less more_of sh.puts cut_here balanced sh.rest named_here le last
         may.pair.last_is
+
+    pub sharing_left : HaveRoom dims less more_of → level - 1 ≡ 0 → id < middle
+        → MakesRoom dims old new page level edge row id first false
+    sharing_left = roomy_left dims old page level edge row id first second may.high may.stands may.pair.at
+        may.single sh.mid new middle less more_of sh.puts cut_here balanced sh.rest named_here
+
+    pub sharing_right : HaveRoom dims less more_of → level - 1 ≡ 0 → middle ≤ id
+        → MakesRoom dims old new page level edge row id second last
+    sharing_right few low le = roomy_right dims old page level edge row id first second may.high may.stands
+        may.pair.at may.single sh.mid new middle less more_of sh.puts cut_here balanced sh.rest named_here
+        few low le last may.pair.last_is

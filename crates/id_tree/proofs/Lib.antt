@@ -29,6 +29,7 @@ pub mod JoinLemmas
 pub mod RemoveLemmas
 pub mod PlaceLemmas
 pub mod ShareLemmas
+pub mod SharingLemmas
 pub mod CheckLemmas
 pub mod CheckedLemmas
 pub mod GivenLemmas

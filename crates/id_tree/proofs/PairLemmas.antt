@@ -9,11 +9,11 @@ use Rattle.id_page.specs.Fork.{Link, fork_at}
 use Rattle.id_words.specs.Objects.{times_in}
 use Rattle.id_words.proofs.ObjectLemmas.{times-append}
 use Rattle.node_page.specs.Standing.{PageMap}
-use Rattle.id_tree.specs.Joining.{AreApart, AreNeighbours, AtPair, IsPair, MayMeet}
+use Rattle.id_tree.specs.Joining.{AreApart, AreNeighbours, AtPair, IsBeside, IsPair, MayMeet}
 use Rattle.id_tree.specs.Rows.{At, NodeStands, Passes, Stops, joined, part_at}
 use Rattle.id_tree.specs.Tree.{IsFilled, IsParted, Row, end, more, object, child, RowStands, at_edge}
 use Rattle.id_tree.specs.Tree.{links_of, objects_in, occurs}
-use Rattle.id_tree.proofs.NodeLemmas.{no_links, node_there, occurs_here}
+use Rattle.id_tree.proofs.NodeLemmas.{node_there, occurs_here}
 use Rattle.id_tree.proofs.ObjectLemmas.{all_left}
 use Rattle.id_tree.proofs.RowLemmas.{between, filled-behind, joined-joined, links-joined, objects-joined}
 use Rattle.id_tree.proofs.RowLemmas.{occurs-joined, parted-behind, stands-behind}
@@ -88,37 +88,34 @@ pub record PairAt (id : ℕ) (row : Row) (left : ℕ) : Type 0 where
 
 module _ (dims : ℕ) (pages : PageMap) (page level : ℕ) (edge : Bool) (id p : ℕ) (row : Row) (high : 0 < level)
     (s : NodeStands dims pages page level edge row) (way : At id p row) where
-  -- the first child and the one behind it
-  pub pair_behind : length (links_of way.front) ≡ 0 → 0 < length (links_of way.rest) → PairAt id row 0
-  pair_behind none some =
-      let alone : way.front ≡ end = no_links dims pages level way.front high
-      (on_front dims pages page level edge id p row high s way) none in
-      let is : row ≡ more (child way.key p way.below) way.rest = way.is
-      ∙ ap (λ (f : Row). joined f (more (child way.key p way.below) way.rest)) alone in
-      by_rest way.rest some way.stops is (on_tail dims pages page level edge id p row high s way)
+  -- a child and the one behind it
+  pub pair_behind : (left : ℕ) → left ≡ length (links_of way.front) → 0 < length (links_of way.rest)
+      → PairAt id row left
+  pair_behind left at some =
+      by_rest way.rest some way.stops way.is (on_tail dims pages page level edge id p row high s way)
       (parted_tail dims pages page level edge id p row high s way)
     where
       by_rest : (rest : Row) → 0 < length (links_of rest) → Stops id rest
-          → row ≡ more (child way.key p way.below) rest
+          → row ≡ joined way.front (more (child way.key p way.below) rest)
           → RowStands dims pages level (more (child way.key p way.below) rest)
-          → IsParted (more (child way.key p way.below) rest) → PairAt id row 0
+          → IsParted (more (child way.key p way.below) rest) → PairAt id row left
       by_rest end some stops is stands parted = absurd (omega (arith, some))
       by_rest (more (object i o) r) some stops is stands parted = absurd (omega (arith, high, stands.5.0))
       by_rest (more (child k q b) r) some stops is stands parted = record {
         first = p;
         second = q;
         at = record {
-          front = end;
+          front = way.front;
           key = way.key;
           one = way.below;
           between = k;
           two = b;
           rest = r;
           is = is;
-          passes = tt;
+          passes = way.passes;
           stops = stops_later dims pages level id way.key p k q way.below b r high stands.5 parted stops;
         };
-        left_is = refl;
+        left_is = at;
       }
 
   -- a child and the one before it
@@ -322,25 +319,22 @@ is_pair dims level edge row id fork left first second key last pair fork_is firs
     (subst (λ p. IsPair dims level edge row id fork left pair.first p key last) (sym second_is)
     (record { at = pair.at; fork_is = fork_is; left_is = pair.left_is; key_is = key_is; last_is = last_is }))
 
--- the pair in a place and the one before it, or behind it
+-- the pair in a place and the next one, of which one is on the way
 pub pair_in : (dims : ℕ) (pages : PageMap) (page level : ℕ) (edge : Bool) (row : Row) (id q place left : ℕ)
-    → MayMeet dims pages page level edge row id q place → (place ≡ 0 → left ≡ 0)
-    → (0 < place → left + 1 ≡ place) → PairAt id row left
-pair_in dims pages page level edge row id q place left may first later =
+    → MayMeet dims pages page level edge row id q place → IsBeside left place row → PairAt id row left
+pair_in dims pages page level edge row id q place left may beside =
     let at = place_here dims pages page level edge id q row may.high may.stands may.way in
     let links = ap length (links_here dims pages page level edge id q row may.high may.stands may.way) in
     let sum = length-append (links_of may.way.front) ((may.way.key, q) ∷ links_of may.way.rest) in
     ⊎_elim
-    (λ (none : place ≡ 0).
-    subst (PairAt id row) (sym (first none))
-    (pair_behind dims pages page level edge id q row may.high may.stands may.way
-    (omega (arith, at, may.place_is, none))
-    (omega (arith, at, may.place_is, none, links, sum, may.wide))))
-    (λ (some : ¬ (place ≡ 0)).
-    let before = later (omega (arith, some)) in
+    (λ (here : left ≡ place).
+    pair_behind dims pages page level edge id q row may.high may.stands may.way left
+    (omega (arith, at, may.place_is, here))
+    (omega (arith, at, may.place_is, here, links, sum, beside.within)))
+    (λ (other : ¬ (left ≡ place)).
     pair_before dims pages page level edge id q row may.high may.stands may.way left
-    (omega (arith, at, may.place_is, before)))
-    (cases_eq place 0)
+    (omega (arith, at, may.place_is, beside.from, beside.upto, other)))
+    (cases_eq left place)
 
 pub place_under : (dims : ℕ) (pages : PageMap) (page level : ℕ) (edge : Bool) (row : Row) (id q place : ℕ)
     → MayMeet dims pages page level edge row id q place → place < length (links_of row)
@@ -355,3 +349,16 @@ place_under dims pages page level edge row id q place may =
       length-append (links_of may.way.front)
           ((may.way.key, q) ∷ links_of may.way.rest),
     )
+
+-- the child in a place and the one before it, or behind it where it is the first one
+pub beside_left : (dims : ℕ) (pages : PageMap) (page level : ℕ) (edge : Bool) (row : Row)
+    (id q place left : ℕ) → MayMeet dims pages page level edge row id q place → (place ≡ 0 → left ≡ 0)
+    → (0 < place → left + 1 ≡ place) → IsBeside left place row
+beside_left dims pages page level edge row id q place left may first later =
+    let within = place_under dims pages page level edge row id q place may in
+    ⊎_elim
+    (λ (none : place ≡ 0). let zero = first none in
+    record { from = omega arith; upto = omega arith; within = omega (arith, zero, may.wide) })
+    (λ (some : ¬ (place ≡ 0)). let before : left + 1 ≡ place = later (omega (arith, some)) in
+    record { from = omega arith; upto = omega arith; within = omega (arith, before, within) })
+    (cases_eq place 0)

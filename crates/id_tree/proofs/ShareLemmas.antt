@@ -13,7 +13,7 @@ use Rattle.id_page.proofs.ForkReading.{count_of_fork}
 use Rattle.id_page.proofs.LeafReading.{count_of_leaf}
 use Rattle.id_tree.specs.Cutting.{CutsFork, CutsLeaf}
 use Rattle.id_tree.specs.Halving.{from_key, under_key}
-use Rattle.id_tree.specs.Joining.{IsBalanced}
+use Rattle.id_tree.specs.Joining.{HaveRoom, IsBalanced}
 use Rattle.id_tree.specs.Tree.{least_objects}
 use Rattle.id_tree.proofs.CutLemmas.{sizes_there}
 use Rattle.id_tree.proofs.HalvingLemmas.{all_below_key, both_lengths, skip_under, step_under}
@@ -136,6 +136,30 @@ module _ (dims : ℕ) (xs ys : List Entry) (key a b : ℕ) (few_a : a ≤ most_o
         λ low. omega
         (arith, leaf_halves.second_some, count_of_leaf dims second (from_key key (xs ++ ys)) from);
     second_fork = λ up. absurd (omega (arith, up));
+  }
+
+  pub leaf_roomy : (first second : List ℕ) → leaf_at dims first ≡ Some (under_key key (xs ++ ys))
+      → leaf_at dims second ≡ Some (from_key key (xs ++ ys))
+      → length xs + length ys + 2 ≤ most_objects dims + most_objects dims → HaveRoom dims first second
+  leaf_roomy first second under from few = record {
+    few_first = omega (
+      arith,
+      few,
+      a_is,
+      b_is,
+      middle,
+      count_of_leaf dims first (under_key key (xs ++ ys)) under,
+    );
+    few_second = omega (
+      arith,
+      few,
+      a_is,
+      b_is,
+      middle,
+      both_lengths key (xs ++ ys),
+      length-append xs ys,
+      count_of_leaf dims second (from_key key (xs ++ ys)) from,
+    );
   }
 
 -- ---- forks

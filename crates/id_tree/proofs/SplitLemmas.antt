@@ -14,7 +14,7 @@ use Rattle.node_page.specs.Standing.{PageMap}
 use Rattle.node_page.proofs.PartLemmas.{moves_from, there_not_missing}
 use Rattle.id_tree.specs.Cutting.{Cuts, SpellsNode}
 use Rattle.id_tree.specs.Rows.{NodeStands, joined, part_at}
-use Rattle.id_tree.specs.Steps.{Keeps, MakesRoom, MayHalve, MaySplit}
+use Rattle.id_tree.specs.Steps.{Keeps, MakesHalves, MakesRoom, MayHalve, MaySplit}
 use Rattle.id_tree.specs.Writes.{GivesAndPuts}
 use Rattle.id_tree.specs.Tree.{HasNode, IsFilled, IsParted, Row, end, more, child, RowStands, at_edge}
 use Rattle.id_tree.specs.Tree.{fork_in, leaf_in, links_of, objects_in, occurs}
@@ -291,47 +291,53 @@ module _ (dims : ℕ) (old mid new : PageMap) (page level : ℕ) (edge : Bool) (
         )
 
     -- the half where the identifier is has room
-    pub room_left : id < key → MakesRoom dims old new page level edge row id p false
+    pub room_left : id < key → MakesHalves dims old new page level edge row id p false
     unfolding now whole
     room_left less = record {
-      now = whole;
-      stands = renamed.stands;
-      keeps = split_keeps;
-      wider = wider;
-      moves = renamed.moves;
-      way = record {
-        front = may.way.front;
-        key = may.way.key;
-        below = cut.left;
-        rest = more (child key number cut.right) may.way.rest;
-        is = refl;
-        passes = may.way.passes;
-        stops = less;
+      room = record {
+        now = whole;
+        stands = renamed.stands;
+        keeps = split_keeps;
+        wide = omega (arith, wider);
+        moves = renamed.moves;
+        way = record {
+          front = may.way.front;
+          key = may.way.key;
+          below = cut.left;
+          rest = more (child key number cut.right) may.way.rest;
+          is = refl;
+          passes = may.way.passes;
+          stops = less;
+        };
+        room = cut.room_left (node_fits dims old p (level - 1) may.way.below inner.node);
+        last_is = refl;
       };
-      room = cut.room_left (node_fits dims old p (level - 1) may.way.below inner.node);
-      last_is = refl;
+      wider = wider;
     }
 
-    pub room_right : key ≤ id → MakesRoom dims old new page level edge row id number last
+    pub room_right : key ≤ id → MakesHalves dims old new page level edge row id number last
     unfolding now whole
     room_right le = record {
-      now = whole;
-      stands = renamed.stands;
-      keeps = split_keeps;
-      wider = wider;
-      moves = renamed.moves;
-      way = record {
-        front = joined may.way.front (more (child may.way.key p cut.left) end);
-        key = key;
-        below = cut.right;
-        rest = may.way.rest;
-        is = sym (joined-joined may.way.front (more (child may.way.key p cut.left) end)
-            (more (child key number cut.right) may.way.rest));
-        passes = passes-more id may.way.key key p may.way.front cut.left may.way.passes le;
-        stops = may.way.stops;
+      room = record {
+        now = whole;
+        stands = renamed.stands;
+        keeps = split_keeps;
+        wide = omega (arith, wider);
+        moves = renamed.moves;
+        way = record {
+          front = joined may.way.front (more (child may.way.key p cut.left) end);
+          key = key;
+          below = cut.right;
+          rest = may.way.rest;
+          is = sym (joined-joined may.way.front (more (child may.way.key p cut.left) end)
+              (more (child key number cut.right) may.way.rest));
+          passes = passes-more id may.way.key key p may.way.front cut.left may.way.passes le;
+          stops = may.way.stops;
+        };
+        room = cut.room_right (node_fits dims old p (level - 1) may.way.below inner.node);
+        last_is = may.last_is;
       };
-      room = cut.room_right (node_fits dims old p (level - 1) may.way.below inner.node);
-      last_is = may.last_is;
+      wider = wider;
     }
 
 -- ---- pages that are there
@@ -392,9 +398,18 @@ makes_from dims old mid new page level edge row id below last same m = record {
   now = m.now;
   stands = m.stands;
   keeps = m.keeps;
-  wider = m.wider;
+  wide = m.wide;
   moves = moves_from old mid new (part_at page row) (part_at page m.now) same m.moves;
   way = m.way;
   room = m.room;
   last_is = m.last_is;
+}
+
+pub halves_from : (dims : ℕ) (old mid new : PageMap) (page level : ℕ) (edge : Bool) (row : Row) (id below : ℕ)
+    (last : Bool) → ((n : ℕ) → mid n ≡ old n) → MakesHalves dims mid new page level edge row id below last
+    → MakesHalves dims old new page level edge row id below last
+unfolding makes_from
+halves_from dims old mid new page level edge row id below last same m = record {
+  room = makes_from dims old mid new page level edge row id below last same m.room;
+  wider = m.wider;
 }

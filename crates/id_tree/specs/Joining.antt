@@ -1,6 +1,7 @@
 -- Two neighbouring nodes made one, or cut in two again elsewhere.
 use Rattle.std.specs.Prelude.{◌≡◌, ℕ, ◌+◌, ◌-◌, ◌*◌, ◌/◌, ◌<◌, ◌≤◌, Bool, true, false, List, [], ◌∷◌, ◌++◌}
-use Rattle.std.specs.Prelude.{length, remove, slice_index_or, slice_set, All, Some, None, IsSome}
+use Rattle.std.specs.Prelude.{length, remove, slice_index_or, slice_set, All, Some, None, IsSome, nat_lt}
+use Rattle.std.specs.Prelude.{if◌then◌else◌}
 use Rattle.block_bytes.specs.Numbers.{number_at}
 use Rattle.id_page.specs.Fork.{ForkContent, Link, fork_at, route_place, with_links}
 use Rattle.id_page.specs.Leaf.{most_objects}
@@ -80,6 +81,12 @@ pub record MayMeet (dims : ℕ) (pages : PageMap) (page level : ℕ) (edge : Boo
   pub way : At id child row
   pub place_is : place ≡ route_place id (links_of row)
 
+-- the place of the first one of two children next to one another, of which one is in that place
+pub record IsBeside (left place : ℕ) (row : Row) : Type 0 where
+  pub from : left ≤ place
+  pub upto : place ≤ left + 1
+  pub within : left + 1 < length (links_of row)
+
 -- two nodes of one level next to one another: a key parts their objects, and no page and no identifier is in
 -- both
 pub record AreNeighbours (dims : ℕ) (pages : PageMap) (level : ℕ) (edge : Bool) (first second key : ℕ)
@@ -119,6 +126,43 @@ pub record FitTogether (dims level : ℕ) (one two : Row) : Type 0 where
 pub record AreTooMany (dims level : ℕ) (one two : Row) : Type 0 where
   pub leaf : level ≡ 0 → most_objects dims < length (objects_in one) + length (objects_in two)
   pub fork : 0 < level → 340 < length (links_of one) + length (links_of two)
+
+-- two leaves have so few objects together that each half of them leaves room for one more
+pub record LeaveRoom (dims level : ℕ) (one two : Row) : Type 0 where
+  pub low : level ≡ 0
+  pub few : length (objects_in one) + length (objects_in two) + 2 ≤ most_objects dims + most_objects dims
+
+-- two pages say that they have less than fits
+pub record HaveRoom (dims : ℕ) (first second : List ℕ) : Type 0 where
+  pub few_first : number_at 2 2 first < most_objects dims
+  pub few_second : number_at 2 2 second < most_objects dims
+
+-- a fork, and two of its children, which are leaves: too much for one page, and so little that both have room
+-- once they shared it
+pub record MayShare (dims : ℕ) (pages : PageMap) (page level : ℕ) (edge : Bool) (row : Row) (id : ℕ)
+    (fork : List ℕ) (left first second key : ℕ) (last : Bool) : Type 0 where
+  pub join : MayJoin dims pages page level edge row id fork left first second key last
+  pub many : AreTooMany dims (level - 1) join.pair.at.one join.pair.at.two
+  pub room : LeaveRoom dims (level - 1) join.pair.at.one join.pair.at.two
+
+-- A child where an identifier is may share with each neighbour that it has: what both have is too much for
+-- one page, and no more than fits into one and four fifths of that.
+abbrev pub MayShareEach : ℕ → ℕ → ℕ → Row → Type 0
+MayShareEach dims level id row = (first second : ℕ) (at : AtPair id first second row)
+    → AreTooMany dims level at.one at.two
+    × (length (objects_in at.one) + length (objects_in at.two)
+    ≤ most_objects dims + most_objects dims * 4 / 5)
+
+-- of both neighbours of the child in a place, the pages of which these are, the one that says less, or the
+-- one before it where both say as much: the place of the first one of the two children
+abbrev pub emptier_left : ℕ → List ℕ → List ℕ → ℕ
+emptier_left place before behind =
+    if nat_lt (number_at 2 2 behind) (number_at 2 2 before) then place else place - 1
+
+-- the pages of all children are live
+abbrev pub HasChildren : PageMap → List Link → Type 0
+HasChildren pages links =
+    (k : ℕ) (other : Link) → k < length links → IsSome (pages (slice_index_or links k other).1)
 
 -- two pages say that they have more than a node has to have
 pub record IsBalanced (dims level : ℕ) (first second : List ℕ) : Type 0 where

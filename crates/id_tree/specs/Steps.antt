@@ -66,11 +66,17 @@ pub record MakesRoom (dims : ℕ) (old new : PageMap) (page level : ℕ) (edge :
   pub now : Row
   pub stands : NodeStands dims new page level edge now
   pub keeps : Keeps (objects_in row) (objects_in now)
-  pub wider : length (links_of row) + 1 ≤ length (links_of now)
+  pub wide : length (links_of row) ≤ length (links_of now)
   pub moves : Moves old new (part_at page row) (part_at page now)
   pub way : At id below now
   pub room : HasRoom dims (level - 1) way.below
   pub last_is : last ≡ at_edge edge way.rest
+
+-- and a child more: the halves of one that was full
+pub record MakesHalves (dims : ℕ) (old new : PageMap) (page level : ℕ) (edge : Bool) (row : Row)
+    (id below : ℕ) (last : Bool) : Type 0 where
+  pub room : MakesRoom dims old new page level edge row id below last
+  pub wider : length (links_of row) + 1 ≤ length (links_of room.now)
 
 -- a node of some objects and with room, without an identifier twice
 pub record MayGrow (dims : ℕ) (pages : PageMap) (page level : ℕ) (edge : Bool) (row : Row) : Type 0 where

@@ -23,6 +23,7 @@ use crate::looks::step;
 use crate::pushing::push;
 use crate::rooting::{deepen, start};
 use crate::search::LeafPlace;
+use crate::sharing::make_room;
 use crate::splitting::split;
 use block_device::BlockDevice;
 use box_math::BBox;
@@ -37,7 +38,9 @@ pub(crate) const MOST_LEVELS: u8 = 6;
 /// Adds an object to the table, which does not have its identifier, where [`find`](crate::find) found that it
 /// would come.
 ///
-/// A leaf with room is all that it looks at, which no clause says; else it walks down from the root.
+/// A leaf with room is all that it looks at, which no clause says; else it walks down from the root. There a
+/// full leaf shares with the emptier one of the leaves next to it in their fork, where that one has at most
+/// four fifths of what fits, and else is cut in two.
 ///
 /// Pages with zeros in all bytes that they do not name stay so, and so are new ones.
 ///
@@ -191,7 +194,7 @@ fn add_split<const D: usize, B: BlockDevice, A: Allocator + Copy>(
 }
 
 // Adds an object at or below the node of that level at a page, which has room and some object: on the way
-// down each full child is split. The flag says whether the node is at the edge of its tree.
+// down room is made in each full child. The flag says whether the node is at the edge of its tree.
 pub(crate) fn add_below<const D: usize, B: BlockDevice, A: Allocator + Copy>(
     cache: &mut PageCache<B, A>,
     page: u32,
@@ -228,8 +231,8 @@ pub(crate) fn add_below<const D: usize, B: BlockDevice, A: Allocator + Copy>(
     if below.room {
         return add_below(cache, below.child, level - 1, below.last, object);
     }
-    let (half, half_last) = split::<D, B, A>(cache, page, level, &below, object.0)?;
-    add_below(cache, half, level - 1, half_last, object)
+    let (child, last) = make_room::<D, B, A>(cache, page, level, edge, &below, object.0)?;
+    add_below(cache, child, level - 1, last, object)
 }
 
 // Adds an object to the leaf at a page, which has room.

@@ -1,4 +1,5 @@
-//! A child with little, joined with the one next to it before one of what it has is taken.
+//! Two children next to one another made one, or cut in two elsewhere: before a child with little loses some
+//! of what it has, and before a full leaf gets one object more.
 
 ghost use Rattle.std.specs.Prelude.{◌≡◌, ◌<◌, ◌≤◌, ◌⊎◌, ◌+◌, ◌-◌, ◌*◌, ◌/◌, ℕ, Bool, true, IfErr, IfOk, OnOk};
 ghost use Rattle.std.specs.Prelude.{Some, false};
@@ -8,7 +9,8 @@ ghost use Rattle.page_file.specs.declared.fault.Fault.TheVariants as fault;
 ghost use Rattle.page_cache.specs.Cache.{Grows, IsHonest, IsPageMap, pages, given, touched_of};
 ghost use Rattle.page_cache.specs.Calls.{Asks, Changes};
 ghost use Rattle.id_tree.specs.Joining.{AreTooMany, FitTogether, HasSpare, IsAmple, MakesSpare, MayJoin};
-ghost use Rattle.id_tree.specs.Joining.{MayMeet};
+ghost use Rattle.id_tree.specs.Joining.{MayMeet, MayShare};
+ghost use Rattle.id_tree.specs.Steps.{MakesRoom};
 ghost use Rattle.id_tree.specs.Tree.{HasNode, Row, fork_in};
 ghost use Rattle.id_tree.specs.Tidy.{IsAsTidy, KeepsTidy};
 ghost use Rattle.id_tree.specs.Checked.{ComesInTree};
@@ -90,8 +92,19 @@ pub(crate) fn join<const D: usize, B: BlockDevice, A: Allocator + Copy>(
         → IfErr result (λ f. (n : ℕ) → f ≡ fault.Damaged n → ComesInTree D (given cache.old) page n) }
     ensures other_faults { IfErr result (λ f. IsOfDevice f ⊎ IsDamage f) }
 {
-    let pair = look_pair::<D, B, A>(cache, page, edge, place)?;
+    let pair = look_pair::<D, B, A>(cache, page, edge, left_of(place))?;
     join_pair::<D, B, A>(cache, page, level, id, &pair)
+}
+
+// The place before one, or the first place.
+fn left_of(place: usize) -> usize
+    ensures first { place ≡ 0 → result ≡ 0 }
+    ensures later { 0 < place → result + 1 ≡ place }
+{
+    if place == 0 {
+        return 0;
+    }
+    place - 1
 }
 
 // Joins two children next to one another of the fork of that level at a page.
@@ -177,9 +190,10 @@ fn make_one<const D: usize, B: BlockDevice, A: Allocator + Copy>(
     Ok((pair.first, pair.last))
 }
 
-// Cuts what two children have in two elsewhere. Answers the page where an identifier is then.
+// Cuts what two children have in two in the middle, so that both have room where that is not too much.
+// Answers the page where an identifier is then, and whether that one is at the edge of the tree.
 #[tactic(auto, using(page_cache::specs::Calls::changing))]
-fn share<const D: usize, B: BlockDevice, A: Allocator + Copy>(
+pub(crate) fn share<const D: usize, B: BlockDevice, A: Allocator + Copy>(
     cache: &mut PageCache<B, A>,
     page: u32,
     level: u8,
@@ -195,6 +209,10 @@ fn share<const D: usize, B: BlockDevice, A: Allocator + Copy>(
         pair.now.second pair.now.key pair.now.last)
         → AreTooMany D (level - 1) may.pair.at.one may.pair.at.two → IfOk result (λ r.
         MakesSpare D (pages cache.old) (pages cache.new) page level edge row id r.0 r.1) }
+    ensures roomy { IsPageMap cache.old → (edge : Bool) (row : Row)
+        → MayShare D (pages cache.old) page level edge row id pair.now.fork pair.now.left pair.now.first
+        pair.now.second pair.now.key pair.now.last → IfOk result (λ r.
+        MakesRoom D (pages cache.old) (pages cache.new) page level edge row id r.0 r.1) }
     ensures tidy { IsPageMap cache.old → (edge : Bool) (row : Row)
         → (may : MayJoin D (pages cache.old) page level edge row id pair.now.fork pair.now.left pair.now.first
         pair.now.second pair.now.key pair.now.last)

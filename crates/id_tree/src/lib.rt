@@ -26,6 +26,7 @@ mod removing;
 mod rooting;
 mod runs;
 mod search;
+mod sharing;
 mod splitting;
 mod updating;
 

@@ -14,7 +14,8 @@ ghost use Rattle.id_page.specs.Leaf.{leaf_at, most_objects, IsTidyLeaf};
 ghost use Rattle.id_words.specs.Objects.{times_in};
 ghost use Rattle.id_tree.specs.Cutting.{Cuts, CutsFork, CutsLeaf, SpellsNode};
 ghost use Rattle.id_tree.specs.Halving.{from_key, under_key};
-ghost use Rattle.id_tree.specs.Joining.{AreNeighbours, AreTooMany, FitTogether, IsBalanced, met, with_key};
+ghost use Rattle.id_tree.specs.Joining.{AreNeighbours, AreTooMany, FitTogether, HaveRoom, IsBalanced};
+ghost use Rattle.id_tree.specs.Joining.{LeaveRoom, met, with_key};
 ghost use Rattle.id_tree.specs.Tree.{HasNode, Row};
 ghost use Rattle.id_tree.specs.Tidy.{AreAsTidy, IsAsTidy};
 
@@ -168,6 +169,9 @@ pub(crate) fn shared<const D: usize, B: BlockDevice, A: Allocator + Copy>(
     ensures balanced { IsHonest cache.old → (edge : Bool) (one two : Row)
         → AreNeighbours D (pages cache.old) level edge first second key one two → AreTooMany D level one two
         → IfOk result (λ cut. IsBalanced D level cut.first cut.second) }
+    ensures roomy { IsHonest cache.old → (edge : Bool) (one two : Row)
+        → AreNeighbours D (pages cache.old) level edge first second key one two → AreTooMany D level one two
+        → LeaveRoom D level one two → IfOk result (λ cut. HaveRoom D cut.first cut.second) }
     ensures tidy { IsHonest cache.old → (edge : Bool) (one two : Row)
         → AreNeighbours D (pages cache.old) level edge first second key one two → AreTooMany D level one two
         → IfOk result (λ cut. AreAsTidy D (pages cache.old) cut.first cut.second) }
@@ -218,6 +222,10 @@ fn shared_leaf<const D: usize>(one: &[u8; 4096], two: &[u8; 4096], key: u64) -> 
     ensures balanced { (xs ys : List Entry) → leaf_at D one.now ≡ Some xs → leaf_at D two.now ≡ Some ys
         → ((q : ℕ) → times_in q (xs ++ ys) ≤ 1) → All (λ o. o.0 < key) xs → All (λ o. key ≤ o.0) ys
         → IsBalanced D 0 result.first result.second }
+    ensures roomy { (xs ys : List Entry) → leaf_at D one.now ≡ Some xs → leaf_at D two.now ≡ Some ys
+        → ((q : ℕ) → times_in q (xs ++ ys) ≤ 1) → All (λ o. o.0 < key) xs → All (λ o. key ≤ o.0) ys
+        → length xs + length ys + 2 ≤ most_objects D + most_objects D
+        → HaveRoom D result.first result.second }
     ensures tidy_first { IsTidyLeaf D result.first }
     ensures tidy_second { IsTidyLeaf D result.second }
 {

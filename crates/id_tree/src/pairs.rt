@@ -9,8 +9,8 @@ ghost use Rattle.page_cache.specs.Cache.{Grows, IsHonest, IsPageMap, pages, IsLi
 ghost use Rattle.page_cache.specs.Cache.{touched_of};
 ghost use Rattle.page_cache.specs.Calls.{Asks, Changes};
 ghost use Rattle.id_page.specs.Fork.{ForkContent, Link, fork_at, with_links, IsTidyFork};
-ghost use Rattle.id_tree.specs.Joining.{AreApart, IsPair, Joins, MayFree, MayMeet, PutsAndFrees, PutsBoth};
-ghost use Rattle.id_tree.specs.Joining.{Shares};
+ghost use Rattle.id_tree.specs.Joining.{AreApart, IsBeside, IsPair, Joins, MayFree, MayMeet, PutsAndFrees};
+ghost use Rattle.id_tree.specs.Joining.{PutsBoth, Shares};
 ghost use Rattle.id_tree.specs.Tree.{Row, fork_in};
 ghost use Rattle.id_tree.specs.Tidy.{AreAsTidy, IsAsTidy, KeepsTidy};
 ghost use Rattle.id_tree.specs.Checked.{Names};
@@ -36,25 +36,25 @@ pub(crate) struct Pair {
     pub(crate) last: bool,
 }
 
-// The child in a place of the fork at a page and the one before it, or behind it where it is the first one. A
-// page of fewer than two children is `Damaged`.
+// The children in a place of the fork at a page and in the next one. A page of no such children is `Damaged`.
 #[tactic(auto, using(page_cache::specs::Calls::ends_so))]
 pub(crate) fn look_pair<const D: usize, B: BlockDevice, A: Allocator + Copy>(
     cache: &mut PageCache<B, A>,
     page: u32,
     edge: bool,
-    place: usize,
+    left: usize,
 ) -> Result<Pair, Fault>
     ensures asks { Asks cache.old cache.new result }
-    ensures pair { IsHonest cache.old → (level id child : ℕ) (row : Row)
-        → MayMeet D (pages cache.old) page level edge row id child place
+    ensures pair { IsHonest cache.old → (level id child place : ℕ) (row : Row)
+        → MayMeet D (pages cache.old) page level edge row id child place → IsBeside left place row
         → IfOk result (λ p. IsPair D level edge row id p.fork p.left p.first p.second p.key p.last) }
     ensures bytes { IsHonest cache.old → IsLive cache.old page
         → IfOk result (λ p. pages cache.old page ≡ Some p.fork) }
     ensures within { IfOk result (λ p. p.left + 1 < number_at 2 2 p.fork) }
     ensures few { IfOk result (λ p. number_at 2 2 p.fork ≤ 340) }
-    ensures there { IsHonest cache.old → (level id child : ℕ) (row : Row)
-        → MayMeet D (pages cache.old) page level edge row id child place → IfErr result IsOfDevice }
+    ensures there { IsHonest cache.old → (level id child place : ℕ) (row : Row)
+        → MayMeet D (pages cache.old) page level edge row id child place → IsBeside left place row
+        → IfErr result IsOfDevice }
     ensures names { IsHonest cache.old → (c : ForkContent) → fork_in D (given cache.old page) ≡ Some c
         → IfOk result (λ p. Names c p.first × Names c p.second) }
     ensures damage { IsHonest cache.old → IfErr result (λ f. IsOfDevice f ⊎ (f ≡ fault.Damaged page)) }
@@ -68,10 +68,9 @@ pub(crate) fn look_pair<const D: usize, B: BlockDevice, A: Allocator + Copy>(
     if count < 2 {
         return Err(Fault::Damaged(page));
     }
-    if place >= count {
+    if left >= count - 1 {
         return Err(Fault::Damaged(page));
     }
-    let left = left_of(place);
     let first = page_at(&fork, left);
     let second = page_at(&fork, left + 1);
     let key = key_at(&fork, left + 1);
@@ -84,17 +83,6 @@ pub(crate) fn look_pair<const D: usize, B: BlockDevice, A: Allocator + Copy>(
         key,
         last,
     })
-}
-
-// The place before one, or the first place.
-fn left_of(place: usize) -> usize
-    ensures first { place ≡ 0 → result ≡ 0 }
-    ensures later { 0 < place → result + 1 ≡ place }
-{
-    if place == 0 {
-        return 0;
-    }
-    place - 1
 }
 
 // Puts what both children of a pair have into the first one, frees the second one, and takes it from their

@@ -34,7 +34,8 @@ pub(crate) fn count_under<const D: usize>(page: &[u8; 4096], key: u64) -> usize
 }
 
 // The key with so many objects of a leaf page below it, where each has an identifier of its own and there are
-// more. It is looked for by halves of the keys between the least and the greatest identifier.
+// more. It is looked for by halves of the keys between the least and the greatest identifier, up to the first
+// key that has so many below it.
 pub(crate) fn key_with<const D: usize>(page: &[u8; 4096], many: usize) -> u64
     requires few { number_at 2 2 page.now ≤ most_objects D }
     ensures parts { (objects : List Entry) → leaf_at D page.now ≡ Some objects
@@ -45,9 +46,16 @@ pub(crate) fn key_with<const D: usize>(page: &[u8; 4096], many: usize) -> u64
     let mut low = ends.0;
     let mut high = ends.1;
     'halves: while high - low > 1 {
-        let half = half_with::<D>(page, many, low, high);
-        low = half.0;
-        high = half.1;
+        let middle = middle_of(low, high);
+        let below = count_under::<D>(page, middle);
+        if below == many {
+            return middle;
+        }
+        if below < many {
+            low = middle;
+        } else {
+            high = middle;
+        }
     }
     high
 }
@@ -89,23 +97,14 @@ fn ends_of<const D: usize>(page: &[u8; 4096]) -> (u64, u64)
     (least, greatest)
 }
 
-// The half of the keys from `low` to `high` with a key with so many objects below it.
-fn half_with<const D: usize>(page: &[u8; 4096], many: usize, low: u64, high: u64) -> (u64, u64)
-    requires few { number_at 2 2 page.now ≤ most_objects D }
+// The key in the middle between two that are not next to one another.
+fn middle_of(low: u64, high: u64) -> u64
     requires two { low + 1 < high }
-    ensures some { result.0 < result.1 }
-    ensures fewer { result.1 - result.0 < high - low }
-    ensures half { 2 * (result.1 - result.0) ≤ high - low + 1 }
-    ensures low { (objects : List Entry) → leaf_at D page.now ≡ Some objects
-        → length (under_key low objects) < many → length (under_key result.0 objects) < many }
-    ensures high { (objects : List Entry) → leaf_at D page.now ≡ Some objects
-        → many ≤ length (under_key high objects) → many ≤ length (under_key result.1 objects) }
+    ensures above { low < result }
+    ensures below { result < high }
+    ensures half { (2 * (result - low) ≤ high - low) × (2 * (high - result) ≤ high - low + 1) }
 {
-    let middle = low + (high - low) / 2;
-    if count_under::<D>(page, middle) < many {
-        return (middle, high);
-    }
-    (low, middle)
+    low + (high - low) / 2
 }
 
 // Adds the objects of another leaf page with an identifier below a key to a leaf page that has room for them.

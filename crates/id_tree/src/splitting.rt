@@ -10,7 +10,7 @@ ghost use Rattle.page_cache.specs.Calls.{Asks, Changes};
 ghost use Rattle.node_page.specs.Faults.{IsNoDamage};
 ghost use Rattle.id_page.specs.Fork.{ForkContent, fork_at, with_links, IsTidyFork};
 ghost use Rattle.id_tree.specs.Cutting.{Cuts, Splits};
-ghost use Rattle.id_tree.specs.Steps.{MakesRoom, MaySplit};
+ghost use Rattle.id_tree.specs.Steps.{MakesHalves, MaySplit};
 ghost use Rattle.id_tree.specs.Tree.{Row, links_of};
 ghost use Rattle.id_tree.specs.Tidy.{AreAsTidy, IsAsTidy, KeepsTidy};
 ghost use Rattle.id_words.specs.Damage.{MayBreakAt};
@@ -39,7 +39,8 @@ pub(crate) fn split<const D: usize, B: BlockDevice, A: Allocator + Copy>(
     ensures made { IsPageMap cache.old → (edge : Bool) (row : Row)
         → MaySplit D (pages cache.old) page level edge row id
         below.now.child below.now.place below.now.last
-        → IfOk result (λ r. MakesRoom D (pages cache.old) (pages cache.new) page level edge row id r.0 r.1) }
+        → IfOk result (λ r.
+        MakesHalves D (pages cache.old) (pages cache.new) page level edge row id r.0 r.1) }
     ensures tidy { IsPageMap cache.old → (edge : Bool) (row : Row)
         → MaySplit D (pages cache.old) page level edge row id
         below.now.child below.now.place below.now.last
@@ -137,7 +138,8 @@ fn put_split<const D: usize, B: BlockDevice, A: Allocator + Copy>(
         → fork_at D plan.now.fork ≡ Some (record { level = level; links = links_of row })
         → Cuts D (level - 1) below.now.last may.way.below
         plan.now.cut.key plan.now.cut.first plan.now.cut.second
-        → IfOk result (λ r. MakesRoom D (pages cache.old) (pages cache.new) page level edge row id r.0 r.1) }
+        → IfOk result (λ r.
+        MakesHalves D (pages cache.old) (pages cache.new) page level edge row id r.0 r.1) }
     ensures tidy { IsPageMap cache.old → IsLive cache.old below.now.child → IsLive cache.old page
         → ¬ (page ≡ below.now.child)
         → (c : ForkContent) → fork_at D plan.now.fork ≡ Some c → IsAsTidy D (pages cache.old) plan.now.fork

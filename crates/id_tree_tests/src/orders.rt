@@ -20,6 +20,7 @@ enum Order {
     Ascending,
     Descending,
     Random,
+    Scattered,
     Clustered,
 }
 
@@ -30,10 +31,18 @@ fn id_of(order: Order, number: u32) -> u64 {
         Order::Ascending => number,
         Order::Descending => u64::MAX - number,
         Order::Random => number.wrapping_mul(11400714819323198485),
+        Order::Scattered => scattered(number),
         Order::Clustered => (number % 64)
             .wrapping_mul(288230376151711744)
             .wrapping_add(number / 64),
     }
+}
+
+// Another number for each: a number like a random one, also where the numbers follow one another.
+fn scattered(number: u64) -> u64 {
+    let once = number.wrapping_mul(11400714819323198485);
+    let twice = (once ^ (once >> 30)).wrapping_mul(13787848793156543929);
+    (twice ^ (twice >> 27)).wrapping_mul(10723151780598845931)
 }
 
 fn point<const D: usize>(at: i32) -> Result<BBox<D>, Fault> {
@@ -198,17 +207,31 @@ fn first_wrong(alloc: Global, rounds: &[Round]) -> Result<Option<(usize, (u32, u
     Ok(None)
 }
 
-// As many identifiers are looked for that are not there. Those that ascend leave full leaves.
+// As many identifiers are looked for that are not there. Those that ascend leave full leaves, and others
+// leaves that are 78 % full.
 const MOVED: &[Round] = &[
     (2, Order::Ascending, (12000, 24000), Fate::Move, 90),
-    (3, Order::Descending, (8000, 16000), Fate::Move, 150),
-    (2, Order::Random, (12000, 24000), Fate::Move, 152),
-    (3, Order::Clustered, (8000, 16000), Fate::Move, 150),
+    (3, Order::Descending, (8000, 16000), Fate::Move, 94),
+    (2, Order::Random, (12000, 24000), Fate::Move, 110),
+    (3, Order::Clustered, (8000, 16000), Fate::Move, 94),
 ];
 
 #[test]
 fn objects_in_each_order_are_found_and_move(rt: HostRuntime) -> Result<(), Fail> {
     assert_eq!(rt; first_wrong(rt.alloc(), MOVED)?, None);
+    Ok(())
+}
+
+// 20,000 objects in leaves of 145 or 113 places, 78 % of which are taken, below one fork.
+const FILLED: &[Round] = &[
+    (2, Order::Scattered, (20000, 400), Fate::Move, 180),
+    (3, Order::Scattered, (20000, 400), Fate::Move, 230),
+    (2, Order::Descending, (20000, 400), Fate::Move, 180),
+];
+
+#[test]
+fn leaves_are_filled(rt: HostRuntime) -> Result<(), Fail> {
+    assert_eq!(rt; first_wrong(rt.alloc(), FILLED)?, None);
     Ok(())
 }
 

@@ -72,6 +72,9 @@ const TWO_LEAVES: &[Step] = &[
     Each(Call::Remove, FIRST),
 ];
 
+// Leaves of 144, 145 and 12.
+const FULL_BETWEEN: &[Step] = &[Make, Fill(MANY), Each(Call::Add, Run { first: 303, ..ONE })];
+
 // A change of a table.
 #[derive(Clone, Copy)]
 struct Case {
@@ -85,7 +88,7 @@ struct Case {
     calls_touch: bool,
 }
 
-const CASES: [Case; 4] = [
+const CASES: [Case; 5] = [
     // A full leaf is cut, below a root that is one above leaves.
     Case {
         what: "a cut",
@@ -93,6 +96,15 @@ const CASES: [Case; 4] = [
         steps: ONE_LEAF,
         objects: 145,
         growths_touch: true,
+        calls_touch: false,
+    },
+    // A full leaf shares with the one behind it.
+    Case {
+        what: "a sharing",
+        change: Change::Object(Call::Add, 301),
+        steps: FULL_BETWEEN,
+        objects: 301,
+        growths_touch: false,
         calls_touch: false,
     },
     // A leaf falls below two fifths, and is joined with its neighbour.

@@ -2,7 +2,9 @@
 //! found serves a change of the same table later, whatever became of other pages.
 
 use crate::changes::Call::{Add, Remove, Update};
-use crate::steps::Step::{At, Counts, Differ, Each, Fill, Find, Has, Keep, Make, Miss, Pages};
+use crate::steps::Step::{
+    At, Counts, Differ, Each, Fill, Find, Has, Holds, Keep, Make, Miss, Pages,
+};
 use crate::steps::{Answer, Run, Step, play};
 use page_file::Fault;
 use std::alloc::Global;
@@ -130,7 +132,8 @@ const MOVED_EARLY: Run = Run {
     ..ONE
 };
 
-// The first leaf of the 400 is cut, so that the root changes too, and loses and moves objects.
+// The first leaf of the 400 is cut, since the second one is nearly full, so that the root changes too, and
+// loses and moves objects.
 const CUT: Step = Each(Add, Run { count: 2, ..ZERO });
 
 const LOSE: Step = Each(Remove, Run { first: 40, ..ZERO });
@@ -163,7 +166,8 @@ const PLACES: [Script; 4] = [
         ],
     ),
     (
-        "a full leaf is cut where its place was found before",
+        // the second half of the leaf before, of 73, shares with it
+        "a full leaf shares where its place was found before",
         &[
             Make,
             Fill(MANY),
@@ -175,7 +179,7 @@ const PLACES: [Script; 4] = [
             At(1, Add, Run { first: 301, ..ONE }, ANY),
             Keep(Run { first: 301, ..ONE }),
             Keep(MOVED_EARLY),
-            Counts(403, 6),
+            Counts(403, 5),
         ],
     ),
     (
@@ -213,5 +217,131 @@ const PLACES: [Script; 4] = [
 #[test]
 fn places_serve_later_changes(rt: HostRuntime) -> Result<(), Fail> {
     assert_eq!(rt; first_wrong(rt.alloc(), &PLACES)?, None);
+    Ok(())
+}
+
+// The second leaf of the 400 is full.
+const FULL: Step = Each(Add, Run { first: 303, ..ZERO });
+
+// It gets one more.
+const MORE: Step = Each(Add, Run { first: 301, ..ZERO });
+
+const SHARES: [Script; 6] = [
+    (
+        // 100 and 145 are 122 and 123, and the first takes the new one
+        "a full leaf shares with the one before it, which is emptier",
+        &[
+            Make,
+            Fill(MANY),
+            FULL,
+            Each(Remove, Run { count: 44, ..MANY }),
+            MORE,
+            Holds(200, 123),
+            Holds(400, 123),
+            Holds(600, 112),
+            Counts(358, 4),
+        ],
+    ),
+    (
+        // 112 and 145 are 128 and 129
+        "a full leaf shares with the one before it, which is as full as the one behind",
+        &[
+            Make,
+            Fill(MANY),
+            FULL,
+            Each(Remove, Run { count: 32, ..MANY }),
+            MORE,
+            Holds(200, 129),
+            Holds(400, 129),
+            Holds(600, 112),
+            Counts(370, 4),
+        ],
+    ),
+    (
+        // 145 and 112 are 128 and 129
+        "a full leaf shares with the one behind it, which is emptier",
+        &[
+            Make,
+            Fill(MANY),
+            FULL,
+            Each(Remove, Run { count: 31, ..MANY }),
+            MORE,
+            Holds(200, 113),
+            Holds(400, 129),
+            Holds(600, 129),
+            Counts(371, 4),
+        ],
+    ),
+    (
+        // 145 and 116 are 130 and 131
+        "a full leaf shares with one that is four fifths full",
+        &[
+            Make,
+            Fill(MANY),
+            FULL,
+            Each(
+                Add,
+                Run {
+                    first: 701,
+                    count: 4,
+                    ..ZERO
+                },
+            ),
+            MORE,
+            Holds(200, 144),
+            Holds(400, 131),
+            Holds(600, 131),
+            Counts(406, 4),
+        ],
+    ),
+    (
+        // 145 are 72 and 73
+        "a full leaf between two that are fuller is cut",
+        &[
+            Make,
+            Fill(MANY),
+            FULL,
+            Each(
+                Add,
+                Run {
+                    first: 701,
+                    count: 5,
+                    ..ZERO
+                },
+            ),
+            MORE,
+            Holds(200, 144),
+            Holds(301, 73),
+            Holds(500, 73),
+            Holds(600, 117),
+            Counts(407, 5),
+        ],
+    ),
+    (
+        // 145 and 73 are 109 and 109
+        "a first leaf shares with the one behind it",
+        &[
+            Make,
+            Fill(MANY),
+            Each(
+                Remove,
+                Run {
+                    first: 288,
+                    count: 71,
+                    ..MANY
+                },
+            ),
+            CUT,
+            Holds(0, 110),
+            Holds(500, 109),
+            Holds(600, 112),
+            Counts(331, 4),
+        ],
+    ),
+];
+
+#[test]
+fn full_leaves_share(rt: HostRuntime) -> Result<(), Fail> {
+    assert_eq!(rt; first_wrong(rt.alloc(), &SHARES)?, None);
     Ok(())
 }

@@ -36,6 +36,8 @@ pub enum Step {
     Differ,
     /// Changes the first object in that place, with so many looks at most.
     At(usize, Call, Run, u64),
+    /// The leaf to which the search for an identifier leads has so many objects.
+    Holds(u64, u16),
     /// A check finds so many objects and pages.
     Counts(usize, usize),
     /// A check finds these pages.
@@ -71,6 +73,7 @@ fn take(alloc: Global, cache: &mut Cache, places: &mut [LeafPlace; 2], step: Ste
         Step::At(which, call, run, looks) => change_in_place(
             cache, places, which, call, run, looks,
         ),
+        Step::Holds(id, count) => holds(cache, id, count),
         Step::Counts(..) | Step::Pages(_) => check(alloc, cache, step),
         Step::Has(number, bytes) => has(cache, number, bytes),
     }
@@ -145,6 +148,12 @@ fn change_in_place(
     let before = cache.looks();
     change_at(cache, call, at, id, &bounds, tag)?;
     Ok(cache.looks().saturating_sub(before) <= looks)
+}
+
+fn holds(cache: &mut Cache, id: u64, count: u16) -> Answer {
+    let (at, _) = changes::look::<2, _, _>(cache, id)?;
+    let page = cache.page(at.leaf)?;
+    Ok([page[2], page[3]] == count.to_be_bytes())
 }
 
 fn check(alloc: Global, cache: &mut Cache, step: Step) -> Answer {

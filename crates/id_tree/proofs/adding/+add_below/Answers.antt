@@ -1,5 +1,5 @@
--- The object goes on to the child where it belongs, which is split first if it is full.
-use Rattle.std.proofs.Common.{◌<◌, ℕ, None, inl, subst, sym, arith, ◌≡◌, ◌⊎◌, ⊎_elim, inr}
+-- The object goes on to the child where it belongs, in which room is made first if it is full.
+use Rattle.std.proofs.Common.{◌<◌, ℕ, None, inl, subst, sym, arith, ◌≡◌, ◌⊎◌}
 use Rattle.page_file.specs.Fault.{IsOfDevice}
 use Rattle.page_cache.specs.Cache.{pages, given, touched_of}
 use Rattle.page_cache.specs.Calls.{asks_changes, changes_in_turn, no_call_asks, asks_and_changes}
@@ -15,8 +15,7 @@ use Rattle.id_tree.proofs.TidyLemmas.{tidy_after, tidy_from, tidy_in_turn, tidy_
 use Rattle.page_file.specs.declared.fault.Fault.TheVariants as fault
 use Rattle.id_tree.specs.Checked.{ComesInTree}
 use Rattle.id_words.specs.Damage.{MayBreakAt}
-use Rattle.id_tree.proofs.DamageLemmas.{breaks_kept, comes_at, comes_down, said_below}
-use Rattle.id_tree.proofs.GivenLemmas.{comes_here}
+use Rattle.id_tree.proofs.DamageLemmas.{comes_at, names_same, said_before, said_below}
 use Rattle.id_words.proofs.WriteLemmas.{not_both}
 use Rattle.id_tree.proofs.adding.+add_below.Goals as goal
 
@@ -117,15 +116,15 @@ returns-then-below-clause-faults g t c = λ map row may.
     (grow_beneath D old mid c.args.page c.args.level c.args.edge row id b.child b.place b.last b.room high
     same may beneath c.if-below.true)
 
-pub returns-in_err-half-clause-changes : goal.returns-in_err-half-clause-changes
-returns-in_err-half-clause-changes g t c =
-    changes_and_refuses c.args.cache.now c.look_below.new.cache c.split.new.cache c.in_err-half.field-0.0
-    c.from_residual-in_err-half.result c.from_residual-in_err-half.ensures.1
+pub returns-in_err-child-clause-changes : goal.returns-in_err-child-clause-changes
+returns-in_err-child-clause-changes g t c =
+    changes_and_refuses c.args.cache.now c.look_below.new.cache c.make_room.new.cache c.in_err-child.field-0.0
+    c.from_residual-in_err-child.result c.from_residual-in_err-child.ensures.1
     (asks_changes c.args.cache.now c.look_below.new.cache None c.in_ok-below.ensures.asks)
-    c.in_err-half.ensures.changes
+    c.in_err-child.ensures.changes
 
-pub returns-in_err-half-clause-sound : goal.returns-in_err-half-clause-sound
-returns-in_err-half-clause-sound g t c = λ map row may.
+pub returns-in_err-child-clause-sound : goal.returns-in_err-child-clause-sound
+returns-in_err-child-clause-sound g t c = λ map row may.
     let D = g.row.D in
     let high : 0 < c.args.level = omega (arith, c.if-level-eq0.false) in
     let old = pages c.args.cache.now in
@@ -135,12 +134,12 @@ returns-in_err-half-clause-sound g t c = λ map row may.
     let b = c.in_ok-below.below in
     let id = c.args.object.now.0 in
     let beneath = c.in_ok-below.ensures.found map.honest row may.stands in
-    c.split.ensures.sound (asks.map.sound.0 map) c.args.edge row
+    c.make_room.ensures.sound (asks.map.sound.0 map) row
     (split_beneath D old mid c.args.page c.args.level c.args.edge row id b.child b.place b.last b.room
     high same may beneath c.if-below.false)
 
-pub returns-in_err-half-clause-faults : goal.returns-in_err-half-clause-faults
-returns-in_err-half-clause-faults g t c = λ map row may.
+pub returns-in_err-child-clause-faults : goal.returns-in_err-child-clause-faults
+returns-in_err-child-clause-faults g t c = λ map row may.
     let D = g.row.D in
     let high : 0 < c.args.level = omega (arith, c.if-level-eq0.false) in
     let old = pages c.args.cache.now in
@@ -150,18 +149,18 @@ returns-in_err-half-clause-faults g t c = λ map row may.
     let b = c.in_ok-below.below in
     let id = c.args.object.now.0 in
     let beneath = c.in_ok-below.ensures.found map.honest row may.stands in
-    at_error c.from_residual-in_err-half.result c.in_err-half.field-0.0 (IsNoDamage c.split.new.cache)
-    c.from_residual-in_err-half.ensures.1
-    (c.in_err-half.ensures.faults (asks.map.sound.0 map) c.args.edge row
+    at_error c.from_residual-in_err-child.result c.in_err-child.field-0.0 (IsNoDamage c.make_room.new.cache)
+    c.from_residual-in_err-child.ensures.1
+    (c.in_err-child.ensures.faults (asks.map.sound.0 map) row
     (split_beneath D old mid c.args.page c.args.level c.args.edge row id b.child b.place b.last b.room
     high same may beneath c.if-below.false))
 
 pub returns-clause-changes : goal.returns-clause-changes
 returns-clause-changes g t c =
-    changes_in_turn c.args.cache.now c.split.new.cache c.add_below-2.new.cache (fault_in c.add_below-2.result)
-    (changes_in_turn c.args.cache.now c.look_below.new.cache c.split.new.cache None
+    changes_in_turn c.args.cache.now c.make_room.new.cache c.add_below-2.new.cache (fault_in c.add_below-2.result)
+    (changes_in_turn c.args.cache.now c.look_below.new.cache c.make_room.new.cache None
     (asks_changes c.args.cache.now c.look_below.new.cache None c.in_ok-below.ensures.asks)
-    c.in_ok-half.ensures.changes) c.add_below-2.ensures.changes
+    c.in_ok-child.ensures.changes) c.add_below-2.ensures.changes
 
 pub returns-clause-grown : goal.returns-clause-grown
 returns-clause-grown g t c = λ map row may absent.
@@ -172,7 +171,7 @@ returns-clause-grown g t c = λ map row may absent.
     let edge = c.args.edge in
     let old = pages c.args.cache.now in
     let mid = pages c.look_below.new.cache in
-    let cut = pages c.split.new.cache in
+    let cut = pages c.make_room.new.cache in
     let new = pages c.add_below-2.new.cache in
     let asks = c.in_ok-below.ensures.asks in
     let same = asks.map.pages_stay map.honest in
@@ -183,10 +182,10 @@ returns-clause-grown g t c = λ map row may absent.
     let beneath = c.in_ok-below.ensures.found map.honest row may.stands in
     let splits = split_beneath D old mid page level edge row id b.child b.place b.last b.room high same may
     beneath c.if-below.false in
-    let made = c.in_ok-half.ensures.made map1 edge row splits in
-    let map2 = c.split.ensures.sound map1 edge row splits in
-    let half = c.in_ok-half.half in
-    let last = c.in_ok-half.half_last in
+    let made = c.in_ok-child.ensures.made map1 row splits in
+    let map2 = c.make_room.ensures.sound map1 row splits in
+    let half = c.in_ok-child.child in
+    let last = c.in_ok-child.last in
     let may1 = grow_same D old mid page level edge row same may in
     (on_ok c.add_below-2.result
     (λ done. becomes_from D old mid new page level edge row id (adds kept) same
@@ -204,7 +203,7 @@ returns-clause-sound g t c = λ map row may.
     let edge = c.args.edge in
     let old = pages c.args.cache.now in
     let mid = pages c.look_below.new.cache in
-    let cut = pages c.split.new.cache in
+    let cut = pages c.make_room.new.cache in
     let asks = c.in_ok-below.ensures.asks in
     let same = asks.map.pages_stay map.honest in
     let map1 = asks.map.sound.0 map in
@@ -213,11 +212,11 @@ returns-clause-sound g t c = λ map row may.
     let beneath = c.in_ok-below.ensures.found map.honest row may.stands in
     let splits = split_beneath D old mid page level edge row id b.child b.place b.last b.room high same may
     beneath c.if-below.false in
-    let made = c.in_ok-half.ensures.made map1 edge row splits in
-    let map2 = c.split.ensures.sound map1 edge row splits in
+    let made = c.in_ok-child.ensures.made map1 row splits in
+    let map2 = c.make_room.ensures.sound map1 row splits in
     let may1 = grow_same D old mid page level edge row same may in
     c.add_below-2.ensures.sound map2 made.way.below
-    (may_grow_after D mid cut page level edge row id c.in_ok-half.half c.in_ok-half.half_last high may1
+    (may_grow_after D mid cut page level edge row id c.in_ok-child.child c.in_ok-child.last high may1
     made)
 
 pub returns-clause-faults : goal.returns-clause-faults
@@ -229,7 +228,7 @@ returns-clause-faults g t c = λ map row may.
     let edge = c.args.edge in
     let old = pages c.args.cache.now in
     let mid = pages c.look_below.new.cache in
-    let cut = pages c.split.new.cache in
+    let cut = pages c.make_room.new.cache in
     let asks = c.in_ok-below.ensures.asks in
     let same = asks.map.pages_stay map.honest in
     let map1 = asks.map.sound.0 map in
@@ -238,11 +237,11 @@ returns-clause-faults g t c = λ map row may.
     let beneath = c.in_ok-below.ensures.found map.honest row may.stands in
     let splits = split_beneath D old mid page level edge row id b.child b.place b.last b.room high same may
     beneath c.if-below.false in
-    let made = c.in_ok-half.ensures.made map1 edge row splits in
-    let map2 = c.split.ensures.sound map1 edge row splits in
+    let made = c.in_ok-child.ensures.made map1 row splits in
+    let map2 = c.make_room.ensures.sound map1 row splits in
     let may1 = grow_same D old mid page level edge row same may in
     (c.add_below-2.ensures.faults map2 made.way.below
-    (may_grow_after D mid cut page level edge row id c.in_ok-half.half c.in_ok-half.half_last high may1
+    (may_grow_after D mid cut page level edge row id c.in_ok-child.child c.in_ok-child.last high may1
     made))
 
 pub returns-then-level-eq0-clause-tidy : goal.returns-then-level-eq0-clause-tidy
@@ -276,7 +275,7 @@ returns-clause-tidy g t c = λ map row may.
     let edge = c.args.edge in
     let old = pages c.args.cache.now in
     let mid = pages c.look_below.new.cache in
-    let cut = pages c.split.new.cache in
+    let cut = pages c.make_room.new.cache in
     let asks = c.in_ok-below.ensures.asks in
     let same = asks.map.pages_stay map.honest in
     let map1 = asks.map.sound.0 map in
@@ -285,13 +284,13 @@ returns-clause-tidy g t c = λ map row may.
     let beneath = c.in_ok-below.ensures.found map.honest row may.stands in
     let splits = split_beneath D old mid page level edge row id b.child b.place b.last b.room high same may
     beneath c.if-below.false in
-    let made = c.in_ok-half.ensures.made map1 edge row splits in
-    let map2 = c.split.ensures.sound map1 edge row splits in
+    let made = c.in_ok-child.ensures.made map1 row splits in
+    let map2 = c.make_room.ensures.sound map1 row splits in
     let may1 = grow_same D old mid page level edge row same may in
     tidy_after c.add_below-2.result D old cut (pages c.add_below-2.new.cache)
-    (tidy_in_turn D old mid cut (tidy_same D old mid same) (c.in_ok-half.ensures.tidy map1 edge row splits))
+    (tidy_in_turn D old mid cut (tidy_same D old mid same) (c.in_ok-child.ensures.tidy map1 row splits))
     (c.add_below-2.ensures.tidy map2 made.way.below
-    (may_grow_after D mid cut page level edge row id c.in_ok-half.half c.in_ok-half.half_last high may1
+    (may_grow_after D mid cut page level edge row id c.in_ok-child.child c.in_ok-child.last high may1
     made))
 
 pub returns-then-level-eq0-clause-damage : goal.returns-then-level-eq0-clause-damage
@@ -323,27 +322,22 @@ returns-then-below-clause-damage g t c = λ h none.
     (c.in_ok-below.ensures.names h) (either n damaged))
     (c.add_below.ensures.damage (asks.gate.honest.0 h) none)
 
-pub returns-in_err-half-clause-damage : goal.returns-in_err-half-clause-damage
-returns-in_err-half-clause-damage g t c = λ h none.
+pub returns-in_err-child-clause-damage : goal.returns-in_err-child-clause-damage
+returns-in_err-child-clause-damage g t c = λ h none.
     let D = g.row.D in
     let old = c.args.cache.now in
     let mid = c.look_below.new.cache in
     let page = c.args.page in
-    let p = c.in_ok-below.below.child in
     let asks = c.in_ok-below.ensures.asks in
-    at_error c.from_residual-in_err-half.result c.in_err-half.field-0.0
+    at_error c.from_residual-in_err-child.result c.in_err-child.field-0.0
     (λ f. (n : ℕ) → f ≡ fault.Damaged n → ComesInTree g.row.D (given c.args.cache.now) c.args.page n
     ⊎ MayBreakAt c.args.cache.now n)
-    c.from_residual-in_err-half.ensures.1 (λ n damaged. ⊎_elim
-    (λ (at : (n ≡ page) ⊎ (n ≡ p)). ⊎_elim
-    (λ (is : n ≡ page). inl (comes_here D (given old) page n is))
-    (λ (is : n ≡ p). inl
-    (comes_down D (given old) page p n (c.in_ok-below.ensures.names h) (comes_here D (given old) p n is)))
-    at)
-    (λ (breaks : MayBreakAt mid n). inr (breaks_kept old mid n asks.map h breaks))
-    (c.in_err-half.ensures.damage (asks.gate.honest.0 h) none n damaged))
+    c.from_residual-in_err-child.ensures.1 (λ n damaged. said_before D old mid page n asks.map h
+    (c.in_err-child.ensures.damage (asks.gate.honest.0 h) none
+    (names_same D (given old) (given mid) page c.in_ok-below.below.child (asks.map.given_stay h)
+    (c.in_ok-below.ensures.names h)) n damaged))
 
 pub returns-clause-damage : goal.returns-clause-damage
 returns-clause-damage g t c = λ h none.
     absurd (not_both (touched_of c.add_below-2.new.cache)
-    (c.add_below-2.ensures.changes.touched c.in_ok-half.ensures.touched) none)
+    (c.add_below-2.ensures.changes.touched c.in_ok-child.ensures.touched) none)

@@ -41,29 +41,29 @@ returns-clause-grown g c = λ map row full absent.
     (on_ok c.add_below.result
     (widens_after D old mid new c.args.root c.args.level row id c.in_ok-half.half c.in_ok-half.half_last
     kept full.high made)
-    (c.add_below.ensures.grown map1 made.way.below
+    (c.add_below.ensures.grown map1 made.room.way.below
     (may_grow_half D old mid c.args.root c.args.level row id c.args.child c.in_ok-half.half
-    c.in_ok-half.half_last full made)
+    c.in_ok-half.half_last full made.room)
     (absent_after D old mid c.args.root c.args.level true row id c.in_ok-half.half c.in_ok-half.half_last
-    full.high made absent)))
+    full.high made.room absent)))
 
 pub returns-clause-sound : goal.returns-clause-sound
 returns-clause-sound g c = λ map row full.
     let D = g.row.D in
     let made = c.in_ok-half.ensures.made map true row full in
     let map1 = c.split.ensures.sound map true row full in
-    c.add_below.ensures.sound map1 made.way.below
+    c.add_below.ensures.sound map1 made.room.way.below
     (may_grow_half D (pages c.args.cache.now) (pages c.split.new.cache) c.args.root c.args.level row
-    c.args.object.now.0 c.args.child c.in_ok-half.half c.in_ok-half.half_last full made)
+    c.args.object.now.0 c.args.child c.in_ok-half.half c.in_ok-half.half_last full made.room)
 
 pub returns-clause-faults : goal.returns-clause-faults
 returns-clause-faults g c = λ map row full.
     let D = g.row.D in
     let made = c.in_ok-half.ensures.made map true row full in
     let map1 = c.split.ensures.sound map true row full in
-    (c.add_below.ensures.faults map1 made.way.below
+    (c.add_below.ensures.faults map1 made.room.way.below
     (may_grow_half D (pages c.args.cache.now) (pages c.split.new.cache) c.args.root c.args.level row
-    c.args.object.now.0 c.args.child c.in_ok-half.half c.in_ok-half.half_last full made))
+    c.args.object.now.0 c.args.child c.in_ok-half.half c.in_ok-half.half_last full made.room))
 
 pub returns-clause-tidy : goal.returns-clause-tidy
 returns-clause-tidy g c = λ map row full.
@@ -73,6 +73,6 @@ returns-clause-tidy g c = λ map row full.
     tidy_after c.add_below.result D (pages c.args.cache.now) (pages c.split.new.cache)
     (pages c.add_below.new.cache)
     (c.in_ok-half.ensures.tidy map true row full)
-    (c.add_below.ensures.tidy map1 made.way.below
+    (c.add_below.ensures.tidy map1 made.room.way.below
     (may_grow_half D (pages c.args.cache.now) (pages c.split.new.cache) c.args.root c.args.level row
-    c.args.object.now.0 c.args.child c.in_ok-half.half c.in_ok-half.half_last full made))
+    c.args.object.now.0 c.args.child c.in_ok-half.half c.in_ok-half.half_last full made.room))

@@ -4,6 +4,7 @@ use Rattle.page_file.specs.Fault.{IsOfDevice}
 use Rattle.node_page.proofs.NodeLemmas.{at_error}
 use Rattle.id_tree.specs.Joining.{MakesSpare}
 use Rattle.id_tree.proofs.JoinLemmas.{pair_may_join, spare_from}
+use Rattle.id_tree.proofs.PairLemmas.{beside_left}
 use Rattle.id_tree.proofs.ResultLemmas.{if_ok, if_err}
 use Rattle.id_tree.proofs.TidyLemmas.{as_tidy_on, fork_as_tidy, tidy_from}
 use Rattle.id_tree.specs.Tree.{links_of}
@@ -18,7 +19,9 @@ use Rattle.id_tree.proofs.joining.join.Goals as goal
 pub returns-in_err-pair-clause-faults : goal.returns-in_err-pair-clause-faults
 returns-in_err-pair-clause-faults g c = λ map child row may.
     at_error c.from_residual.result c.in_err-pair.field-0.0 IsOfDevice c.from_residual.ensures.1
-    (c.in_err-pair.ensures.there map.honest c.args.level c.args.id child row may)
+    (c.in_err-pair.ensures.there map.honest c.args.level c.args.id child c.args.place row may
+    (beside_left g.row.D (pages c.args.cache.now) c.args.page c.args.level c.args.edge row c.args.id child
+    c.args.place c.left_of.result may c.left_of.ensures.first c.left_of.ensures.later))
 
 pub returns-clause-made : goal.returns-clause-made
 returns-clause-made g c = λ map child row may.
@@ -34,7 +37,9 @@ returns-clause-made g c = λ map child row may.
     let same = asks.map.pages_stay map.honest in
     let p = c.in_ok-pair.pair in
     let joins = pair_may_join D old mid page level edge row id child c.args.place p.fork p.left p.first
-    p.second p.key p.last same may (c.in_ok-pair.ensures.pair map.honest level id child row may) in
+    p.second p.key p.last same may (c.in_ok-pair.ensures.pair map.honest level id child c.args.place row may
+    (beside_left D old page level edge row id child c.args.place c.left_of.result may
+    c.left_of.ensures.first c.left_of.ensures.later)) in
     if_ok c.join_pair.result (λ r. MakesSpare D mid new page level edge row id r.0 r.1)
     (λ r. MakesSpare D old new page level edge row id r.0 r.1)
     (λ r made. spare_from D old mid new page level edge row id r.0 r.1 same made)
@@ -48,7 +53,9 @@ returns-clause-sound g c = λ map child row may.
     (pair_may_join g.row.D (pages c.args.cache.now) (pages c.look_pair.new.cache) c.args.page c.args.level
     c.args.edge row c.args.id child c.args.place p.fork p.left p.first p.second p.key p.last
     (asks.map.pages_stay map.honest) may
-    (c.in_ok-pair.ensures.pair map.honest c.args.level c.args.id child row may))
+    (c.in_ok-pair.ensures.pair map.honest c.args.level c.args.id child c.args.place row may
+    (beside_left g.row.D (pages c.args.cache.now) c.args.page c.args.level c.args.edge row c.args.id child
+    c.args.place c.left_of.result may c.left_of.ensures.first c.left_of.ensures.later)))
 
 pub returns-clause-faults : goal.returns-clause-faults
 returns-clause-faults g c = λ map child row may.
@@ -58,7 +65,9 @@ returns-clause-faults g c = λ map child row may.
     (pair_may_join g.row.D (pages c.args.cache.now) (pages c.look_pair.new.cache) c.args.page c.args.level
     c.args.edge row c.args.id child c.args.place p.fork p.left p.first p.second p.key p.last
     (asks.map.pages_stay map.honest) may
-    (c.in_ok-pair.ensures.pair map.honest c.args.level c.args.id child row may))
+    (c.in_ok-pair.ensures.pair map.honest c.args.level c.args.id child c.args.place row may
+    (beside_left g.row.D (pages c.args.cache.now) c.args.page c.args.level c.args.edge row c.args.id child
+    c.args.place c.left_of.result may c.left_of.ensures.first c.left_of.ensures.later)))
 
 pub returns-clause-tidy : goal.returns-clause-tidy
 returns-clause-tidy g c = λ map child row may.
@@ -72,7 +81,9 @@ returns-clause-tidy g c = λ map child row may.
     let asks = c.in_ok-pair.ensures.asks in
     let same = asks.map.pages_stay map.honest in
     let p = c.in_ok-pair.pair in
-    let pair = c.in_ok-pair.ensures.pair map.honest level id child row may in
+    let pair = c.in_ok-pair.ensures.pair map.honest level id child c.args.place row may
+    (beside_left D old page level edge row id child c.args.place c.left_of.result may
+    c.left_of.ensures.first c.left_of.ensures.later) in
     let joins = pair_may_join D old mid page level edge row id child c.args.place p.fork p.left p.first
     p.second p.key p.last same may pair in
     let there = c.in_ok-pair.ensures.bytes map.honest (node_there D old page level row may.stands.node) in

@@ -4,7 +4,8 @@ use Rattle.page_cache.specs.Cache.{pages}
 use Rattle.page_file.specs.Fault.{IsOfDevice}
 use Rattle.node_page.proofs.NodeLemmas.{at_error}
 use Rattle.id_tree.proofs.JoinLemmas.{join_apart, join_neighbours, join_same, shared_left, shared_right}
-use Rattle.id_tree.proofs.JoinLemmas.{spare_from}
+use Rattle.id_tree.proofs.JoinLemmas.{sharing_left, sharing_right, spare_from}
+use Rattle.id_tree.proofs.SplitLemmas.{makes_from}
 use Rattle.id_tree.proofs.TidyLemmas.{as_tidy_on, both_tidy_on, tidy_in_turn, tidy_same}
 use Rattle.id_tree.specs.Tree.{links_of}
 use Rattle.id_page.specs.Fork.{ForkContent}
@@ -216,3 +217,69 @@ returns-then-id-cut-clause-touched g c = c.in_ok-put_shares.ensures.touched
 
 pub returns-clause-touched : goal.returns-clause-touched
 returns-clause-touched g c = c.in_ok-put_shares.ensures.touched
+
+pub returns-then-id-cut-clause-roomy : goal.returns-then-id-cut-clause-roomy
+returns-then-id-cut-clause-roomy g c = λ map edge row may_share.
+    let D = g.row.D in
+    let may = may_share.join in
+    let many = may_share.many in
+    let page = c.args.page in
+    let level = c.args.level in
+    let old = pages c.args.cache.now in
+    let mid = pages c.shared.new.cache in
+    let asks = c.in_ok-cut.ensures.asks in
+    let same = asks.map.pages_stay map.honest in
+    let p = c.args.pair.now in
+    let joins = join_same D old mid page level edge row c.args.id p.fork p.left p.first p.second p.key p.last
+    same may in
+    let apart = join_apart D mid page level edge row c.args.id p.fork p.left p.first p.second p.key p.last
+    joins in
+    let new = pages c.put_shares.new.cache in
+    let cut = c.in_ok-cut.cut in
+    let cuts = c.in_ok-cut.ensures.cuts map.honest p.last may.pair.at.one may.pair.at.two
+    (join_neighbours D old c.args.page c.args.level edge row c.args.id p.fork p.left p.first p.second
+    p.key p.last may) many in
+    let balanced = c.in_ok-cut.ensures.balanced map.honest p.last may.pair.at.one may.pair.at.two
+    (join_neighbours D old c.args.page c.args.level edge row c.args.id p.fork p.left p.first p.second
+    p.key p.last may) many in
+    let few = c.in_ok-cut.ensures.roomy map.honest p.last may.pair.at.one may.pair.at.two
+    (join_neighbours D old c.args.page c.args.level edge row c.args.id p.fork p.left p.first p.second
+    p.key p.last may) many may_share.room in
+    makes_from D old mid new page level edge row c.args.id p.first false same
+    (sharing_left D mid page level edge row c.args.id p.fork p.left p.first p.second p.key p.last joins new
+    cut.key cut.first cut.second cuts balanced
+    (c.in_ok-put_shares.ensures.shared (asks.map.sound.0 map) apart) few may_share.room.low
+    c.if-id-cut.true)
+
+pub returns-clause-roomy : goal.returns-clause-roomy
+returns-clause-roomy g c = λ map edge row may_share.
+    let D = g.row.D in
+    let may = may_share.join in
+    let many = may_share.many in
+    let page = c.args.page in
+    let level = c.args.level in
+    let old = pages c.args.cache.now in
+    let mid = pages c.shared.new.cache in
+    let asks = c.in_ok-cut.ensures.asks in
+    let same = asks.map.pages_stay map.honest in
+    let p = c.args.pair.now in
+    let joins = join_same D old mid page level edge row c.args.id p.fork p.left p.first p.second p.key p.last
+    same may in
+    let apart = join_apart D mid page level edge row c.args.id p.fork p.left p.first p.second p.key p.last
+    joins in
+    let new = pages c.put_shares.new.cache in
+    let cut = c.in_ok-cut.cut in
+    let cuts = c.in_ok-cut.ensures.cuts map.honest p.last may.pair.at.one may.pair.at.two
+    (join_neighbours D old c.args.page c.args.level edge row c.args.id p.fork p.left p.first p.second
+    p.key p.last may) many in
+    let balanced = c.in_ok-cut.ensures.balanced map.honest p.last may.pair.at.one may.pair.at.two
+    (join_neighbours D old c.args.page c.args.level edge row c.args.id p.fork p.left p.first p.second
+    p.key p.last may) many in
+    let few = c.in_ok-cut.ensures.roomy map.honest p.last may.pair.at.one may.pair.at.two
+    (join_neighbours D old c.args.page c.args.level edge row c.args.id p.fork p.left p.first p.second
+    p.key p.last may) many may_share.room in
+    makes_from D old mid new page level edge row c.args.id p.second p.last same
+    (sharing_right D mid page level edge row c.args.id p.fork p.left p.first p.second p.key p.last joins new
+    cut.key cut.first cut.second cuts balanced
+    (c.in_ok-put_shares.ensures.shared (asks.map.sound.0 map) apart) few may_share.room.low
+    (omega (arith, c.if-id-cut.false)))

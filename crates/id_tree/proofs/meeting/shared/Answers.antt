@@ -123,6 +123,31 @@ returns-then-level-eq0-clause-balanced g c = λ h edge one two n many.
     (c.shared_leaf.ensures.balanced (objects_in one) (objects_in two) one_is two_is n.single n.lesser
     n.from)
 
+pub returns-then-level-eq0-clause-roomy : goal.returns-then-level-eq0-clause-roomy
+returns-then-level-eq0-clause-roomy g c = λ h edge one two n many room.
+    let D = g.row.D in
+    let old = pages c.args.cache.now in
+    let first = c.args.first in
+    let second = c.args.second in
+    let level = c.args.level in
+    let key = c.args.key in
+    let asks = c.in_ok-one.ensures.asks in
+    let same = asks.map.pages_stay h in
+    let there_one = c.in_ok-one.ensures.bytes h (node_there D old first level one n.one_stands.node) in
+    let there_two = sym (same second) ∙ c.in_ok-two.ensures.bytes (asks.gate.honest.0 h)
+    (live_same old (pages c.copy_page.new.cache) second same
+    (node_there D old second level two n.two_stands.node)) in
+    let low = c.if-level-eq0.true in
+    let one_is = leaf_bytes D (old first) c.in_ok-one.one (objects_in one) there_one
+    (n.one_stands.node.leaf low) in
+    let two_is = leaf_bytes D (old second) c.in_ok-two.two (objects_in two) there_two
+    (n.two_stands.node.leaf low) in
+    c.shared_leaf.ensures.roomy (objects_in one) (objects_in two) one_is two_is n.single n.lesser n.from
+    room.few
+
+pub returns-clause-roomy : goal.returns-clause-roomy
+returns-clause-roomy g c = λ h edge one two n many room. absurd (omega (arith, room.low, c.if-level-eq0.false))
+
 pub returns-then-not-are_many-2-clause-there : goal.returns-then-not-are_many-2-clause-there
 returns-then-not-are_many-2-clause-there g c = λ h edge one two n many.
     let D = g.row.D in

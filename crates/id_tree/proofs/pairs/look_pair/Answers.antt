@@ -1,5 +1,5 @@
 -- The pages and the key in the fork are those of two children next to one another.
-use Rattle.std.proofs.Common.{◌∙◌, ap, arith, ◌≡◌, ◌⊎◌, ◌+◌, ◌<◌, ◌≤◌, length, sym, ⊎_elim}
+use Rattle.std.proofs.Common.{◌∙◌, ap, arith, ◌≡◌, ◌⊎◌, ◌+◌, ◌<◌, length, sym}
 use Rattle.page_file.specs.Fault.{IsOfDevice}
 use Rattle.page_cache.specs.Cache.{pages, given}
 use Rattle.node_page.proofs.NodeLemmas.{at_error}
@@ -7,20 +7,18 @@ use Rattle.id_page.specs.Fork.{ForkContent, Link}
 use Rattle.id_page.proofs.ForkReading.{count_of_fork, fork_spells, some_link}
 use Rattle.id_tree.specs.Tree.{links_of}
 use Rattle.id_tree.proofs.NodeLemmas.{fork_bytes, node_there}
-use Rattle.id_tree.proofs.PairLemmas.{first_link, is_pair, pair_in, pair_last, pair_long, place_under}
-use Rattle.id_tree.proofs.PairLemmas.{second_link}
+use Rattle.id_tree.proofs.PairLemmas.{first_link, is_pair, pair_in, pair_last, pair_long, second_link}
 use Rattle.page_file.specs.declared.fault.Fault.TheVariants as fault
-use Rattle.std.proofs.lemmas.Bool.{cases_eq}
 use Rattle.id_tree.proofs.pairs.look_pair.Goals as goal
 
 pub returns-in_err-fork-clause-there : goal.returns-in_err-fork-clause-there
-returns-in_err-fork-clause-there g c = λ h level id child row may.
+returns-in_err-fork-clause-there g c = λ h level id child place row may beside.
     at_error c.from_residual.result c.in_err-fork.field-0.0 IsOfDevice c.from_residual.ensures.1
     (c.in_err-fork.ensures.there h
     (node_there g.row.D (pages c.args.cache.now) c.args.page level row may.stands.node))
 
 pub returns-then-count-gt-MOST_CHILDREN-clause-there : goal.returns-then-count-gt-MOST_CHILDREN-clause-there
-returns-then-count-gt-MOST_CHILDREN-clause-there g c = λ h level id child row may.
+returns-then-count-gt-MOST_CHILDREN-clause-there g c = λ h level id child place row may beside.
     let old = pages c.args.cache.now in
     let content : ForkContent = record { level = level; links = links_of row } in
     let is = fork_bytes g.row.D (old c.args.page) c.in_ok-fork.fork content
@@ -34,7 +32,7 @@ returns-then-count-gt-MOST_CHILDREN-clause-there g c = λ h level id child row m
     ))
 
 pub returns-then-count-lt2-clause-there : goal.returns-then-count-lt2-clause-there
-returns-then-count-lt2-clause-there g c = λ h level id child row may.
+returns-then-count-lt2-clause-there g c = λ h level id child place row may beside.
     let old = pages c.args.cache.now in
     let content : ForkContent = record { level = level; links = links_of row } in
     let is = fork_bytes g.row.D (old c.args.page) c.in_ok-fork.fork content
@@ -48,8 +46,8 @@ returns-then-count-lt2-clause-there g c = λ h level id child row may.
       c.if-count-lt2.true,
     ))
 
-pub returns-then-place-count-clause-there : goal.returns-then-place-count-clause-there
-returns-then-place-count-clause-there g c = λ h level id child row may.
+pub returns-then-left-count-clause-there : goal.returns-then-left-count-clause-there
+returns-then-left-count-clause-there g c = λ h level id child place row may beside.
     let old = pages c.args.cache.now in
     let content : ForkContent = record { level = level; links = links_of row } in
     let is = fork_bytes g.row.D (old c.args.page) c.in_ok-fork.fork content
@@ -58,25 +56,23 @@ returns-then-place-count-clause-there g c = λ h level id child row may.
     absurd (omega (
       arith,
       count_of_fork g.row.D c.in_ok-fork.fork content is,
-      place_under g.row.D old c.args.page level
-          c.args.edge row id child c.args.place may,
+      beside.within,
       c.count_at-count.ensures.value,
-      c.if-place-count.true,
+      c.if-left-count.true,
     ))
 
 pub returns-clause-pair : goal.returns-clause-pair
-returns-clause-pair g c = λ h level id child row may.
+returns-clause-pair g c = λ h level id child place row may beside.
     let D = g.row.D in
     let edge = c.args.edge in
     let old = pages c.args.cache.now in
     let fork = c.in_ok-fork.fork in
-    let left = c.left_of-left.result in
+    let left = c.args.left in
     let content : ForkContent = record { level = level; links = links_of row } in
     let is = fork_bytes D (old c.args.page) fork content
     (c.in_ok-fork.ensures.bytes h (node_there D old c.args.page level row may.stands.node))
     (may.stands.node.fork may.high) in
-    let pair = pair_in D old c.args.page level edge row id child c.args.place left may
-    c.left_of-left.ensures.first c.left_of-left.ensures.later in
+    let pair = pair_in D old c.args.page level edge row id child place left may beside in
     let long = pair_long D old c.args.page level edge row id pair.first pair.second may.high may.stands
     pair.at in
     let first = first_link D old c.args.page level edge row id pair.first pair.second may.high may.stands
@@ -106,16 +102,10 @@ returns-clause-names g c = λ h content there.
     let D = g.row.D in
     let is = fork_bytes D (given c.args.cache.now c.args.page) c.in_ok-fork.fork content
     (c.in_ok-fork.ensures.given_bytes h) there in
-    let left = c.left_of-left.result in
+    let left = c.args.left in
     let count = c.count_at-count.ensures.of_fork D content is in
-    let place : c.args.place < length content.links = omega (arith, count, c.if-place-count.false) in
-    let two : 2 ≤ length content.links = omega (arith, count, c.if-count-lt2.false) in
-    let within : left + 1 < length content.links = ⊎_elim
-    (λ (first : c.args.place ≡ 0). omega (arith, two, c.left_of-left.ensures.first first))
-    (λ (later : ¬ (c.args.place ≡ 0)).
-    let some : 0 < c.args.place = omega (arith, later) in
-    omega (arith, place, c.left_of-left.ensures.later some))
-    (cases_eq c.args.place 0) in (
+    let within : left + 1 < length content.links =
+    omega (arith, count, c.if-count-lt2.false, c.if-left-count.false) in (
       (
         left,
         omega (arith, within),

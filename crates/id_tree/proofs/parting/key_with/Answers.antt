@@ -1,4 +1,4 @@
--- The keys come together until one follows the other.
+-- The keys come together until one is met, or one follows the other.
 use Rattle.std.proofs.Common.{◌≡◌, ◌∙◌, ℕ, ◌+◌, length, ap, arith}
 use Rattle.id_tree.specs.Halving.{under_key}
 use Rattle.id_tree.proofs.HalvingLemmas.{one_key_more}

@@ -4,10 +4,10 @@ use Rattle.page_cache.specs.Cache.{pages}
 use Rattle.page_cache.specs.Calls.{asks_and_changes}
 use Rattle.node_page.specs.Faults.{IsNoDamage}
 use Rattle.node_page.proofs.NodeLemmas.{at_error}
-use Rattle.id_tree.specs.Steps.{MakesRoom}
+use Rattle.id_tree.specs.Steps.{MakesHalves}
 use Rattle.id_tree.proofs.NodeLemmas.{node_there}
 use Rattle.id_tree.proofs.ResultLemmas.{if_ok, if_err}
-use Rattle.id_tree.proofs.SplitLemmas.{child_live, live_same, makes_from, split_again}
+use Rattle.id_tree.proofs.SplitLemmas.{child_live, halves_from, live_same, split_again}
 use Rattle.id_tree.proofs.WayLemmas.{page_apart}
 use Rattle.id_tree.proofs.TidyLemmas.{as_tidy_on, both_tidy_on, tidy_from}
 use Rattle.id_tree.specs.Tree.{links_of}
@@ -35,9 +35,9 @@ returns-clause-made g c = λ map edge row may.
     let same = asks.map.pages_stay map.honest in
     let again = split_again D old mid c.args.page c.args.level edge row c.args.id c.args.below.now.child c.args.below.now.place
     c.args.below.now.last same may in
-    if_ok c.put_split.result (λ r. MakesRoom D mid new c.args.page c.args.level edge row c.args.id r.0 r.1)
-    (λ r. MakesRoom D old new c.args.page c.args.level edge row c.args.id r.0 r.1)
-    (λ r m. makes_from D old mid new c.args.page c.args.level edge row c.args.id r.0 r.1 same m)
+    if_ok c.put_split.result (λ r. MakesHalves D mid new c.args.page c.args.level edge row c.args.id r.0 r.1)
+    (λ r. MakesHalves D old new c.args.page c.args.level edge row c.args.id r.0 r.1)
+    (λ r m. halves_from D old mid new c.args.page c.args.level edge row c.args.id r.0 r.1 same m)
     (c.put_split.ensures.made (asks.map.sound.0 map) c.args.level edge row again
     (c.in_ok-plan.ensures.fork map.honest edge row may)
     (c.in_ok-plan.ensures.cuts map.honest edge row may))
