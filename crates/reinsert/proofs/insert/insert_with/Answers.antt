@@ -255,14 +255,13 @@ returns-clause-inserts g c = record {
 -- ---- in any pages of a sound map
 
 pub place_one-requires-in-Some : goal.place_one-requires-in-Some
-place_one-requires-in-Some g c =
+place_one-requires-in-Some g c = (
+  search rules,
+  (
+    search (c.requires-raw),
     (
-      search rules,
-      (
-        search (c.requires-raw),
-        (
-          c.placing.invariant.1.low,
-          (c.placing.invariant.1.page, c.in-Some.ensures.refers),
-        ),
-      ),
-    )
+      c.placing.invariant.1.low,
+      (c.placing.invariant.1.page, c.in-Some.ensures.refers),
+    ),
+  ),
+)

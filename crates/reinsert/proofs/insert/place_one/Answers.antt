@@ -17,17 +17,16 @@ use Rattle.reinsert.proofs.StateLemmas.{first_can, low_root}
 use Rattle.reinsert.proofs.insert.place_one.Goals as goal
 
 pub place-requires : goal.place-requires
-place-requires g c =
+place-requires g c = (
+  search rules,
+  (
+    search,
     (
       search rules,
-      (
-        search,
-        (
-          search rules,
-          ((c.if-first-root.false, omega arith, c.requires.level), c.requires.refers),
-        ),
-      ),
-    )
+      ((c.if-first-root.false, omega arith, c.requires.level), c.requires.refers),
+    ),
+  ),
+)
 
 pub returns-then-first-root : goal.returns-then-first-root
 returns-then-first-root g c = record {
