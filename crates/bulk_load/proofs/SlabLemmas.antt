@@ -5,7 +5,8 @@ use Rattle.std.proofs.Common.{ap, subst, append_assoc, ⊎_elim, arith, length-a
 use Rattle.std.specs.Int.{div_ceil}
 use Rattle.std.proofs.lemmas.Bool.{cases_lt}
 use Rattle.std.proofs.lemmas.List.{append-nil, get_or-append_right, get_or-replicate, get_or_append_left}
-use Rattle.std.proofs.lemmas.List.{length-replicate, map-append, take_more, drop-drop, length-take-le}
+use Rattle.std.proofs.lemmas.List.{length-replicate, length-take, map-append, take_more, drop-drop}
+use Rattle.std.proofs.lemmas.List.{length-take-le}
 use Rattle.std.proofs.lemmas.List.Sorted.{IsPermutation-put_mid, IsPermutation-trans, length_permutation}
 use Rattle.std.proofs.lemmas.Nat.{div-add-mod'}
 use Rattle.std.proofs.Math.Nat.{mul-le-mul_left}
@@ -243,3 +244,15 @@ one_node {A} item dims most (suc axes) xs before some few = record {
 -- a place of a list of elements of some size that has room in memory
 pub part_has_room : (from many size : ℕ) → from ≤ many → many * size < 2 ^ 63 → from * size < 2 ^ 63
 part_has_room from many size within room = omega (arith, mul-le-mul_left size within, room)
+
+-- parts of lists of one length
+pub part_lengths : {A : Type 0} (from part : ℕ) (xs ys : List A) → length ys ≡ length xs
+    → length (take part (drop from ys)) ≡ length (take part (drop from xs))
+part_lengths from part xs ys same = length-take part (drop from ys)
+    ∙ ap (λ (n : ℕ). min part n)
+    (length-drop from ys ∙ ap (λ (n : ℕ). n - from) same ∙ sym (length-drop from xs))
+    ∙ sym (length-take part (drop from xs))
+
+pub part_is_shorter : {A : Type 0} (from part : ℕ) (xs : List A)
+    → length (take part (drop from xs)) ≤ length xs
+part_is_shorter from part xs = omega (arith, length-take part (drop from xs), length-drop from xs)

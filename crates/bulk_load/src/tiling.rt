@@ -2,13 +2,13 @@
 
 ghost use Rattle.std.specs.Prelude.{◌≡◌, ◌↔◌, ℕ, ◌-◌, ◌^◌, ◌<◌, ◌≤◌, IfErr, IfOk, IsPermutation, IsTrue};
 ghost use Rattle.std.specs.Prelude.{OnOk, ◌++◌};
-ghost use Rattle.std.specs.Prelude.{slice_index};
+ghost use Rattle.std.specs.Prelude.{length, slice_index, vec_capacity};
 ghost use Rattle.box_math.specs.Bounds.{IsDims};
 ghost use Rattle.page_file.specs.declared.fault.Fault.TheVariants as fault;
 ghost use Rattle.tree_node.specs.Nodes.{item_of};
 ghost use Rattle.bulk_load.specs.Tiling.{AddsRuns, IsLeastRoot, IsTiledInto, even_sizes, size_of_one};
 
-use crate::sorting::sort_on;
+use crate::sorting::{Room, sort_on};
 use node_page::Entry;
 use page_file::Fault;
 use std::alloc::Allocator;
@@ -18,7 +18,8 @@ use tree_node::Fanout;
 /// answers how many each node takes: one number for a list of one node, none for no entries. Entries of one
 /// centre and one reference go by position, so there is one such order (docs/RULES.md, "Packed load").
 ///
-/// A refusal is `Memory`, and leaves the entries in some order.
+/// The memory for the sorts is taken at the start, once for all axes and slabs. A refusal is `Memory`, and
+/// leaves the entries in some order.
 pub fn tile<const D: usize, A: Allocator + Copy>(
     alloc: A,
     entries: &mut [Entry<D>],
@@ -30,26 +31,39 @@ pub fn tile<const D: usize, A: Allocator + Copy>(
     ensures all { IsPermutation entries.old entries.new }
     ensures memory { IfErr result (λ f. f ≡ fault.Memory) }
 {
+    let mut room = Room::with_capacity(alloc, entries.len())?;
+    let mut other = Vec::from_slice(alloc, entries)?;
     let mut sizes = Vec::new(alloc);
-    tile_on(alloc, entries, 0, fanout.entries(), &mut sizes)?;
+    tile_on(
+        entries,
+        other.as_mut_slice(),
+        0,
+        fanout.entries(),
+        &mut room,
+        &mut sizes,
+    )?;
     Ok(sizes)
 }
 
-// Does so on an axis and those after it, and appends the sizes.
-fn tile_on<const D: usize, A: Allocator + Copy>(
-    alloc: A,
+// Does so on an axis and those after it, by way of another list of as many entries, and appends the sizes.
+fn tile_on<const D: usize, A: Allocator>(
     entries: &mut [Entry<D>],
+    other: &mut [Entry<D>],
     axis: usize,
     fanout: usize,
+    room: &mut Room<A>,
     sizes: &mut Vec<usize, A>,
 ) -> Result<(), Fault>
     requires dims { IsDims D }
     requires within { axis ≤ D }
     requires some { 0 < fanout }
+    requires whole { length other.old ≡ length entries.old }
+    requires room { length entries.old ≤ vec_capacity room.old.hints }
     ensures tiled { OnOk result (AddsRuns item_of D fanout
         (D - axis) entries.old entries.new sizes.old.items sizes.new.items) }
     ensures all { IsPermutation entries.old entries.new }
     ensures memory { IfErr result (λ f. f ≡ fault.Memory) }
+    ensures kept { vec_capacity room.new.hints ≡ vec_capacity room.old.hints }
 {
     let count = entries.len();
     if axis == D {
@@ -59,16 +73,17 @@ fn tile_on<const D: usize, A: Allocator + Copy>(
     if count <= fanout {
         return add_one(count, sizes);
     }
-    sort_on(alloc, entries, axis)?;
+    sort_on(entries, other, axis, room);
     let slabs = least_root((D - axis) as u32, count.div_ceil(fanout));
     let mut from = 0;
     'slabs: for slab in 0..slabs {
         let size = even_size(count, slabs, slab);
         tile_on(
-            alloc,
             &mut entries[from..from + size],
+            &mut other[from..from + size],
             axis + 1,
             fanout,
+            room,
             sizes,
         )?;
         from += size;
