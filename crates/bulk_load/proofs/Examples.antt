@@ -1,11 +1,12 @@
 -- Worked examples of packed loads (docs/RULES.md). No other proof rests on them.
-use Rattle.std.proofs.Common.{◌≡◌, ℕ, zero, suc, ◌*◌, ◌^◌, ◌≤◌, List, [], ◌∷◌, refl, pos, arith}
+use Rattle.std.proofs.Common.{◌≡◌, ℕ, zero, suc, ◌+◌, ◌*◌, ◌^◌, ◌≤◌, List, [], ◌∷◌, refl, pos, arith}
 use Rattle.tree_node.specs.Nodes.{Item}
 use Rattle.tree_node.specs.Rows.{row_of}
 use Rattle.tree_node.specs.Trees.{object, end}
+use Rattle.bulk_load.specs.Keyed.{place_told}
 use Rattle.bulk_load.specs.Packed.{IsPacked, objects_of, root}
 use Rattle.bulk_load.specs.Sorting.{before, order_on, sorted_on}
-use Rattle.bulk_load.specs.Tiling.{IsLeastRoot, IsTiled, even_sizes, joined, one_run, size_of_one}
+use Rattle.bulk_load.specs.Tiling.{IsLeastRoot, IsTiled, ending, even_sizes, joined, one_run, size_of_one}
 
 abbrev at : ℕ → ℕ → ℕ → Item
 at id x y =
@@ -47,7 +48,17 @@ by_position : order_on 2 0 (at 1 0 0 ∷ at 1 0 9 ∷ at 1 0 4 ∷ []) ≡ 0 ∷
 unfolding order_on before
 by_position = refl
 
+-- a hint of a few entries tells its position below the centre, and one of very many is its position
+some_places_told : (place_told 3 (9 * 2 ^ 31 + 2) ≡ 2) × (place_told (2 ^ 31 + 1) (2 ^ 31) ≡ 2 ^ 31)
+unfolding place_told
+some_places_told = (refl, refl)
+
 -- ---- runs
+
+-- the entries of an even axis end in their own list, and those of an odd one in the other
+some_endings : (ending {A = ℕ} 0 7 5 ≡ 7) × (ending {A = ℕ} 1 7 5 ≡ 5) × (ending {A = ℕ} 2 7 5 ≡ 7)
+unfolding ending
+some_endings = (refl, refl, refl)
 
 -- a square of two by two slabs is enough for two cells, and one by one is not
 two_cells : IsLeastRoot 2 2 2

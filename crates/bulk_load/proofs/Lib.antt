@@ -1,5 +1,6 @@
 -- The files of lemmas.
 pub mod SortLemmas
+pub mod HintLemmas
 pub mod CutLemmas
 pub mod TilingLemmas
 pub mod SlabLemmas

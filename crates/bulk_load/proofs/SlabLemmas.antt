@@ -1,36 +1,38 @@
--- The slabs of a list, tiled in place one after the other.
+-- The slabs of a list, tiled one after the other, from one list into another.
 use Rattle.std.proofs.Common.{◌≡◌, ◌∙◌, ℕ, zero, suc, ◌+◌, ◌-◌, ◌*◌, ◌/◌, ◌%◌, ◌^◌, ◌<◌, ◌≤◌, List, [], ◌∷◌}
 use Rattle.std.proofs.Common.{◌++◌, length, map, get_or, replicate, take, drop, min, IsPermutation, refl, sym}
 use Rattle.std.proofs.Common.{ap, subst, append_assoc, ⊎_elim, arith, length-append, length-drop}
 use Rattle.std.specs.Int.{div_ceil}
 use Rattle.std.proofs.lemmas.Bool.{cases_lt}
+use Rattle.std.proofs.lemmas.Bool.Decides.{nat_tests}
+use Rattle.std.specs.Prelude.{Bool, true, false, ◌==◌, if◌then◌else◌}
 use Rattle.std.proofs.lemmas.List.{append-nil, get_or-append_right, get_or-replicate, get_or_append_left}
-use Rattle.std.proofs.lemmas.List.{length-replicate, map-append, take_more, drop-drop, length-take-le}
-use Rattle.std.proofs.lemmas.List.Sorted.{IsPermutation-put_mid, IsPermutation-trans, length_permutation}
+use Rattle.std.proofs.lemmas.List.{length-replicate, length-take, map-append, take_more, drop-drop}
+use Rattle.std.proofs.lemmas.List.{length-take-le}
 use Rattle.std.proofs.lemmas.Nat.{div-add-mod'}
 use Rattle.std.proofs.Math.Nat.{mul-le-mul_left}
-use Rattle.std.proofs.Math.Seq.{drop-append_seam, drop-length, take-append_seam, take-add, take-length}
+use Rattle.std.proofs.Math.Seq.{drop-append_seam, take-append_seam, take-add, take-length}
 use borrow.Rule.Slice.PartMut.{mid_of, put_mid}
 use Rattle.tree_node.specs.Nodes.{Item}
 use Rattle.bulk_load.specs.Sorting.{sorted_on}
-use Rattle.bulk_load.specs.Tiling.{AddsRuns, EachTiled, IsEvenCut, IsLeastRoot, IsSlabbed, IsTiledOn}
-use Rattle.bulk_load.specs.Tiling.{even_sizes, joined, one_run, size_of_one}
+use Rattle.bulk_load.specs.Tiling.{AddsRuns, EachTiled, IsEvenCut, IsLeastRoot, IsSlabbed, IsTiledInto}
+use Rattle.bulk_load.specs.Tiling.{IsTiledOn, ending, even_sizes, joined, one_run, size_of_one}
 use Rattle.bulk_load.proofs.SortLemmas.{length-sorted}
 use Rattle.bulk_load.proofs.CutLemmas.{cells_two, root_positive}
-use Rattle.bulk_load.proofs.TilingLemmas.{joined_append, one_run_holds}
+use Rattle.bulk_load.proofs.TilingLemmas.{holds_on, joined_append, one_run_holds, one_run_is, slab_sizes}
 
--- The first k of so many even slabs of an order are tiled, and the rest of it stands as it was.
-pub record Progress {A : Type 0} (item : A → Item) (dims most axes : ℕ) (old order : List A)
-    (n slabs k from : ℕ) (now : List A) (before after : List ℕ) : Type 0 where
+-- The first k of so many even slabs of an order are tiled, in one list, and the rest stands in another.
+pub record Progress {A : Type 0} (item : A → Item) (dims most axes : ℕ) (order : List A)
+    (n slabs k from : ℕ) (source final : List A) (before after : List ℕ) : Type 0 where
   pub here : from ≡ k * (n / slabs) + min k (n % slabs)
-  pub all : IsPermutation old now
   pub cut : List (List A)
   pub runs : List (List A)
   pub each : EachTiled (IsTiledOn item dims most axes) cut runs
   pub whole : joined cut ≡ take from order
   pub lengths : map length cut ≡ take k (even_sizes n slabs)
   pub front : length (joined runs) ≡ from
-  pub stands : now ≡ joined runs ++ drop from order
+  pub stands : take from final ≡ joined runs
+  pub left : drop from source ≡ drop from order
   pub sizes : after ≡ before ++ map length runs
 
 -- ---- where slabs end
@@ -71,22 +73,34 @@ from_end : (n p from : ℕ) → 0 < p → from ≡ p * (n / p) + min p (n % p) �
 from_end n p from some here = omega (arith, here, div-add-mod' n p)
 
 -- within the list
-pub slab_within : {A : Type 0} {item : A → Item} {dims most axes : ℕ} {old order : List A}
-    {n slabs k from : ℕ} {now : List A} {before after : List ℕ}
-    → Progress item dims most axes old order n slabs k from now before after → (size : ℕ) → k < slabs
+pub slab_within : {A : Type 0} {item : A → Item} {dims most axes : ℕ} {order : List A}
+    {n slabs k from : ℕ} {source final : List A} {before after : List ℕ}
+    → Progress item dims most axes order n slabs k from source final before after → (size : ℕ) → k < slabs
     → size ≡ get_or (even_sizes n slabs) k 0 → from + size ≤ n
 slab_within {n = n} {slabs = slabs} {k = k} {from = from} p size below is =
     from_within n slabs (k + 1) (from + size) (omega (arith, below))
     (next_from n slabs k from size below p.here is)
 
+-- a slab has two elements
+pub slab_has_two : (n most axes slabs k size : ℕ) → 4 ≤ most → most < n → 0 < axes
+    → IsLeastRoot axes (div_ceil n most) slabs → k < slabs → size ≡ get_or (even_sizes n slabs) k 0 → 2 ≤ size
+slab_has_two n most zero slabs k size four more some root below is = absurd (omega (arith, some))
+slab_has_two n most (suc axes) slabs k size four more some root below is =
+    let count = even_count n slabs (omega (arith, below)) in
+    omega (
+      arith,
+      (slab_sizes n most axes slabs (omega (arith, four)) more root k 0 (omega (arith, below, count))).0,
+      is,
+      four,
+    )
+
 -- ---- the turns of the loop
 
-pub none_yet : {A : Type 0} (item : A → Item) (dims most axes : ℕ) (old order : List A) (n slabs : ℕ)
-    (before : List ℕ) → IsPermutation old order
-    → Progress item dims most axes old order n slabs 0 0 order before before
-none_yet item dims most axes old order n slabs before all = record {
+pub none_yet : {A : Type 0} (item : A → Item) (dims most axes : ℕ) (source final order : List A)
+    (n slabs : ℕ) (before : List ℕ) → source ≡ order
+    → Progress item dims most axes order n slabs 0 0 source final before before
+none_yet item dims most axes source final order n slabs before same = record {
   here = omega arith;
-  all = all;
   cut = [];
   runs = [];
   each = refl;
@@ -94,6 +108,7 @@ none_yet item dims most axes old order n slabs before all = record {
   lengths = refl;
   front = refl;
   stands = refl;
+  left = same;
   sizes = sym (append-nil before);
 }
 
@@ -117,39 +132,54 @@ each_more {A} tiled (s ∷ slabs) runs slab rs each one = (
 joined_one : {A : Type 0} (xs : List A) → joined (xs ∷ []) ≡ xs
 joined_one xs = append-nil xs
 
-pub one_more : {A : Type 0} {item : A → Item} {dims most axes : ℕ} {old order : List A} {n slabs k from : ℕ}
-    {now : List A} {before after : List ℕ}
-    → Progress item dims most axes old order n slabs k from now before after
-    → (size part : ℕ) (ys : List A) (later : List ℕ) → k < slabs → length order ≡ n
-    → size ≡ get_or (even_sizes n slabs) k 0 → part ≡ size
-    → IsPermutation (mid_of from part now) ys
-    → AddsRuns item dims most axes (mid_of from part now) ys after later
-    → Progress item dims most axes old order n slabs (k + 1) (from + size) (put_mid from part now ys) before
-    later
-one_more {A} {item = item} {dims = dims} {most = most} {axes = axes} {old = old} {order = order} {n = n}
-    {slabs = slabs} {k = k} {from = from} {now = now} {before = before} {after = after} p size part ys later
-    below length_is is part_is moved added =
-    let done = joined p.runs in
+-- a part of a list is written anew
+front_written : {A : Type 0} (from part : ℕ) (xs ys : List A) → from ≤ length xs
+    → take (from + length ys) (put_mid from part xs ys) ≡ take from xs ++ ys
+front_written from part xs ys within =
+    let front = take from xs in
+    let rest = drop part (drop from xs) in
+    let long : length (front ++ ys) ≡ from + length ys =
+    omega (arith, length-append front ys, length-take-le from xs within) in
+    ap (λ (n : ℕ). take n (front ++ (ys ++ rest))) (sym long)
+    ∙ ap (take (length (front ++ ys))) (sym (append_assoc front ys rest))
+    ∙ take-append_seam (front ++ ys) rest
+
+back_written : {A : Type 0} (from part : ℕ) (xs ys : List A) → from ≤ length xs → part ≡ length ys
+    → drop (from + length ys) (put_mid from part xs ys) ≡ drop (from + length ys) xs
+back_written from part xs ys within same =
+    let front = take from xs in
+    let rest = drop part (drop from xs) in
+    let long : length (front ++ ys) ≡ from + length ys =
+    omega (arith, length-append front ys, length-take-le from xs within) in
+    ap (λ (n : ℕ). drop n (front ++ (ys ++ rest))) (sym long)
+    ∙ ap (drop (length (front ++ ys))) (sym (append_assoc front ys rest))
+    ∙ drop-append_seam (front ++ ys) rest
+    ∙ drop-drop part from xs ∙ ap (λ (n : ℕ). drop (from + n) xs) same
+
+pub one_more : {A : Type 0} {item : A → Item} {dims most axes : ℕ} {order : List A} {n slabs k from : ℕ}
+    {source final : List A} {before after : List ℕ}
+    → Progress item dims most axes order n slabs k from source final before after
+    → (size part : ℕ) (ys zs : List A) (later : List ℕ) → k < slabs → length order ≡ n
+    → length source ≡ n → length final ≡ n
+    → size ≡ get_or (even_sizes n slabs) k 0 → part ≡ size → length ys ≡ size → length zs ≡ size
+    → AddsRuns item dims most axes (mid_of from part source) zs after later
+    → Progress item dims most axes order n slabs (k + 1) (from + size) (put_mid from part source ys)
+    (put_mid from part final zs) before later
+one_more {A} {item = item} {dims = dims} {most = most} {axes = axes} {order = order} {n = n}
+    {slabs = slabs} {k = k} {from = from} {source = source} {final = final} {before = before} {after = after}
+    p size part ys zs later below order_long source_long final_long is part_is ys_long zs_long added =
     let rest = drop from order in
     let slab = take size rest in
     let sizes = even_sizes n slabs in
     let within : from + size ≤ n = slab_within p size below is in
     let long : length slab ≡ size =
-    length-take-le size rest (omega (arith, length-drop from order, length_is, within)) in
-    let front : take from now ≡ done = ap (λ (xs : List A). take from xs) p.stands
-    ∙ ap (λ (a : ℕ). take a (done ++ rest)) (sym p.front) ∙ take-append_seam done rest in
-    let back : drop from now ≡ rest = ap (λ (xs : List A). drop from xs) p.stands
-    ∙ ap (λ (a : ℕ). drop a (done ++ rest)) (sym p.front) ∙ drop-append_seam done rest in
-    let mid : mid_of from part now ≡ slab = ap (λ (xs : List A). take part xs) back
+    length-take-le size rest (omega (arith, length-drop from order, order_long, within)) in
+    let mid : mid_of from part source ≡ slab = ap (λ (xs : List A). take part xs) p.left
     ∙ ap (λ (a : ℕ). take a rest) part_is in
-    let many : length ys ≡ size = length_permutation (mid_of from part now) ys moved
-    ∙ ap (λ (xs : List A). length xs) mid ∙ long in
-    let both : joined (p.runs ++ added.runs) ≡ done ++ ys = joined_append p.runs added.runs
-    ∙ ap (λ (xs : List A). done ++ xs) added.whole in
+    let both : joined (p.runs ++ added.runs) ≡ joined p.runs ++ zs = joined_append p.runs added.runs
+    ∙ ap (λ (xs : List A). joined p.runs ++ xs) added.whole in
     record {
       here = next_from n slabs k from size below p.here is;
-      all = IsPermutation-trans old now (put_mid from part now ys) p.all
-          (IsPermutation-put_mid from part now ys moved);
       cut = p.cut ++ slab ∷ [];
       runs = p.runs ++ added.runs;
       each = each_more (IsTiledOn item dims most axes) p.cut p.runs slab added.runs p.each
@@ -159,27 +189,30 @@ one_more {A} {item = item} {dims = dims} {most = most} {axes = axes} {old = old}
       lengths = map-append length p.cut (slab ∷ []) ∙ ap (λ (ks : List ℕ). ks ++ length slab ∷ []) p.lengths
           ∙ ap (λ (a : ℕ). take k sizes ++ a ∷ []) (long ∙ is)
           ∙ sym (take_more sizes k 0 (omega (arith, below, even_count n slabs (omega (arith, below)))));
-      front = ap (λ (xs : List A). length xs) both ∙ omega (arith, length-append done ys, p.front, many);
-      stands = ap (λ (xs : List A). xs ++ (ys ++ drop part (drop from now))) front
-          ∙ ap (λ (xs : List A). done ++ (ys ++ drop part xs)) back
-          ∙ ap (λ (a : ℕ). done ++ (ys ++ drop a rest)) part_is
-          ∙ ap (λ (xs : List A). done ++ (ys ++ xs)) (drop-drop size from order)
-          ∙ sym (append_assoc done ys (drop (from + size) order))
-          ∙ ap (λ (xs : List A). xs ++ drop (from + size) order) (sym both);
+      front = ap (λ (xs : List A). length xs) both
+          ∙ omega (arith, length-append (joined p.runs) zs, p.front, zs_long);
+      stands = ap (λ (a : ℕ). take (from + a) (put_mid from part final zs)) (sym zs_long)
+          ∙ front_written from part final zs (omega (arith, within, final_long))
+          ∙ ap (λ (xs : List A). xs ++ zs) p.stands ∙ sym both;
+      left = ap (λ (a : ℕ). drop (from + a) (put_mid from part source ys)) (sym ys_long)
+          ∙ back_written from part source ys (omega (arith, within, source_long)) (part_is ∙ sym ys_long)
+          ∙ ap (λ (a : ℕ). drop (from + a) source) ys_long ∙ sym (drop-drop size from source)
+          ∙ ap (λ (xs : List A). drop size xs) p.left ∙ drop-drop size from order;
       sizes = added.sizes ∙ ap (λ (ks : List ℕ). ks ++ map length added.runs) p.sizes
           ∙ append_assoc before (map length p.runs) (map length added.runs)
           ∙ ap (λ (ks : List ℕ). before ++ ks) (sym (map-append length p.runs added.runs));
     }
 
-pub all_done : {A : Type 0} {item : A → Item} {dims most axes : ℕ} {old order : List A} {n slabs k from : ℕ}
-    {now : List A} {before after : List ℕ}
-    → Progress item dims most axes old order n slabs k from now before after
-    → (axis : ℕ) → k ≡ slabs → 0 < most → axes ≡ dims - (axis + 1) → axis < dims → n ≡ length old → most < n
+pub all_done : {A : Type 0} {item : A → Item} {dims most axes : ℕ} {order : List A} {n slabs k from : ℕ}
+    {source final : List A} {before after : List ℕ}
+    → Progress item dims most axes order n slabs k from source final before after
+    → (axis : ℕ) (old : List A) → k ≡ slabs → 0 < most → axes ≡ dims - (axis + 1) → axis < dims
+    → n ≡ length old → most < n → length final ≡ n
     → order ≡ sorted_on item dims axis old → IsLeastRoot (dims - axis) (div_ceil n most) slabs
-    → AddsRuns item dims most (dims - axis) old now before after
-all_done {A} {item = item} {dims = dims} {most = most} {axes = axes} {old = old} {order = order} {n = n}
-    {slabs = slabs} {k = k} {from = from} {now = now} {before = before} {after = after} p axis end most_some
-    axes_are below length_is more sorted root =
+    → AddsRuns item dims most (dims - axis) old final before after
+all_done {A} {item = item} {dims = dims} {most = most} {axes = axes} {order = order} {n = n}
+    {slabs = slabs} {k = k} {from = from} {final = final} {before = before} {after = after} p axis old end
+    most_some axes_are below length_is more final_long sorted root =
     let some : 0 < slabs =
     root_positive (dims - axis) (div_ceil n most) slabs (omega (arith, below))
     (omega (arith, cells_two n most most_some more)) root in
@@ -210,20 +243,11 @@ all_done {A} {item = item} {dims = dims} {most = most} {axes = axes} {old = old}
       runs = p.runs;
       tiled = subst (λ (a : ℕ). IsTiledOn item dims most a old p.runs) left
           (λ few. absurd (omega (arith, few, more, length_is)), λ many. slabbed);
-      whole = sym (append-nil (joined p.runs))
-          ∙ ap (λ (xs : List A). joined p.runs ++ xs)
-          (sym (ap (λ (a : ℕ). drop a order) (last ∙ sym same) ∙ drop-length order)) ∙ sym p.stands;
+      whole = sym p.stands ∙ ap (λ (a : ℕ). take a final) (last ∙ sym final_long) ∙ take-length final;
       sizes = p.sizes;
     }
 
-pub none_left : {A : Type 0} (item : A → Item) (dims most axes : ℕ) (xs : List A) (before : List ℕ)
-    → axes ≡ 0 → AddsRuns item dims most axes xs xs before (before ++ length xs ∷ [])
-none_left {A} item dims most axes xs before none = record {
-  runs = xs ∷ [];
-  tiled = subst (λ (a : ℕ). IsTiledOn item dims most a xs (xs ∷ [])) (sym none) refl;
-  whole = append-nil xs;
-  sizes = refl;
-}
+-- ---- lists that are one run
 
 sizes_of_one : {A : Type 0} (xs : List A) → size_of_one (length xs) ≡ map length (one_run xs)
 sizes_of_one [] = refl
@@ -240,6 +264,102 @@ one_node {A} item dims most (suc axes) xs before some few = record {
   sizes = ap (λ (ks : List ℕ). before ++ ks) (sizes_of_one xs);
 }
 
+-- what is not cut further is one run, on whatever axis
+pub one_left : {A : Type 0} (item : A → Item) (dims most axes : ℕ) (xs : List A) (before : List ℕ)
+    → 0 < length xs → (0 < axes → length xs ≤ most)
+    → AddsRuns item dims most axes xs xs before (before ++ length xs ∷ [])
+one_left item dims most zero xs before some few = record {
+  runs = xs ∷ [];
+  tiled = refl;
+  whole = append-nil xs;
+  sizes = refl;
+}
+one_left item dims most (suc axes) xs before some few = record {
+  runs = xs ∷ [];
+  tiled = (λ same. sym (one_run_is xs some), λ more. absurd (omega (arith, few (omega arith), more)));
+  whole = append-nil xs;
+  sizes = refl;
+}
+
+-- and what is not one run is cut further
+pub cut_further : (count axis axes most : ℕ) → ¬ (axis < axes → count ≤ most)
+    → (axis < axes) × (most < count)
+cut_further count axis axes most more = ⊎_elim
+    (λ (here : axis < axes). ⊎_elim
+    (λ (many : most < count). (here, many))
+    (λ (few : count ≤ most). absurd (more (λ _. few)))
+    (cases_lt most count))
+    (λ (end : axes ≤ axis). absurd (more (λ (here : axis < axes). absurd (omega (arith, here, end)))))
+    (cases_lt axis axes)
+
+-- all axes, from no sizes on
+pub tiled_into : {A : Type 0} (item : A → Item) (dims most limit axes : ℕ) (old new : List A)
+    (before sizes : List ℕ) → limit ≡ most → axes ≡ dims → before ≡ []
+    → AddsRuns item dims limit axes old new before sizes → IsTiledInto item dims most old new sizes
+tiled_into item dims most limit axes old new before sizes same all none added = record {
+  runs = added.runs;
+  tiled = subst (λ (m : ℕ). IsTiledOn item dims m dims old added.runs) same
+      (subst (λ (a : ℕ). IsTiledOn item dims limit a old added.runs) all added.tiled);
+  whole = added.whole;
+  each = sym (added.sizes ∙ ap (λ (ks : List ℕ). ks ++ map length added.runs) none);
+}
+
+pub tiled_holds : {A : Type 0} (item : A → Item) (dims most : ℕ) (old new : List A) (sizes : List ℕ)
+    → IsTiledInto item dims most old new sizes → IsPermutation old new
+tiled_holds item dims most old new sizes t =
+    subst (IsPermutation old) t.whole (holds_on item dims most dims old t.runs t.tiled)
+
+-- ---- where the entries of an axis end
+
+pub ending_first : {A : Type 0} (own other : A) → ending 0 own other ≡ own
+unfolding ending
+ending_first own other = refl
+
+pub ending_next : {A : Type 0} (axis : ℕ) (own other : A)
+    → ending (axis + 1) other own ≡ ending axis own other
+unfolding ending
+ending_next axis own other = grind (arith, nat_tests)
+
+pub ending_one : {A : Type 0} (axis : ℕ) (own : A) → ending axis own own ≡ own
+unfolding ending
+ending_one {A} axis own = by_test (axis % 2 == 0)
+  where
+    by_test : (b : Bool) → (if b then own else own) ≡ own
+    by_test true = refl
+    by_test false = refl
+
+pub ending_even : {A : Type 0} (axis : ℕ) (own other : A) → ¬ (axis % 2 ≡ 1) → ending axis own other ≡ own
+unfolding ending
+ending_even axis own other even = grind (arith, nat_tests)
+
+pub ending_written : {A : Type 0} (axis from part : ℕ) (own other own_part other_part : List A)
+    → ending axis (put_mid from part own own_part) (put_mid from part other other_part)
+    ≡ put_mid from part (ending axis own other) (ending axis own_part other_part)
+unfolding ending
+ending_written {A} axis from part own other own_part other_part = by_test (axis % 2 == 0)
+  where
+    by_test : (b : Bool) → (if b then put_mid from part own own_part else put_mid from part other other_part)
+        ≡ put_mid from part (if b then own else other) (if b then own_part else other_part)
+    by_test true = refl
+    by_test false = refl
+
+pub ending_long : {A : Type 0} (axis n : ℕ) (own other : List A) → length own ≡ n → length other ≡ n
+    → length (ending axis own other) ≡ n
+unfolding ending
+ending_long {A} axis n own other own_long other_long = by_test (axis % 2 == 0)
+  where
+    by_test : (b : Bool) → length (if b then own else other) ≡ n
+    by_test true = own_long
+    by_test false = other_long
+
+-- ---- room in memory
+
 -- a place of a list of elements of some size that has room in memory
 pub part_has_room : (from many size : ℕ) → from ≤ many → many * size < 2 ^ 63 → from * size < 2 ^ 63
 part_has_room from many size within room = omega (arith, mul-le-mul_left size within, room)
+
+-- a part of a list
+pub part_long : {A : Type 0} (from size n : ℕ) (xs : List A) → from + size ≤ n → length xs ≡ n
+    → length (take (from + size - from) (drop from xs)) ≡ size
+part_long from size n xs within long =
+    omega (arith, length-take (from + size - from) (drop from xs), length-drop from xs, within, long)

@@ -20,7 +20,7 @@ pub one_run_holds : {A : Type 0} (xs : List A) → joined (one_run xs) ≡ xs
 one_run_holds [] = refl
 one_run_holds (x ∷ xs) = append-nil (x ∷ xs)
 
-one_run_is : {A : Type 0} (xs : List A) → 0 < length xs → one_run xs ≡ xs ∷ []
+pub one_run_is : {A : Type 0} (xs : List A) → 0 < length xs → one_run xs ≡ xs ∷ []
 one_run_is [] some = absurd (omega (arith, some))
 one_run_is (x ∷ xs) some = refl
 
@@ -81,8 +81,8 @@ each_fair {A} most tiled P one (slab ∷ slabs) runs long each =
 abbrev IsSlabSize : ℕ → ℕ → ℕ → Type 0
 IsSlabSize most axes k = ((most + 1) / 2 ≤ k) × (axes ≡ 0 → k ≤ most)
 
-slab_sizes : (n most axes count : ℕ) → 0 < most → most < n → IsLeastRoot (suc axes) (div_ceil n most) count
-    → All (IsSlabSize most axes) (even_sizes n count)
+pub slab_sizes : (n most axes count : ℕ) → 0 < most → most < n
+    → IsLeastRoot (suc axes) (div_ceil n most) count → All (IsSlabSize most axes) (even_sizes n count)
 slab_sizes n most axes count some more root =
     let cells = div_ceil n most in
     let two = cells_two n most some more in

@@ -2,7 +2,7 @@
 -- docs/RULES.md, "Packed load"). An element is seen as an entry of a node, so these words serve entries and
 -- branches of trees alike.
 use Rattle.std.specs.Prelude.{◌≡◌, ℕ, zero, suc, ◌+◌, ◌-◌, ◌/◌, ◌%◌, ◌^◌, ◌<◌, ◌≤◌, List, [], ◌∷◌, ◌++◌}
-use Rattle.std.specs.Prelude.{length, map, replicate}
+use Rattle.std.specs.Prelude.{length, map, replicate, ◌==◌, if◌then◌else◌}
 use Rattle.std.specs.Int.{div_ceil}
 use Rattle.std.specs.List.{flat_map}
 use Rattle.tree_node.specs.Nodes.{Item}
@@ -67,6 +67,11 @@ IsTiledOn item dims most (suc left) xs runs =
 -- the runs of a list, from the first axis on
 abbrev pub IsTiled : {A : Type 0} → (A → Item) → ℕ → ℕ → List A → List (List A) → Type 0
 IsTiled item dims most xs runs = IsTiledOn item dims most dims xs runs
+
+-- Where the entries of an axis end: on an even axis in their own list, and on an odd one in the other, since
+-- each sort goes from one to the other.
+unfoldable pub ending : {A : Type 0} → ℕ → A → A → A
+ending axis own other = if axis % 2 == 0 then own else other
 
 -- a list was put into an order, and its runs from there on have the sizes that were added to these
 pub record AddsRuns {A : Type 0} (item : A → Item) (dims most axes : ℕ) (old new : List A)
