@@ -1,0 +1,45 @@
+#!/usr/bin/env bash
+# Measures what memory a load takes: prints, for each number of boxes, the bytes of memory an object that are resident at
+# most while the program loads so many uniform boxes of two axes into a file with 64 cached pages, and the processor
+# seconds of the run. What a run of one object takes is taken off.
+#
+#   bench/load.sh            1,000,000 boxes
+#   bench/load.sh BOXES..    these numbers of boxes
+set -eu
+here=$(cd "$(dirname "$0")" && pwd)
+work=$(mktemp -d)
+trap 'rm -rf "$work"' EXIT
+"$here/../rstore" </dev/null # proves and builds the program where needed
+[ $# -gt 0 ] || set -- 1000000
+
+# lines BOXES: a layer, and so many boxes to load.
+lines() {
+    awk -v boxes="$1" 'BEGIN {
+        srand(1)
+        printf "create a 2 100\nload a %d\n", boxes
+        for (id = 1; id <= boxes; id++) {
+            x = int(rand() * 1048576); y = int(rand() * 1048576)
+            printf "%d %d %d %d %d\n", id, x, y, x + int(rand() * 300), y + int(rand() * 300)
+        }
+    }'
+}
+
+# most BOXES: the kilobytes resident at most, and the processor seconds.
+most() {
+    lines "$1" >"$work/lines"
+    rm -f "$work"/store*
+    python3 - "$work/lines" "$here/../crates/rstore/out/rstore" --create --cache 64 "$work/store" <<'PYTHON'
+import resource, subprocess, sys
+with open(sys.argv[1]) as lines:
+    subprocess.run(sys.argv[2:], stdin=lines, stdout=subprocess.DEVNULL, check=True)
+used = resource.getrusage(resource.RUSAGE_CHILDREN)
+print(used.ru_maxrss, used.ru_utime + used.ru_stime)
+PYTHON
+}
+
+read -r bare _ < <(most 1)
+for boxes; do
+    read -r kilobytes seconds < <(most "$boxes")
+    awk -v n="$boxes" -v k="$kilobytes" -v b="$bare" -v s="$seconds" \
+        'BEGIN { printf "%d boxes: %.0f bytes an object, %.2f s\n", n, (k - b) * 1024 / n, s }'
+done
