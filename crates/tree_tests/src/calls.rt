@@ -10,7 +10,7 @@ use condense::{Kept, remove_with};
 use node_page::{Entry, Node, Root, write_node};
 use page_cache::PageCache;
 use page_file::Fault;
-use reinsert::{Waiting, insert_with};
+use reinsert::{Waiting, fits_in_memory, insert_with};
 use std::alloc::{Allocator, Global};
 use tree_node::Fanout;
 
@@ -63,6 +63,10 @@ pub fn insert<B: BlockDevice, A: Allocator + Copy>(
     fanout: Fanout,
     waiting: &mut Waiting<2, A>,
 ) -> Result<Root, Fault> {
+    // always so
+    if !fits_in_memory::<Waiting<2, A>>() {
+        return Err(Fault::Memory);
+    }
     let root = checked(root)?;
     cache.begin_change()?;
     insert_with(cache, root, object, 0, fanout, waiting)
@@ -77,6 +81,10 @@ pub fn take_out<B: BlockDevice, A: Allocator + Copy>(
     waiting: &mut Waiting<2, A>,
     kept: &mut Kept<2>,
 ) -> Result<Root, Fault> {
+    // always so
+    if !fits_in_memory::<Waiting<2, A>>() {
+        return Err(Fault::Memory);
+    }
     let root = checked(root)?;
     cache.begin_change()?;
     remove_with(cache, root, object, fanout, waiting, kept)
@@ -104,6 +112,10 @@ pub fn insert_tree<B: BlockDevice, A: Allocator + Copy>(
     objects: &[Entry<2>],
     fanout: Fanout,
 ) -> Result<Root, Fault> {
+    // always so
+    if !fits_in_memory::<Waiting<2, A>>() {
+        return Err(Fault::Memory);
+    }
     let mut waiting = Waiting::new(alloc);
     let root = add_tree(cache)?;
     insert_all(cache, root, objects, fanout, &mut waiting)

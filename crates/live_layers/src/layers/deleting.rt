@@ -11,11 +11,9 @@ mod delete_at;
 mod taking;
 
 use crate::layers::Layers;
-use crate::rooms::{Rooms, both_fit};
+use crate::rooms::Rooms;
 use crate::unmade::Unmade;
 use block_device::BlockDevice;
-use plain_table::Refusal;
-use reinsert::Waiting;
 use std::alloc::Allocator;
 
 impl<B: BlockDevice, A: Allocator + Copy> Layers<B, A> {
@@ -28,30 +26,15 @@ impl<B: BlockDevice, A: Allocator + Copy> Layers<B, A> {
         ensures tree { (t : Table) → IsSound self.old t → OnOk result
             (ChangesTree self.old self.new name.now (HasLost (layer_at t name.now) id)) }
     {
-        if !both_fit::<Waiting<2, A>, Waiting<3, A>>() {
-            return Err(Unmade::Refused(Refusal::Memory));
-        }
         let place = match self.named(name) {
             Ok(place) => place,
             Err(refusal) => return Err(Unmade::Refused(refusal)),
         };
         let located = self.locate(place);
         if located.dims == 2 {
-            self.delete_at::<2>(
-                place,
-                &located,
-                id,
-                &mut rooms.waiting_two,
-                &mut rooms.kept_two,
-            )
+            self.delete_at::<2>(place, &located, id, &mut rooms.kept_two)
         } else {
-            self.delete_at::<3>(
-                place,
-                &located,
-                id,
-                &mut rooms.waiting_three,
-                &mut rooms.kept_three,
-            )
+            self.delete_at::<3>(place, &located, id, &mut rooms.kept_three)
         }
     }
 }

@@ -13,11 +13,9 @@ mod checking;
 mod insert_box;
 
 use crate::layers::Layers;
-use crate::rooms::{Rooms, both_fit};
 use crate::unmade::Unmade;
 use block_device::BlockDevice;
-use plain_table::{RawBox, Refusal};
-use reinsert::Waiting;
+use plain_table::RawBox;
 use std::alloc::Allocator;
 
 impl<B: BlockDevice, A: Allocator + Copy> Layers<B, A> {
@@ -25,37 +23,18 @@ impl<B: BlockDevice, A: Allocator + Copy> Layers<B, A> {
     /// tree, and then into its identifier table.
     ///
     /// Refused, in this order, by BadName, NoLayer, WrongDims, BadBox, Duplicate and TooManyObjects.
-    pub fn insert(
-        &mut self,
-        name: &[u8],
-        id: u64,
-        bounds: RawBox,
-        tag: u32,
-        rooms: &mut Rooms<A>,
-    ) -> Result<(), Unmade>
+    pub fn insert(&mut self, name: &[u8], id: u64, bounds: RawBox, tag: u32) -> Result<(), Unmade>
         ensures change { IsChangeBy self.old self.new (Insert name.now id bounds tag) result }
         ensures tree { (t : Table) → IsSound self.old t → OnOk result (ChangesTree self.old self.new name.now
             (HasGained (layer_at t name.now) id (given_bounds bounds, tag))) }
     {
-        if !both_fit::<Waiting<2, A>, Waiting<3, A>>() {
-            return Err(Unmade::Refused(Refusal::Memory));
-        }
         let place = match self.named(name) {
             Ok(place) => place,
             Err(refusal) => return Err(Unmade::Refused(refusal)),
         };
         match bounds {
-            RawBox::Two(low, high) => self.insert_box::<2>(
-                place,
-                id,
-                low,
-                high,
-                tag,
-                &mut rooms.waiting_two,
-            ),
-            RawBox::Three(low, high) => {
-                self.insert_box::<3>(place, id, low, high, tag, &mut rooms.waiting_three)
-            }
+            RawBox::Two(low, high) => self.insert_box::<2>(place, id, low, high, tag),
+            RawBox::Three(low, high) => { self.insert_box::<3>(place, id, low, high, tag) }
         }
     }
 }

@@ -15,11 +15,10 @@ mod move_box;
 mod replacing;
 
 use crate::layers::Layers;
-use crate::rooms::{Rooms, both_fit};
+use crate::rooms::Rooms;
 use crate::unmade::Unmade;
 use block_device::BlockDevice;
-use plain_table::{RawBox, Refusal};
-use reinsert::Waiting;
+use plain_table::RawBox;
 use std::alloc::Allocator;
 
 impl<B: BlockDevice, A: Allocator + Copy> Layers<B, A> {
@@ -41,31 +40,14 @@ impl<B: BlockDevice, A: Allocator + Copy> Layers<B, A> {
         ensures same { (t : Table) → IsSound self.old t → changes t (Move name.now id bounds) ≡ false →
             KeepsPagesAndRecords self.old self.new }
     {
-        if !both_fit::<Waiting<2, A>, Waiting<3, A>>() {
-            return Err(Unmade::Refused(Refusal::Memory));
-        }
         let place = match self.named(name) {
             Ok(place) => place,
             Err(refusal) => return Err(Unmade::Refused(refusal)),
         };
         match bounds {
-            RawBox::Two(low, high) => self.move_box::<2>(
-                place,
-                id,
-                low,
-                high,
-                &mut rooms.waiting_two,
-                &mut rooms.kept_two,
-            ),
+            RawBox::Two(low, high) => self.move_box::<2>(place, id, low, high, &mut rooms.kept_two),
             RawBox::Three(low, high) => {
-                self.move_box::<3>(
-                    place,
-                    id,
-                    low,
-                    high,
-                    &mut rooms.waiting_three,
-                    &mut rooms.kept_three,
-                )
+                self.move_box::<3>(place, id, low, high, &mut rooms.kept_three)
             }
         }
     }

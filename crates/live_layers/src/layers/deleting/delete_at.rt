@@ -19,7 +19,6 @@ use block_device::BlockDevice;
 use condense::Kept;
 use layer_pages::ObjectAt;
 use node_page::Entry;
-use reinsert::Waiting;
 use std::alloc::Allocator;
 
 impl<B: BlockDevice, A: Allocator + Copy> Layers<B, A> {
@@ -29,7 +28,6 @@ impl<B: BlockDevice, A: Allocator + Copy> Layers<B, A> {
         place: usize,
         located: &Located,
         id: u64,
-        waiting_room: &mut Room<Waiting<D, A>, A>,
         kept_room: &mut Room<Kept<D>, A>,
     ) -> Result<(), Unmade>
         requires dims { IsDims D }
@@ -54,6 +52,6 @@ impl<B: BlockDevice, A: Allocator + Copy> Layers<B, A> {
             },
             spot,
         };
-        change_of(self.take_object(place, &object, waiting_room, kept_room))
+        change_of(self.take_object(place, &object, kept_room))
     }
 }

@@ -14,21 +14,21 @@ ghost use Rattle.live_layers.specs.Rules.{HasLost};
 
 use crate::broken::Broken;
 use crate::layers::Layers;
-use crate::rooms::{Room, take_kept, take_waiting};
+use crate::rooms::{Room, take_kept};
 use block_device::BlockDevice;
 use condense::Kept;
 use layer_pages::{Layer, ObjectAt, remove};
-use reinsert::Waiting;
+use page_file::Fault;
+use reinsert::{Waiting, fits_in_memory};
 use std::alloc::Allocator;
 
 impl<B: BlockDevice, A: Allocator + Copy> Layers<B, A> {
     // Takes out an object that the layer at a place has with that box and that tag, at that spot. The memory
-    // of what is inserted again, and of what waits in that, is taken before the gate is opened.
+    // of what is inserted again is taken before the gate is opened.
     pub(crate) fn take_object<const D: usize>(
         &mut self,
         place: usize,
         object: &ObjectAt<D>,
-        waiting_room: &mut Room<Waiting<D, A>, A>,
         kept_room: &mut Room<Kept<D>, A>,
     ) -> Result<(), Broken>
         requires dims { IsDims D }
@@ -48,7 +48,11 @@ impl<B: BlockDevice, A: Allocator + Copy> Layers<B, A> {
             IfErr result (λ b. IsOfDevice b.cause) }
         ensures begins { BeginsChange self.old self.new (version_of (cache_of self.old)) result }
     {
-        let mut waiting = take_waiting(waiting_room, self.alloc)?;
+        // always so, and known when this is compiled
+        if !fits_in_memory::<Waiting<D, A>>() {
+            return Err(Broken::from(Fault::Memory));
+        }
+        let mut waiting = Waiting::new(self.alloc);
         let mut kept = take_kept(kept_room, self.alloc)?;
         self.begin()?;
         let located = self.locate(place);
@@ -64,7 +68,6 @@ impl<B: BlockDevice, A: Allocator + Copy> Layers<B, A> {
         let count = self.count_at(place).saturating_sub(1);
         self.note(place, root, count);
         self.object_count = self.object_count.saturating_sub(1);
-        *waiting_room = Some(waiting);
         *kept_room = Some(kept);
         Ok(())
     }

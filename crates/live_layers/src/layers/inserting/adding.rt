@@ -14,20 +14,18 @@ ghost use Rattle.live_layers.specs.Rules.{HasGained};
 
 use crate::broken::Broken;
 use crate::layers::Layers;
-use crate::rooms::{Room, take_waiting};
 use block_device::BlockDevice;
 use layer_pages::{Layer, ObjectAt, insert};
-use reinsert::Waiting;
+use page_file::Fault;
+use reinsert::{Waiting, fits_in_memory};
 use std::alloc::Allocator;
 
 impl<B: BlockDevice, A: Allocator + Copy> Layers<B, A> {
-    // Adds an object that the layer at a place does not have, at that spot. The memory of what waits in the
-    // insertion is taken before the gate is opened.
+    // Adds an object that the layer at a place does not have, at that spot.
     pub(crate) fn add_object<const D: usize>(
         &mut self,
         place: usize,
         object: &ObjectAt<D>,
-        waiting_room: &mut Room<Waiting<D, A>, A>,
     ) -> Result<(), Broken>
         requires dims { IsDims D }
         requires within { place < length (records_in self.old) }
@@ -49,7 +47,11 @@ impl<B: BlockDevice, A: Allocator + Copy> Layers<B, A> {
             IfErr result (λ b. IsOfDevice b.cause) }
         ensures begins { BeginsChange self.old self.new (version_of (cache_of self.old)) result }
     {
-        let mut waiting = take_waiting(waiting_room, self.alloc)?;
+        // always so, and known when this is compiled
+        if !fits_in_memory::<Waiting<D, A>>() {
+            return Err(Broken::from(Fault::Memory));
+        }
+        let mut waiting = Waiting::new(self.alloc);
         self.begin()?;
         let located = self.locate(place);
         let layer = Layer {
@@ -64,7 +66,6 @@ impl<B: BlockDevice, A: Allocator + Copy> Layers<B, A> {
         let count = self.count_at(place).saturating_add(1);
         self.note(place, root, count);
         self.object_count += 1;
-        *waiting_room = Some(waiting);
         Ok(())
     }
 }

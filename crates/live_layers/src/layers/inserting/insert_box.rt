@@ -14,12 +14,10 @@ ghost use Rattle.live_layers.specs.Rules.{HasGained};
 
 use crate::faults::change_of;
 use crate::layers::Layers;
-use crate::rooms::Room;
 use crate::unmade::Unmade;
 use block_device::BlockDevice;
 use layer_pages::ObjectAt;
 use node_page::Entry;
-use reinsert::Waiting;
 use std::alloc::Allocator;
 
 impl<B: BlockDevice, A: Allocator + Copy> Layers<B, A> {
@@ -31,7 +29,6 @@ impl<B: BlockDevice, A: Allocator + Copy> Layers<B, A> {
         low: [i32; D],
         high: [i32; D],
         tag: u32,
-        waiting_room: &mut Room<Waiting<D, A>, A>,
     ) -> Result<(), Unmade>
         requires dims { IsDims D }
         requires within { place < length (records_in self.old) }
@@ -57,6 +54,6 @@ impl<B: BlockDevice, A: Allocator + Copy> Layers<B, A> {
             },
             spot,
         };
-        change_of(self.add_object(place, &object, waiting_room))
+        change_of(self.add_object(place, &object))
     }
 }

@@ -22,7 +22,6 @@ use block_device::BlockDevice;
 use condense::Kept;
 use layer_pages::ObjectAt;
 use node_page::Entry;
-use reinsert::Waiting;
 use std::alloc::Allocator;
 
 impl<B: BlockDevice, A: Allocator + Copy> Layers<B, A> {
@@ -33,7 +32,6 @@ impl<B: BlockDevice, A: Allocator + Copy> Layers<B, A> {
         id: u64,
         low: [i32; D],
         high: [i32; D],
-        waiting_room: &mut Room<Waiting<D, A>, A>,
         kept_room: &mut Room<Kept<D>, A>,
     ) -> Result<(), Unmade>
         requires dims { IsDims D }
@@ -67,6 +65,6 @@ impl<B: BlockDevice, A: Allocator + Copy> Layers<B, A> {
             },
             spot,
         };
-        change_of(self.replace_box(place, &object, &bounds, waiting_room, kept_room))
+        change_of(self.replace_box(place, &object, &bounds, kept_room))
     }
 }

@@ -14,23 +14,23 @@ ghost use Rattle.live_layers.specs.Rules.{HasMoved};
 
 use crate::broken::Broken;
 use crate::layers::Layers;
-use crate::rooms::{Room, take_kept, take_waiting};
+use crate::rooms::{Room, take_kept};
 use block_device::BlockDevice;
 use box_math::BBox;
 use condense::Kept;
 use layer_pages::{Layer, ObjectAt, replace};
-use reinsert::Waiting;
+use page_file::Fault;
+use reinsert::{Waiting, fits_in_memory};
 use std::alloc::Allocator;
 
 impl<B: BlockDevice, A: Allocator + Copy> Layers<B, A> {
     // Gives an object, which the layer at a place has with that box and that tag, at that spot, another box.
-    // The memory of what is inserted again, and of what waits in that, is taken before the gate is opened.
+    // The memory of what is inserted again is taken before the gate is opened.
     pub(crate) fn replace_box<const D: usize>(
         &mut self,
         place: usize,
         object: &ObjectAt<D>,
         bounds: &BBox<D>,
-        waiting_room: &mut Room<Waiting<D, A>, A>,
         kept_room: &mut Room<Kept<D>, A>,
     ) -> Result<(), Broken>
         requires dims { IsDims D }
@@ -52,7 +52,11 @@ impl<B: BlockDevice, A: Allocator + Copy> Layers<B, A> {
             IfErr result (λ b. IsOfDevice b.cause) }
         ensures begins { BeginsChange self.old self.new (version_of (cache_of self.old)) result }
     {
-        let mut waiting = take_waiting(waiting_room, self.alloc)?;
+        // always so, and known when this is compiled
+        if !fits_in_memory::<Waiting<D, A>>() {
+            return Err(Broken::from(Fault::Memory));
+        }
+        let mut waiting = Waiting::new(self.alloc);
         let mut kept = take_kept(kept_room, self.alloc)?;
         self.begin()?;
         let located = self.locate(place);
@@ -74,7 +78,6 @@ impl<B: BlockDevice, A: Allocator + Copy> Layers<B, A> {
         };
         let count = self.count_at(place);
         self.note(place, root, count);
-        *waiting_room = Some(waiting);
         *kept_room = Some(kept);
         Ok(())
     }

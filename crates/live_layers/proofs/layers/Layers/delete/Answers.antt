@@ -1,16 +1,10 @@
 -- The layer is found or not, and the object is deleted from it.
-use Rattle.std.proofs.Common.{inl, inr, refl}
+use Rattle.std.proofs.Common.{inl}
 use Rattle.plain_table.specs.Commands.Command.{Delete}
 use Rattle.plain_table.specs.Step.{missing_refusals}
 use Rattle.plain_table.specs.Table.{layer_at}
 use Rattle.live_layers.proofs.ChangeLemmas.{refused_by}
-use Rattle.plain_table.specs.declared.refusal.Refusal.TheVariants as refusal
 use Rattle.live_layers.proofs.layers.Layers.delete.Goals as goal
-
-pub returns-then-not-both_fit-clause-change : goal.returns-then-not-both_fit-clause-change
-returns-then-not-both_fit-clause-change g c =
-    refused_by c.args.self.now (Delete c.args.name.now c.args.id)
-    refusal.Memory g.met.B.BlockDevice.only_now refl (λ t sound. inr tt)
 
 pub returns-in-Err-clause-change : goal.returns-in-Err-clause-change
 returns-in-Err-clause-change g c =

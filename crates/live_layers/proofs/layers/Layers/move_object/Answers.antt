@@ -1,17 +1,11 @@
 -- The layer is found or not, and an object of it gets the box of either dimension.
-use Rattle.std.proofs.Common.{ap, inl, inr, refl}
+use Rattle.std.proofs.Common.{ap, inl}
 use Rattle.plain_table.specs.Boxes.{dims_of, given_bounds}
 use Rattle.plain_table.specs.Commands.Command.{Move}
 use Rattle.plain_table.specs.Step.{box_refusals, missing_refusals}
 use Rattle.plain_table.specs.Table.{layer_at}
 use Rattle.live_layers.proofs.ChangeLemmas.{refused_by}
-use Rattle.plain_table.specs.declared.refusal.Refusal.TheVariants as refusal
 use Rattle.live_layers.proofs.layers.Layers.move_object.Goals as goal
-
-pub returns-then-not-both_fit-clause-change : goal.returns-then-not-both_fit-clause-change
-returns-then-not-both_fit-clause-change g c =
-    refused_by c.args.self.now (Move c.args.name.now c.args.id c.args.bounds)
-    refusal.Memory g.met.B.BlockDevice.only_now refl (λ t sound. inr tt)
 
 pub returns-in-Err-clause-change : goal.returns-in-Err-clause-change
 returns-in-Err-clause-change g c =

@@ -5,6 +5,7 @@ use Rattle.plain_table.specs.Table.{layer_at}
 use Rattle.condense.specs.Removed.{most_removal_pages}
 use Rattle.page_file.specs.Fault.{IsOfDevice}
 use Rattle.live_layers.specs.declared.broken.Broken.{Broken}
+use Rattle.page_file.specs.declared.fault.Fault.TheVariants as fault
 use Rattle.live_layers.proofs.CountLemmas.{no_page_wanted}
 use Rattle.live_layers.specs.Rules.{HasLost}
 use Rattle.live_layers.proofs.AddLemmas.{stands_at}
@@ -15,15 +16,15 @@ use Rattle.live_layers.proofs.SpotLemmas.{spot_begun}
 use Rattle.live_layers.proofs.TakeLemmas.{sound_taken, tree_taken}
 use Rattle.live_layers.proofs.layers.Layers.take_object.Goals as goal
 
-pub returns-in_err-waiting-clause-begins : goal.returns-in_err-waiting-clause-begins
-returns-in_err-waiting-clause-begins g c =
-    no_memory c.args.self.now c.in_err-waiting.field-0.0 c.from_residual.result c.from_residual.ensures.1
-    c.in_err-waiting.ensures g.met.B.BlockDevice.only_now
+pub returns-then-not-fits_in_memory-clause-begins : goal.returns-then-not-fits_in_memory-clause-begins
+returns-then-not-fits_in_memory-clause-begins g c =
+    no_memory c.args.self.now fault.Memory (Err c.from.result) c.from.ensures refl
+    g.met.B.BlockDevice.only_now
 
 pub returns-in_err-kept-clause-begins : goal.returns-in_err-kept-clause-begins
 returns-in_err-kept-clause-begins g c =
-    no_memory c.args.self.now c.in_err-kept.field-0.0 c.from_residual-in_err-kept.result
-    c.from_residual-in_err-kept.ensures.1 c.in_err-kept.ensures g.met.B.BlockDevice.only_now
+    no_memory c.args.self.now c.in_err-kept.field-0.0 c.from_residual.result
+    c.from_residual.ensures.1 c.in_err-kept.ensures g.met.B.BlockDevice.only_now
 
 pub returns-in_err-begin-clause-begins : goal.returns-in_err-begin-clause-begins
 returns-in_err-begin-clause-begins g c =
@@ -100,15 +101,15 @@ returns-clause-begins g c =
     made_behind c.args.self.now c.begin.new.self _ c.remove.new.cache c.note.ensures.cache
     c.in_ok-begin.ensures.begins c.begin.ensures.keeps c.in-Ok.ensures.changes c.note.ensures.newest
 
-pub returns-in_err-waiting-clause-faults : goal.returns-in_err-waiting-clause-faults
-returns-in_err-waiting-clause-faults g c =
-    λ t name sound finds dims has spot. the_err c.from_residual.result _ _ c.from_residual.ensures.1
-    (inl c.in_err-waiting.ensures)
+pub returns-then-not-fits_in_memory-clause-faults : goal.returns-then-not-fits_in_memory-clause-faults
+returns-then-not-fits_in_memory-clause-faults g c =
+    λ t name sound finds dims has spot. subst (λ (b : Broken). IsOfDevice b.cause) (sym c.from.ensures)
+    (inl refl)
 
 pub returns-in_err-kept-clause-faults : goal.returns-in_err-kept-clause-faults
 returns-in_err-kept-clause-faults g c =
-    λ t name sound finds dims has spot. the_err c.from_residual-in_err-kept.result _ _
-    c.from_residual-in_err-kept.ensures.1 (inl c.in_err-kept.ensures)
+    λ t name sound finds dims has spot. the_err c.from_residual.result _ _
+    c.from_residual.ensures.1 (inl c.in_err-kept.ensures)
 
 pub returns-in_err-begin-clause-faults : goal.returns-in_err-begin-clause-faults
 returns-in_err-begin-clause-faults g c =
