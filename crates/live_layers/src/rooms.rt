@@ -1,4 +1,4 @@
-//! Memory that changes of trees work in, kept from one change to the next.
+//! Memory that removals from trees work in, kept from one change to the next.
 
 ghost use Rattle.std.specs.Prelude.{◌≡◌, IfErr};
 ghost use Rattle.box_math.specs.Bounds.{IsDims};
@@ -11,7 +11,7 @@ use std::alloc::Allocator;
 // Memory for one of these, where it was taken and is not in use.
 pub(crate) type Room<T, A> = Option<Box<T, A>>;
 
-/// The memory that changes of trees work in, by the axes of their boxes. The first change that wants it takes
+/// The memory that removals from trees work in, by the axes of their boxes. The first one that wants it takes
 /// it, and the next ones work in it; nothing of a change is left in it.
 #[derive(Drop)]
 pub struct Rooms<A: Allocator> {
