@@ -3,7 +3,7 @@ use Rattle.std.proofs.Common.{◌≡◌, ℕ, zero, suc, ◌+◌, ◌*◌, ◌^�
 use Rattle.tree_node.specs.Nodes.{Item}
 use Rattle.tree_node.specs.Rows.{row_of}
 use Rattle.tree_node.specs.Trees.{object, end}
-use Rattle.bulk_load.specs.Keyed.{place_told}
+use Rattle.bulk_load.specs.Hints.{centre_told, place_told, retold}
 use Rattle.bulk_load.specs.Packed.{IsPacked, objects_of, root}
 use Rattle.bulk_load.specs.Sorting.{before, order_on, sorted_on}
 use Rattle.bulk_load.specs.Tiling.{IsLeastRoot, IsTiled, ending, even_sizes, joined, one_run, size_of_one}
@@ -52,6 +52,15 @@ by_position = refl
 some_places_told : (place_told 3 (9 * 2 ^ 31 + 2) ≡ 2) × (place_told (2 ^ 31 + 1) (2 ^ 31) ≡ 2 ^ 31)
 unfolding place_told
 some_places_told = (refl, refl)
+
+-- and above it the centre, or nothing
+some_centres_told : (centre_told 3 (9 * 2 ^ 31 + 2) ≡ 9) × (centre_told (2 ^ 31 + 1) (2 ^ 31) ≡ 0)
+unfolding centre_told
+some_centres_told = (refl, refl)
+
+-- a hint that tells another number
+one_retold : retold 7 (9 * 2 ^ 31 + 2) ≡ 7 * 2 ^ 31 + 2
+one_retold = refl
 
 -- ---- runs
 

@@ -1,6 +1,7 @@
 -- The files of lemmas.
 pub mod SortLemmas
 pub mod HintLemmas
+pub mod TieLemmas
 pub mod CutLemmas
 pub mod TilingLemmas
 pub mod SlabLemmas

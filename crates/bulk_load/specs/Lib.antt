@@ -1,6 +1,6 @@
 -- The files of definitions.
 pub mod Sorting
-pub mod Keyed
+pub mod Hints
 pub mod Tiling
 pub mod TilingLaws
 pub mod Packed

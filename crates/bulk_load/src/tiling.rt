@@ -1,7 +1,7 @@
 //! Entries put into the order of the nodes of a packed tree.
 
 ghost use Rattle.std.specs.Prelude.{◌≡◌, ◌↔◌, ℕ, ◌-◌, ◌^◌, ◌<◌, ◌≤◌, IfErr, IfOk, IsPermutation, IsTrue};
-ghost use Rattle.std.specs.Prelude.{OnOk, ◌+◌, ◌*◌, ◌++◌, length, slice_index, vec_capacity, vec_len};
+ghost use Rattle.std.specs.Prelude.{OnErr, OnOk, ◌+◌, ◌*◌, ◌++◌, length, slice_index, vec_capacity, vec_len};
 ghost use Rattle.box_math.specs.Bounds.{IsDims};
 ghost use Rattle.page_file.specs.declared.fault.Fault.TheVariants as fault;
 ghost use Rattle.tree_node.specs.Nodes.{item_of};
@@ -17,7 +17,7 @@ use tree_node::Fanout;
 /// answers how many each node takes: one number for a list of one node, none for no entries. Entries of one
 /// centre and one reference go by position, so there is one such order (docs/RULES.md, "Packed load").
 ///
-/// All memory is taken at the start. A refusal is `Memory`, and leaves the entries in some order.
+/// All memory is taken at the start: a refusal is `Memory`, and leaves the entries as they were.
 pub fn tile<const D: usize, A: Allocator + Copy>(
     alloc: A,
     entries: &mut [Entry<D>],
@@ -28,6 +28,7 @@ pub fn tile<const D: usize, A: Allocator + Copy>(
         sizes.items) }
     ensures all { IsPermutation entries.old entries.new }
     ensures memory { IfErr result (λ f. f ≡ fault.Memory) }
+    ensures refused { OnErr result (entries.new ≡ entries.old) }
 {
     let count = entries.len();
     if count <= fanout.entries() {
