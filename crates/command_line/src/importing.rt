@@ -117,10 +117,10 @@ pub(crate) fn import_asked<
                 layer: task.layer,
                 dims: batch.dims,
                 fanout: task.fanout,
-                objects: batch.objects.as_slice(),
+                objects: batch.objects,
             };
             import_path(
-                alloc, path, options, &import, open_at, end_at, errors, progress,
+                alloc, path, options, import, open_at, end_at, errors, progress,
             )
         }
         Err(error) => tell_error(&error, input, errors),
@@ -331,7 +331,7 @@ fn import_path<
     alloc: Global,
     path: &str,
     options: &Options<'_>,
-    import: &Import<'_>,
+    import: Import<'_, Global>,
     open_at: O,
     end_at: K,
     errors: &mut E,
@@ -341,7 +341,7 @@ fn import_path<
     requires ends { K.IsAlwaysCallable end_at }
     ensures status { result ≤ 1 }
     ensures quiet { result ≡ 0 → Keeps (E.contents errors.old) (E.contents errors.new) }
-    ensures imported { (said : _) → IsTargetOf said import.now.layer.now import.now.fanout →
+    ensures imported { (said : _) → IsTargetOf said import.entry.layer.now import.entry.fanout →
         ((e : OpenError) × O.post open_at path.entry options.now.create (Err e) × (result ≡ 1))
         ⊎ ((device : D) × (left : Served D) × O.post open_at path.entry options.now.create (Ok device)
         × (left.status ≡ result) × IntoLayerOf D.BlockDevice
@@ -366,7 +366,7 @@ fn import_device<D: BlockDevice, E: Write, P: PutProgress>(
     alloc: Global,
     device: D,
     options: &Options<'_>,
-    import: &Import<'_>,
+    import: Import<'_, Global>,
     errors: &mut E,
     progress: &mut P,
 ) -> Served<D>
@@ -374,7 +374,7 @@ fn import_device<D: BlockDevice, E: Write, P: PutProgress>(
     ensures quiet { result.status ≡ 0 → Keeps (E.contents errors.old) (E.contents errors.new) }
     ensures imported { HasImportedOn D.BlockDevice
         (HasStarted Global D.BlockDevice options.now.limits.newest) options.now.create
-        import.now.layer.now import.now.fanout device result }
+        import.entry.layer.now import.entry.fanout device result }
 {
     let limits = options.limits;
     if !options.create {
@@ -391,14 +391,14 @@ fn import_device<D: BlockDevice, E: Write, P: PutProgress>(
 // Imports into a store, or says why there is none.
 fn import_store<D: BlockDevice, E: Write, P: PutProgress>(
     store: Result<Store<D, Global>, (Refusal, D)>,
-    import: &Import<'_>,
+    import: Import<'_, Global>,
     errors: &mut E,
     progress: &mut P,
 ) -> Served<D>
     ensures status { result.status ≤ 1 }
     ensures quiet { result.status ≡ 0 → Keeps (E.contents errors.old) (E.contents errors.new) }
     ensures imported { (t : Table) (moment : _) → IfOk store (λ it. BeginsWith it moment t →
-        PutsInto D.BlockDevice moment t import.now.layer.now import.now.fanout (device_in it) result) }
+        PutsInto D.BlockDevice moment t import.entry.layer.now import.entry.fanout (device_in it) result) }
     ensures refused { IfErr store (λ e. (result.status ≡ 1) × (result.device ≡ e.1)) }
 {
     match store {

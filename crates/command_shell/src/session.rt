@@ -300,8 +300,8 @@ fn load<D: BlockDevice, A: Allocator + Copy, R: CountedRead, W: Write>(
     let count = gathered.announced;
     match gather(&mut gathered, count, lines, input, output) {
         Gathering::Full(ended) => {
-            let written = give(&load_reply(store, &gathered), output);
             let front = front.with_bad_entry(gathered.bad_entry);
+            let written = give(&load_reply(store, gathered), output);
             step_of(written, front, count.saturating_add(1), ended)
         }
         Gathering::Short => {
@@ -315,9 +315,9 @@ fn load<D: BlockDevice, A: Allocator + Copy, R: CountedRead, W: Write>(
 // The reply to a load of what was gathered.
 fn load_reply<D: BlockDevice, A: Allocator + Copy>(
     store: &mut Store<D, A>,
-    gathered: &Gathered<A>,
+    gathered: Gathered<A>,
 ) -> Reply<A>
-    ensures { (layer : List ℕ) (entries : List (List ℕ)) → IsGathered gathered.now layer entries →
+    ensures { (layer : List ℕ) (entries : List (List ℕ)) → IsGathered gathered layer entries →
         IsAsked store.old (load_request layer (objects_in entries)) (reply_answer result) store.new }
 {
     if gathered.bad_entry.is_some() {
@@ -326,7 +326,8 @@ fn load_reply<D: BlockDevice, A: Allocator + Copy>(
     if !gathered.room {
         return Reply::Refused(store.out_of_memory());
     }
-    change_reply(store.load(gathered.layer.as_slice(), gathered.objects.as_slice()))
+    let objects = gathered.objects;
+    change_reply(store.load_owned(gathered.layer.as_slice(), objects))
 }
 
 // The reply to a bad line.
@@ -367,7 +368,7 @@ fn last_load_reply<D: BlockDevice, A: Allocator + Copy>(
         return bad_reply();
     }
     let gathered = Gathered::new(store.alloc(), layer, count);
-    load_reply(store, &gathered)
+    load_reply(store, gathered)
 }
 
 // The step that an answer to so many lines is, of which the first begins so. The text may have ended after

@@ -13,8 +13,8 @@ use layer_store::{RawBox, Refusal, Store};
 use std::alloc::Allocator;
 
 /// Objects for a layer.
-#[derive(Clone, Copy, Debug)]
-pub struct Import<'a> {
+#[derive(Drop)]
+pub struct Import<'a, A: Allocator> {
     /// The layer's name.
     pub layer: &'a [u8],
     /// How many axes the layer has where it is made, 2 or 3.
@@ -22,7 +22,7 @@ pub struct Import<'a> {
     /// Its fanout where it is made, 4 to 100.
     pub fanout: u64,
     /// The objects: identifiers, boxes and tags.
-    pub objects: &'a [(u64, RawBox, u32)],
+    pub objects: Vec<(u64, RawBox, u32), A>,
 }
 
 /// Why objects were not imported.
@@ -80,16 +80,17 @@ pub struct Imported<D: BlockDevice> {
 /// its insertion. `progress` is told how many objects were put in.
 pub fn import_and_close<D: BlockDevice, A: Allocator + Copy, P: PutProgress>(
     store: Store<D, A>,
-    import: &Import<'_>,
+    import: Import<'_, A>,
     progress: &mut P,
 ) -> Imported<D>
     ensures imported { (s : SessionState) (t : Table) (moment : _) → Represents store s → s.state ≡ Alive t →
         s.stops ≡ closed_since moment t →
         HasImported D.BlockDevice moment t
-        (import_commands t import.now.layer.now import.now.dims import.now.fanout import.now.objects.now)
+        (import_commands t import.entry.layer.now import.entry.dims import.entry.fanout
+        import.entry.objects.items)
         (is_ok result.outcome) (device_in store) result.device }
-    ensures why { IfErr result.outcome (IsUnimported store import.now.layer.now import.now.dims
-        import.now.fanout import.now.objects.now) }
+    ensures why { IfErr result.outcome (IsUnimported store import.entry.layer.now import.entry.dims
+        import.entry.fanout import.entry.objects.items) }
 {
     let mut store = store;
     if let Err(why) = put_all(&mut store, import, progress) {
@@ -113,11 +114,11 @@ pub fn import_and_close<D: BlockDevice, A: Allocator + Copy, P: PutProgress>(
 // Puts objects into a layer of a store, and tells how far it is.
 fn put_all<D: BlockDevice, A: Allocator + Copy, P: PutProgress>(
     store: &mut Store<D, A>,
-    import: &Import<'_>,
+    import: Import<'_, A>,
     progress: &mut P,
 ) -> Result<(), Unimported>
-    ensures { Puts (Calls store.old store.new) import.now.layer.now import.now.dims import.now.fanout
-        import.now.objects.now result }
+    ensures { Puts (Calls store.old store.new) import.entry.layer.now import.entry.dims import.entry.fanout
+        import.entry.objects.items result }
 {
     progress.begin(import.objects.len());
     let outcome = put(store, import, progress);
@@ -128,32 +129,27 @@ fn put_all<D: BlockDevice, A: Allocator + Copy, P: PutProgress>(
 // Puts objects into a layer of a store, which is made where it is not there.
 fn put<D: BlockDevice, A: Allocator + Copy, P: PutProgress>(
     store: &mut Store<D, A>,
-    import: &Import<'_>,
+    import: Import<'_, A>,
     progress: &mut P,
 ) -> Result<(), Unimported>
-    ensures { Puts (Calls store.old store.new) import.now.layer.now import.now.dims import.now.fanout
-        import.now.objects.now result }
+    ensures { Puts (Calls store.old store.new) import.entry.layer.now import.entry.dims import.entry.fanout
+        import.entry.objects.items result }
 {
+    let objects = import.objects;
     match store.count(import.layer) {
         Ok(count) => {
             if count > 0 {
-                return insert_each(store, import.layer, import.objects, progress);
+                return insert_each(store, import.layer, objects.as_slice(), progress);
             }
-            told(
-                store.load(import.layer, import.objects),
-                import.objects.len(),
-                progress,
-            )
+            let all = objects.len();
+            told(store.load_owned(import.layer, objects), all, progress)
         }
         Err(Refusal::NoLayer) => {
             if let Err(refusal) = store.create(import.layer, import.dims, import.fanout) {
                 return Err(Unimported::from(refusal));
             }
-            told(
-                store.load(import.layer, import.objects),
-                import.objects.len(),
-                progress,
-            )
+            let all = objects.len();
+            told(store.load_owned(import.layer, objects), all, progress)
         }
         Err(refusal) => Err(Unimported::from(refusal)),
     }

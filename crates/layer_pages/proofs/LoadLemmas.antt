@@ -1,20 +1,25 @@
 -- All objects of a layer at once: a packed tree beside the old one, and then the table.
-use Rattle.std.proofs.Common.{◌≡◌, ◌∙◌, ℕ, ◌^◌, ◌<◌, ◌≤◌, List, [], ◌∷◌, ◌++◌, map as each, All, IsSome, refl}
-use Rattle.std.proofs.Common.{sym, ap, subst, arith}
+use Rattle.std.proofs.Common.{◌≡◌, ◌∙◌, ℕ, zero, suc, ◌^◌, ◌<◌, ◌≤◌, List, [], ◌∷◌, ◌++◌, map as each, length}
+use Rattle.std.proofs.Common.{All, IsSome, refl, sym, ap, subst, arith}
 use Rattle.std.specs.Prelude.{IsPermutation}
 use Rattle.std.specs.FinMap as map
 use Rattle.std.specs.FinMap.{entries}
+use Rattle.std.proofs.lemmas.List.{length-map}
 use Rattle.std.proofs.lemmas.List.Elements.{All-map}
-use Rattle.std.proofs.lemmas.List.Sorted.{All-permutation, IsPermutation-sym, IsPermutation-trans}
+use Rattle.std.proofs.lemmas.List.Sorted.{All-permutation, IsPermutation-map, IsPermutation-sym}
+use Rattle.std.proofs.lemmas.List.Sorted.{IsPermutation-trans}
 use Rattle.box_math.specs.Bounds.{IsBox}
 use Rattle.box_math.specs.Objects.{bounds_of}
 use Rattle.bucket_page.specs.Layout.{Entry}
 use Rattle.page_cache.specs.Cache.{next_of, pages}
 use Rattle.page_cache.specs.Laws.{a_live_page_was_given_out, the_catalog_is_live}
 use Rattle.page_cache.specs.declared.cache.PageCache.{PageCache}
-use Rattle.tree_node.specs.Nodes.{Item}
+use Rattle.tree_node.specs.Boxes.{box_at}
+use Rattle.tree_node.specs.Nodes.{Item, item_of, items_of}
 use Rattle.tree_node.specs.Trees.{objects_in, occurs_in}
+use Rattle.tree_node.specs.declared.node.Entry.{Entry as Leaf}
 use Rattle.tree_node.specs.declared.node.Root.{Root}
+use Rattle.node_page.specs.Checked.{pairs_of}
 use Rattle.node_page.specs.Parts.{Moves, both, no_page}
 use Rattle.node_page.specs.Standing.{PageMap, Stands}
 use Rattle.node_page.proofs.ChangeLemmas.{trees_beside_stand}
@@ -27,13 +32,49 @@ use Rattle.id_table.specs.Table.{kind_of, objects_of, part_of}
 use Rattle.id_table.proofs.TableLemmas.{ids_beside}
 use Rattle.bulk_load.specs.Loads.{Loads}
 use Rattle.reinsert.proofs.LevelLemmas.{shape_bounds_level}
-use Rattle.layer_pages.specs.Changes.{BecomesLayer, BecomesTable, HasPacked, item_of_object}
+use Rattle.layer_pages.specs.Changes.{BecomesLayer, BecomesTable, HasPacked, item_of_object, pairs_in}
 use Rattle.layer_pages.specs.Laws.{NewObjectsAreEntries}
 use Rattle.layer_pages.specs.Layers.{CanBeRoot, IsLayerAt, LayerPages, Objects, part_of_layer}
 use Rattle.tree_node.proofs.RowLemmas.{occurs_here}
 use Rattle.layer_pages.proofs.LayerLemmas.{both_change, layers_beside, made_apart}
 use Rattle.layer_pages.proofs.LayerLemmas.{pages_of_a_layer}
 use Rattle.layer_pages.proofs.ObjectLemmas.{all_are_new, entries_of_all, no_entries, row_boxes}
+
+-- ---- objects and entries of leaves
+
+abbrev object_of : Item → Entry
+object_of item = (item.reference, (item.bounds, item.tag))
+
+pub as_items : (items : List Item) → each item_of_object (pairs_of items) ≡ items
+as_items [] = refl
+as_items (item ∷ items) = ap (λ (is : List Item). item ∷ is) (as_items items)
+
+pub listed_more : {D : ℕ} (front : List (Leaf D)) (entry : Leaf D)
+    → pairs_in (front ++ entry ∷ []) ≡ pairs_in front ++ (entry.reference, (entry.bounds, entry.tag)) ∷ []
+listed_more [] entry = refl
+listed_more {D} (e ∷ front) entry =
+    ap (λ (os : List Entry). (e.reference, (e.bounds, e.tag)) ∷ os) (listed_more front entry)
+
+pub as_many_listed : {D : ℕ} (entries : List (Leaf D)) → length (pairs_in entries) ≡ length entries
+as_many_listed entries = length-map (items_of entries) object_of ∙ length-map entries item_of
+
+pub all_boxes : (dims : ℕ) (items : List Item) → ((i : ℕ) → i < length items → IsBox dims (box_at items i))
+    → All (λ (item : Item). IsBox dims item.bounds) items
+all_boxes dims [] boxes k d within = absurd (omega (arith, within))
+all_boxes dims (item ∷ items) boxes zero d within = boxes 0 (omega arith)
+all_boxes dims (item ∷ items) boxes (suc k) d within =
+    all_boxes dims items (λ i below. boxes (suc i) (omega (arith, below))) k d (omega (arith, within))
+
+-- entries in another order have the same objects
+pub listed_again : {D : ℕ} (old new : List (Leaf D)) (listed : List Entry) (all : Objects)
+    → IsPermutation old new → listed ≡ pairs_in new → IsPermutation (pairs_in old) (entries all)
+    → IsPermutation listed (entries all)
+listed_again old new listed all moved is same =
+    subst (λ (os : List Entry). IsPermutation os (entries all)) (sym is)
+    (IsPermutation-trans (pairs_in new) (pairs_in old) (entries all)
+    (IsPermutation-sym (pairs_in old) (pairs_in new)
+    (IsPermutation-map object_of (items_of old) (items_of new) (IsPermutation-map item_of old new moved)))
+    same)
 
 -- ---- the table
 
@@ -82,9 +123,6 @@ module _ (dims most : ℕ) (old : PageMap) (root : Root) (ids_root : ℕ) (l : L
     }
 
 -- ---- the tree, and the whole layer
-
-abbrev object_of : Item → Entry
-object_of item = (item.reference, (item.bounds, item.tag))
 
 as_they_were : (objects : List Entry) → each object_of (each item_of_object objects) ≡ objects
 as_they_were [] = refl

@@ -1,16 +1,15 @@
 //! All objects of a layer at once.
 
-ghost use Rattle.std.specs.Prelude.{◌≡◌, ℕ, true, false, map as each, All};
-ghost use Rattle.std.specs.Prelude.{IfErr, IfOk, IsPermutation, OnOk, length};
+ghost use Rattle.std.specs.Prelude.{◌≡◌, ℕ, ◌≤◌, [], true, false};
+ghost use Rattle.std.specs.Prelude.{IfErr, IfOk, IsPermutation, OnOk, length, vec_capacity};
 ghost use Rattle.std.specs.FinMap as map;
-ghost use Rattle.box_math.specs.Bounds.{IsBox, IsDims};
+ghost use Rattle.box_math.specs.Bounds.{IsDims};
 ghost use Rattle.page_file.specs.declared.fault.Fault.TheVariants as fault;
 ghost use Rattle.page_cache.specs.Cache.{Grows, IsPageMap, pages};
 ghost use Rattle.page_cache.specs.Calls.{Changes};
-ghost use Rattle.tree_node.specs.Nodes.{items_of};
 ghost use Rattle.node_page.specs.Faults.{IsNoDamage};
 ghost use Rattle.id_table.specs.Table.{kind_of};
-ghost use Rattle.layer_pages.specs.Changes.{BecomesLayer, BecomesTable, HasPacked, item_of_object};
+ghost use Rattle.layer_pages.specs.Changes.{BecomesLayer, BecomesTable, HasPacked, pairs_in};
 ghost use Rattle.id_table.specs.Changes.{most_filled_pages};
 ghost use Rattle.layer_pages.specs.Changes.{most_loaded_pages};
 ghost use Rattle.layer_pages.specs.Layers.{CanBeRoot, IsLayerAt, LayerPages, Objects, part_of_layer};
@@ -24,18 +23,22 @@ use node_page::{Entry, Root};
 use page_cache::PageCache;
 use page_file::Fault;
 use std::alloc::Allocator;
+use tree_node::see_boxes;
 
-/// Puts these objects into a layer without objects, and answers the root of its tree, which is packed. Their
-/// identifiers are all different. The objects are left in another order.
+/// Puts the objects of these entries of leaves into a layer without objects, and answers the root of its tree,
+/// which is packed. Their identifiers are all different. The entries are left in another order.
 ///
 /// With a sound map, where the pages stand for that layer without objects, a refusal is `Memory` or `Device`,
 /// or `NoPages` where each page number is live. Also after a refusal at most `most_loaded_pages` more pages
 /// are live.
+///
+/// The list that the table is filled from is made before a page is touched, and written once the tree is
+/// packed: what the packing works in has been given back then.
 pub fn load<const D: usize, B: BlockDevice, A: Allocator + Copy, H: Allocator + Copy>(
     alloc: H,
     cache: &mut PageCache<B, A>,
     layer: Layer,
-    objects: &mut [(u64, (BBox<D>, u32))],
+    entries: &mut [Entry<D>],
 ) -> Result<Root, Fault>
     requires dims { IsDims D }
     requires root { CanBeRoot layer.root }
@@ -43,54 +46,61 @@ pub fn load<const D: usize, B: BlockDevice, A: Allocator + Copy, H: Allocator + 
     ensures root { IfOk result CanBeRoot }
     ensures sound { IsPageMap cache.old → (l : LayerPages) (most : ℕ) (all : Objects)
         → IsLayerAt D most (pages cache.old) layer.root layer.ids_root l map.empty →
-        IsPermutation objects.old (map.entries all)
+        IsPermutation (pairs_in entries.old) (map.entries all)
         → IfOk result (λ _. IsPageMap cache.new) }
     ensures loaded { IsPageMap cache.old → (l : LayerPages) (most : ℕ) (all : Objects)
         → IsLayerAt D most (pages cache.old) layer.root layer.ids_root l map.empty →
-        IsPermutation objects.old (map.entries all)
+        IsPermutation (pairs_in entries.old) (map.entries all)
         → IfOk result (λ after.
         BecomesLayer D layer.fanout.most (pages cache.old) (pages cache.new) (part_of_layer l)
         (kind_of l.ids) after
-        layer.ids_root all (HasPacked D layer.fanout.most objects.old)) }
-    ensures same { IsPermutation objects.old objects.new }
+        layer.ids_root all (HasPacked D layer.fanout.most (pairs_in entries.old))) }
+    ensures same { IsPermutation entries.old entries.new }
     ensures grows { IsPageMap cache.old → (l : LayerPages) (most : ℕ) (all : Objects)
         → IsLayerAt D most (pages cache.old) layer.root layer.ids_root l map.empty →
-        IsPermutation objects.old (map.entries all)
-        → Grows (most_loaded_pages (length objects.old)) cache.old cache.new }
+        IsPermutation (pairs_in entries.old) (map.entries all)
+        → Grows (most_loaded_pages (length entries.old)) cache.old cache.new }
     ensures faults { IsPageMap cache.old → (l : LayerPages) (most : ℕ) (all : Objects)
         → IsLayerAt D most (pages cache.old) layer.root layer.ids_root l map.empty →
-        IsPermutation objects.old (map.entries all)
+        IsPermutation (pairs_in entries.old) (map.entries all)
         → IfErr result (IsNoDamage cache.new) }
 {
-    let mut entries = entries_of(alloc, objects)?;
-    let after = bulk_load::load(alloc, cache, entries.as_mut_slice(), layer.fanout)?;
+    see_boxes(entries);
+    let mut objects = room_for(alloc, entries.len())?;
+    let after = bulk_load::load(alloc, cache, entries, layer.fanout)?;
     if !can_be_root(after) {
         return Err(Fault::Damaged(after.page));
     }
-    put_ids(cache, layer.root, layer.ids_root, objects)?;
+    list_objects(entries, &mut objects);
+    put_ids(cache, layer.root, layer.ids_root, objects.as_mut_slice())?;
     Ok(after)
 }
 
-// The objects as entries of leaves.
-fn entries_of<const D: usize, H: Allocator>(
+// A list with room for so many objects.
+fn room_for<const D: usize, H: Allocator>(
     alloc: H,
-    objects: &[(u64, (BBox<D>, u32))],
-) -> Result<Vec<Entry<D>, H>, Fault>
-    ensures items { IfOk result (λ entries. items_of entries.items ≡ each item_of_object objects.now) }
-    ensures boxes { IfOk result (λ entries. All (λ item. IsBox D item.bounds) (items_of entries.items)) }
+    count: usize,
+) -> Result<Vec<(u64, (BBox<D>, u32)), H>, Fault>
+    ensures empty { IfOk result (λ list. list.items ≡ []) }
+    ensures room { IfOk result (λ list. count ≤ vec_capacity list) }
     ensures refused { IfErr result (λ f. f ≡ fault.Memory) }
 {
-    let mut entries = Vec::with_capacity(alloc, objects.len())?;
-    for object in objects {
-        // a box that was looked at is known to be one
-        let _ = (object.1).0.low();
-        entries.push(Entry {
-            bounds: (object.1).0,
-            reference: object.0,
-            tag: (object.1).1,
-        })?;
+    Ok(Vec::with_capacity(alloc, count)?)
+}
+
+// Writes the objects of the entries into a list that was empty.
+fn list_objects<const D: usize, H: Allocator>(
+    entries: &[Entry<D>],
+    objects: &mut Vec<(u64, (BBox<D>, u32)), H>,
+)
+    requires empty { objects.old.items ≡ [] }
+    requires room { length entries.now ≤ vec_capacity objects.old }
+    ensures { objects.new.items ≡ pairs_in entries.now }
+{
+    'entries: for place in 0..entries.len() {
+        let entry = entries[place];
+        objects.push_reserved((entry.reference, (entry.bounds, entry.tag)));
     }
-    Ok(entries)
 }
 
 // Whether a tree may begin there.

@@ -13,6 +13,8 @@ use Rattle.live_layers.specs.Unmade.{is_broken, told}
 use Rattle.live_layers.specs.declared.layers.Layers.{Layers}
 use Rattle.live_layers.specs.declared.unmade.Unmade.{Unmade}
 use Rattle.live_layers.specs.declared.unmade.Unmade.TheVariants as unmade
+use Rattle.live_layers.proofs.BegunLemmas.{OnlyNow as OnlyNowOfLayers}
+use Rattle.live_layers.proofs.ChangeLemmas.{refused_by}
 use Rattle.live_layers.proofs.KeepLemmas.{kept_catalog, nothing_moved}
 use Rattle.page_cache.specs.Cache.{IsHonest, gate_of, pages}
 use Rattle.page_file.specs.declared.gate.Gate.TheVariants.{Open}
@@ -263,6 +265,18 @@ module _ {D A : Type 0} {m : _} (old new : Store D A m) {made : Result (Unit {0}
     versions = version_told tells change.keeps.versions;
     cause = cause_told tells change.keeps.cause;
   }
+
+-- a change that is refused for want of memory, before anything is asked of the layers
+pub no_memory_changes : {D A : Type 0} {m : _} (store : Store D A m) {c : Command} → MayGiveUp c
+    → ((t : Table) (stops : Stops) (a : Answer)
+    → after_command t stops c a ≡ cond (changes t c) (with_now (after_change stops.now a) stops) stops)
+    → m.faults (device_in store) < 2 ^ 64 → (IsHonest (cache_in store) → OnlyNow (cache_in store))
+    → OnlyNowOfLayers store.layers → store.failed ≡ false → Changes store store c (Err refusal.Memory)
+no_memory_changes store {c = c} may by_change fits now only going =
+    told_changes store store going
+    (record { answer = refl; failed = λ e. e }) may by_change fits now
+    (refused_by store.layers c refusal.Memory only refl (λ t sound. inr tt)) (λ t sound unchanged was. was)
+    (λ t sound unchanged. tt)
 
 -- what a change did that was made is done where it is told so
 ok_told : (P : Type 0) (made : Result (Unit {0}) Unmade) → OnOk made P → OnOk (told made) P

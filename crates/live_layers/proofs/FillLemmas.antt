@@ -42,7 +42,8 @@ module _ {D A : Type 0} {m : _} (kept : Layers D A m) (t : Table) (name : List �
       (reading kept t name place sound finds).pages o) (empty_of_len (layer_at t name).objects none)
       (stands_at kept t name place sound finds located by_record dims is_dims)
 
-  module _ (objects : List (ℕ × Object)) (all : Objects) (same_objects : IsPermutation objects (entries all))
+  module _ (objects : List (ℕ × Object)) (count : ℕ) (as_many : length objects ≡ count) (all : Objects)
+      (same_objects : IsPermutation objects (entries all))
       (cache : PageCache D A m) (root : Root)
       (became : BecomesLayer dims located.fanout.most (pages kept.cache) (pages cache)
       (part_of_layer (reading kept t name place sound finds).pages)
@@ -50,10 +51,10 @@ module _ {D A : Type 0} {m : _} (kept : Layers D A m) (t : Table) (name : List �
       (HasPacked dims located.fanout.most objects))
       (new : Layers D A m) (same : new.cache ≡ cache) (can : CanBeRoot root)
       (le : next_of kept.cache ≤ next_of cache) (version : version_of cache ≡ version_of kept.cache)
-      (room : kept.object_count + length objects ≤ most_objects)
+      (room : kept.object_count + count ≤ most_objects)
       (records : (d : Record)
       → records_of new.records ≡ slice_set (records_of kept.records) place
-      (with_tree (get_or (records_of kept.records) place d) root (length objects))) where
+      (with_tree (get_or (records_of kept.records) place d) root count)) where
     became_new : BecomesLayer dims located.fanout.most (pages kept.cache) (pages new.cache)
         (part_of_layer (reading kept t name place sound finds).pages)
         (kind_of (reading kept t name place sound finds).pages.ids) root located.ids_root all
@@ -64,11 +65,11 @@ module _ {D A : Type 0} {m : _} (kept : Layers D A m) (t : Table) (name : List �
         (kind_of (reading kept t name place sound finds).pages.ids) root located.ids_root all
         (HasPacked dims located.fanout.most objects)) (sym same) became
 
-    counts : length (entries all) ≡ length objects
-    counts = length_permutation objects (entries all) same_objects
+    counts : length (entries all) ≡ count
+    counts = length_permutation objects (entries all) same_objects ∙ as_many
 
     more : object_count (map_insert t name (record (layer_at t name) { objects = all })) ≡ object_count
-        t + length objects
+        t + count
     more = omega (
       arith,
       count_replaced t name place finds (record (layer_at t name) { objects = all }),
@@ -87,12 +88,12 @@ module _ {D A : Type 0} {m : _} (kept : Layers D A m) (t : Table) (name : List �
     same_version = subst (λ (x : PageCache D A m). version_of x ≡ version_of kept.cache) (sym same) version
 
     -- the layers are sound with them
-    pub sound_filled : IsPageMap cache → new.object_count ≡ kept.object_count + length objects
+    pub sound_filled : IsPageMap cache → new.object_count ≡ kept.object_count + count
         → new.written ≡ false → IsSound new (map_insert t name (record (layer_at t name) { objects = all }))
     sound_filled is_map total unwritten =
         sound_replaced kept t name place sound finds located
         (by_row kept t name place sound finds located by_record dims is_dims) dims is_dims new root all
-        (HasPacked dims located.fanout.most objects) became_new (length objects) counts
+        (HasPacked dims located.fanout.most objects) became_new count counts
         can.level later same_version few records (subst (λ (x : PageCache D A m). IsPageMap x) (sym same) is_map)
         (omega (arith, total, more, sound.counted)) unwritten
 
@@ -101,7 +102,7 @@ module _ {D A : Type 0} {m : _} (kept : Layers D A m) (t : Table) (name : List �
     tree_filled =
         let by = by_row kept t name place sound finds located by_record dims is_dims in
         tree_replaced kept t name place sound finds located by dims is_dims new root all
-        (HasPacked dims located.fanout.most objects) became_new (length objects) counts can.level later
+        (HasPacked dims located.fanout.most objects) became_new count counts can.level later
         same_version few records (HasFilled (layer_at t name) objects)
         (λ packed. subst (λ (k : ℕ). HasPacked k (layer_at t name).fanout objects became_new.layer.tree)
         (sym is_dims)

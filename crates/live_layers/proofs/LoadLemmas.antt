@@ -2,23 +2,30 @@
 use Rattle.std.proofs.Common.{◌≡◌, ◌∙◌, ◌⊎◌, inl, inr, ℕ, ◌+◌, ◌<◌, ◌≤◌, List, [], ◌∷◌, length, get_or, map}
 use Rattle.std.proofs.Common.{true, false, Bool, cond, eqb, not, Option, Some, None, refl, sym, ap, subst}
 use Rattle.std.proofs.Common.{arith}
-use Rattle.std.specs.Prelude.{IsPermutation, ◌&&◌, is_some, nat_lt, unwrap_or}
+use Rattle.std.specs.Prelude.{IsPermutation, ◌&&◌, ◌==◌, is_some, nat_lt, unwrap_or}
 use Rattle.std.specs.FinMap.{contains_key, entries, find, from_entries, len, len-entries}
 use Rattle.std.specs.Ordering.{nat_cmp}
 use Rattle.std.proofs.lemmas.Bool.Decides.{nat_tests}
 use Rattle.std.proofs.lemmas.List.{length-map}
+use Rattle.std.proofs.lemmas.List.Folds.{list_all_at}
+use Rattle.std.proofs.lemmas.List.Sums.{AllPass-from_list_all}
 use Rattle.box_math.specs.Objects.{Object}
 use Rattle.catalog_page.specs.Layout.{Record, records_of}
 use Rattle.id_words.proofs.ObjectLemmas.{same_key}
+use Rattle.layer_pages.specs.Changes.{pairs_in}
+use Rattle.plain_table.specs.Boxes.{dims_of, given_bounds, is_ordered}
 use Rattle.plain_table.specs.Commands.Command.{Load}
 use Rattle.plain_table.specs.Laws.{none_holds}
 use Rattle.plain_table.specs.Loads.{GivenObjects, are_ordered, given_object, have_dims, ids_of}
 use Rattle.plain_table.specs.Loads.{least_repeated, with_objects}
-use Rattle.plain_table.specs.Step.{changes, first_refusal, is_admitted, load_refusals, refusal_of}
+use Rattle.plain_table.specs.Step.{box_refusals, changes, first_refusal, is_admitted, load_refusals}
+use Rattle.plain_table.specs.Step.{refusal_of}
 use Rattle.plain_table.specs.Table.{Layer, Table, is_layer_name, layer_at, most_objects, object_count}
+use Rattle.plain_table.specs.declared.boxes.RawBox.{RawBox}
 use Rattle.plain_table.specs.declared.refusal.Refusal.{Refusal}
 use Rattle.plain_table.specs.declared.refusal.Refusal.TheVariants as refusal
 use Rattle.store_law.specs.Lawful.{IsFault}
+use Rattle.tree_node.specs.declared.node.Entry.{Entry}
 use Rattle.live_layers.specs.Keeping.{Finds, IsSound}
 use Rattle.live_layers.specs.Loading.{NamesLayer, ReachesObjects, boxes_refusals, times_in}
 use Rattle.live_layers.specs.declared.layers.Layers.{Layers}
@@ -51,6 +58,27 @@ first_of : (wrong bad : Bool) (more : List (Bool × Refusal)) (r : Refusal)
 first_of true bad more r is = is
 first_of false true more r is = is
 first_of false false more r is = absurd (cc)
+
+bad_of : (wide ordered : Bool) (r : Refusal) → wide ≡ true
+    → first_refusal ((not wide, refusal.WrongDims) ∷ (not ordered, refusal.BadBox) ∷ []) ≡ Some r
+    → ordered ≡ false
+bad_of true false r is_wide why = refl
+bad_of true true r is_wide why = absurd (cc)
+bad_of false ordered r is_wide why = absurd (cc)
+
+-- one of the right axes that is refused has a low above its high
+pub bad_box_there : (dims : ℕ) (given : GivenObjects) (i : ℕ) (d : ℕ × RawBox × ℕ) (r : Refusal)
+    → i < length given → have_dims dims given ≡ true
+    → first_refusal (box_refusals dims (get_or given i d).1 []) ≡ Some r
+    → first_refusal (boxes_refusals dims given) ≡ Some refusal.BadBox
+bad_box_there dims given i d r within wide why =
+    let here : (dims_of (get_or given i d).1 == dims) ≡ true =
+    AllPass-from_list_all (λ (o : ℕ × RawBox × ℕ). dims_of o.1 == dims) given wide i d within in
+    let bad = bad_of (dims_of (get_or given i d).1 == dims)
+    (is_ordered (dims_of (get_or given i d).1) (given_bounds (get_or given i d).1)) r here why in
+    let unordered : are_ordered given ≡ false =
+    list_all_at (λ (o : ℕ × RawBox × ℕ). is_ordered (dims_of o.1) (given_bounds o.1)) given i d within bad in
+    rw (wide, unordered) refl
 
 -- what is tried after the boxes
 abbrev after_boxes : Layer → GivenObjects → ℕ → List (Bool × Refusal)
@@ -111,6 +139,13 @@ pub allowed_anyhow : (rose : Type 0) (why : Option Refusal) (r : Refusal) → (w
     → (why ≡ Some r) ⊎ IsFault rose r
 allowed_anyhow rose why r (inl h) = inl h
 allowed_anyhow rose why r (inr h) = inr (only_memory rose r h)
+
+-- ---- entries of leaves
+
+pub ids_listed : {D : ℕ} (entries : List (Entry D))
+    → map (λ (entry : Entry D). entry.reference) entries ≡ map (λ (o : ℕ × Object). o.0) (pairs_in entries)
+ids_listed [] = refl
+ids_listed (entry ∷ entries) = ap (λ (ids : List ℕ). entry.reference ∷ ids) (ids_listed entries)
 
 -- ---- objects of different identifiers
 

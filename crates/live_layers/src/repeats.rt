@@ -2,37 +2,38 @@
 
 ghost use Rattle.std.specs.Prelude.{◌≡◌, IfOk, map};
 ghost use Rattle.std.specs.List.Sorted.{IsNonDecreasing};
+ghost use Rattle.layer_pages.specs.Changes.{pairs_in};
 ghost use Rattle.plain_table.specs.Loads.{least_repeated};
 ghost use Rattle.live_layers.specs.Loading.{IsLeastTwice};
 
-use box_math::BBox;
+use node_page::Entry;
 use std::alloc::{AllocError, Allocator};
 
-/// The least identifier that more than one object has.
+/// The least identifier that more than one of these entries of leaves has.
 pub(crate) fn repeated<const D: usize, A: Allocator>(
     alloc: A,
-    objects: &[(u64, (BBox<D>, u32))],
+    entries: &[Entry<D>],
 ) -> Result<Option<u64>, AllocError>
-    ensures { IfOk result (λ id. id ≡ least_repeated (map (λ object. object.0) objects.now)) }
+    ensures { IfOk result (λ id. id ≡ least_repeated (map (λ object. object.0) (pairs_in entries.now))) }
 {
-    let mut ids = ids_of(alloc, objects)?;
+    let mut ids = ids_of(alloc, entries)?;
     ids.sort_unstable();
     Ok(first_twice(ids.as_slice()))
 }
 
-// The identifiers of objects, in their order.
+// The identifiers of the entries, in their order.
 fn ids_of<const D: usize, A: Allocator>(
     alloc: A,
-    objects: &[(u64, (BBox<D>, u32))],
+    entries: &[Entry<D>],
 ) -> Result<Vec<u64, A>, AllocError>
-    ensures { IfOk result (λ ids. ids.items ≡ map (λ object. object.0) objects.now) }
+    ensures { IfOk result (λ ids. ids.items ≡ map (λ entry. entry.reference) entries.now) }
 {
-    objects
+    entries
         .iter()
         .map(
-            |object| -> u64
-                ensures { result ≡ object.entry.now.0 }
-            { object.0 },
+            |entry| -> u64
+                ensures { result ≡ entry.entry.now.reference }
+            { entry.reference },
         )
         .collect(alloc)
 }

@@ -96,7 +96,7 @@ impl<D: BlockDevice, A: Allocator + Copy> Session<D, A> {
             return CLOSED;
         };
         match objects_of(alloc, axes, rows) {
-            Ok(objects) => number_of(store.load(layer, objects.as_slice()), &mut self.detail),
+            Ok(objects) => number_of(store.load_owned(layer, objects), &mut self.detail),
             Err(_) => tell(Refusal::Memory, &mut self.detail),
         }
     }

@@ -3,6 +3,7 @@
 ghost use Rattle.std.specs.Prelude.{◌≡◌, ◌+◌, ◌<◌, ◌≤◌, ℕ, List, IfErr, IsPermutation, OnOk, length};
 ghost use Rattle.std.specs.FinMap as map;
 ghost use Rattle.box_math.specs.Bounds.{IsDims};
+ghost use Rattle.layer_pages.specs.Changes.{pairs_in};
 ghost use Rattle.layer_pages.specs.Layers.{Objects};
 ghost use Rattle.page_cache.specs.Cache.{version_of};
 ghost use Rattle.page_file.specs.Fault.{IsOfDevice};
@@ -14,46 +15,46 @@ ghost use Rattle.live_layers.specs.Rules.{HasFilled};
 use crate::broken::Broken;
 use crate::layers::Layers;
 use block_device::BlockDevice;
-use box_math::BBox;
 use layer_pages::{Layer, load};
+use node_page::Entry;
 use std::alloc::Allocator;
 
 impl<B: BlockDevice, A: Allocator + Copy> Layers<B, A> {
-    // Puts these objects into the layer at a place, which has none: a packed tree, and a table of their
-    // identifiers, which are all different. They are left in another order.
+    // Puts the objects of these entries into the layer at a place, which has none: a packed tree, and a table
+    // of their identifiers, which are all different. The entries are left in another order.
     pub(crate) fn fill<const D: usize>(
         &mut self,
         place: usize,
-        objects: &mut [(u64, (BBox<D>, u32))],
+        entries: &mut [Entry<D>],
     ) -> Result<(), Broken>
         requires dims { IsDims D }
         requires within { place < length (records_in self.old) }
-        requires room { self.old.object_count + length objects.old ≤ most_objects }
+        requires room { self.old.object_count + length entries.old ≤ most_objects }
         ensures filled { (t : Table) (name : List ℕ) (all : Objects) → IsSound self.old t →
             Finds t name place →
             (layer_at t name).dims ≡ D → map.len (layer_at t name).objects ≡ 0 →
-            IsPermutation objects.old (map.entries all) →
+            IsPermutation (pairs_in entries.old) (map.entries all) →
             OnOk result (IsSound self.new (map.insert t name (record (layer_at t name) { objects = all }))) }
         ensures tree { (t : Table) (name : List ℕ) (all : Objects) → IsSound self.old t → Finds t name place →
             (layer_at t name).dims ≡ D → map.len (layer_at t name).objects ≡ 0 →
-            IsPermutation objects.old (map.entries all) →
-            OnOk result (ChangesTree self.old self.new name (HasFilled (layer_at t name) objects.old)) }
+            IsPermutation (pairs_in entries.old) (map.entries all) →
+            OnOk result (ChangesTree self.old self.new name (HasFilled (layer_at t name) (pairs_in entries.old))) }
         ensures faults { (t : Table) (name : List ℕ) (all : Objects) → IsSound self.old t →
             Finds t name place →
             (layer_at t name).dims ≡ D → map.len (layer_at t name).objects ≡ 0 →
-            IsPermutation objects.old (map.entries all) →
+            IsPermutation (pairs_in entries.old) (map.entries all) →
             IfErr result (λ b. IsOfDevice b.cause) }
         ensures begins { BeginsChange self.old self.new (version_of (cache_of self.old)) result }
     {
         self.begin()?;
         let located = self.locate(place);
-        let count = objects.len() as u64;
+        let count = entries.len() as u64;
         let layer = Layer {
             root: located.root,
             ids_root: located.ids_root,
             fanout: located.fanout,
         };
-        let root = match load(self.alloc, &mut self.cache, layer, objects) {
+        let root = match load(self.alloc, &mut self.cache, layer, entries) {
             Ok(root) => root,
             Err(fault) => return Err(self.broken_by(fault)),
         };

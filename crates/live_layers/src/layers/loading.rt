@@ -16,7 +16,7 @@ mod checking;
 mod load_boxes;
 
 use crate::layers::Layers;
-use crate::objects::objects_in;
+use crate::objects::entries_in;
 use crate::unmade::Unmade;
 use block_device::BlockDevice;
 use plain_table::{Axes, Dimension, RawBox};
@@ -24,16 +24,17 @@ use std::alloc::Allocator;
 
 impl<B: BlockDevice, A: Allocator + Copy> Layers<B, A> {
     /// Puts objects into a layer that has none, all at once: its tree is packed from them in the order given,
-    /// and its identifier table has them. A load of no objects changes nothing.
+    /// and its identifier table has them. A load of no objects changes nothing. The list is given back once
+    /// its objects are entries of leaves, before more memory is taken.
     ///
     /// Refused, in this order, by BadName, NoLayer, WrongDims, BadBox, NotEmpty, DuplicateInLoad and
     /// TooManyObjects.
-    pub fn load(&mut self, name: &[u8], objects: &[(u64, RawBox, u32)]) -> Result<(), Unmade>
-        ensures change { IsChangeBy self.old self.new (Load name.now objects.now) result }
-        ensures tree { (t : Table) → IsSound self.old t → changes t (Load name.now objects.now) ≡ true →
+    pub fn load(&mut self, name: &[u8], objects: Vec<(u64, RawBox, u32), A>) -> Result<(), Unmade>
+        ensures change { IsChangeBy self.old self.new (Load name.now objects.items) result }
+        ensures tree { (t : Table) → IsSound self.old t → changes t (Load name.now objects.items) ≡ true →
             OnOk result (ChangesTree self.old self.new name.now
-            (HasFilled (layer_at t name.now) (map given_object objects.now))) }
-        ensures same { (t : Table) → IsSound self.old t → changes t (Load name.now objects.now) ≡ false →
+            (HasFilled (layer_at t name.now) (map given_object objects.items))) }
+        ensures same { (t : Table) → IsSound self.old t → changes t (Load name.now objects.items) ≡ false →
             KeepsPagesAndRecords self.old self.new }
     {
         let place = match self.named(name) {
@@ -51,23 +52,25 @@ impl<B: BlockDevice, A: Allocator + Copy> Layers<B, A> {
     fn load_given<const D: usize>(
         &mut self,
         place: usize,
-        objects: &[(u64, RawBox, u32)],
+        objects: Vec<(u64, RawBox, u32), A>,
     ) -> Result<(), Unmade>
     where
         Axes: Dimension<D>,
         requires within { place < length (records_in self.old) }
         ensures change { (t : Table) (name : List ℕ) → IsSound self.old t →
-            NamesLayer t name place D → IsChange self.old self.new t (Load name objects.now) result }
+            NamesLayer t name place D → IsChange self.old self.new t (Load name objects.items) result }
         ensures tree { (t : Table) (name : List ℕ) → IsSound self.old t → NamesLayer t name place D →
-            changes t (Load name objects.now) ≡ true →
+            changes t (Load name objects.items) ≡ true →
             OnOk result (ChangesTree self.old self.new name
-            (HasFilled (layer_at t name) (map given_object objects.now))) }
+            (HasFilled (layer_at t name) (map given_object objects.items))) }
         ensures same { (t : Table) (name : List ℕ) → IsSound self.old t → NamesLayer t name place D →
-            changes t (Load name objects.now) ≡ false → KeepsPagesAndRecords self.old self.new }
+            changes t (Load name objects.items) ≡ false → KeepsPagesAndRecords self.old self.new }
         ensures keeps { KeepsInChange self.old self.new (version_of (cache_of self.old)) result }
     {
-        match objects_in::<D, A>(self.alloc, objects) {
-            Ok(mut boxed) => self.load_boxes::<D>(place, boxed.as_mut_slice()),
+        let given = entries_in::<D, A>(self.alloc, objects.as_slice());
+        drop(objects);
+        match given {
+            Ok(mut entries) => self.load_boxes::<D>(place, entries.as_mut_slice()),
             Err(refusal) => Err(Unmade::Refused(refusal)),
         }
     }

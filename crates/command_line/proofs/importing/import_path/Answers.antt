@@ -10,8 +10,8 @@ returns-in-Ok-clause-imported g c = λ said target.
       c.in-Ok.ensures,
       refl,
       record {
-        layer = c.args.import.now.layer.now;
-        fanout = c.args.import.now.fanout;
+        layer = c.args.import.layer.now;
+        fanout = c.args.import.fanout;
         target = target;
         few = c.import_device-served.ensures.status;
         imported = c.import_device-served.ensures.imported;

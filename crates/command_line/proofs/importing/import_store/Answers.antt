@@ -6,12 +6,12 @@ use Rattle.command_line.proofs.importing.import_store.Goals as goal
 
 pub returns-in-Ok-clause-imported : goal.returns-in-Ok-clause-imported
 returns-in-Ok-clause-imported g c = λ t moment.
-    let import = c.args.import.now in
+    let import = c.args.import in
     let imported = c.import_and_close-imported in
-    let commands = import_commands t import.layer.now import.dims import.fanout import.objects.now in
+    let commands = import_commands t import.layer.now import.dims import.fanout import.objects.items in
     rw c.in-Ok.is (λ begins. record {
       dims = import.dims;
-      objects = import.objects.now;
+      objects = import.objects.items;
       imported =
           subst (λ (well : Bool). HasImported g.D.BlockDevice moment t commands well (device_in c.in-Ok.store)
           imported.result.device) (sym c.tell_outcome.ensures.is)

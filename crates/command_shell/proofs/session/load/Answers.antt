@@ -41,8 +41,8 @@ returns-in-Short-clause-steps g c = λ before unread first layer one front means
       refl,
     )
 
-pub returns-clause-steps : goal.returns-clause-steps
-returns-clause-steps g c = λ before unread first layer one front means gathered reads.
+pub returns-in-Broken-clause-steps : goal.returns-in-Broken-clause-steps
+returns-in-Broken-clause-steps g c = λ before unread first layer one front means gathered reads.
     loads_broken _ refl before (g.R.Read.remaining c.args.input.now) (g.R.Read.remaining c.gather.new.input)
     (g.W.Write.contents c.args.output.now) (g.W.Write.contents c.gather.new.output)
     unread (pending c.args.lines.now) (pending c.gather.new.lines) first layer c.args.gathered.announced c.in-Broken.end

@@ -27,7 +27,7 @@ none_bad (Some place) e = absurd (cc)
 
 pub returns-then-is_some : goal.returns-then-is_some
 returns-then-is_some g c = λ layer entries h.
-    let gathered = c.args.gathered.now in
+    let gathered = c.args.gathered in
     let bad =
     told_bad (is_none gathered.bad_entry) gathered.room gathered.layer.items layer gathered.objects.items
     (objects_in entries) h.1 (some_bad gathered.bad_entry c.if-is_some.ensures) in
@@ -39,7 +39,7 @@ returns-then-is_some g c = λ layer entries h.
 
 pub returns-then-not-gathered : goal.returns-then-not-gathered
 returns-then-not-gathered g c = λ layer entries h.
-    let gathered = c.args.gathered.now in
+    let gathered = c.args.gathered in
     let wanting = c.out_of_memory.ensures in
     out_of_room
     (λ (r : Request). IsAsked c.args.store.now r (Refused c.out_of_memory.result)
@@ -52,9 +52,9 @@ returns-then-not-gathered g c = λ layer entries h.
 
 pub returns : goal.returns
 returns g c = λ layer entries h.
-    let gathered = c.args.gathered.now in
+    let gathered = c.args.gathered in
     let old = c.args.store.now in
-    let new = c.load.new.self in
+    let new = c.load_owned.new.self in
     let answer = reply_answer c.change_reply.result in
     let all =
     told_all (is_none gathered.bad_entry) gathered.room gathered.layer.items layer gathered.objects.items
@@ -62,11 +62,9 @@ returns g c = λ layer entries h.
     c.if-not-gathered.false in
     let asked =
     asked_by_change (λ honest b left. g.met.D.BlockDevice.only_now (device_in old) b honest left)
-    (λ e. absurd (cc)) c.load.ensures.changes in
+    (λ e. absurd (cc)) c.load_owned.ensures.changes in
     subst (λ (o : Option GivenObjects). IsAsked old (load_request layer o) answer new) (sym all.0)
-    (subst (λ (objects : GivenObjects). IsAsked old (Asks (Load layer objects)) answer new)
-    c.as_slice-2.ensures.value
-    (subst (λ (name : List ℕ). IsAsked old (Asks (Load name c.as_slice-2.result.now)) answer new)
+    (subst (λ (name : List ℕ). IsAsked old (Asks (Load name gathered.objects.items)) answer new)
     (c.as_slice.ensures.value ∙ all.1)
-    (subst (λ (a : Answer). IsAsked old (Asks (Load c.as_slice.result.now c.as_slice-2.result.now)) a new)
-    (sym c.change_reply.ensures) asked)))
+    (subst (λ (a : Answer). IsAsked old (Asks (Load c.as_slice.result.now gathered.objects.items)) a new)
+    (sym c.change_reply.ensures) asked))

@@ -8,20 +8,20 @@ use Rattle.layer_import.proofs.import.import_and_close.Goals as goal
 
 pub returns-in-Err-clause-imported : goal.returns-in-Err-clause-imported
 returns-in-Err-clause-imported g c = λ s t moment represents alive closed.
-    let import = c.args.import.now in
+    let import = c.args.import in
     given_up c.args.store c.put_all.new.store moment t _ _ c.abandon.result
     (has_put (λ store honest b left. g.met.D.BlockDevice.only_now (device_in store) b honest left)
-    c.args.store c.put_all.new.store import.layer.now import.dims import.fanout import.objects.now _
+    c.args.store c.put_all.new.store import.layer.now import.dims import.fanout import.objects.items _
     c.in-Err.ensures
     s t moment represents alive closed)
     c.abandon.ensures
 
 pub returns-in-Ok-clause-imported : goal.returns-in-Ok-clause-imported
 returns-in-Ok-clause-imported g c = λ s t moment represents alive closed.
-    let import = c.args.import.now in
+    let import = c.args.import in
     ends_closing c.args.store c.put_all.new.store moment t _ _ _ c.in-Ok.device
     (has_put (λ store honest b left. g.met.D.BlockDevice.only_now (device_in store) b honest left)
-    c.args.store c.put_all.new.store import.layer.now import.dims import.fanout import.objects.now _
+    c.args.store c.put_all.new.store import.layer.now import.dims import.fanout import.objects.items _
     c.in_default.ensures s t moment represents alive closed)
     refl c.in-Ok.ensures.stops (λ well u state. (
       c.in-Ok.ensures.closed u state,
@@ -31,10 +31,10 @@ returns-in-Ok-clause-imported g c = λ s t moment represents alive closed.
 
 pub returns-in-Err-close-clause-imported : goal.returns-in-Err-close-clause-imported
 returns-in-Err-close-clause-imported g c = λ s t moment represents alive closed.
-    let import = c.args.import.now in
+    let import = c.args.import in
     ends_closing c.args.store c.put_all.new.store moment t _ _ _ c.in-Err-close.device
     (has_put (λ store honest b left. g.met.D.BlockDevice.only_now (device_in store) b honest left)
-    c.args.store c.put_all.new.store import.layer.now import.dims import.fanout import.objects.now _
+    c.args.store c.put_all.new.store import.layer.now import.dims import.fanout import.objects.items _
     c.in_default.ensures s t moment represents alive closed)
     refl c.in-Err-close.ensures.refused_stops (λ well. absurd (cc))
 

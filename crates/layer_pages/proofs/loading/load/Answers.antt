@@ -1,29 +1,32 @@
 -- A packed tree, and then the table.
-use Rattle.std.proofs.Common.{◌≡◌, ◌∙◌, ℕ, List, None, All, length, map as each, refl, sym, ap, subst, arith}
+use Rattle.std.proofs.Common.{◌≡◌, ◌∙◌, ℕ, List, None, All, length, sym, ap, subst, refl, arith}
 use Rattle.std.proofs.lemmas.List.{length-map}
+use Rattle.std.proofs.lemmas.List.Sorted.{length_permutation}
+use Rattle.std.specs.Prelude.{IsPermutation}
 use Rattle.box_math.specs.Bounds.{IsBox}
 use Rattle.box_math.specs.Objects.{Object}
 use Rattle.page_cache.specs.Cache.{pages}
 use Rattle.page_cache.specs.Calls.{changes_and_refuses, changes_in_turn}
 use Rattle.tree_node.specs.Nodes.{Item, item_of, items_of}
-use Rattle.tree_node.specs.declared.node.Entry.{Entry}
+use Rattle.tree_node.specs.declared.node.Entry.{Entry as Leaf}
 use Rattle.bulk_load.specs.Loads.{Loads}
 use Rattle.node_page.proofs.NodeLemmas.{at_error}
 use Rattle.node_page.specs.Faults.{IsNoDamage}
-use Rattle.layer_pages.specs.Changes.{item_of_object}
-use Rattle.layer_pages.proofs.LoadLemmas.{layer_loaded, layer_still, low_root}
+use Rattle.layer_pages.specs.Changes.{pairs_in}
+use Rattle.layer_pages.proofs.LoadLemmas.{all_boxes, as_items, as_many_listed, layer_loaded, layer_still}
+use Rattle.layer_pages.proofs.LoadLemmas.{listed_again, low_root}
 use Rattle.layer_pages.proofs.loading.load.Goals as goal
 
-as_many : {D : ℕ} (entries lent : List (Entry D)) (objects : List (ℕ × Object)) → lent ≡ entries
-    → items_of entries ≡ each item_of_object objects → length lent ≡ length objects
-as_many entries lent objects same items = ap length same ∙ sym (length-map entries item_of) ∙ ap length items
-    ∙ length-map objects item_of_object
+as_many : {D : ℕ} (old new : List (Leaf D)) (listed : List (ℕ × Object)) → IsPermutation old new
+    → listed ≡ pairs_in new → length listed ≡ length old
+as_many old new listed moved is =
+    omega (arith, ap length is, as_many_listed new, length_permutation old new moved)
 
 pub returns-then-not-can_be_root-clause-faults : goal.returns-then-not-can_be_root-clause-faults
 returns-then-not-can_be_root-clause-faults g c =
     λ sound l most all is same. absurd (c.if-not-can_be_root.ensures.no refl
     (low_root c.args.cache.now c.load.new.cache g.row.D c.args.layer.fanout.most
-    (items_of c.as_mut_slice.result.now)
+    (items_of c.args.entries.now)
     c.in_ok-after.after (c.in_ok-after.ensures.loaded sound)))
 
 pub returns-clause-changes : goal.returns-clause-changes
@@ -33,30 +36,31 @@ returns-clause-changes g c =
 
 pub returns-clause-sound : goal.returns-clause-sound
 returns-clause-sound g c = λ sound l most all is same.
-    let items : items_of c.as_mut_slice.result.now ≡ each item_of_object c.args.objects.now =
-    ap items_of c.as_mut_slice.ensures.value ∙ c.in_ok-entries.ensures.items in
     let loads =
     subst (λ (xs : List Item). Loads g.row.D c.args.layer.fanout.most (pages c.args.cache.now)
-    (pages c.load.new.cache) xs c.in_ok-after.after) items (c.in_ok-after.ensures.loaded sound) in
+    (pages c.load.new.cache) xs c.in_ok-after.after) (sym (as_items (items_of c.args.entries.now)))
+    (c.in_ok-after.ensures.loaded sound) in
     c.in_ok-put_ids.ensures.sound (c.load.ensures.sound sound) l most all
     (layer_still g.row.D c.args.layer.fanout.most most (pages c.args.cache.now) (pages c.load.new.cache)
     c.args.layer.root
-    c.in_ok-after.after c.args.layer.ids_root l is c.args.objects.now loads) same
+    c.in_ok-after.after c.args.layer.ids_root l is (pairs_in c.args.entries.now) loads)
+    (listed_again c.args.entries.now c.load.new.objects c.as_mut_slice.result.now all c.load.ensures.all
+    (c.as_mut_slice.ensures.value ∙ c.list_objects.ensures) same)
 
 pub returns-clause-loaded : goal.returns-clause-loaded
 returns-clause-loaded g c = λ sound l most all is same.
-    let objects = c.args.objects.now in
+    let objects = pairs_in c.args.entries.now in
     let m = pages c.args.cache.now in
     let mid = pages c.load.new.cache in
     let after = c.in_ok-after.after in
-    let items : items_of c.as_mut_slice.result.now ≡ each item_of_object objects =
-    ap items_of c.as_mut_slice.ensures.value ∙ c.in_ok-entries.ensures.items in
+    let items = items_of c.args.entries.now in
     let loads =
-    subst (λ (xs : List Item). Loads g.row.D c.args.layer.fanout.most m mid xs after) items
+    subst (λ (xs : List Item). Loads g.row.D c.args.layer.fanout.most m mid xs after) (sym (as_items items))
     (c.in_ok-after.ensures.loaded sound) in
     let boxes =
-    subst (λ (xs : List Item). All (λ (item : Item). IsBox g.row.D item.bounds) xs)
-    c.in_ok-entries.ensures.items c.in_ok-entries.ensures.boxes in
+    subst (λ (xs : List Item). All (λ (item : Item). IsBox g.row.D item.bounds) xs) (sym (as_items items))
+    (all_boxes g.row.D items (λ i below. c.see_boxes.ensures i
+    (omega (arith, below, length-map c.args.entries.now item_of)))) in
     let still =
     layer_still g.row.D c.args.layer.fanout.most most m mid c.args.layer.root after c.args.layer.ids_root l is
     objects loads in
@@ -64,7 +68,9 @@ returns-clause-loaded g c = λ sound l most all is same.
     is
     objects loads
     (pages c.put_ids.new.cache) all same boxes
-    (c.in_ok-put_ids.ensures.put (c.load.ensures.sound sound) l most all still same)
+    (c.in_ok-put_ids.ensures.put (c.load.ensures.sound sound) l most all still
+    (listed_again c.args.entries.now c.load.new.objects c.as_mut_slice.result.now all c.load.ensures.all
+    (c.as_mut_slice.ensures.value ∙ c.list_objects.ensures) same))
 
 pub returns-in_err-put_ids-clause-changes : goal.returns-in_err-put_ids-clause-changes
 returns-in_err-put_ids-clause-changes g c =
@@ -74,66 +80,60 @@ returns-in_err-put_ids-clause-changes g c =
 
 pub returns-in_err-put_ids-clause-faults : goal.returns-in_err-put_ids-clause-faults
 returns-in_err-put_ids-clause-faults g c = λ sound l most all is same.
-    let items : items_of c.as_mut_slice.result.now ≡ each item_of_object c.args.objects.now =
-    ap items_of c.as_mut_slice.ensures.value ∙ c.in_ok-entries.ensures.items in
     let loads =
     subst (λ (xs : List Item). Loads g.row.D c.args.layer.fanout.most (pages c.args.cache.now)
-    (pages c.load.new.cache) xs c.in_ok-after.after) items (c.in_ok-after.ensures.loaded sound) in
+    (pages c.load.new.cache) xs c.in_ok-after.after) (sym (as_items (items_of c.args.entries.now)))
+    (c.in_ok-after.ensures.loaded sound) in
     at_error c.from_residual-in_err-put_ids.result c.in_err-put_ids.field-0.0 (IsNoDamage c.put_ids.new.cache)
     c.from_residual-in_err-put_ids.ensures.1
     (c.in_err-put_ids.ensures.faults (c.load.ensures.sound sound) l most all
     (layer_still g.row.D c.args.layer.fanout.most most (pages c.args.cache.now) (pages c.load.new.cache)
     c.args.layer.root
-    c.in_ok-after.after c.args.layer.ids_root l is c.args.objects.now loads) same)
+    c.in_ok-after.after c.args.layer.ids_root l is (pairs_in c.args.entries.now) loads)
+    (listed_again c.args.entries.now c.load.new.objects c.as_mut_slice.result.now all c.load.ensures.all
+    (c.as_mut_slice.ensures.value ∙ c.list_objects.ensures) same))
 
 pub returns-in_err-after-clause-grows : goal.returns-in_err-after-clause-grows
-returns-in_err-after-clause-grows g c = λ sound l most all is same.
-    omega (
-      arith,
-      c.load.ensures.grows,
-      as_many _ c.as_mut_slice.result.now c.args.objects.now c.as_mut_slice.ensures.value
-          c.in_ok-entries.ensures.items,
-    )
+returns-in_err-after-clause-grows g c = λ sound l most all is same. omega (arith, c.load.ensures.grows)
 
 pub returns-then-not-can_be_root-clause-grows : goal.returns-then-not-can_be_root-clause-grows
 returns-then-not-can_be_root-clause-grows g c = λ sound l most all is same.
-    omega (
-      arith,
-      c.load.ensures.grows,
-      as_many _ c.as_mut_slice.result.now c.args.objects.now c.as_mut_slice.ensures.value
-          c.in_ok-entries.ensures.items,
-    )
+    omega (arith, c.load.ensures.grows)
 
 pub returns-clause-grows : goal.returns-clause-grows
 returns-clause-grows g c = λ sound l most all is same.
-    let items : items_of c.as_mut_slice.result.now ≡ each item_of_object c.args.objects.now =
-    ap items_of c.as_mut_slice.ensures.value ∙ c.in_ok-entries.ensures.items in
+    let listed : c.as_mut_slice.result.now ≡ pairs_in c.load.new.objects =
+    c.as_mut_slice.ensures.value ∙ c.list_objects.ensures in
     let loads =
     subst (λ (xs : List Item). Loads g.row.D c.args.layer.fanout.most (pages c.args.cache.now)
-    (pages c.load.new.cache) xs c.in_ok-after.after) items (c.in_ok-after.ensures.loaded sound) in
+    (pages c.load.new.cache) xs c.in_ok-after.after) (sym (as_items (items_of c.args.entries.now)))
+    (c.in_ok-after.ensures.loaded sound) in
     omega (
       arith,
       c.load.ensures.grows,
-      as_many _ c.as_mut_slice.result.now c.args.objects.now c.as_mut_slice.ensures.value
-          c.in_ok-entries.ensures.items,
+      as_many c.args.entries.now c.load.new.objects c.as_mut_slice.result.now c.load.ensures.all listed,
       c.put_ids.ensures.grows (c.load.ensures.sound sound) l most all
           (layer_still g.row.D c.args.layer.fanout.most most (pages c.args.cache.now) (pages c.load.new.cache)
-          c.args.layer.root c.in_ok-after.after c.args.layer.ids_root l is c.args.objects.now loads) same,
+          c.args.layer.root c.in_ok-after.after c.args.layer.ids_root l is (pairs_in c.args.entries.now) loads)
+          (listed_again c.args.entries.now c.load.new.objects c.as_mut_slice.result.now all
+          c.load.ensures.all listed same),
     )
 
 pub returns-in_err-put_ids-clause-grows : goal.returns-in_err-put_ids-clause-grows
 returns-in_err-put_ids-clause-grows g c = λ sound l most all is same.
-    let items : items_of c.as_mut_slice.result.now ≡ each item_of_object c.args.objects.now =
-    ap items_of c.as_mut_slice.ensures.value ∙ c.in_ok-entries.ensures.items in
+    let listed : c.as_mut_slice.result.now ≡ pairs_in c.load.new.objects =
+    c.as_mut_slice.ensures.value ∙ c.list_objects.ensures in
     let loads =
     subst (λ (xs : List Item). Loads g.row.D c.args.layer.fanout.most (pages c.args.cache.now)
-    (pages c.load.new.cache) xs c.in_ok-after.after) items (c.in_ok-after.ensures.loaded sound) in
+    (pages c.load.new.cache) xs c.in_ok-after.after) (sym (as_items (items_of c.args.entries.now)))
+    (c.in_ok-after.ensures.loaded sound) in
     omega (
       arith,
       c.load.ensures.grows,
-      as_many _ c.as_mut_slice.result.now c.args.objects.now c.as_mut_slice.ensures.value
-          c.in_ok-entries.ensures.items,
+      as_many c.args.entries.now c.load.new.objects c.as_mut_slice.result.now c.load.ensures.all listed,
       c.put_ids.ensures.grows (c.load.ensures.sound sound) l most all
           (layer_still g.row.D c.args.layer.fanout.most most (pages c.args.cache.now) (pages c.load.new.cache)
-          c.args.layer.root c.in_ok-after.after c.args.layer.ids_root l is c.args.objects.now loads) same,
+          c.args.layer.root c.in_ok-after.after c.args.layer.ids_root l is (pairs_in c.args.entries.now) loads)
+          (listed_again c.args.entries.now c.load.new.objects c.as_mut_slice.result.now all
+          c.load.ensures.all listed same),
     )

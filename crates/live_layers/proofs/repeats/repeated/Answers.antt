@@ -1,9 +1,10 @@
 -- The identifiers in order are the same as often.
-use Rattle.std.proofs.Common.{◌≡◌, ℕ, List, sym, subst}
+use Rattle.std.proofs.Common.{◌≡◌, ◌∙◌, ℕ, List, sym, subst}
 use Rattle.std.specs.List.Sorted.{IsNonDecreasing}
 use Rattle.std.proofs.lemmas.List.Sorted.{IsNonDecreasingBy-from_sort}
 use Rattle.plain_table.specs.Loads.{least_repeated}
 use Rattle.live_layers.specs.Loading.{IsLeastTwice}
+use Rattle.live_layers.proofs.LoadLemmas.{ids_listed}
 use Rattle.live_layers.proofs.RepeatLemmas.{least_is, reordered}
 use Rattle.live_layers.proofs.repeats.repeated.Goals as goal
 
@@ -18,7 +19,8 @@ returns g c =
     let least =
     subst (λ (xs : List ℕ). IsLeastTwice xs c.first_twice.result) c.as_slice.ensures.value
     c.first_twice.ensures in
-    subst (λ (xs : List ℕ). c.first_twice.result ≡ least_repeated xs) c.in_ok-ids.ensures
+    subst (λ (xs : List ℕ). c.first_twice.result ≡ least_repeated xs)
+    (c.in_ok-ids.ensures ∙ ids_listed c.args.entries.now)
     (least_is ids c.first_twice.result
     (reordered ids c.sort_unstable.new.self.items c.first_twice.result
     c.sort_unstable.ensures.permutation least))

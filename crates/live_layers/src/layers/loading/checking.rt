@@ -1,6 +1,7 @@
 //! Whether objects may be put into a layer.
 
 ghost use Rattle.std.specs.Prelude.{◌≡◌, ◌+◌, ◌<◌, ◌≤◌, ℕ, List, IfErr, OnOk, length, true};
+ghost use Rattle.layer_pages.specs.Changes.{pairs_in};
 ghost use Rattle.plain_table.specs.Loads.{GivenObjects};
 ghost use Rattle.plain_table.specs.Step.{first_refusal, load_refusals};
 ghost use Rattle.plain_table.specs.Table.{Table, layer_at, most_objects, object_count};
@@ -12,33 +13,33 @@ ghost use Rattle.live_layers.specs.Loading.{ReachesObjects};
 use crate::layers::Layers;
 use crate::repeats::repeated;
 use block_device::BlockDevice;
-use box_math::BBox;
+use node_page::Entry;
 use plain_table::{MOST_OBJECTS, Refusal};
 use std::alloc::Allocator;
 
 impl<B: BlockDevice, A: Allocator + Copy> Layers<B, A> {
-    // Whether objects of the layer's axes may be put into the layer at a place. Refused, in this order, by
-    // NotEmpty, DuplicateInLoad and TooManyObjects.
+    // Whether the objects of these entries, which have the layer's axes, may be put into the layer at a place.
+    // Refused, in this order, by NotEmpty, DuplicateInLoad and TooManyObjects.
     pub(crate) fn check_load<const D: usize>(
         &self,
         place: usize,
-        objects: &[(u64, (BBox<D>, u32))],
+        entries: &[Entry<D>],
     ) -> Result<(), Refusal>
         requires within { place < length (records_in self.now) }
         ensures allowed { (t : Table) (name : List ℕ) (given : GivenObjects) → IsSound self.now t →
-            ReachesObjects t name place given D objects.now →
+            ReachesObjects t name place given D (pairs_in entries.now) →
             IsAllowedOr ⊥ (first_refusal (load_refusals (layer_at t name) given (object_count t))) result }
-        ensures room { OnOk result (0 < length objects.now →
-            self.now.object_count + length objects.now ≤ most_objects) }
+        ensures room { OnOk result (0 < length entries.now →
+            self.now.object_count + length entries.now ≤ most_objects) }
         ensures quiet { IfErr result (λ r. is_plain r ≡ true) }
     {
         if self.count_at(place) > 0 {
             return Err(Refusal::NotEmpty);
         }
-        if let Some(id) = repeated(self.alloc, objects)? {
+        if let Some(id) = repeated(self.alloc, entries)? {
             return Err(Refusal::DuplicateInLoad(id));
         }
-        if objects.len() as u64 > MOST_OBJECTS.saturating_sub(self.object_count) {
+        if entries.len() as u64 > MOST_OBJECTS.saturating_sub(self.object_count) {
             return Err(Refusal::TooManyObjects);
         }
         Ok(())

@@ -3,6 +3,7 @@
 ghost use Rattle.std.specs.Prelude.{◌≡◌, ◌<◌, ℕ, List, true, false, OnOk, length};
 ghost use Rattle.box_math.specs.Bounds.{IsDims};
 ghost use Rattle.page_cache.specs.Cache.{version_of};
+ghost use Rattle.layer_pages.specs.Changes.{pairs_in};
 ghost use Rattle.plain_table.specs.Commands.Command.{Load};
 ghost use Rattle.plain_table.specs.Loads.{GivenObjects};
 ghost use Rattle.plain_table.specs.Step.{changes};
@@ -17,35 +18,36 @@ use crate::faults::change_of;
 use crate::layers::Layers;
 use crate::unmade::Unmade;
 use block_device::BlockDevice;
-use box_math::BBox;
+use node_page::Entry;
 use std::alloc::Allocator;
 
 impl<B: BlockDevice, A: Allocator + Copy> Layers<B, A> {
-    // Puts objects of the layer's axes into the layer at a place. They are left in another order.
+    // Puts the objects of these entries, which have the layer's axes, into the layer at a place. The entries
+    // are left in another order.
     pub(crate) fn load_boxes<const D: usize>(
         &mut self,
         place: usize,
-        objects: &mut [(u64, (BBox<D>, u32))],
+        entries: &mut [Entry<D>],
     ) -> Result<(), Unmade>
         requires dims { IsDims D }
         requires within { place < length (records_in self.old) }
         ensures change { (t : Table) (name : List ℕ) (given : GivenObjects) → IsSound self.old t →
-            ReachesObjects t name place given D objects.old →
+            ReachesObjects t name place given D (pairs_in entries.old) →
             IsChange self.old self.new t (Load name given) result }
         ensures tree { (t : Table) (name : List ℕ) (given : GivenObjects) → IsSound self.old t →
-            ReachesObjects t name place given D objects.old → changes t (Load name given) ≡ true →
-            OnOk result (ChangesTree self.old self.new name (HasFilled (layer_at t name) objects.old)) }
+            ReachesObjects t name place given D (pairs_in entries.old) → changes t (Load name given) ≡ true →
+            OnOk result (ChangesTree self.old self.new name (HasFilled (layer_at t name) (pairs_in entries.old))) }
         ensures same { (t : Table) (name : List ℕ) (given : GivenObjects) → IsSound self.old t →
-            ReachesObjects t name place given D objects.old → changes t (Load name given) ≡ false →
+            ReachesObjects t name place given D (pairs_in entries.old) → changes t (Load name given) ≡ false →
             KeepsPagesAndRecords self.old self.new }
         ensures keeps { KeepsInChange self.old self.new (version_of (cache_of self.old)) result }
     {
-        if let Err(refusal) = self.check_load(place, objects) {
+        if let Err(refusal) = self.check_load(place, entries) {
             return Err(Unmade::Refused(refusal));
         }
-        if objects.is_empty() {
+        if entries.is_empty() {
             return Ok(());
         }
-        change_of(self.fill(place, objects))
+        change_of(self.fill(place, entries))
     }
 }

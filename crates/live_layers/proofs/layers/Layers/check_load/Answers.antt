@@ -1,5 +1,7 @@
 -- Each refusal is the table's, and nothing refuses the objects that pass.
 use Rattle.std.proofs.Common.{◌≡◌, ◌∙◌, None, sym, inl, arith}
+use Rattle.layer_pages.proofs.LoadLemmas.{as_many_listed}
+use Rattle.layer_pages.specs.Changes.{pairs_in}
 use Rattle.live_layers.proofs.LoadLemmas.{counted_there, may_be_given, not_empty, too_many_given, twice_given}
 use Rattle.live_layers.proofs.layers.Layers.check_load.Goals as goal
 
@@ -8,7 +10,7 @@ returns-then-count_at-gt0-clause-allowed g c = λ t name given sound reaches.
     let many =
     counted_there c.args.self.now t name c.args.place sound reaches.finds c.count_at.result
     c.count_at.ensures in
-    inl (not_empty t name c.args.place given g.row.D c.args.objects.now reaches
+    inl (not_empty t name c.args.place given g.row.D (pairs_in c.args.entries.now) reaches
     (omega (arith, many, c.if-count_at-gt0.true)))
 
 pub returns-in-Some-clause-allowed : goal.returns-in-Some-clause-allowed
@@ -16,18 +18,18 @@ returns-in-Some-clause-allowed g c = λ t name given sound reaches.
     let many =
     counted_there c.args.self.now t name c.args.place sound reaches.finds c.count_at.result
     c.count_at.ensures in
-    inl (twice_given t name c.args.place given g.row.D c.args.objects.now reaches c.in-Some.id
+    inl (twice_given t name c.args.place given g.row.D (pairs_in c.args.entries.now) reaches c.in-Some.id
     (omega (arith, many, c.if-count_at-gt0.false)) (sym c.in-Some.is ∙ c.in_ok-id.ensures))
 
-pub returns-then-objects-saturating_sub-clause-allowed : goal.returns-then-objects-saturating_sub-clause-allowed
-returns-then-objects-saturating_sub-clause-allowed g c = λ t name given sound reaches.
+pub returns-then-entries-saturating_sub-clause-allowed : goal.returns-then-entries-saturating_sub-clause-allowed
+returns-then-entries-saturating_sub-clause-allowed g c = λ t name given sound reaches.
     let many =
     counted_there c.args.self.now t name c.args.place sound reaches.finds c.count_at.result
     c.count_at.ensures in
     let once : None ≡ c.in_ok-id.field-0 = sym c.in_default.is in
-    inl (too_many_given t name c.args.place given g.row.D c.args.objects.now reaches
+    inl (too_many_given t name c.args.place given g.row.D (pairs_in c.args.entries.now) reaches
     (omega (arith, many, c.if-count_at-gt0.false)) (once ∙ c.in_ok-id.ensures)
-    (omega (arith, c.saturating_sub.ensures, c.if-objects-saturating_sub.true, sound.counted, sound.within)))
+    (omega (arith, as_many_listed c.args.entries.now, c.saturating_sub.ensures, c.if-entries-saturating_sub.true, sound.counted, sound.within)))
 
 pub returns-clause-allowed : goal.returns-clause-allowed
 returns-clause-allowed g c = λ t name given sound reaches.
@@ -35,6 +37,6 @@ returns-clause-allowed g c = λ t name given sound reaches.
     counted_there c.args.self.now t name c.args.place sound reaches.finds c.count_at.result
     c.count_at.ensures in
     let once : None ≡ c.in_ok-id.field-0 = sym c.in_default.is in
-    may_be_given t name c.args.place given g.row.D c.args.objects.now reaches
+    may_be_given t name c.args.place given g.row.D (pairs_in c.args.entries.now) reaches
     (omega (arith, many, c.if-count_at-gt0.false)) (once ∙ c.in_ok-id.ensures)
-    (omega (arith, c.saturating_sub.ensures, c.if-objects-saturating_sub.false, sound.counted, sound.within))
+    (omega (arith, as_many_listed c.args.entries.now, c.saturating_sub.ensures, c.if-entries-saturating_sub.false, sound.counted, sound.within))

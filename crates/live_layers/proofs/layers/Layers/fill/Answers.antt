@@ -1,7 +1,8 @@
 -- The tree is packed and the table filled, and the record says so; or the change was refused, or broke off.
 use Rattle.std.proofs.Common.{Err, length, refl, arith, subst, sym}
 use Rattle.plain_table.specs.Table.{layer_at}
-use Rattle.layer_pages.specs.Changes.{most_loaded_pages}
+use Rattle.layer_pages.specs.Changes.{most_loaded_pages, pairs_in}
+use Rattle.layer_pages.proofs.LoadLemmas.{as_many_listed}
 use Rattle.page_file.specs.Fault.{IsOfDevice}
 use Rattle.live_layers.specs.declared.broken.Broken.{Broken}
 use Rattle.live_layers.proofs.CountLemmas.{no_page_wanted_by_load}
@@ -32,7 +33,7 @@ returns-in_err-begin-clause-faults g c =
 pub returns-in-Err-clause-faults : goal.returns-in-Err-clause-faults
 returns-in-Err-clause-faults g c = λ t name all sound finds dims none same.
     let kept = c.begin.new.self in
-    let count = length c.args.objects.now in
+    let count = length c.args.entries.now in
     let before = c.begin.ensures.sound t sound in
     let located = c.locate-located.result in
     let empty_there =
@@ -56,8 +57,8 @@ returns-clause-filled g c = λ t name all sound finds dims none same.
     let l = (reading kept t name c.args.place before finds).pages in
     let empty_there = stands_empty kept t name c.args.place before finds located by g.row.D dims none in
     let became = c.in-Ok.ensures.loaded before.map l located.fanout.most all empty_there same in
-    sound_filled kept t name c.args.place before finds located by g.row.D dims none c.args.objects.now all
-    same c.load.new.cache c.in-Ok.root became _ c.note.ensures.cache
+    sound_filled kept t name c.args.place before finds located by g.row.D dims none (pairs_in c.args.entries.now)
+    (length c.args.entries.now) (as_many_listed c.args.entries.now) all same c.load.new.cache c.in-Ok.root became _ c.note.ensures.cache
     c.in-Ok.ensures.root c.in-Ok.ensures.changes.next
     (c.in-Ok.ensures.changes.version before.map.honest)
     (omega (arith, c.requires.room, c.begin.ensures.count)) c.note.ensures.records
@@ -73,10 +74,10 @@ returns-clause-tree g c = λ t name all sound finds dims none same.
     let l = (reading kept t name c.args.place before finds).pages in
     let empty_there = stands_empty kept t name c.args.place before finds located by g.row.D dims none in
     let became = c.in-Ok.ensures.loaded before.map l located.fanout.most all empty_there same in
-    changes_before c.args.self.now kept _ name (HasFilled (layer_at t name) c.args.objects.now)
+    changes_before c.args.self.now kept _ name (HasFilled (layer_at t name) (pairs_in c.args.entries.now))
     (c.begin.ensures.keeps.map.pages_stay sound.map.honest) c.begin.ensures.keeps.records
-    (tree_filled kept t name c.args.place before finds located by g.row.D dims none c.args.objects.now all
-    same c.load.new.cache c.in-Ok.root became _ c.note.ensures.cache
+    (tree_filled kept t name c.args.place before finds located by g.row.D dims none (pairs_in c.args.entries.now)
+    (length c.args.entries.now) (as_many_listed c.args.entries.now) all same c.load.new.cache c.in-Ok.root became _ c.note.ensures.cache
     c.in-Ok.ensures.root c.in-Ok.ensures.changes.next
     (c.in-Ok.ensures.changes.version before.map.honest)
     (omega (arith, c.requires.room, c.begin.ensures.count)) c.note.ensures.records)

@@ -10,7 +10,7 @@ use Rattle.live_layers.proofs.layers.Layers.load.Goals as goal
 pub returns-in-Err-clause-change : goal.returns-in-Err-clause-change
 returns-in-Err-clause-change g c =
     let name = c.args.name.now in
-    let given = c.args.objects.now in
+    let given = c.args.objects.items in
     refused_by c.args.self.now (Load name given) c.in-Err.refusal g.met.B.BlockDevice.only_now
     c.in-Err.ensures.cause
     (λ t sound. inl

@@ -1,12 +1,15 @@
 -- What is not allowed is refused, no objects change nothing, and others fill the layer.
-use Rattle.std.proofs.Common.{◌≡◌, ◌∙◌, ◌<◌, length, Option, refl, sym, subst, arith}
+use Rattle.std.proofs.Common.{◌≡◌, ◌∙◌, ℕ, ◌<◌, List, length, Option, refl, sym, subst, arith}
 use Rattle.std.specs.Prelude.{Err}
 use Rattle.std.proofs.lemmas.Bool.Decides.{nat_tests}
+use Rattle.layer_pages.proofs.LoadLemmas.{as_many_listed}
+use Rattle.layer_pages.specs.Changes.{pairs_in}
 use Rattle.plain_table.specs.Commands.Command.{Load}
 use Rattle.plain_table.specs.Laws.{a_change_makes_another_table, no_change_leaves_the_table}
 use Rattle.plain_table.specs.Loads.{with_objects}
 use Rattle.plain_table.specs.Table.{layer_at}
 use Rattle.plain_table.specs.declared.refusal.Refusal.{Refusal}
+use Rattle.tree_node.specs.declared.node.Entry.{Entry}
 use Rattle.live_layers.specs.Changes.{Rose}
 use Rattle.live_layers.specs.Inserting.{IsAllowedOr}
 use Rattle.live_layers.proofs.ChangeLemmas.{begun_change, begun_keeps_so, made_so, refused_change}
@@ -15,6 +18,12 @@ use Rattle.live_layers.proofs.LoadLemmas.{allowed_anyhow, as_load, had_none, mad
 use Rattle.live_layers.proofs.LoadLemmas.{some_change}
 use Rattle.live_layers.proofs.QuestionLemmas.{none_asked, refuses_unasked}
 use Rattle.live_layers.proofs.layers.Layers.load_boxes.Goals as goal
+
+none_listed : {D : ℕ} (entries : List (Entry D)) → length entries ≡ 0 → length (pairs_in entries) ≡ 0
+none_listed entries none = omega (arith, as_many_listed entries, none)
+
+some_listed : {D : ℕ} (entries : List (Entry D)) → 0 < length entries → 0 < length (pairs_in entries)
+some_listed entries some = omega (arith, as_many_listed entries, some)
 
 pub returns-in-Err-clause-keeps : goal.returns-in-Err-clause-keeps
 returns-in-Err-clause-keeps g c =
@@ -39,13 +48,21 @@ pub returns-then-is_empty-clause-change : goal.returns-then-is_empty-clause-chan
 returns-then-is_empty-clause-change g c = λ t name given sound reaches.
     let old = c.args.self.now in
     let none = c.in_default.ensures.allowed t name given sound reaches in
-    let empty : length c.args.objects.now ≡ 0 =
-    grind (arith, nat_tests, c.is_empty.ensures, c.if-is_empty.true) in
+    let empty : length (pairs_in c.args.entries.now) ≡ 0 =
+    none_listed c.args.entries.now (grind (arith, nat_tests, c.is_empty.ensures, c.if-is_empty.true)) in
     let same =
     no_change_leaves_the_table t (Load name given)
-    (none_change t name c.args.place given g.row.D c.args.objects.now reaches none empty) in
+    (none_change t name c.args.place given g.row.D (pairs_in c.args.entries.now) reaches none empty) in
     unbegun_change old old t (Load name given) g.met.B.BlockDevice.only_now (none_asked old) sound
     (as_load t name c.args.place given reaches.good reaches.finds ∙ none) refl same
+
+pub returns-then-is_empty-clause-tree : goal.returns-then-is_empty-clause-tree
+returns-then-is_empty-clause-tree g c = λ t name given sound reaches changed.
+    let none = c.in_default.ensures.allowed t name given sound reaches in
+    let empty : length (pairs_in c.args.entries.now) ≡ 0 =
+    none_listed c.args.entries.now (grind (arith, nat_tests, c.is_empty.ensures, c.if-is_empty.true)) in
+    absurd (let no = sym (none_change t name c.args.place given g.row.D (pairs_in c.args.entries.now) reaches
+    none empty) ∙ changed in cc)
 
 pub returns-clause-keeps : goal.returns-clause-keeps
 returns-clause-keeps g c =
@@ -58,13 +75,13 @@ returns-clause-change g c = λ t name given sound reaches.
     let old = c.args.self.now in
     let new = c.fill.new.self in
     let none = c.in_default.ensures.allowed t name given sound reaches in
-    let some : 0 < length c.args.objects.now =
-    grind (arith, nat_tests, c.is_empty.ensures, c.if-is_empty.false) in
+    let some : 0 < length (pairs_in c.args.entries.now) =
+    some_listed c.args.entries.now (grind (arith, nat_tests, c.is_empty.ensures, c.if-is_empty.false)) in
     let grows =
     a_change_makes_another_table t (Load name given)
-    (some_change t name c.args.place given g.row.D c.args.objects.now reaches none some) in
-    let empty = had_none t name c.args.place given g.row.D c.args.objects.now reaches none in
-    let same = made_of t name c.args.place given g.row.D c.args.objects.now reaches none in
+    (some_change t name c.args.place given g.row.D (pairs_in c.args.entries.now) reaches none some) in
+    let empty = had_none t name c.args.place given g.row.D (pairs_in c.args.entries.now) reaches none in
+    let same = made_of t name c.args.place given g.row.D (pairs_in c.args.entries.now) reaches none in
     let all = (with_objects (layer_at t name) given).objects in
     begun_change old old new (none_asked old) c.fill.result c.fill.ensures.begins c.change_of.result
     c.change_of.ensures t (Load name given) grows g.met.B.BlockDevice.only_now sound
@@ -75,8 +92,8 @@ returns-clause-change g c = λ t name given sound reaches.
 pub returns-clause-tree : goal.returns-clause-tree
 returns-clause-tree g c = λ t name given sound reaches changed.
     let none = c.in_default.ensures.allowed t name given sound reaches in
-    let empty = had_none t name c.args.place given g.row.D c.args.objects.now reaches none in
-    let same = made_of t name c.args.place given g.row.D c.args.objects.now reaches none in
+    let empty = had_none t name c.args.place given g.row.D (pairs_in c.args.entries.now) reaches none in
+    let same = made_of t name c.args.place given g.row.D (pairs_in c.args.entries.now) reaches none in
     made_so _ c.fill.result c.change_of.result c.change_of.ensures
     (c.fill.ensures.tree t name (with_objects (layer_at t name) given).objects sound reaches.finds
     reaches.axes empty same)
@@ -84,7 +101,7 @@ returns-clause-tree g c = λ t name given sound reaches changed.
 pub returns-clause-same : goal.returns-clause-same
 returns-clause-same g c = λ t name given sound reaches unchanged.
     let none = c.in_default.ensures.allowed t name given sound reaches in
-    let some : 0 < length c.args.objects.now =
-    grind (arith, nat_tests, c.is_empty.ensures, c.if-is_empty.false) in
-    absurd (let no = sym (some_change t name c.args.place given g.row.D c.args.objects.now reaches none some)
+    let some : 0 < length (pairs_in c.args.entries.now) =
+    some_listed c.args.entries.now (grind (arith, nat_tests, c.is_empty.ensures, c.if-is_empty.false)) in
+    absurd (let no = sym (some_change t name c.args.place given g.row.D (pairs_in c.args.entries.now) reaches none some)
     ∙ unchanged in cc)
