@@ -10,6 +10,7 @@ here=$(cd "$(dirname "$0")" && pwd)
 work=$(mktemp -d)
 trap 'rm -rf "$work"' EXIT
 "$here/../rstore" </dev/null # proves and builds the program where needed
+program=$here/../crates/rstore/out/rstore
 [ $# -gt 0 ] || set -- 1000000
 
 # lines BOXES: a layer, and so many boxes to load.
@@ -28,12 +29,21 @@ lines() {
 most() {
     lines "$1" >"$work/lines"
     rm -f "$work"/store*
-    python3 - "$work/lines" "$here/../crates/rstore/out/rstore" --create --cache 64 "$work/store" <<'PYTHON'
-import resource, subprocess, sys
-with open(sys.argv[1]) as lines:
-    subprocess.run(sys.argv[2:], stdin=lines, stdout=subprocess.DEVNULL, check=True)
+    python3 - "$work/lines" "$program" --create --cache 64 "$work/store" <<'PYTHON'
+import re, resource, subprocess, sys
+program = subprocess.Popen(sys.argv[2:], stdin=subprocess.PIPE, stdout=subprocess.PIPE)
+with open(sys.argv[1], "rb") as lines:
+    while piece := lines.read(1 << 20):
+        program.stdin.write(piece)
+program.stdin.flush()
+if [program.stdout.readline() for _ in range(2)] != [b"ok\n", b"ok\n"]:
+    sys.exit("load.sh: the load was refused")
+# What wait4 tells counts what Python held before it became the program.
+with open(f"/proc/{program.pid}/status") as status:
+    most = re.search(r"VmHWM:\s*(\d+) kB", status.read())[1]
+program.communicate()
 used = resource.getrusage(resource.RUSAGE_CHILDREN)
-print(used.ru_maxrss, used.ru_utime + used.ru_stime)
+print(most, used.ru_utime + used.ru_stime)
 PYTHON
 }
 

@@ -1,11 +1,13 @@
 -- The least number that stands twice in a list.
 use Rattle.std.proofs.Common.{◌≡◌, ◌∙◌, ◌⊎◌, inl, inr, ⊎_elim, ℕ, zero, suc, ◌+◌, ◌-◌, ◌<◌, ◌≤◌, Bool, true}
-use Rattle.std.proofs.Common.{false, cond, eqb, leb, List, [], ◌∷◌, length, get_or, Option, Some, None, refl}
+use Rattle.std.proofs.Common.{false, cond, eqb, leb, List, [], ◌∷◌, length, get_or, set, Option, Some, None, refl}
 use Rattle.std.proofs.Common.{sym, ap, subst, arith}
 use Rattle.std.specs.Prelude.{IsPermutation, filter, min}
 use Rattle.std.specs.List.{fold, reduce}
 use Rattle.std.proofs.lemmas.Bool.Decides.{nat_tests}
 use Rattle.std.proofs.lemmas.Bool.{cases_eq}
+use Rattle.std.proofs.lemmas.Grind.{get_or-set_at}
+use Rattle.std.proofs.lemmas.List.{get_or-set_other}
 use Rattle.std.proofs.lemmas.List.Sorted.{sum_by-IsPermutation}
 use Rattle.std.proofs.lemmas.List.Sums.{sum_by-cons}
 use Rattle.plain_table.specs.Loads.{is_repeated, least_repeated}
@@ -130,6 +132,44 @@ reordered ids sorted (Some r) moved least = (
   λ q more. least.1 q (omega (arith, more, sum_by-IsPermutation (λ x. one_if (eqb x q)) ids sorted moved)),
 )
 
+-- ---- marks
+
+-- a mark for each of the first numbers, as far as it is from the least
+abbrev pub Marked : List ℕ → ℕ → List Bool → ℕ → Type 0
+Marked ids least marks place = (j : ℕ) → j < place → get_or marks (get_or ids j 0 - least) false ≡ true
+
+-- no two of the first numbers are the same
+abbrev pub Apart : List ℕ → ℕ → Type 0
+Apart ids place = (i j : ℕ) → i < j → j < place → get_or ids i 0 ≡ get_or ids j 0 → ⊥
+
+pub marked_more : (ids : List ℕ) (least : ℕ) (marks : List Bool) (place at : ℕ)
+    → at ≡ get_or ids place 0 - least → at < length marks → Marked ids least marks place
+    → Marked ids least (set marks at true) (place + 1)
+marked_more ids least marks place at is within marked j below = ⊎_elim
+    (λ (last : place ≤ j). let here : j ≡ place = omega (arith, last, below) in
+    get_or-set_at marks at (get_or ids j 0 - least) true false
+    (ap (λ (k : ℕ). get_or ids k 0 - least) here ∙ sym is) within)
+    (λ (before : j < place). ⊎_elim
+    (λ (same : get_or ids j 0 - least ≡ at). get_or-set_at marks at (get_or ids j 0 - least) true false same
+    within)
+    (λ (other : ¬ (get_or ids j 0 - least ≡ at)).
+    get_or-set_other marks at (get_or ids j 0 - least) true false other ∙ marked j before)
+    (cases_eq (get_or ids j 0 - least) at))
+    (le_or_lt place j)
+
+-- one that has no mark is another
+pub apart_more : (ids : List ℕ) (least : ℕ) (marks : List Bool) (place at : ℕ)
+    → at ≡ get_or ids place 0 - least → get_or marks at false ≡ false → Marked ids least marks place
+    → Apart ids place → Apart ids (place + 1)
+apart_more ids least marks place at is unmarked marked apart i j lt below same = ⊎_elim
+    (λ (last : place ≤ j). let here : j ≡ place = omega (arith, last, below) in
+    let there : get_or ids i 0 - least ≡ at =
+    ap (λ (n : ℕ). n - least) (same ∙ ap (λ (k : ℕ). get_or ids k 0) here) ∙ sym is in
+    let no = sym (marked i (omega (arith, lt, here))) ∙ ap (λ (k : ℕ). get_or marks k false) there ∙ unmarked in
+    absurd (cc))
+    (λ (before : j < place). apart i j lt before same)
+    (le_or_lt place j)
+
 -- ---- lists that ascend
 
 nowhere : (xs : List ℕ) (q : ℕ) → ((j : ℕ) → j < length xs → get_or xs j 0 ≡ q → ⊥) → times_in q xs ≡ 0
@@ -184,6 +224,10 @@ in_two_places (x ∷ xs) (suc i) (suc j) lt within same =
       times_more (get_or xs j 0) x xs,
       in_two_places xs i j (omega (arith, lt)) (omega (arith, within)) same,
     )
+
+-- where none are the same, none stands twice
+pub none_apart : (ids : List ℕ) → Apart ids (length ids) → IsLeastTwice ids None
+none_apart ids apart = λ q. in_one_place ids q (λ i j lt within a b. apart i j lt within (a ∙ sym b))
 
 -- the items below a place rise
 abbrev pub Rise : List ℕ → ℕ → Type 0

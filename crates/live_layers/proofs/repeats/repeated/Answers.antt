@@ -1,8 +1,9 @@
 -- The identifiers in order are the same as often.
-use Rattle.std.proofs.Common.{◌≡◌, ◌∙◌, ℕ, List, sym, subst}
+use Rattle.std.proofs.Common.{◌≡◌, ◌∙◌, ℕ, List, None, ap, map, sym, subst}
 use Rattle.std.specs.List.Sorted.{IsNonDecreasing}
 use Rattle.std.proofs.lemmas.List.Sorted.{IsNonDecreasingBy-from_sort}
 use Rattle.plain_table.specs.Loads.{least_repeated}
+use Rattle.tree_node.specs.declared.node.Entry.{Entry}
 use Rattle.live_layers.specs.Loading.{IsLeastTwice}
 use Rattle.live_layers.proofs.LoadLemmas.{ids_listed}
 use Rattle.live_layers.proofs.RepeatLemmas.{least_is, reordered}
@@ -24,3 +25,9 @@ returns g c =
     (least_is ids c.first_twice.result
     (reordered ids c.sort_unstable.new.self.items c.first_twice.result
     c.sort_unstable.ensures.permutation least))
+
+pub returns-then-branch : goal.returns-then-branch
+returns-then-branch g c =
+    let ids : List ℕ = map (λ (e : Entry g.row.D). e.reference) c.args.entries.now in
+    least_is ids None (c.in_ok-are_apart.ensures c.if-branch.true)
+    ∙ ap least_repeated (ids_listed c.args.entries.now)
