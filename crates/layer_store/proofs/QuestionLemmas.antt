@@ -22,9 +22,8 @@ use Rattle.store_law.specs.Sessions.{SessionState}
 use Rattle.store_law.specs.States.{StoreState}
 use Rattle.store_law.specs.States.StoreState.{Alive, Dead}
 use Rattle.store_law.specs.Stops.{Stops, after_command}
-use Rattle.layer_store.specs.Checked.{Standing}
 use Rattle.layer_store.specs.Commands.{Answers, OnlyAsks, TakesReply, TakesStep}
-use Rattle.layer_store.specs.Representation.{IsInState, KeepsStore, Represents, StandsAs, StopsLeave}
+use Rattle.layer_store.specs.Representation.{IsInState, KeepsStore, Represents, StopsLeave}
 use Rattle.layer_store.specs.Representation.{cache_in, device_in}
 use Rattle.layer_store.specs.declared.store.Store.{Store}
 use Rattle.layer_store.proofs.ChangeLemmas.{kept_spelled}

@@ -45,7 +45,7 @@ impl<D: BlockDevice, A: Allocator + Copy> Store<D, A> {
     }
 
     /// Does as [`Store::load`] does, and gives the list back as soon as the store has its own: beside the
-    /// pages a load then takes at most 72 bytes an object of two axes, and 88 of three.
+    /// pages that are held a load then takes some 72 bytes an object of two axes, and 88 of three.
     pub fn load_owned(
         &mut self,
         layer: &[u8],

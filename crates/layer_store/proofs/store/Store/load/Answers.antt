@@ -1,5 +1,5 @@
 -- The objects are copied or there is no memory for them, and the copy is loaded.
-use Rattle.std.proofs.Common.{List, ℕ, refl, subst}
+use Rattle.std.proofs.Common.{refl, subst}
 use Rattle.std.specs.Prelude.{OnOk, true, false, ◌≡◌, map}
 use Rattle.live_layers.specs.Keeping.{ChangesTree}
 use Rattle.live_layers.specs.Rules.{HasFilled}

@@ -1,5 +1,5 @@
 -- The entries have the boxes that are given, or one of them is why the load is refused.
-use Rattle.std.proofs.Common.{◌≡◌, ◌∙◌, ◌⊎◌, List, ℕ, None, Some, inl, inr, map, ap, sym, subst}
+use Rattle.std.proofs.Common.{◌≡◌, ◌∙◌, ◌⊎◌, List, ℕ, None, Some, map, ap, sym, subst}
 use Rattle.std.specs.Prelude.{OnOk}
 use Rattle.box_math.specs.Objects.{Object}
 use Rattle.layer_pages.specs.Changes.{pairs_in}
