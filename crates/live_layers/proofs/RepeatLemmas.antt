@@ -1,7 +1,7 @@
 -- The least number that stands twice in a list.
 use Rattle.std.proofs.Common.{◌≡◌, ◌∙◌, ◌⊎◌, inl, inr, ⊎_elim, ℕ, zero, suc, ◌+◌, ◌-◌, ◌<◌, ◌≤◌, Bool, true}
-use Rattle.std.proofs.Common.{false, cond, eqb, leb, List, [], ◌∷◌, length, get_or, set, Option, Some, None, refl}
-use Rattle.std.proofs.Common.{sym, ap, subst, arith}
+use Rattle.std.proofs.Common.{false, cond, eqb, leb, List, [], ◌∷◌, length, get_or, set, Option, Some, None}
+use Rattle.std.proofs.Common.{refl, sym, ap, subst, arith}
 use Rattle.std.specs.Prelude.{IsPermutation, filter, min}
 use Rattle.std.specs.List.{fold, reduce}
 use Rattle.std.proofs.lemmas.Bool.Decides.{nat_tests}

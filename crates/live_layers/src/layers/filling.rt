@@ -38,7 +38,8 @@ impl<B: BlockDevice, A: Allocator + Copy> Layers<B, A> {
         ensures tree { (t : Table) (name : List ℕ) (all : Objects) → IsSound self.old t → Finds t name place →
             (layer_at t name).dims ≡ D → map.len (layer_at t name).objects ≡ 0 →
             IsPermutation (pairs_in entries.old) (map.entries all) →
-            OnOk result (ChangesTree self.old self.new name (HasFilled (layer_at t name) (pairs_in entries.old))) }
+            OnOk result (ChangesTree self.old self.new name
+            (HasFilled (layer_at t name) (pairs_in entries.old))) }
         ensures faults { (t : Table) (name : List ℕ) (all : Objects) → IsSound self.old t →
             Finds t name place →
             (layer_at t name).dims ≡ D → map.len (layer_at t name).objects ≡ 0 →

@@ -45,6 +45,7 @@ pub returns-in-Broken-clause-steps : goal.returns-in-Broken-clause-steps
 returns-in-Broken-clause-steps g c = λ before unread first layer one front means gathered reads.
     loads_broken _ refl before (g.R.Read.remaining c.args.input.now) (g.R.Read.remaining c.gather.new.input)
     (g.W.Write.contents c.args.output.now) (g.W.Write.contents c.gather.new.output)
-    unread (pending c.args.lines.now) (pending c.gather.new.lines) first layer c.args.gathered.announced c.in-Broken.end
+    unread (pending c.args.lines.now) (pending c.gather.new.lines) first layer c.args.gathered.announced
+    c.in-Broken.end
     (λ e. c.in-Broken.ensures.going (ap Broken e)) one means reads c.in-Broken.ensures.gathers
     c.in-Broken.ensures.kept

@@ -1,5 +1,6 @@
 -- One identifier more, and all of them.
-use Rattle.std.proofs.Common.{◌≡◌, ◌∙◌, ◌-◌, ◌<◌, ℕ, Bool, List, false, get_or, length, map, ap, sym, subst, arith}
+use Rattle.std.proofs.Common.{◌≡◌, ◌∙◌, ◌-◌, ◌<◌, ℕ, Bool, List, false, get_or, length, map, ap, sym, subst}
+use Rattle.std.proofs.Common.{arith}
 use Rattle.std.proofs.lemmas.List.{get_or-map, length-map}
 use Rattle.tree_node.specs.declared.node.Entry.{Entry}
 use Rattle.live_layers.proofs.RepeatLemmas.{Apart, apart_more, marked_more, none_apart}

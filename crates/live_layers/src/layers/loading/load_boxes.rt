@@ -36,7 +36,8 @@ impl<B: BlockDevice, A: Allocator + Copy> Layers<B, A> {
             IsChange self.old self.new t (Load name given) result }
         ensures tree { (t : Table) (name : List ℕ) (given : GivenObjects) → IsSound self.old t →
             ReachesObjects t name place given D (pairs_in entries.old) → changes t (Load name given) ≡ true →
-            OnOk result (ChangesTree self.old self.new name (HasFilled (layer_at t name) (pairs_in entries.old))) }
+            OnOk result (ChangesTree self.old self.new name
+            (HasFilled (layer_at t name) (pairs_in entries.old))) }
         ensures same { (t : Table) (name : List ℕ) (given : GivenObjects) → IsSound self.old t →
             ReachesObjects t name place given D (pairs_in entries.old) → changes t (Load name given) ≡ false →
             KeepsPagesAndRecords self.old self.new }

@@ -29,7 +29,14 @@ returns-then-entries-saturating_sub-clause-allowed g c = λ t name given sound r
     let once : None ≡ c.in_ok-id.field-0 = sym c.in_default.is in
     inl (too_many_given t name c.args.place given g.row.D (pairs_in c.args.entries.now) reaches
     (omega (arith, many, c.if-count_at-gt0.false)) (once ∙ c.in_ok-id.ensures)
-    (omega (arith, as_many_listed c.args.entries.now, c.saturating_sub.ensures, c.if-entries-saturating_sub.true, sound.counted, sound.within)))
+    (omega (
+      arith,
+      as_many_listed c.args.entries.now,
+      c.saturating_sub.ensures,
+      c.if-entries-saturating_sub.true,
+      sound.counted,
+      sound.within,
+    )))
 
 pub returns-clause-allowed : goal.returns-clause-allowed
 returns-clause-allowed g c = λ t name given sound reaches.
@@ -39,4 +46,11 @@ returns-clause-allowed g c = λ t name given sound reaches.
     let once : None ≡ c.in_ok-id.field-0 = sym c.in_default.is in
     may_be_given t name c.args.place given g.row.D (pairs_in c.args.entries.now) reaches
     (omega (arith, many, c.if-count_at-gt0.false)) (once ∙ c.in_ok-id.ensures)
-    (omega (arith, as_many_listed c.args.entries.now, c.saturating_sub.ensures, c.if-entries-saturating_sub.false, sound.counted, sound.within))
+    (omega (
+      arith,
+      as_many_listed c.args.entries.now,
+      c.saturating_sub.ensures,
+      c.if-entries-saturating_sub.false,
+      sound.counted,
+      sound.within,
+    ))

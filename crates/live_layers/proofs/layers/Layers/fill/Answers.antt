@@ -57,8 +57,9 @@ returns-clause-filled g c = λ t name all sound finds dims none same.
     let l = (reading kept t name c.args.place before finds).pages in
     let empty_there = stands_empty kept t name c.args.place before finds located by g.row.D dims none in
     let became = c.in-Ok.ensures.loaded before.map l located.fanout.most all empty_there same in
-    sound_filled kept t name c.args.place before finds located by g.row.D dims none (pairs_in c.args.entries.now)
-    (length c.args.entries.now) (as_many_listed c.args.entries.now) all same c.load.new.cache c.in-Ok.root became _ c.note.ensures.cache
+    sound_filled kept t name c.args.place before finds located by g.row.D dims none
+    (pairs_in c.args.entries.now) (length c.args.entries.now) (as_many_listed c.args.entries.now) all same
+    c.load.new.cache c.in-Ok.root became _ c.note.ensures.cache
     c.in-Ok.ensures.root c.in-Ok.ensures.changes.next
     (c.in-Ok.ensures.changes.version before.map.honest)
     (omega (arith, c.requires.room, c.begin.ensures.count)) c.note.ensures.records
@@ -76,8 +77,9 @@ returns-clause-tree g c = λ t name all sound finds dims none same.
     let became = c.in-Ok.ensures.loaded before.map l located.fanout.most all empty_there same in
     changes_before c.args.self.now kept _ name (HasFilled (layer_at t name) (pairs_in c.args.entries.now))
     (c.begin.ensures.keeps.map.pages_stay sound.map.honest) c.begin.ensures.keeps.records
-    (tree_filled kept t name c.args.place before finds located by g.row.D dims none (pairs_in c.args.entries.now)
-    (length c.args.entries.now) (as_many_listed c.args.entries.now) all same c.load.new.cache c.in-Ok.root became _ c.note.ensures.cache
+    (tree_filled kept t name c.args.place before finds located by g.row.D dims none
+    (pairs_in c.args.entries.now) (length c.args.entries.now) (as_many_listed c.args.entries.now) all same
+    c.load.new.cache c.in-Ok.root became _ c.note.ensures.cache
     c.in-Ok.ensures.root c.in-Ok.ensures.changes.next
     (c.in-Ok.ensures.changes.version before.map.honest)
     (omega (arith, c.requires.room, c.begin.ensures.count)) c.note.ensures.records)

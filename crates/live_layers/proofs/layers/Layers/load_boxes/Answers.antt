@@ -103,5 +103,5 @@ returns-clause-same g c = λ t name given sound reaches unchanged.
     let none = c.in_default.ensures.allowed t name given sound reaches in
     let some : 0 < length (pairs_in c.args.entries.now) =
     some_listed c.args.entries.now (grind (arith, nat_tests, c.is_empty.ensures, c.if-is_empty.false)) in
-    absurd (let no = sym (some_change t name c.args.place given g.row.D (pairs_in c.args.entries.now) reaches none some)
-    ∙ unchanged in cc)
+    absurd (let no = sym (some_change t name c.args.place given g.row.D (pairs_in c.args.entries.now) reaches
+    none some) ∙ unchanged in cc)
