@@ -2,6 +2,7 @@
 pub mod Examples
 pub mod StopExamples
 mod MemoryExamples
+pub mod BlankLemmas
 pub mod Done
 pub mod Filling
 pub mod Keeping

@@ -1,8 +1,7 @@
 -- The log's two lists as one of writes.
 use Rattle.std.proofs.Common.{◌≡◌, ◌∙◌, ℕ, zero, suc, ◌+◌, ◌<◌, ◌≤◌, List, [], ◌∷◌, ◌++◌, length, drop}
-use Rattle.std.proofs.Common.{get_or, set, Result, Ok, Err, OnOk, refl, sym, ap, add-one, arith}
+use Rattle.std.proofs.Common.{get_or, set, refl, sym, ap, add-one, arith}
 use Rattle.std.specs.List.{All}
-use Rattle.block_device.specs.declared.device.DeviceError.{DeviceError}
 use Rattle.block_device.specs.Device.{Blocks, block_at}
 use Rattle.block_device.specs.Logged.{Write, restored, writes_in}
 
@@ -36,14 +35,12 @@ there_at m (suc k) (n ∷ ns) (old ∷ olds) all same lt =
     there_at m k ns olds (λ j d less. all (suc j) d (omega (arith, less))) (omega (arith, same))
     (omega (arith, lt))
 
--- where a block and its number were added, a write was
-pub added : (r : Result (Unit {0}) DeviceError) (ns ns' : List ℕ) (olds olds' : Blocks) (n : ℕ)
-    (old : List ℕ) → length ns ≡ length olds
-    → OnOk r (olds' ≡ olds ++ old ∷ []) → OnOk r (ns' ≡ ns ++ n ∷ [])
-    → OnOk r (writes_in ns' olds' ≡ writes_in ns olds ++ record { at = n; old = old } ∷ [])
-added (Ok x) ns ns' olds olds' n old same block number = ap (λ (l : List ℕ). writes_in l olds') number
+-- where a number and its block were added, a write was
+pub added : (ns ns' : List ℕ) (olds olds' : Blocks) (n : ℕ) (old : List ℕ) → length ns ≡ length olds
+    → olds' ≡ olds ++ old ∷ [] → ns' ≡ ns ++ n ∷ []
+    → writes_in ns' olds' ≡ writes_in ns olds ++ record { at = n; old = old } ∷ []
+added ns ns' olds olds' n old same block number = ap (λ (l : List ℕ). writes_in l olds') number
     ∙ ap (writes_in (ns ++ n ∷ [])) block ∙ writes_in-push ns olds n old same
-added (Err e) ns ns' olds olds' n old same block number = tt
 
 -- one write back
 pub restored_next : (k : ℕ) (ns : List ℕ) (olds blocks now : Blocks) → length ns ≡ length olds

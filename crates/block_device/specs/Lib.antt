@@ -1,4 +1,5 @@
 -- Definitions, which clauses and ghost fields cite.
+pub mod Blank
 pub mod Device
 pub mod Fuse
 pub mod History

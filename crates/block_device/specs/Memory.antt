@@ -13,7 +13,7 @@ use Rattle.block_device.specs.Stop.{IsFilled}
 
 -- the blocks, as a read returns them
 abbrev pub shown_of : {X : Type 0} → MemoryDevice X → Blocks
-shown_of d = d.blocks.items
+shown_of d = d.blocks
 
 -- its writes that answered Ok and its syncs, the newest first
 abbrev pub history_of : {X : Type 0} → MemoryDevice X → List Event

@@ -2,7 +2,7 @@
 //! on demand.
 #![tactic(auto)]
 
-mod append;
+mod block_list;
 mod device;
 mod fuse;
 pub mod laws;

@@ -4,9 +4,9 @@ ghost use Rattle.std.specs.List.{All};
 ghost use Rattle.block_device.specs.Logged.{Write, restored, writes_in};
 
 use crate::DeviceError;
-use crate::append::append;
 use std::alloc::Allocator;
 use std::marker::Model;
+use std::slice::from_ref;
 
 /// The first write since the last sync of each block that was there then, with what the block held.
 #[derive(Drop)]
@@ -40,7 +40,10 @@ impl<A: Allocator + Copy> Log<A> {
         ensures refused { OnErr result (self.new ≡ self.old) }
         ensures memory { IsErrOf result DeviceError.Failed → ⊥ }
     {
-        append(&mut self.blocks, old, &mut self.numbers, i)
+        self.numbers.reserve(1)?;
+        self.blocks.extend_from_slice(from_ref(old))?;
+        self.numbers.push_reserved(i);
+        Ok(())
     }
 
     /// Forgets all writes.

@@ -7,6 +7,7 @@ ghost use Rattle.block_device.specs.KeptFact.{kept_is_fact};
 mod calls;
 mod stop;
 
+use crate::block_list::BlockList;
 use crate::log::Log;
 use crate::past::Past;
 use std::alloc::{Allocator, Global};
@@ -15,10 +16,11 @@ use std::alloc::{Allocator, Global};
 ///
 /// Reads and syncs take no memory. A write takes some where it appends, and where it is the first of its
 /// block since the last sync: what the block held then is kept, so there is room for at most twice the
-/// blocks.
+/// blocks. Zeros behind all other blocks take no memory of the system's before they are written over, though their
+/// room is taken.
 #[derive(Drop)]
 pub struct MemoryDevice<A: Allocator + Copy = Global> {
-    blocks: Vec<[u8; 4096], A>,
+    blocks: BlockList<A>,
     // whether each block was written since the last sync
     marks: Vec<bool, A>,
     // the first write since then of each block that was there
@@ -28,8 +30,8 @@ pub struct MemoryDevice<A: Allocator + Copy = Global> {
     // how many writes answered Ok
     writes: u64,
     past: Past,
-    ghost kept: { IsKept blocks.items marks.items log synced (history past.notes) } by { kept_is_fact
-        blocks.items
+    ghost kept: { IsKept blocks marks.items log synced (history past.notes) } by { kept_is_fact
+        blocks
         marks.items log synced (history past.notes) },
-    ghost few: { length blocks.items ≤ 2 ^ 31 },
+    ghost few: { length blocks ≤ 2 ^ 31 },
 }

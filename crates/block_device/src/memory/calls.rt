@@ -9,7 +9,7 @@ ghost use Rattle.block_device.specs.Outcomes.{shown_left, no_longer_left, now_si
 ghost use Rattle.block_device.specs.Outcomes.{since_earlier_left};
 ghost use Rattle.block_device.specs.Outcomes.{none_fits};
 
-use crate::append::append;
+use crate::block_list::BlockList;
 use crate::log::Log;
 use crate::memory::MemoryDevice;
 use crate::past::Past;
@@ -25,7 +25,7 @@ impl<A: Allocator + Copy> MemoryDevice<A> {
         ensures honest { ⟦<MemoryDevice<A> as BlockDevice>⟧.honest result }
     {
         MemoryDevice {
-            blocks: Vec::new(alloc),
+            blocks: BlockList::new(alloc),
             marks: Vec::new(alloc),
             log: Log::new(alloc),
             synced: 0,
@@ -66,22 +66,24 @@ impl<A: Allocator + Copy> BlockDevice for MemoryDevice<A> {
     }
 
     fn read(&mut self, i: u32, into: &mut [u8; 4096]) -> Result<(), DeviceError> {
-        *into = self.blocks[i as usize];
+        *into = *self.blocks.block(i as usize);
         Ok(())
     }
 
     fn write(&mut self, i: u32, bytes: &[u8; 4096]) -> Result<(), DeviceError> {
         let at = i as usize;
         if at >= self.blocks.len() {
-            append(&mut self.blocks, bytes, &mut self.marks, true)?;
+            self.marks.reserve(1)?;
+            self.blocks.push(bytes)?;
+            self.marks.push_reserved(true);
             self.past.appends(i);
             self.writes = self.writes.saturating_add(1);
             return Ok(());
         }
-        let old = &self.blocks[at];
+        let old = self.blocks.block(at);
         keep(&mut self.log, &mut self.marks, i, old)?;
         self.past.changes(i, old);
-        self.blocks[at] = *bytes;
+        self.blocks.set(at, bytes);
         self.writes = self.writes.saturating_add(1);
         Ok(())
     }

@@ -5,6 +5,7 @@ ghost use Rattle.block_device.specs.Device.{Only};
 ghost use Rattle.block_device.specs.Kept.{FillsMarked, IsLeftFrom};
 ghost use Rattle.block_device.specs.Memory.{shown_of, may_leave_of, IsLeftBy};
 
+use crate::block_list::BlockList;
 use crate::log::Log;
 use crate::memory::MemoryDevice;
 use crate::past::Past;
@@ -22,19 +23,20 @@ impl<A: Allocator + Copy> MemoryDevice<A> {
         ensures honest { ⟦<MemoryDevice<A> as BlockDevice>⟧.honest result }
     {
         let MemoryDevice {
-            mut blocks,
+            blocks,
             mut marks,
             mut log,
             synced,
             ..
         } = self;
+        let mut blocks = blocks.into_written();
         leave(left, &mut blocks, &marks, &log, synced);
         marks.truncate(blocks.len());
         marks.fill(false);
         log.clear();
         MemoryDevice {
             synced: blocks.len(),
-            blocks,
+            blocks: BlockList::of(blocks),
             marks,
             log,
             writes: 0,

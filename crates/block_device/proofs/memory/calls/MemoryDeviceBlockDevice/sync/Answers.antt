@@ -8,13 +8,13 @@ use Rattle.block_device.proofs.memory.calls.MemoryDeviceBlockDevice.sync.Goals a
 
 pub returns-clause-durable : goal.returns-clause-durable
 returns-clause-durable g c = λ _ d now.
-    let bs = c.args.self.now.blocks.items in
+    let bs = c.args.self.now.blocks in
     only_shown bs (history c.args.self.now.past.notes) d
     (subst (λ (l : List Event). MayLeave bs l d) (ap history c.syncs.ensures) now)
 
 pub returns-clause-stops : goal.returns-clause-stops
 returns-clause-stops g c = λ _ d now.
-    let bs = c.args.self.now.blocks.items in
+    let bs = c.args.self.now.blocks in
     let es = history c.args.self.now.past.notes in
     let same : d ≡ bs =
     only_shown bs es d (subst (λ (l : List Event). MayLeave bs l d) (ap history c.syncs.ensures) now) in

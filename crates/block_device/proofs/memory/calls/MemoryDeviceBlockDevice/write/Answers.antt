@@ -1,8 +1,6 @@
 -- A write of one block more, and of one that is there.
-use Rattle.std.proofs.Common.{◌≡◌, ◌∙◌, ◌<◌, [], false, true, get_or, length, set, ap, arith, rules}
-use Rattle.std.proofs.Common.{length-set}
-use Rattle.std.proofs.lemmas.List.{get_or_read}
-use Rattle.block_device.specs.Device.{block_at}
+use Rattle.std.proofs.Common.{◌≡◌, ◌∙◌, ◌<◌, ◌++◌, ◌∷◌, [], Bool, List, false, true, get_or, length, ap, arith}
+use Rattle.std.proofs.Common.{length-set, rules}
 use Rattle.block_device.specs.History.{history, unsynced}
 use Rattle.block_device.proofs.Done.{answers_ok}
 use Rattle.block_device.proofs.Numbers.{is_in_from}
@@ -13,23 +11,27 @@ use Rattle.block_device.proofs.memory.calls.MemoryDeviceBlockDevice.write.Goals.
 use Rattle.block_device.proofs.memory.calls.MemoryDeviceBlockDevice.write.Goals.{After-saturating_add-self-2}
 
 added : (g : given.Over) (c : goal.After-saturating_add-self g)
-    → Adds c.args.self.now.blocks.items c.append.new.blocks.items (history c.args.self.now.past.notes)
+    → Adds c.args.self.now.blocks c.push.new.self (history c.args.self.now.past.notes)
     (history c.appends.new.self.notes) c.args.i c.args.bytes.now
 added g c =
     let old = c.args.self.now in
-    appends old.blocks.items c.append.new.blocks.items old.marks.items c.append.new.beside.items old.log
+    let marked_more : c.push_reserved.new.self.items ≡ old.marks.items ++ true ∷ [] =
+    c.push_reserved.ensures.items ∙ ap (λ (ms : List Bool). ms ++ true ∷ []) c.reserve.ensures.items in
+    appends old.blocks c.push.new.self old.marks.items c.push_reserved.new.self.items old.log
     old.synced (history old.past.notes) (history c.appends.new.self.notes) c.args.i c.args.bytes.now
     old.kept (record { size = c.told-bytes; bytes_fit = c.fits-bytes }) (omega arith)
-    c.in_ok-append.ensures.blocks c.in_ok-append.ensures.beside (ap history c.appends.ensures)
+    c.in_ok-push.ensures.pushed marked_more (ap history c.appends.ensures)
 
 pub invariant_of-self-then-at-len-clause-kept : goal.invariant_of-self-then-at-len-clause-kept
 invariant_of-self-then-at-len-clause-kept g c =
     let old = c.args.self.now in
-    appended_kept old.blocks.items c.append.new.blocks.items old.marks.items c.append.new.beside.items
+    let marked_more : c.push_reserved.new.self.items ≡ old.marks.items ++ true ∷ [] =
+    c.push_reserved.ensures.items ∙ ap (λ (ms : List Bool). ms ++ true ∷ []) c.reserve.ensures.items in
+    appended_kept old.blocks c.push.new.self old.marks.items c.push_reserved.new.self.items
     old.log old.synced (history old.past.notes) (history c.appends.new.self.notes) c.args.i
     c.args.bytes.now
     old.kept (record { size = c.told-bytes; bytes_fit = c.fits-bytes }) (omega arith)
-    c.in_ok-append.ensures.blocks c.in_ok-append.ensures.beside (ap history c.appends.ensures)
+    c.in_ok-push.ensures.pushed marked_more (ap history c.appends.ensures)
 
 pub returns-then-at-len-clause-written : goal.returns-then-at-len-clause-written
 returns-then-at-len-clause-written g c =
@@ -46,39 +48,38 @@ returns-then-at-len-clause-gives g c =
     c.saturating_add-self.ensures
 
 there : (g : given.Over) (c : goal.After-saturating_add-self-2 g)
-    → c.args.i < length c.args.self.now.blocks.items
+    → c.args.i < length c.args.self.now.blocks
 there g c = search rules
 
-read_is : (g : given.Over) (c : goal.After-saturating_add-self-2 g)
-    → c.index-old.result.now ≡ block_at c.args.i c.args.self.now.blocks.items
-read_is g c =
-    get_or_read c.args.self.now.blocks.items c.args.i c.index-old.result.now (there g c) c.index-old.ensures
-    []
-
 changed_so : (g : given.Over) (c : goal.After-saturating_add-self-2 g)
-    → Adds c.args.self.now.blocks.items (set c.args.self.now.blocks.items c.args.i c.args.bytes.now)
+    → Adds c.args.self.now.blocks c.set.new.self
     (history c.args.self.now.past.notes) (history c.changes.new.self.notes) c.args.i c.args.bytes.now
 changed_so g c =
     let old = c.args.self.now in
-    changes old.blocks.items old.marks.items c.keep.new.marks.items old.log c.keep.new.log old.synced
-    (history old.past.notes) (history c.changes.new.self.notes) c.args.i c.index-old.result.now
+    rw c.set.ensures (changes old.blocks old.marks.items c.keep.new.marks.items old.log c.keep.new.log old.synced
+    (history old.past.notes) (history c.changes.new.self.notes) c.args.i c.block-old.result.now
     c.args.bytes.now
-    old.kept (there g c) (read_is g c) (record { size = c.told-bytes; bytes_fit = c.fits-bytes })
-    c.in_ok-keep.ensures.kept (ap history c.changes.ensures)
+    old.kept (there g c) c.block-old.ensures (record { size = c.told-bytes; bytes_fit = c.fits-bytes })
+    c.in_ok-keep.ensures.kept (ap history c.changes.ensures))
 
 pub invariant_of-self-2-clause-kept : goal.invariant_of-self-2-clause-kept
 invariant_of-self-2-clause-kept g c =
     let old = c.args.self.now in
     let at = (goal.at.invariant_of-self-2-clause-kept g c).After-saturating_add-self-2 in
-    changed old.blocks.items old.marks.items c.keep.new.marks.items old.log c.keep.new.log old.synced
-    (history old.past.notes) (history c.changes.new.self.notes) c.args.i c.index-old.result.now
+    rw c.set.ensures (changed old.blocks old.marks.items c.keep.new.marks.items old.log c.keep.new.log old.synced
+    (history old.past.notes) (history c.changes.new.self.notes) c.args.i c.block-old.result.now
     c.args.bytes.now
-    old.kept (there g at) (read_is g at) (record { size = c.told-bytes; bytes_fit = c.fits-bytes })
-    c.in_ok-keep.ensures.kept (ap history c.changes.ensures)
+    old.kept (there g at) c.block-old.ensures (record { size = c.told-bytes; bytes_fit = c.fits-bytes })
+    c.in_ok-keep.ensures.kept (ap history c.changes.ensures))
 
 pub invariant_of-self-2-clause-few : goal.invariant_of-self-2-clause-few
 invariant_of-self-2-clause-few g c =
-    omega (arith, length-set c.args.self.now.blocks.items c.args.i c.args.bytes.now, c.args.self.now.few)
+    omega (
+      arith,
+      ap length c.set.ensures,
+      length-set c.args.self.now.blocks c.args.i c.args.bytes.now,
+      c.args.self.now.few,
+    )
 
 pub returns-clause-written : goal.returns-clause-written
 returns-clause-written g c =
