@@ -1,6 +1,7 @@
 -- Objects added run after run.
 use Rattle.std.proofs.Common.{◌≡◌, ◌∙◌, ◌⊎◌, ℕ, zero, suc, ◌+◌, ◌/◌, ◌<◌, ◌≤◌, None, List, [], ◌∷◌, ◌++◌}
-use Rattle.std.proofs.Common.{length, take, drop, get_or, refl, sym, ap, subst, ⊎_elim, arith, length-drop}
+use Rattle.std.proofs.Common.{length, take, drop, get_or, refl, sym, ap, subst, ⊎_elim, inl, inr, arith}
+use Rattle.std.proofs.Common.{length-drop}
 use Rattle.box_math.specs.Objects.{Object}
 use Rattle.bucket_page.specs.Layout.{Entry}
 use Rattle.std.proofs.Math.Seq.{drop-cons, take-add}
@@ -89,6 +90,33 @@ next_rises es i j sorted later within = ⊎_elim
     (λ (past : length es ≤ j). omega
     (arith, next_is_low (drop i es), ap (λ (rest : List Entry). next_class rest) (drop_all j es past)))
     (cases_lt j (length es))
+
+-- where the first objects are taken, their first one is that of all, and so is one behind some of them
+pub first_of_taken : (most : ℕ) (es : List Entry) → 0 < most → first_class (take most es) ≡ first_class es
+first_of_taken zero es some = absurd (omega (arith, some))
+first_of_taken (suc n) [] some = refl
+first_of_taken (suc n) (e ∷ es) some = refl
+
+next_of_taken : (count most : ℕ) (es : List Entry) → count < most
+    → next_class (drop count (take most es)) ≡ next_class (drop count es)
+next_of_taken count zero es within = absurd (omega (arith, within))
+next_of_taken zero (suc m) [] within = refl
+next_of_taken zero (suc m) (e ∷ es) within = refl
+next_of_taken (suc n) (suc m) [] within = refl
+next_of_taken (suc n) (suc m) (e ∷ es) within = next_of_taken n m es (omega (arith, within))
+
+-- a run of objects that are taken is one of all, where a page has no room for so many
+pub whole_of_taken : (count most : ℕ) (es : List Entry) → 100 ≤ most → IsWholeRun (take most es) count
+    → IsWholeRun es count
+whole_of_taken count most es many whole = ⊎_elim
+    (λ (full : 100 ≤ count). inl full)
+    (λ (ends : ¬ (next_class (drop count (take most es)) ≡ first_class (take most es))). ⊎_elim
+    (λ (less : count < 100). inr (λ (same : next_class (drop count es) ≡ first_class es). ends
+    (next_of_taken count most es (omega (arith, less, many)) ∙ same
+    ∙ sym (first_of_taken most es (omega (arith, many))))))
+    (λ (full : 100 ≤ count). inl full)
+    (cases_lt count 100))
+    whole
 
 module _ {B A : Type 0} {m : _} where
   -- a run takes a page more only where it fills one, or is the last of its chain

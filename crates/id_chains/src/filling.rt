@@ -8,7 +8,7 @@ ghost use Rattle.page_file.specs.declared.fault.Fault.TheVariants as fault;
 ghost use Rattle.page_cache.specs.Cache.{Grows, IsHonest, IsPageMap, given, pages, touched_of};
 ghost use Rattle.page_cache.specs.Calls.{Changes};
 ghost use Rattle.node_page.specs.Faults.{IsNoDamage};
-ghost use Rattle.id_words.specs.Objects.{AreNew};
+ghost use Rattle.id_words.specs.Objects.{AreNew, pairs_in};
 ghost use Rattle.id_chains.specs.Changes.{Fills};
 ghost use Rattle.id_chains.specs.Table.{IdChains, IdChainsStand, class_of, objects_of};
 ghost use Rattle.id_chains.specs.Tidy.{KeepsTidy};
@@ -17,7 +17,8 @@ ghost use Rattle.id_chains.specs.Walks.{BeginsInTable};
 
 use crate::adding::add_run;
 use block_device::BlockDevice;
-use box_math::BBox;
+use id_words::first_objects;
+use node_page::Entry;
 use page_cache::PageCache;
 use page_file::Fault;
 use std::alloc::Allocator;
@@ -40,35 +41,36 @@ use std::alloc::Allocator;
 pub fn fill<const D: usize, B: BlockDevice, A: Allocator + Copy>(
     cache: &mut PageCache<B, A>,
     directory: u32,
-    objects: &[(u64, (BBox<D>, u32))],
+    entries: &[Entry<D>],
 ) -> Result<(), Fault>
     requires dims { IsDims D }
     ensures changes { Changes cache.old cache.new result }
     ensures sound { IsPageMap cache.old → (t : IdChains) → t.page ≡ directory
         → IdChainsStand D (pages cache.old) t
-        → AreNew (objects_of t) objects.now → IsPageMap cache.new }
+        → AreNew (objects_of t) (pairs_in entries.now) → IsPageMap cache.new }
     ensures tidy { IsPageMap cache.old → (t : IdChains) → t.page ≡ directory
         → IdChainsStand D (pages cache.old) t
-        → AreNew (objects_of t) objects.now
+        → AreNew (objects_of t) (pairs_in entries.now)
         → OnOk result (KeepsTidy D (pages cache.old) (pages cache.new)) }
     ensures filled { IsPageMap cache.old → (t : IdChains) → t.page ≡ directory
         → IdChainsStand D (pages cache.old) t
-        → AreNew (objects_of t) objects.now
-        → OnOk result (Fills D (pages cache.old) (pages cache.new) t objects.now) }
-    ensures grows { Grows (length objects.now) cache.old cache.new }
-    ensures grows_in_order { IsNonDecreasingBy (λ object. class_of object.0) objects.now
-        → Grows (length objects.now / 100 + 1000) cache.old cache.new }
+        → AreNew (objects_of t) (pairs_in entries.now)
+        → OnOk result (Fills D (pages cache.old) (pages cache.new) t (pairs_in entries.now)) }
+    ensures grows { Grows (length entries.now) cache.old cache.new }
+    ensures grows_in_order { IsNonDecreasingBy (λ object. class_of object.0) (pairs_in entries.now)
+        → Grows (length entries.now / 100 + 1000) cache.old cache.new }
     ensures faults { IsPageMap cache.old → (t : IdChains) → t.page ≡ directory
         → IdChainsStand D (pages cache.old) t
-        → AreNew (objects_of t) objects.now → IfErr result (IsNoDamage cache.new) }
+        → AreNew (objects_of t) (pairs_in entries.now) → IfErr result (IsNoDamage cache.new) }
     ensures damage { IsHonest cache.old → IsPageMap cache.old ⊎ (touched_of cache.new ≡ false)
         → IfErr result (λ f. (n : ℕ) → f ≡ fault.Damaged n
         → BeginsInTable D (given cache.old) directory n ⊎ MayBreakAt cache.old n) }
     ensures other_faults { IfErr result (λ f. IsNoDamage cache.new f ⊎ IsDamage f) }
 {
     let mut filled = 0;
-    while filled < objects.len() {
-        filled += add_run(cache, directory, &objects[filled..])?;
+    while filled < entries.len() {
+        let objects = first_objects(&entries[filled..]);
+        filled += add_run(cache, directory, &objects)?;
     }
     Ok(())
 }

@@ -11,21 +11,21 @@ ghost use Rattle.node_page.specs.Faults.{IsNoDamage};
 ghost use Rattle.std.specs.List.Sorted.{IsNonDecreasingBy};
 ghost use Rattle.id_chains.specs.Table.{class_of};
 ghost use Rattle.id_words.specs.Damage.{MayBreakAt};
-ghost use Rattle.id_words.specs.Objects.{AreNew};
+ghost use Rattle.id_words.specs.Objects.{AreNew, pairs_in};
 ghost use Rattle.id_table.specs.Changes.{AreInOrder, Fills, KeepsTidy, most_filled_pages};
 ghost use Rattle.id_table.specs.Checked.{MeetsInTable};
 ghost use Rattle.id_table.specs.Table.{IdTable, IdsStand, kind_of, objects_of, page_of};
 
 use crate::kind::{TableKind, kind_at};
 use block_device::BlockDevice;
-use box_math::BBox;
+use node_page::Entry;
 use page_cache::PageCache;
 use page_file::Fault;
 use std::alloc::Allocator;
 
-/// Adds objects to the table that begins at a page, none of which has an identifier that is there or that
-/// another of them has. Where they were added, they are left in the order that the table takes best: by
-/// identifier, or chain after chain.
+/// Adds the objects of these entries of leaves to the table that begins at a page, none of which has an
+/// identifier that is there or that another of them has. Where they were added, the entries are left in the
+/// order that the table takes best: by identifier, or chain after chain.
 ///
 /// With a sound map, where the pages stand for a table there, a refusal is `Memory` or `Device`, or `NoPages`
 /// where each page number is live; also after a refusal at most `most_filled_pages` of the objects that are
@@ -35,27 +35,27 @@ use std::alloc::Allocator;
 pub fn fill<const D: usize, B: BlockDevice, A: Allocator + Copy>(
     cache: &mut PageCache<B, A>,
     page: u32,
-    objects: &mut [(u64, (BBox<D>, u32))],
+    entries: &mut [Entry<D>],
 ) -> Result<(), Fault>
     requires dims { IsDims D }
     ensures changes { Changes cache.old cache.new result }
-    ensures same { IsPermutation objects.old objects.new }
+    ensures same { IsPermutation entries.old entries.new }
     ensures ordered { IsHonest cache.old → (t : IdTable) → page_of t ≡ page → IdsStand D (pages cache.old) t
-        → OnOk result (AreInOrder (kind_of t) objects.new) }
+        → OnOk result (AreInOrder (kind_of t) (pairs_in entries.new)) }
     ensures sound { IsPageMap cache.old → (t : IdTable) → page_of t ≡ page → IdsStand D (pages cache.old) t
-        → AreNew (objects_of t) objects.new → IsPageMap cache.new }
+        → AreNew (objects_of t) (pairs_in entries.new) → IsPageMap cache.new }
     ensures filled { IsPageMap cache.old → (t : IdTable) → page_of t ≡ page → IdsStand D (pages cache.old) t
-        → AreNew (objects_of t) objects.new
-        → OnOk result (Fills D (pages cache.old) (pages cache.new) t objects.new) }
+        → AreNew (objects_of t) (pairs_in entries.new)
+        → OnOk result (Fills D (pages cache.old) (pages cache.new) t (pairs_in entries.new)) }
     ensures tidy { IsPageMap cache.old → (t : IdTable) → page_of t ≡ page → IdsStand D (pages cache.old) t
-        → AreNew (objects_of t) objects.new
+        → AreNew (objects_of t) (pairs_in entries.new)
         → OnOk result (KeepsTidy D (kind_of t) (pages cache.old) (pages cache.new)) }
     ensures grows_few { IsPageMap cache.old → (t : IdTable) → page_of t ≡ page →
-        IdsStand D (pages cache.old) t → AreNew (objects_of t) objects.new
-        → Grows (most_filled_pages (map.len (objects_of t) + length objects.new)) cache.old cache.new }
-    ensures grows { Grows (7 * length objects.new) cache.old cache.new }
+        IdsStand D (pages cache.old) t → AreNew (objects_of t) (pairs_in entries.new)
+        → Grows (most_filled_pages (map.len (objects_of t) + length entries.new)) cache.old cache.new }
+    ensures grows { Grows (7 * length entries.new) cache.old cache.new }
     ensures faults { IsPageMap cache.old → (t : IdTable) → page_of t ≡ page → IdsStand D (pages cache.old) t
-        → AreNew (objects_of t) objects.new → IfErr result (IsNoDamage cache.new) }
+        → AreNew (objects_of t) (pairs_in entries.new) → IfErr result (IsNoDamage cache.new) }
     ensures damage { IsHonest cache.old → touched_of cache.new ≡ false
         → IfErr result (λ f. (n : ℕ) → f ≡ fault.Damaged n
         → MeetsInTable D (given cache.old) page n ⊎ MayBreakAt cache.old n) }
@@ -63,36 +63,36 @@ pub fn fill<const D: usize, B: BlockDevice, A: Allocator + Copy>(
 {
     match kind_at::<D, B, A>(cache, page)? {
         TableKind::Chains => {
-            sort_by_chain(objects);
-            id_chains::fill(cache, page, objects)
+            sort_by_chain(entries);
+            id_chains::fill(cache, page, entries)
         }
         TableKind::Tree => {
-            sort_by_identifier(objects);
-            id_tree::fill(cache, page, objects)
+            sort_by_identifier(entries);
+            id_tree::fill(cache, page, entries)
         }
     }
 }
 
 // Puts the objects of a chain in a row, so that each of its pages is then written once.
-fn sort_by_chain<const D: usize>(objects: &mut [(u64, (BBox<D>, u32))])
-    ensures same { IsPermutation objects.old objects.new }
-    ensures ordered { IsNonDecreasingBy (λ object. class_of object.0) objects.new }
+fn sort_by_chain<const D: usize>(entries: &mut [Entry<D>])
+    ensures same { IsPermutation entries.old entries.new }
+    ensures ordered { IsNonDecreasingBy (λ object. class_of object.0) (pairs_in entries.new) }
 {
-    objects.sort_unstable_by_key(
-        |object| -> u64
-            ensures { result ≡ object.entry.now.0 % 1000 }
-        { object.0 % 1000 },
+    entries.sort_unstable_by_key(
+        |entry| -> u64
+            ensures { result ≡ entry.entry.now.reference % 1000 }
+        { entry.reference % 1000 },
     );
 }
 
 // Puts the objects in the order of identifiers, so that they leave full leaves.
-fn sort_by_identifier<const D: usize>(objects: &mut [(u64, (BBox<D>, u32))])
-    ensures same { IsPermutation objects.old objects.new }
-    ensures ordered { IsNonDecreasingBy (λ object. object.0) objects.new }
+fn sort_by_identifier<const D: usize>(entries: &mut [Entry<D>])
+    ensures same { IsPermutation entries.old entries.new }
+    ensures ordered { IsNonDecreasingBy (λ object. object.0) (pairs_in entries.new) }
 {
-    objects.sort_unstable_by_key(
-        |object| -> u64
-            ensures { result ≡ object.entry.now.0 }
-        { object.0 },
+    entries.sort_unstable_by_key(
+        |entry| -> u64
+            ensures { result ≡ entry.entry.now.reference }
+        { entry.reference },
     );
 }

@@ -19,6 +19,7 @@ use Rattle.node_page.specs.Parts.{Moves}
 use Rattle.node_page.proofs.PartLemmas.{moves_from, moves_in_turn, staying_moves}
 use Rattle.id_words.proofs.ObjectLemmas.{found_is, occurs_here}
 use Rattle.id_words.specs.Objects.{AreNew, kept_in, times_in, with_all}
+use Rattle.id_words.proofs.EntryLemmas.{taken_of}
 use Rattle.node_page.specs.Standing.{PageMap}
 use Rattle.id_page.specs.Leaf.{most_objects}
 use Rattle.id_tree.specs.Changes.{Fills, Sets}
@@ -214,8 +215,9 @@ module _ {B A : Type 0} {m : _} where
       }
 
   pub fills_on : {dims root : ℕ} {old now : PageCache B A m} {objects : List Entry} {count : ℕ}
-      (so_far : Filling dims root old now objects count) (new : PageCache B A m) (more : ℕ)
-      (others : List Entry) → others ≡ drop count objects → count + more ≤ length objects
+      (so_far : Filling dims root old now objects count) (new : PageCache B A m) (more most : ℕ)
+      (others : List Entry) → others ≡ take most (drop count objects) → more ≤ length others
+      → count + more ≤ length objects
       → ChangesUntil now new None
       → (IsPageMap now → (t : IdTree) → t.page ≡ root → TreeStands dims (pages now) t
       → AreNew (objects_of t) others → IsPageMap new)
@@ -224,14 +226,17 @@ module _ {B A : Type 0} {m : _} where
       → (IsPageMap now → (t : IdTree) → t.page ≡ root → TreeStands dims (pages now) t
       → AreNew (objects_of t) others → Fills dims (pages now) (pages new) t (take more others))
       → Filling dims root old new objects (count + more)
-  fills_on {dims} {root} {old} {now} {objects} {count} so_far new more others is within changes sound tidy
-      fills =
+  fills_on {dims} {root} {old} {now} {objects} {count} so_far new more most others is few within changes sound
+      tidy fills =
       record {
         changes = changes_in_turn old now new None so_far.changes changes;
         left = λ sound_old t at stands fresh.
             let f = so_far.left sound_old t at stands fresh in
-            let rest = subst (AreNew (objects_of f.table)) (sym is) f.rest in
-            filled_on f new more (take more others) within (ap (take more) is)
+            let rest = subst (AreNew (objects_of f.table)) (sym is)
+            (new_taken (objects_of f.table) most (drop count objects) f.rest) in
+            filled_on f new more (take more others) within
+            (ap (take more) is
+            ∙ taken_of more most (drop count objects) (subst (λ (es : List Entry). more ≤ length es) is few))
             (sound f.map_is f.table (f.page ∙ at) f.stands rest)
             (tidy f.map_is f.table (f.page ∙ at) f.stands rest)
             (fills f.map_is f.table (f.page ∙ at) f.stands rest);

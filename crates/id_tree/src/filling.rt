@@ -9,7 +9,7 @@ ghost use Rattle.page_file.specs.declared.fault.Fault.TheVariants as fault;
 ghost use Rattle.page_cache.specs.Cache.{Grows, IsHonest, IsPageMap, given, pages, touched_of};
 ghost use Rattle.page_cache.specs.Calls.{Changes};
 ghost use Rattle.node_page.specs.Faults.{IsNoDamage};
-ghost use Rattle.id_words.specs.Objects.{AreNew};
+ghost use Rattle.id_words.specs.Objects.{AreNew, pairs_in};
 ghost use Rattle.id_words.specs.Damage.{MayBreakAt};
 ghost use Rattle.id_tree.specs.Changes.{Fills, most_added_pages};
 ghost use Rattle.id_tree.specs.Checked.{ComesInTree};
@@ -20,6 +20,8 @@ use crate::adding::add_object;
 use crate::runs::{count_of_run, push_all, run_from};
 use block_device::BlockDevice;
 use box_math::BBox;
+use id_words::first_objects;
+use node_page::Entry;
 use page_cache::PageCache;
 use page_file::Fault;
 use std::alloc::Allocator;
@@ -40,32 +42,33 @@ use std::alloc::Allocator;
 pub fn fill<const D: usize, B: BlockDevice, A: Allocator + Copy>(
     cache: &mut PageCache<B, A>,
     root: u32,
-    objects: &[(u64, (BBox<D>, u32))],
+    entries: &[Entry<D>],
 ) -> Result<(), Fault>
     requires dims { IsDims D }
     ensures changes { Changes cache.old cache.new result }
     ensures sound { IsPageMap cache.old → (t : IdTree) → t.page ≡ root → TreeStands D (pages cache.old) t
-        → AreNew (objects_of t) objects.now → IsPageMap cache.new }
+        → AreNew (objects_of t) (pairs_in entries.now) → IsPageMap cache.new }
     ensures tidy { IsPageMap cache.old → (t : IdTree) → t.page ≡ root → TreeStands D (pages cache.old) t
-        → AreNew (objects_of t) objects.now
+        → AreNew (objects_of t) (pairs_in entries.now)
         → OnOk result (KeepsTidy D (pages cache.old) (pages cache.new)) }
     ensures filled { IsPageMap cache.old → (t : IdTree) → t.page ≡ root → TreeStands D (pages cache.old) t
-        → AreNew (objects_of t) objects.now
-        → OnOk result (Fills D (pages cache.old) (pages cache.new) t objects.now) }
-    ensures grows { Grows (most_added_pages * length objects.now) cache.old cache.new }
+        → AreNew (objects_of t) (pairs_in entries.now)
+        → OnOk result (Fills D (pages cache.old) (pages cache.new) t (pairs_in entries.now)) }
+    ensures grows { Grows (most_added_pages * length entries.now) cache.old cache.new }
     ensures grows_few { IsPageMap cache.old → (t : IdTree) → t.page ≡ root → TreeStands D (pages cache.old) t
-        → AreNew (objects_of t) objects.now
-        → Grows ((map.len (objects_of t) + length objects.now) / 28 + 14) cache.old cache.new }
+        → AreNew (objects_of t) (pairs_in entries.now)
+        → Grows ((map.len (objects_of t) + length entries.now) / 28 + 14) cache.old cache.new }
     ensures faults { IsPageMap cache.old → (t : IdTree) → t.page ≡ root → TreeStands D (pages cache.old) t
-        → AreNew (objects_of t) objects.now → IfErr result (IsNoDamage cache.new) }
+        → AreNew (objects_of t) (pairs_in entries.now) → IfErr result (IsNoDamage cache.new) }
     ensures damage { IsHonest cache.old → touched_of cache.new ≡ false
         → IfErr result (λ f. (n : ℕ) → f ≡ fault.Damaged n
         → ComesInTree D (given cache.old) root n ⊎ MayBreakAt cache.old n) }
     ensures other_faults { IfErr result (λ f. IsNoDamage cache.new f ⊎ IsDamage f) }
 {
     let mut filled = 0;
-    while filled < objects.len() {
-        filled += fill_run::<D, B, A>(cache, root, &objects[filled..])?;
+    while filled < entries.len() {
+        let objects = first_objects(&entries[filled..]);
+        filled += fill_run::<D, B, A>(cache, root, &objects)?;
     }
     Ok(())
 }

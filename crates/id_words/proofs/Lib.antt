@@ -3,3 +3,4 @@ pub mod SeenLemmas
 pub mod Results
 pub mod BreakLemmas
 pub mod WriteLemmas
+pub mod EntryLemmas

@@ -6,6 +6,9 @@ use Rattle.std.specs.Ordering.{nat_cmp}
 use Rattle.box_math.specs.Bounds.{Bounds}
 use Rattle.box_math.specs.Objects.{Object, tag_of}
 use Rattle.bucket_page.specs.Layout.{Entry}
+use Rattle.tree_node.specs.Nodes.{items_of}
+use Rattle.tree_node.specs.declared.node.Entry.{Entry as Leaf}
+use Rattle.node_page.specs.Checked.{pairs_of}
 
 -- what is kept of the first of the objects with an identifier
 abbrev pub kept_in : ℕ → List Entry → Option Object
@@ -31,3 +34,7 @@ abbrev pub AreNew : FinMap nat_cmp Object → List Entry → Type 0
 AreNew m [] = ⊤
 AreNew m (object ∷ objects) = (map.contains_key m object.0 ≡ false)
     × AreNew (map.insert m object.0 object.1) objects
+
+-- the objects of entries of leaves
+abbrev pub pairs_in : {D : ℕ} → List (Leaf D) → List Entry
+pairs_in entries = pairs_of (items_of entries)

@@ -4,7 +4,6 @@ use Rattle.std.proofs.Common.{All, IsSome, refl, sym, ap, subst, arith}
 use Rattle.std.specs.Prelude.{IsPermutation}
 use Rattle.std.specs.FinMap as map
 use Rattle.std.specs.FinMap.{entries}
-use Rattle.std.proofs.lemmas.List.{length-map}
 use Rattle.std.proofs.lemmas.List.Elements.{All-map}
 use Rattle.std.proofs.lemmas.List.Sorted.{All-permutation, IsPermutation-map, IsPermutation-sym}
 use Rattle.std.proofs.lemmas.List.Sorted.{IsPermutation-trans}
@@ -32,7 +31,8 @@ use Rattle.id_table.specs.Table.{kind_of, objects_of, part_of}
 use Rattle.id_table.proofs.TableLemmas.{ids_beside}
 use Rattle.bulk_load.specs.Loads.{Loads}
 use Rattle.reinsert.proofs.LevelLemmas.{shape_bounds_level}
-use Rattle.layer_pages.specs.Changes.{BecomesLayer, BecomesTable, HasPacked, item_of_object, pairs_in}
+use Rattle.id_words.specs.Objects.{pairs_in}
+use Rattle.layer_pages.specs.Changes.{BecomesLayer, BecomesTable, HasPacked, item_of_object}
 use Rattle.layer_pages.specs.Laws.{NewObjectsAreEntries}
 use Rattle.layer_pages.specs.Layers.{CanBeRoot, IsLayerAt, LayerPages, Objects, part_of_layer}
 use Rattle.tree_node.proofs.RowLemmas.{occurs_here}
@@ -49,15 +49,6 @@ pub as_items : (items : List Item) → each item_of_object (pairs_of items) ≡ 
 as_items [] = refl
 as_items (item ∷ items) = ap (λ (is : List Item). item ∷ is) (as_items items)
 
-pub listed_more : {D : ℕ} (front : List (Leaf D)) (entry : Leaf D)
-    → pairs_in (front ++ entry ∷ []) ≡ pairs_in front ++ (entry.reference, (entry.bounds, entry.tag)) ∷ []
-listed_more [] entry = refl
-listed_more {D} (e ∷ front) entry =
-    ap (λ (os : List Entry). (e.reference, (e.bounds, e.tag)) ∷ os) (listed_more front entry)
-
-pub as_many_listed : {D : ℕ} (entries : List (Leaf D)) → length (pairs_in entries) ≡ length entries
-as_many_listed entries = length-map (items_of entries) object_of ∙ length-map entries item_of
-
 pub all_boxes : (dims : ℕ) (items : List Item) → ((i : ℕ) → i < length items → IsBox dims (box_at items i))
     → All (λ (item : Item). IsBox dims item.bounds) items
 all_boxes dims [] boxes k d within = absurd (omega (arith, within))
@@ -66,15 +57,13 @@ all_boxes dims (item ∷ items) boxes (suc k) d within =
     all_boxes dims items (λ i below. boxes (suc i) (omega (arith, below))) k d (omega (arith, within))
 
 -- entries in another order have the same objects
-pub listed_again : {D : ℕ} (old new : List (Leaf D)) (listed : List Entry) (all : Objects)
-    → IsPermutation old new → listed ≡ pairs_in new → IsPermutation (pairs_in old) (entries all)
-    → IsPermutation listed (entries all)
-listed_again old new listed all moved is same =
-    subst (λ (os : List Entry). IsPermutation os (entries all)) (sym is)
-    (IsPermutation-trans (pairs_in new) (pairs_in old) (entries all)
+pub listed_again : {D : ℕ} (old new : List (Leaf D)) (all : Objects) → IsPermutation old new
+    → IsPermutation (pairs_in old) (entries all) → IsPermutation (pairs_in new) (entries all)
+listed_again old new all moved same =
+    IsPermutation-trans (pairs_in new) (pairs_in old) (entries all)
     (IsPermutation-sym (pairs_in old) (pairs_in new)
     (IsPermutation-map object_of (items_of old) (items_of new) (IsPermutation-map item_of old new moved)))
-    same)
+    same
 
 -- ---- the table
 

@@ -2,11 +2,9 @@
 -- "Identifier tables").
 use Rattle.std.specs.Prelude.{◌≡◌, ℕ, ◌+◌, List, map}
 use Rattle.box_math.specs.Objects.{Object, bounds_of, tag_of}
-use Rattle.tree_node.specs.Nodes.{Item, items_of}
+use Rattle.tree_node.specs.Nodes.{Item}
 use Rattle.tree_node.specs.Trees.{Tree, end, object}
-use Rattle.tree_node.specs.declared.node.Entry.{Entry}
 use Rattle.tree_node.specs.declared.node.Root.{Root}
-use Rattle.node_page.specs.Checked.{pairs_of}
 use Rattle.node_page.specs.Parts.{Moves, Part}
 use Rattle.node_page.specs.Standing.{PageMap}
 use Rattle.id_table.specs.Changes.{most_added_pages, most_filled_pages}
@@ -51,10 +49,6 @@ pub record HasReplaced (dims most : ℕ) (l : LayerPages) (id : ℕ) (old new : 
 -- an object as an entry of a leaf
 abbrev pub item_of_object : ℕ × Object → Item
 item_of_object o = record { bounds = bounds_of o.1; reference = o.0; tag = tag_of o.1 }
-
--- the objects of entries of leaves
-abbrev pub pairs_in : {D : ℕ} → List (Entry D) → List (ℕ × Object)
-pairs_in entries = pairs_of (items_of entries)
 
 -- a tree packed from these objects
 abbrev pub HasPacked : ℕ → ℕ → List (ℕ × Object) → Tree → Type 0

@@ -12,7 +12,7 @@ use Rattle.std.proofs.lemmas.List.Sums.{AllPass-from_list_all}
 use Rattle.box_math.specs.Objects.{Object}
 use Rattle.catalog_page.specs.Layout.{Record, records_of}
 use Rattle.id_words.proofs.ObjectLemmas.{same_key}
-use Rattle.layer_pages.specs.Changes.{pairs_in}
+use Rattle.id_words.specs.Objects.{pairs_in}
 use Rattle.plain_table.specs.Boxes.{dims_of, given_bounds, is_ordered}
 use Rattle.plain_table.specs.Commands.Command.{Load}
 use Rattle.plain_table.specs.Laws.{none_holds}

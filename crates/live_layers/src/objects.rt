@@ -1,7 +1,7 @@
 //! Objects of a load into a layer of so many axes, as they were given.
 
 ghost use Rattle.std.specs.Prelude.{◌≡◌, IfErr, IfOk, map, true};
-ghost use Rattle.layer_pages.specs.Changes.{pairs_in};
+ghost use Rattle.id_words.specs.Objects.{pairs_in};
 ghost use Rattle.plain_table.specs.Loads.{given_object, have_dims};
 ghost use Rattle.plain_table.specs.Step.{first_refusal};
 ghost use Rattle.live_layers.specs.Faults.{is_plain};

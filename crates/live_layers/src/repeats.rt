@@ -2,7 +2,7 @@
 
 ghost use Rattle.std.specs.Prelude.{◌≡◌, IfOk, None, map, true};
 ghost use Rattle.std.specs.List.Sorted.{IsNonDecreasing};
-ghost use Rattle.layer_pages.specs.Changes.{pairs_in};
+ghost use Rattle.id_words.specs.Objects.{pairs_in};
 ghost use Rattle.plain_table.specs.Loads.{least_repeated};
 ghost use Rattle.live_layers.specs.Loading.{IsLeastTwice};
 

@@ -3,7 +3,7 @@
 ghost use Rattle.std.specs.Prelude.{◌≡◌, ◌+◌, ◌<◌, ◌≤◌, ℕ, List, IfErr, IsPermutation, OnOk, length};
 ghost use Rattle.std.specs.FinMap as map;
 ghost use Rattle.box_math.specs.Bounds.{IsDims};
-ghost use Rattle.layer_pages.specs.Changes.{pairs_in};
+ghost use Rattle.id_words.specs.Objects.{pairs_in};
 ghost use Rattle.layer_pages.specs.Layers.{Objects};
 ghost use Rattle.page_cache.specs.Cache.{version_of};
 ghost use Rattle.page_file.specs.Fault.{IsOfDevice};

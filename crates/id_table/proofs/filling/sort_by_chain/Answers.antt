@@ -1,12 +1,13 @@
 -- Sorted by a key, the objects are in its order.
 use Rattle.std.proofs.Common.{ℕ, rules}
 use Rattle.std.proofs.lemmas.List.Sorted.{IsNonDecreasingBy-from_sort_by_key}
-use Rattle.bucket_page.specs.Layout.{Entry}
+use Rattle.tree_node.specs.declared.node.Entry.{Entry}
+use Rattle.id_words.proofs.EntryLemmas.{listed_in_order}
 use Rattle.id_chains.specs.Table.{class_of}
 use Rattle.id_table.proofs.filling.sort_by_chain.Goals as goal
 
 pub returns-clause-ordered : goal.returns-clause-ordered
 returns-clause-ordered g c =
-    let class : Entry → ℕ = λ o. class_of o.0 in
-    IsNonDecreasingBy-from_sort_by_key class _ c.sort_unstable_by_key.ensures.sorted
-    (λ a r q k. search rules)
+    let number : Entry g.row.D → ℕ = λ entry. class_of entry.reference in
+    listed_in_order class_of c.sort_unstable_by_key.new.self
+    (IsNonDecreasingBy-from_sort_by_key number _ c.sort_unstable_by_key.ensures.sorted (λ a r q k. search rules))

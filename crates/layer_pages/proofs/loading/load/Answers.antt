@@ -1,26 +1,18 @@
 -- A packed tree, and then the table.
-use Rattle.std.proofs.Common.{◌≡◌, ◌∙◌, ℕ, List, None, All, length, sym, ap, subst, refl, arith}
+use Rattle.std.proofs.Common.{List, None, All, sym, subst, refl, arith}
 use Rattle.std.proofs.lemmas.List.{length-map}
-use Rattle.std.proofs.lemmas.List.Sorted.{length_permutation}
-use Rattle.std.specs.Prelude.{IsPermutation}
+use Rattle.std.proofs.lemmas.List.Sorted.{IsPermutation-trans, length_permutation}
 use Rattle.box_math.specs.Bounds.{IsBox}
-use Rattle.box_math.specs.Objects.{Object}
 use Rattle.page_cache.specs.Cache.{pages}
 use Rattle.page_cache.specs.Calls.{changes_and_refuses, changes_in_turn}
 use Rattle.tree_node.specs.Nodes.{Item, item_of, items_of}
-use Rattle.tree_node.specs.declared.node.Entry.{Entry as Leaf}
 use Rattle.bulk_load.specs.Loads.{Loads}
 use Rattle.node_page.proofs.NodeLemmas.{at_error}
 use Rattle.node_page.specs.Faults.{IsNoDamage}
-use Rattle.layer_pages.specs.Changes.{pairs_in}
-use Rattle.layer_pages.proofs.LoadLemmas.{all_boxes, as_items, as_many_listed, layer_loaded, layer_still}
+use Rattle.id_words.specs.Objects.{pairs_in}
+use Rattle.layer_pages.proofs.LoadLemmas.{all_boxes, as_items, layer_loaded, layer_still}
 use Rattle.layer_pages.proofs.LoadLemmas.{listed_again, low_root}
 use Rattle.layer_pages.proofs.loading.load.Goals as goal
-
-as_many : {D : ℕ} (old new : List (Leaf D)) (listed : List (ℕ × Object)) → IsPermutation old new
-    → listed ≡ pairs_in new → length listed ≡ length old
-as_many old new listed moved is =
-    omega (arith, ap length is, as_many_listed new, length_permutation old new moved)
 
 pub returns-then-not-can_be_root-clause-faults : goal.returns-then-not-can_be_root-clause-faults
 returns-then-not-can_be_root-clause-faults g c =
@@ -44,8 +36,7 @@ returns-clause-sound g c = λ sound l most all is same.
     (layer_still g.row.D c.args.layer.fanout.most most (pages c.args.cache.now) (pages c.load.new.cache)
     c.args.layer.root
     c.in_ok-after.after c.args.layer.ids_root l is (pairs_in c.args.entries.now) loads)
-    (listed_again c.args.entries.now c.load.new.objects c.as_mut_slice.result.now all c.load.ensures.all
-    (c.as_mut_slice.ensures.value ∙ c.list_objects.ensures) same)
+    (listed_again c.args.entries.now c.load.new.objects all c.load.ensures.all same)
 
 pub returns-clause-loaded : goal.returns-clause-loaded
 returns-clause-loaded g c = λ sound l most all is same.
@@ -69,8 +60,7 @@ returns-clause-loaded g c = λ sound l most all is same.
     objects loads
     (pages c.put_ids.new.cache) all same boxes
     (c.in_ok-put_ids.ensures.put (c.load.ensures.sound sound) l most all still
-    (listed_again c.args.entries.now c.load.new.objects c.as_mut_slice.result.now all c.load.ensures.all
-    (c.as_mut_slice.ensures.value ∙ c.list_objects.ensures) same))
+    (listed_again c.args.entries.now c.load.new.objects all c.load.ensures.all same))
 
 pub returns-in_err-put_ids-clause-changes : goal.returns-in_err-put_ids-clause-changes
 returns-in_err-put_ids-clause-changes g c =
@@ -90,8 +80,7 @@ returns-in_err-put_ids-clause-faults g c = λ sound l most all is same.
     (layer_still g.row.D c.args.layer.fanout.most most (pages c.args.cache.now) (pages c.load.new.cache)
     c.args.layer.root
     c.in_ok-after.after c.args.layer.ids_root l is (pairs_in c.args.entries.now) loads)
-    (listed_again c.args.entries.now c.load.new.objects c.as_mut_slice.result.now all c.load.ensures.all
-    (c.as_mut_slice.ensures.value ∙ c.list_objects.ensures) same))
+    (listed_again c.args.entries.now c.load.new.objects all c.load.ensures.all same))
 
 pub returns-in_err-after-clause-grows : goal.returns-in_err-after-clause-grows
 returns-in_err-after-clause-grows g c = λ sound l most all is same. omega (arith, c.load.ensures.grows)
@@ -102,8 +91,6 @@ returns-then-not-can_be_root-clause-grows g c = λ sound l most all is same.
 
 pub returns-clause-grows : goal.returns-clause-grows
 returns-clause-grows g c = λ sound l most all is same.
-    let listed : c.as_mut_slice.result.now ≡ pairs_in c.load.new.objects =
-    c.as_mut_slice.ensures.value ∙ c.list_objects.ensures in
     let loads =
     subst (λ (xs : List Item). Loads g.row.D c.args.layer.fanout.most (pages c.args.cache.now)
     (pages c.load.new.cache) xs c.in_ok-after.after) (sym (as_items (items_of c.args.entries.now)))
@@ -111,18 +98,15 @@ returns-clause-grows g c = λ sound l most all is same.
     omega (
       arith,
       c.load.ensures.grows,
-      as_many c.args.entries.now c.load.new.objects c.as_mut_slice.result.now c.load.ensures.all listed,
+      length_permutation c.args.entries.now c.load.new.objects c.load.ensures.all,
       c.put_ids.ensures.grows (c.load.ensures.sound sound) l most all
           (layer_still g.row.D c.args.layer.fanout.most most (pages c.args.cache.now) (pages c.load.new.cache)
           c.args.layer.root c.in_ok-after.after c.args.layer.ids_root l is (pairs_in c.args.entries.now) loads)
-          (listed_again c.args.entries.now c.load.new.objects c.as_mut_slice.result.now all
-          c.load.ensures.all listed same),
+          (listed_again c.args.entries.now c.load.new.objects all c.load.ensures.all same),
     )
 
 pub returns-in_err-put_ids-clause-grows : goal.returns-in_err-put_ids-clause-grows
 returns-in_err-put_ids-clause-grows g c = λ sound l most all is same.
-    let listed : c.as_mut_slice.result.now ≡ pairs_in c.load.new.objects =
-    c.as_mut_slice.ensures.value ∙ c.list_objects.ensures in
     let loads =
     subst (λ (xs : List Item). Loads g.row.D c.args.layer.fanout.most (pages c.args.cache.now)
     (pages c.load.new.cache) xs c.in_ok-after.after) (sym (as_items (items_of c.args.entries.now)))
@@ -130,10 +114,19 @@ returns-in_err-put_ids-clause-grows g c = λ sound l most all is same.
     omega (
       arith,
       c.load.ensures.grows,
-      as_many c.args.entries.now c.load.new.objects c.as_mut_slice.result.now c.load.ensures.all listed,
+      length_permutation c.args.entries.now c.load.new.objects c.load.ensures.all,
       c.put_ids.ensures.grows (c.load.ensures.sound sound) l most all
           (layer_still g.row.D c.args.layer.fanout.most most (pages c.args.cache.now) (pages c.load.new.cache)
           c.args.layer.root c.in_ok-after.after c.args.layer.ids_root l is (pairs_in c.args.entries.now) loads)
-          (listed_again c.args.entries.now c.load.new.objects c.as_mut_slice.result.now all
-          c.load.ensures.all listed same),
+          (listed_again c.args.entries.now c.load.new.objects all c.load.ensures.all same),
     )
+
+pub returns-in_err-put_ids-clause-same : goal.returns-in_err-put_ids-clause-same
+returns-in_err-put_ids-clause-same g c =
+    IsPermutation-trans c.args.entries.now c.load.new.objects c.put_ids.new.entries c.load.ensures.all
+    c.in_err-put_ids.ensures.same
+
+pub returns-clause-same : goal.returns-clause-same
+returns-clause-same g c =
+    IsPermutation-trans c.args.entries.now c.load.new.objects c.put_ids.new.entries c.load.ensures.all
+    c.in_ok-put_ids.ensures.same

@@ -1,6 +1,6 @@
 -- the boxes so far, none of which is refused
 use Rattle.std.proofs.Common.{◌≡◌, map, take, true}
-use Rattle.layer_pages.specs.Changes.{pairs_in}
+use Rattle.id_words.specs.Objects.{pairs_in}
 use Rattle.plain_table.specs.Loads.{are_ordered, given_object}
 use Rattle.live_layers.proofs.objects.entries_in.Given as goal
 

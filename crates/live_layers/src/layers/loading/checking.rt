@@ -1,7 +1,7 @@
 //! Whether objects may be put into a layer.
 
 ghost use Rattle.std.specs.Prelude.{◌≡◌, ◌+◌, ◌<◌, ◌≤◌, ℕ, List, IfErr, OnOk, length, true};
-ghost use Rattle.layer_pages.specs.Changes.{pairs_in};
+ghost use Rattle.id_words.specs.Objects.{pairs_in};
 ghost use Rattle.plain_table.specs.Loads.{GivenObjects};
 ghost use Rattle.plain_table.specs.Step.{first_refusal, load_refusals};
 ghost use Rattle.plain_table.specs.Table.{Table, layer_at, most_objects, object_count};

@@ -3,7 +3,7 @@
 ghost use Rattle.std.specs.Prelude.{◌≡◌, ◌<◌, ℕ, List, true, false, OnOk, length};
 ghost use Rattle.box_math.specs.Bounds.{IsDims};
 ghost use Rattle.page_cache.specs.Cache.{version_of};
-ghost use Rattle.layer_pages.specs.Changes.{pairs_in};
+ghost use Rattle.id_words.specs.Objects.{pairs_in};
 ghost use Rattle.plain_table.specs.Commands.Command.{Load};
 ghost use Rattle.plain_table.specs.Loads.{GivenObjects};
 ghost use Rattle.plain_table.specs.Step.{changes};

@@ -1,7 +1,7 @@
 -- Each refusal is the table's, and nothing refuses the objects that pass.
 use Rattle.std.proofs.Common.{◌≡◌, ◌∙◌, None, sym, inl, arith}
-use Rattle.layer_pages.proofs.LoadLemmas.{as_many_listed}
-use Rattle.layer_pages.specs.Changes.{pairs_in}
+use Rattle.id_words.proofs.EntryLemmas.{as_many_listed}
+use Rattle.id_words.specs.Objects.{pairs_in}
 use Rattle.live_layers.proofs.LoadLemmas.{counted_there, may_be_given, not_empty, too_many_given, twice_given}
 use Rattle.live_layers.proofs.layers.Layers.check_load.Goals as goal
 

@@ -1,8 +1,9 @@
 -- The tree is packed and the table filled, and the record says so; or the change was refused, or broke off.
 use Rattle.std.proofs.Common.{Err, length, refl, arith, subst, sym}
 use Rattle.plain_table.specs.Table.{layer_at}
-use Rattle.layer_pages.specs.Changes.{most_loaded_pages, pairs_in}
-use Rattle.layer_pages.proofs.LoadLemmas.{as_many_listed}
+use Rattle.id_words.specs.Objects.{pairs_in}
+use Rattle.layer_pages.specs.Changes.{most_loaded_pages}
+use Rattle.id_words.proofs.EntryLemmas.{as_many_listed}
 use Rattle.page_file.specs.Fault.{IsOfDevice}
 use Rattle.live_layers.specs.declared.broken.Broken.{Broken}
 use Rattle.live_layers.proofs.CountLemmas.{no_page_wanted_by_load}

@@ -2,8 +2,8 @@
 use Rattle.std.proofs.Common.{◌≡◌, ◌∙◌, ℕ, ◌<◌, List, length, Option, refl, sym, subst, arith}
 use Rattle.std.specs.Prelude.{Err}
 use Rattle.std.proofs.lemmas.Bool.Decides.{nat_tests}
-use Rattle.layer_pages.proofs.LoadLemmas.{as_many_listed}
-use Rattle.layer_pages.specs.Changes.{pairs_in}
+use Rattle.id_words.proofs.EntryLemmas.{as_many_listed}
+use Rattle.id_words.specs.Objects.{pairs_in}
 use Rattle.plain_table.specs.Commands.Command.{Load}
 use Rattle.plain_table.specs.Laws.{a_change_makes_another_table, no_change_leaves_the_table}
 use Rattle.plain_table.specs.Loads.{with_objects}

@@ -2,7 +2,7 @@
 use Rattle.std.proofs.Common.{◌≡◌, ◌∙◌, ◌⊎◌, List, ℕ, None, Some, map, ap, sym, subst}
 use Rattle.std.specs.Prelude.{OnOk}
 use Rattle.box_math.specs.Objects.{Object}
-use Rattle.layer_pages.specs.Changes.{pairs_in}
+use Rattle.id_words.specs.Objects.{pairs_in}
 use Rattle.plain_table.specs.Commands.Command.{Load}
 use Rattle.plain_table.specs.Loads.{GivenObjects, given_object}
 use Rattle.plain_table.specs.Step.{first_refusal}
