@@ -17,7 +17,7 @@ for loop in add_all remove_all sum_of; do
     mkdir -p "$work/crates/ids_times/proofs/$loop"
     cp "$here/ids_times_$loop.invariants" "$work/crates/ids_times/proofs/$loop/Invariants.antt"
 done
-echo 'ids_times: id_table page_cache page_file block_device box_math' >>"$work/crates.txt"
+echo 'ids_times: id_table node_page page_cache page_file block_device box_math' >>"$work/crates.txt"
 git -C "$work" init -q
 (cd "$work/crates/ids_times" && rt run) >"$work/log" 2>&1 || { cat "$work/log" >&2; exit 1; }
 program="$work/crates/ids_times/out/ids_times"

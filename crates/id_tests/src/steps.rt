@@ -5,6 +5,7 @@ ghost use Rattle.box_math.specs.Bounds.{IsDims};
 use block_device::MemoryDevice;
 use box_math::BBox;
 use id_chains::{add, fill, free_all, get, make, remove, update};
+use node_page::Entry;
 use page_file::Fault;
 use std::alloc::Global;
 use test_caches::{Cache, new_cache};
@@ -182,14 +183,19 @@ pub fn change<const D: usize>(
 fn fill_with<const D: usize>(alloc: Global, cache: &mut Cache, runs: &[Run]) -> Answer
     requires { IsDims D }
 {
-    let mut objects = Vec::new(alloc);
+    let mut entries = Vec::new(alloc);
     for &run in runs {
         for place in 0..run.count {
-            objects.push(object_of::<D>(run, place)?)?;
+            let (reference, (bounds, tag)) = object_of::<D>(run, place)?;
+            entries.push(Entry {
+                bounds,
+                reference,
+                tag,
+            })?;
         }
     }
     cache.begin_change()?;
-    fill::<D, _, _>(cache, TABLE, objects.as_slice())?;
+    fill::<D, _, _>(cache, TABLE, entries.as_slice())?;
     Ok(true)
 }
 

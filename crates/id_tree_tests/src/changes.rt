@@ -5,6 +5,7 @@ ghost use Rattle.box_math.specs.Bounds.{IsDims};
 use block_device::BlockDevice;
 use box_math::BBox;
 use id_tree::{LeafPlace, add, fill, find, free_all, remove, update};
+use node_page::Entry;
 use page_cache::PageCache;
 use page_file::Fault;
 use std::alloc::Allocator;
@@ -65,15 +66,15 @@ pub fn change_at<const D: usize, B: BlockDevice, A: Allocator + Copy>(
     }
 }
 
-/// Adds objects together.
+/// Adds the objects of entries of leaves together.
 pub fn add_together<const D: usize, B: BlockDevice, A: Allocator + Copy>(
     cache: &mut PageCache<B, A>,
-    objects: &[(u64, (BBox<D>, u32))],
+    entries: &[Entry<D>],
 ) -> Result<(), Fault>
     requires { IsDims D }
 {
     cache.begin_change()?;
-    fill::<D, B, A>(cache, TABLE, objects)
+    fill::<D, B, A>(cache, TABLE, entries)
 }
 
 /// Gives the table up.

@@ -7,6 +7,7 @@ use block_bytes::{write_head, write_i32, write_u8, write_u32, write_u64};
 use block_device::MemoryDevice;
 use box_math::BBox;
 use id_tree::{LeafPlace, check_table};
+use node_page::Entry;
 use page_file::Fault;
 use std::alloc::Global;
 use std::test::Fail;
@@ -263,7 +264,19 @@ fn place_of(cache: &mut Cache) -> Result<LeafPlace, Fault> {
 
 fn add_two(cache: &mut Cache) -> Result<LeafPlace, Fault> {
     let one = one()?;
-    add_together(cache, &[(ID, (one, 1)), (7, (one, 2))])?;
+    let entries = [
+        Entry {
+            bounds: one,
+            reference: ID,
+            tag: 1,
+        },
+        Entry {
+            bounds: one,
+            reference: 7,
+            tag: 2,
+        },
+    ];
+    add_together(cache, &entries)?;
     Ok(NOWHERE)
 }
 

@@ -5,6 +5,7 @@ ghost use Rattle.box_math.specs.Bounds.{IsDims};
 use crate::changes::{Call, TABLE, add_together, change, give_up};
 use box_math::BBox;
 use id_tree::{check_table, find, make};
+use node_page::Entry;
 use page_file::Fault;
 use std::alloc::Global;
 use std::collections::BTreeMap;
@@ -258,25 +259,25 @@ fn a_table_of_which_all_went_is_its_root(rt: HostRuntime) -> Result<(), Fail> {
     Ok(())
 }
 
-// So many objects in ascending order, which are noted in a plain map.
-fn ascending(
-    alloc: Global,
-    plain: &mut Plain,
-    count: u32,
-) -> Result<Vec<(u64, (BBox<2>, u32))>, Fault> {
-    let mut objects = Vec::new(alloc);
+// So many objects in ascending order, as entries of leaves, which are noted in a plain map.
+fn ascending(alloc: Global, plain: &mut Plain, count: u32) -> Result<Vec<Entry<2>>, Fault> {
+    let mut entries = Vec::new(alloc);
     for number in 0..count {
-        let id = id_of(Order::Ascending, number);
-        objects.push((id, (point::<2>(7)?, tag_of(number))))?;
-        note(plain, Call::Add, id, (7, tag_of(number)))?;
+        let reference = id_of(Order::Ascending, number);
+        entries.push(Entry {
+            bounds: point::<2>(7)?,
+            reference,
+            tag: tag_of(number),
+        })?;
+        note(plain, Call::Add, reference, (7, tag_of(number)))?;
     }
-    Ok(objects)
+    Ok(entries)
 }
 
 // Adds the objects together, and answers how many looks there were so far.
 fn fill_all(alloc: Global, cache: &mut Cache, plain: &mut Plain) -> Result<u64, Fault> {
-    let objects = ascending(alloc, plain, 6000)?;
-    add_together(cache, objects.as_slice())?;
+    let entries = ascending(alloc, plain, 6000)?;
+    add_together(cache, entries.as_slice())?;
     Ok(cache.looks())
 }
 

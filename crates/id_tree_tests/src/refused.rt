@@ -3,7 +3,7 @@
 
 use crate::changes::{Call, TABLE, add_together, change as change_object, give_up};
 use crate::steps::Step::{Each, Fill, Make};
-use crate::steps::{Run, Step, objects_of, play};
+use crate::steps::{Run, Step, entries_of, play};
 use block_device::{BlockDevice, FuseDevice, FuseMode, MemoryDevice};
 use box_math::BBox;
 use id_tree::check_table;
@@ -164,8 +164,8 @@ fn add_further<B: BlockDevice, A: Allocator + Copy>(
     alloc: Global,
     cache: &mut PageCache<B, A>,
 ) -> Result<(), Fault> {
-    let objects = objects_of(alloc, FURTHER)?;
-    add_together(cache, objects.as_slice())
+    let entries = entries_of(alloc, FURTHER)?;
+    add_together(cache, entries.as_slice())
 }
 
 // Makes the change. The gate is open.

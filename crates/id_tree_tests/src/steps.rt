@@ -3,6 +3,7 @@
 use crate::changes::{self, Call, TABLE, add_together, change, change_at};
 use box_math::BBox;
 use id_tree::{LeafPlace, check_table, find, make};
+use node_page::Entry;
 use page_file::Fault;
 use std::alloc::Global;
 use test_caches::Cache;
@@ -91,18 +92,23 @@ fn object_of(run: Run, place: u16) -> Result<(u64, (BBox<2>, u32)), Fault> {
     Ok((id, (bounds, run.tag.wrapping_add(u32::from(place)))))
 }
 
-/// The objects of a run.
-pub fn objects_of(alloc: Global, run: Run) -> Result<Vec<(u64, (BBox<2>, u32))>, Fault> {
-    let mut objects = Vec::new(alloc);
+/// The objects of a run, as entries of leaves.
+pub fn entries_of(alloc: Global, run: Run) -> Result<Vec<Entry<2>>, Fault> {
+    let mut entries = Vec::new(alloc);
     for place in 0..run.count {
-        objects.push(object_of(run, place)?)?;
+        let (reference, (bounds, tag)) = object_of(run, place)?;
+        entries.push(Entry {
+            bounds,
+            reference,
+            tag,
+        })?;
     }
-    Ok(objects)
+    Ok(entries)
 }
 
 fn fill_with(alloc: Global, cache: &mut Cache, run: Run) -> Answer {
-    let objects = objects_of(alloc, run)?;
-    add_together(cache, objects.as_slice())?;
+    let entries = entries_of(alloc, run)?;
+    add_together(cache, entries.as_slice())?;
     Ok(true)
 }
 

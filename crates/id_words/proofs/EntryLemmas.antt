@@ -31,11 +31,11 @@ others_listed count entries = ap pairs_of (sym (drop-map item_of count entries))
 
 -- what is taken at once of the entries behind some
 pub taken_behind : {D : ℕ} (entries : List (Leaf D)) (filled : ℕ) (objects : List Entry)
-    → objects ≡ take 170 (pairs_in (take (length entries - filled) (drop filled entries)))
-    → objects ≡ take 170 (drop filled (pairs_in entries))
+    → objects ≡ take 145 (pairs_in (take (length entries - filled) (drop filled entries)))
+    → objects ≡ take 145 (drop filled (pairs_in entries))
 taken_behind entries filled objects is = is
-    ∙ ap (λ (es : List (Leaf _)). take 170 (pairs_in es)) (take_rest entries filled)
-    ∙ ap (take 170) (others_listed filled entries)
+    ∙ ap (λ (es : List (Leaf _)). take 145 (pairs_in es)) (take_rest entries filled)
+    ∙ ap (take 145) (others_listed filled entries)
 
 -- the first ones, where they are as many or all
 pub least_taken : (count most : ℕ) (objects : List Entry) → count ≡ min (length objects) most

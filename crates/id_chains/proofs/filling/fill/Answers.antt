@@ -35,7 +35,7 @@ loop-filled-init g c = record {
 }
 
 taken : (g : given.Over) (c : After-add_run g)
-    → c.deref.result.now ≡ take 170 (drop c.loop-filled.filled (pairs_in c.args.entries.now))
+    → c.deref.result.now ≡ take 145 (drop c.loop-filled.filled (pairs_in c.args.entries.now))
 taken g c =
     c.deref.ensures.0
     ∙ taken_behind c.args.entries.now c.loop-filled.filled c.first_objects-objects.result.items
@@ -49,10 +49,10 @@ loop-filled-preserved g c =
     let rest = drop filled objects in
     let count = c.in_ok-filled.field-0 in
     let batch = taken g (goal.at.loop-filled-preserved g c).After-add_run in
-    let few : count ≤ length (take 170 rest) =
+    let few : count ≤ length (take 145 rest) =
     subst (λ (es : List Entry). count ≤ length es) batch c.in_ok-filled.ensures.count.1 in
     let first : take count c.deref.result.now ≡ take count rest =
-    ap (take count) batch ∙ taken_of count 170 rest few in
+    ap (take count) batch ∙ taken_of count 145 rest few in
     record {
       filling =
           fills_on so_far.filling count c.add_run.new.cache c.in_ok-filled.ensures.changes
@@ -60,12 +60,12 @@ loop-filled-preserved g c =
           subst (λ (es : List Entry). Fills g.row.D (pages c.loop-filled.cache) (pages c.add_run.new.cache) t es)
           first
           (c.in_ok-filled.ensures.added map t at stands
-          (subst (AreNew (objects_of t)) (sym batch) (first_new 170 rest (objects_of t) new))))
+          (subst (AreNew (objects_of t)) (sym batch) (first_new 145 rest (objects_of t) new))))
           c.in_ok-filled.ensures.tidy;
       within = omega (
         arith,
         few,
-        few_taken 170 rest,
+        few_taken 145 rest,
         length-drop filled objects,
         as_many_listed c.args.entries.now,
         so_far.within,
@@ -77,7 +77,7 @@ loop-filled-preserved g c =
           c.in_ok-filled.ensures.grows
           (⊎_elim
           (λ (none : Grows 0 c.loop-filled.cache c.add_run.new.cache). inl none)
-          (λ (whole : IsWholeRun c.deref.result.now count). inr (whole_of_taken count 170 rest (omega arith)
+          (λ (whole : IsWholeRun c.deref.result.now count). inr (whole_of_taken count 145 rest (omega arith)
           (subst (λ (es : List Entry). IsWholeRun es count) batch whole)))
           c.in_ok-filled.ensures.whole);
       untouched = inr c.in_ok-filled.ensures.touched;
@@ -102,7 +102,7 @@ returns-in_err-filled-clause-damage g c = λ h either.
     omega (arith, c.loop-filled-test.true, length-drop filled objects, as_many_listed c.args.entries.now) in
     let low = next_of_some rest some in
     let batch = taken g (goal.at.returns-in_err-filled-clause-damage g c).After-add_run in
-    let same = ap (λ (es : List Entry). first_class es) batch ∙ first_of_taken 170 rest (omega arith) in
+    let same = ap (λ (es : List Entry). first_class es) batch ∙ first_of_taken 145 rest (omega arith) in
     let class = first_class c.deref.result.now in
     let small : class < 1000 = omega (arith, low.0, low.1, same) in
     at_error c.from_residual.result c.in_err-filled.field-0.0

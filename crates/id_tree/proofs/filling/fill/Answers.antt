@@ -29,7 +29,7 @@ loop-filled-init g c = record {
 }
 
 taken : (g : given.Over) (c : After-fill_run g)
-    → c.deref.result.now ≡ take 170 (drop c.loop-filled.filled (pairs_in c.args.entries.now))
+    → c.deref.result.now ≡ take 145 (drop c.loop-filled.filled (pairs_in c.args.entries.now))
 taken g c =
     c.deref.ensures.0
     ∙ taken_behind c.args.entries.now c.loop-filled.filled c.first_objects-objects.result.items
@@ -40,7 +40,7 @@ all_new : (g : given.Over) (c : After-fill_run g) (kept : FinMap nat_cmp Object)
     → AreNew kept (drop c.loop-filled.filled (pairs_in c.args.entries.now)) → AreNew kept c.deref.result.now
 all_new g c kept new =
     subst (AreNew kept) (sym (taken g c))
-    (new_taken kept 170 (drop c.loop-filled.filled (pairs_in c.args.entries.now)) new)
+    (new_taken kept 145 (drop c.loop-filled.filled (pairs_in c.args.entries.now)) new)
 
 pub loop-filled-preserved : goal.loop-filled-preserved
 loop-filled-preserved g c =
@@ -55,12 +55,12 @@ loop-filled-preserved g c =
       so_far.within,
       added.within,
       ap length batch,
-      few_taken 170 (drop filled objects),
+      few_taken 145 (drop filled objects),
       length-drop filled objects,
       as_many_listed c.args.entries.now,
     ) in
     record {
-      filling = fills_on so_far.filling c.fill_run.new.cache count 170 _ batch added.within within added.changes
+      filling = fills_on so_far.filling c.fill_run.new.cache count 145 _ batch added.within within added.changes
           added.sound added.tidy added.filled;
       within = omega (arith, within, as_many_listed c.args.entries.now);
       grows = omega (arith, so_far.grows, added.grows, added.some);

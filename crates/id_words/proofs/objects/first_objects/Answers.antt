@@ -8,7 +8,7 @@ pub returns : goal.returns
 returns g c =
     let entries = c.args.entries.now in
     c.entries.invariant ∙ first_listed c.entries.place entries
-    ∙ least_taken c.entries.place 170 (pairs_in entries)
+    ∙ least_taken c.entries.place 145 (pairs_in entries)
     (omega (
       arith,
       as_many_listed entries,
