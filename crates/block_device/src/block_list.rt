@@ -27,7 +27,7 @@ impl<A: Allocator> Model for BlockList<A> {
     ghost invariant = { λ l. vec_len l.written + l.blanks ≤ vec_capacity l.written };
 }
 
-impl<A: Allocator> BlockList<A> {
+impl<A: Allocator + Copy> BlockList<A> {
     /// No block, with memory from this allocator.
     pub(crate) fn new(alloc: A) -> Self
         ensures { result ≡ [] }
@@ -92,7 +92,7 @@ impl<A: Allocator> BlockList<A> {
         ensures refused { OnErr result (self.new ≡ self.old) }
     {
         if is_blank(bytes) {
-            self.written.reserve(self.blanks + 1)?;
+            make_room(&mut self.written, self.blanks)?;
             self.blanks += 1;
             return Ok(());
         }
@@ -101,6 +101,27 @@ impl<A: Allocator> BlockList<A> {
         // copied once, into its place
         self.written.extend_from_slice(from_ref(bytes))
     }
+}
+
+// Makes room for one block more behind those that are written and so many others, of which nothing is written.
+// Where these are the most, what is written is moved into a new list: the system would copy all.
+fn make_room<A: Allocator + Copy>(
+    written: &mut Vec<[u8; 4096], A>,
+    blanks: usize,
+) -> Result<(), AllocError>
+    requires { vec_len written.old + blanks ≤ vec_capacity written.old }
+    ensures same { written.new.items ≡ written.old.items }
+    ensures room { OnOk result (vec_len written.new + blanks < vec_capacity written.new) }
+    ensures kept { vec_len written.new + blanks ≤ vec_capacity written.new }
+{
+    let count = written.len() + blanks;
+    if blanks <= written.len() || count < written.capacity() {
+        return written.reserve(blanks + 1);
+    }
+    let mut wider = Vec::with_capacity(*written.allocator(), 2 * count)?;
+    wider.extend_from_slice(written)?;
+    *written = wider;
+    Ok(())
 }
 
 // Writes blocks of zeros until so many blocks are written.
