@@ -152,10 +152,10 @@ impl ReplyLine {
         put(writer, &self.text)
     }
 
-    /// Writes the line and its newline.
-    pub fn write<W: Write>(mut self, writer: &mut W) -> io::Result<()>
-        requires { length self ≤ 143 }
-        ensures { Writes (W.contents writer.old) (W.contents writer.new) result (self ++ newline ∷ []) }
+    /// Writes the line and its newline. The line is lent: to move it would copy it whole.
+    pub fn write<W: Write>(&mut self, writer: &mut W) -> io::Result<()>
+        requires { length self.old ≤ 143 }
+        ensures { Writes (W.contents writer.old) (W.contents writer.new) result (self.old ++ newline ∷ []) }
     {
         self.push(b"\n");
         put(writer, &self.text)

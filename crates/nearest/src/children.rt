@@ -61,7 +61,8 @@ fn append_all<const D: usize, H: Allocator>(
         fresh.old.items fresh.new.items) }
     ensures memory { IfErr result (λ f. f ≡ fault.Memory) }
 {
-    let distances = Distances::of(view, point);
+    let mut distances = Distances::none();
+    distances.measure(view, point);
     'children: for place in 0..view.len() {
         let distance = distances.at(view, place, point);
         if best.are_nearer(distance, k) {

@@ -19,19 +19,27 @@ pub(crate) struct Distances {
 }
 
 impl Distances {
-    /// Those of the boxes of a node. The loop has no branches, so that several boxes are measured at once.
-    pub(crate) fn of<const D: usize>(view: &NodeView<'_, D>, point: &[i32; D]) -> Distances
+    /// No distances, in the place where those of a node are to be measured: to move them would copy 800 bytes.
+    pub(crate) fn none() -> Distances {
+        Distances {
+            squares: [0; 100],
+            widest: 0,
+        }
+    }
+
+    /// Measures those of the boxes of a node. The loop has no branches, so that several boxes are measured at
+    /// once.
+    pub(crate) fn measure<const D: usize>(&mut self, view: &NodeView<'_, D>, point: &[i32; D])
         ensures { AreDistances (λ b. point_dist2_of D b point.now) (content_in view.now).entries
-            result.squares result.widest }
+            self.new.squares self.new.widest }
     {
-        let mut squares = [0u64; 100];
         let mut widest = 0u32;
         for place in 0..view.len() {
             let (square, gap) = measured(&view.entry(place).bounds, point);
-            squares[place] = square;
+            self.squares[place] = square;
             widest = widest.max(gap);
         }
-        Distances { squares, widest }
+        self.widest = widest;
     }
 
     /// That of the box in the place.

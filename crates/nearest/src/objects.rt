@@ -51,7 +51,8 @@ fn offer_all<const D: usize, H: Allocator>(
     ensures few { OnOk result (length best.new ≤ k) }
     ensures memory { IfErr result (λ f. f ≡ fault.Memory) }
 {
-    let distances = Distances::of(view, point);
+    let mut distances = Distances::none();
+    distances.measure(view, point);
     'objects: for place in 0..view.len() {
         let distance = distances.at(view, place, point);
         if best.are_nearer(distance, k) {
