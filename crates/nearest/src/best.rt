@@ -3,7 +3,7 @@
 ghost use Rattle.std.specs.Prelude.{◌≡◌, ◌↔◌, ◌≤◌, [], false, length, take, IfOk, IfErr, IsTrue, OnOk};
 ghost use Rattle.box_math.specs.Bounds.{Bounds, IsBox, meets_test};
 ghost use Rattle.box_math.specs.Measures.{point_dist2_of};
-ghost use Rattle.box_math.specs.Nearest.{put_nearest_first};
+ghost use Rattle.box_math.specs.Nearest.{nearest_first, put_nearest_first};
 ghost use Rattle.nearest.specs.Candidates.{Past};
 ghost use Rattle.page_file.specs.declared.fault.Fault.TheVariants as fault;
 
@@ -43,6 +43,13 @@ impl<H: Allocator> Best<H> {
     {
         let heap = BinaryHeap::with_capacity(alloc, k.min(FEW))?;
         Ok(Best { heap })
+    }
+
+    /// They are in the order of an answer.
+    pub(crate) fn see_order(&self)
+        ensures { nearest_first self.now ≡ self.now }
+    {
+        let _ = &self.heap;
     }
 
     /// Takes the object in, if it is among the k nearest.

@@ -1,6 +1,7 @@
 //! The squared distances of the boxes of a node from a point.
 
-ghost use Rattle.std.specs.Prelude.{◌≡◌, ◌^◌, ◌<◌, length, slice_index_or};
+ghost use Rattle.std.specs.Prelude.{◌≡◌, ◌^◌, ◌<◌, ◌≤◌, IfSome, length, nat_lt, slice_index_or, take};
+ghost use Rattle.std.specs.List.{count_by};
 ghost use Rattle.box_math.specs.Bounds.{IsDims};
 ghost use Rattle.box_math.specs.Measures.{point_dist2_of};
 ghost use Rattle.tree_node.specs.Boxes.{no_item};
@@ -59,6 +60,54 @@ impl Distances {
             return u128::from(self.squares[place]);
         }
         view.entry(place).bounds.point_dist2(point)
+    }
+
+    /// A number than which no fewer than so many of the squares are less, and often not many more: where the
+    /// boxes are so many, and no square is too large. The greatest of the first squares is halved as long as
+    /// enough are less.
+    pub(crate) fn bound(&self, count: usize, many: usize) -> Option<u64>
+        requires { count ≤ 100 }
+        ensures enough { IfSome result (λ bound.
+            many ≤ count_by (λ square. nat_lt square bound) (take count self.now.squares)) }
+        ensures exact { IfSome result (λ _. self.now.widest < 2 ^ 31) }
+    {
+        if self.widest >= 1 << 31 {
+            return None;
+        }
+        let mut bound = self.greatest(count.min(many)).saturating_add(1);
+        if self.count_below(count, bound) < many {
+            return None;
+        }
+        'halves: while bound > 1 {
+            if self.count_below(count, bound / 2) < many {
+                return Some(bound);
+            }
+            bound /= 2;
+        }
+        Some(bound)
+    }
+
+    // How many of the first squares are less. The loop has no branches.
+    fn count_below(&self, count: usize, bound: u64) -> usize
+        requires { count ≤ 100 }
+        ensures { result ≡ count_by (λ square. nat_lt square bound) (take count self.now.squares) }
+    {
+        let mut below = 0;
+        for place in 0..count {
+            below += usize::from(self.squares[place] < bound);
+        }
+        below
+    }
+
+    // The greatest of the first squares.
+    fn greatest(&self, count: usize) -> u64
+        requires { count ≤ 100 }
+    {
+        let mut greatest = 0;
+        for place in 0..count {
+            greatest = greatest.max(self.squares[place]);
+        }
+        greatest
     }
 }
 

@@ -56,3 +56,17 @@ pub(crate) fn near_mask<const D: usize, H: Allocator>(
 {
     view.mask(&best.reach(point, k))
 }
+
+/// Which entries of a node may be nearer than the square: the bit of a place is set for each but those that
+/// are no nearer.
+pub(crate) fn reach_mask<const D: usize>(
+    view: &NodeView<'_, D>,
+    point: &[i32; D],
+    bound: u64,
+) -> u128
+    requires boxes { All (λ item. IsBox D item.bounds) (content_in view.now).entries }
+    ensures { (place : ℕ) (item : Item) → slice_get (content_in view.now).entries place ≡ Some item
+        → has_bit result place ≡ false → bound ≤ point_dist2_of D item.bounds point.now }
+{
+    view.mask(&box_around(point, side_of(u128::from(bound))))
+}

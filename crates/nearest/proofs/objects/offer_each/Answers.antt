@@ -1,4 +1,4 @@
--- The goals of `offer_all` that are proved by hand.
+-- The goals of `offer_each` that are proved by hand.
 use Rattle.std.proofs.Common.{ℕ, ◌<◌, length, arith, subst}
 use Rattle.box_math.specs.Bounds.{Bounds}
 use Rattle.box_math.specs.Measures.{point_dist2_of}
@@ -7,7 +7,7 @@ use Rattle.node_bytes.specs.Views.{content_in}
 use Rattle.nearest.specs.Candidates.{Past}
 use Rattle.nearest.proofs.OfferLemmas.{all_offered, object_at, one_beyond, one_offered}
 use Rattle.nearest.proofs.QueueLemmas.{row_of}
-use Rattle.nearest.proofs.objects.offer_all.Goals as goal
+use Rattle.nearest.proofs.objects.offer_each.Goals as goal
 
 pub objects-preserved-then-are_nearer : goal.objects-preserved-then-are_nearer
 objects-preserved-then-are_nearer g c =
