@@ -180,9 +180,12 @@ fn nearest_place(candidates: &[Candidate]) -> usize
         All (IsAsFar (slice_index_or candidates.now result d).distance) candidates.now }
 {
     let mut place = 0;
+    let mut least = candidates[0].distance;
     for other in 1..candidates.len() {
-        if candidates[other].distance < candidates[place].distance {
+        let distance = candidates[other].distance;
+        if distance < least {
             place = other;
+            least = distance;
         }
     }
     place
