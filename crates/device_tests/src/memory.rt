@@ -66,10 +66,23 @@ fn a_refused_growth_leaves_the_blocks_as_they_were(rt: HostRuntime) {
     let mut device = MemoryDevice::new(&heap);
     assert_eq!(rt; put(&mut device, 0, 1), Ok(()));
     assert_eq!(rt; device.sync(), Ok(()));
-    // What grows is an append, and the first write of a block since the sync.
-    for (block, byte) in [(1, 2), (0, 3)] {
+    // What grows is an append, also of zeros, of which nothing is written, and the first write of a block since
+    // the sync.
+    for (block, byte) in [
+        (1, 2),
+        (0, 3),
+        (2, 0),
+        (3, 0),
+        (4, 0),
+        (5, 0),
+        (6, 0),
+        (7, 0),
+        (8, 0),
+        (9, 4),
+    ] {
         let blocks = device.blocks();
         let writes = device.writes();
+        let first = byte_of(&mut device, 0);
         for k in 0..100 {
             heap.refuse_from(k);
             let answer = put(&mut device, block, byte);
@@ -80,10 +93,15 @@ fn a_refused_growth_leaves_the_blocks_as_they_were(rt: HostRuntime) {
             assert_eq!(rt; answer, Err(DeviceError::Memory));
             assert_eq!(rt; device.blocks(), blocks);
             assert_eq!(rt; device.writes(), writes);
-            assert_eq!(rt; byte_of(&mut device, 0), Some(1));
+            assert_eq!(rt; byte_of(&mut device, 0), first);
         }
         assert_eq!(rt; byte_of(&mut device, block), Some(byte));
     }
+    // behind zeros, and among them
+    assert_eq!(rt; put(&mut device, 5, 6), Ok(()));
+    assert_eq!(rt; byte_of(&mut device, 4), Some(0));
+    assert_eq!(rt; byte_of(&mut device, 5), Some(6));
+    assert_eq!(rt; byte_of(&mut device, 8), Some(0));
 }
 
 #[test]
