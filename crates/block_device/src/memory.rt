@@ -16,8 +16,8 @@ use std::alloc::{Allocator, Global};
 ///
 /// Reads and syncs take no memory. A write takes some where it appends, and where it is the first of its
 /// block since the last sync: what the block held then is kept, so there is room for at most twice the
-/// blocks. Zeros behind all other blocks take no memory of the system's before they are written over, though their
-/// room is taken.
+/// blocks. Zeros behind all other blocks have their room, but are not written there before another block is
+/// written behind or among them.
 #[derive(Drop)]
 pub struct MemoryDevice<A: Allocator + Copy = Global> {
     blocks: BlockList<A>,
