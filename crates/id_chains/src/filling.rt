@@ -23,10 +23,10 @@ use page_cache::PageCache;
 use page_file::Fault;
 use std::alloc::Allocator;
 
-/// Adds objects to the table, none of which has an identifier that is there or that one before it has. No
-/// chain is walked: those of one chain that stand in a row are put into its first page together, as many as
-/// it has room for, and then into a new page before it. So in the order of the remainders by 1000 each page
-/// of objects is written once.
+/// Adds the objects of entries of leaves to the table, none of which has an identifier that is there or that
+/// one before it has. No chain is walked: those of one chain that stand in a row are put into its first page
+/// together, as many as it has room for, and then into a new page before it. So in the order of the
+/// remainders by 1000 each page of objects is written once.
 ///
 /// It makes at most one page more live for each object, and in that order one for each 100 objects and each
 /// remainder, also where it is refused.

@@ -26,9 +26,9 @@ use page_cache::PageCache;
 use page_file::Fault;
 use std::alloc::Allocator;
 
-/// Adds objects to the table, none of which has an identifier that is there or that one before it has. In the
-/// order of their identifiers they leave full leaves, and a run of such objects is put into its leaf with one
-/// walk, which no clause says.
+/// Adds the objects of entries of leaves to the table, none of which has an identifier that is there or that
+/// one before it has. In the order of their identifiers they leave full leaves, and a run of such objects is
+/// put into its leaf with one walk, which no clause says.
 ///
 /// Where the pages stand for a table, it makes at most one page more live for each 28 objects that the table
 /// has then, and 14 more.

@@ -175,7 +175,7 @@ pub offered_more : (k : ℕ) (best xs : List (ℕ × ℕ)) (x : ℕ × ℕ)
 offered_more k best [] x = refl
 offered_more k best (y ∷ ys) x = offered_more k (take k (put_nearest_first y best)) ys x
 
-take_few : (k : ℕ) (ys : List (ℕ × ℕ)) → length (take k ys) ≤ k
+pub take_few : (k : ℕ) (ys : List (ℕ × ℕ)) → length (take k ys) ≤ k
 take_few zero ys = omega arith
 take_few (suc k) [] = omega arith
 take_few (suc k) (y ∷ ys) = omega (arith, take_few k ys)

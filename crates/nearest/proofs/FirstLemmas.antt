@@ -18,7 +18,7 @@ use Rattle.tree_node.specs.Boxes.{no_item}
 use Rattle.tree_node.specs.Nodes.{Item}
 use Rattle.nearest.specs.Candidates.{Past, offered, row_at}
 use Rattle.nearest.proofs.AnswerLemmas.{AllPast, NoneNearer, and_then, and_then-listed, first_of_all}
-use Rattle.nearest.proofs.AnswerLemmas.{nearest_same, offered_are_first, past_le, past_put, put_take}
+use Rattle.nearest.proofs.AnswerLemmas.{nearest_same, offered_are_first, past_le, past_put, put_take, take_few}
 use Rattle.nearest.proofs.OrderLemmas.{Ascends-nearest_first, comes_first-total, first_nearer, listed}
 use Rattle.nearest.proofs.OrderLemmas.{listed-append, listed-nearest_first, one_order}
 
@@ -132,11 +132,6 @@ first_none far d k before items few order =
       past = tt;
       near = omega arith;
     }
-
-take_few : (k : ℕ) (ys : List (ℕ × ℕ)) → length (take k ys) ≤ k
-take_few zero ys = omega arith
-take_few (suc k) [] = omega arith
-take_few (suc k) (y ∷ ys) = omega (arith, take_few k ys)
 
 module _ {far : Bounds → ℕ} {d k : ℕ} {before best : List (ℕ × ℕ)} {items : List Item} {i : ℕ} where
   pub first_offered : OfferingFirst far d k before best items i → (x : ℕ × ℕ) (next : List (ℕ × ℕ))
