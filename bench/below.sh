@@ -10,3 +10,8 @@ copy_crates() {
         cp -a "$here/../crates/$crate" "$work/crates/$crate"
     done
 }
+
+# Proves and builds a program of crates in $work, for the processors that the kit builds for where none is named.
+build_program() {
+    "$here/../tools/build" --top "$work" --cpu x86-64-v2 "$1" 2>"$work/log" || { cat "$work/log" >&2; exit 1; }
+}

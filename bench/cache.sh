@@ -16,8 +16,7 @@ for loop in scene put_all; do
     cp "$here/cache_times_$loop.invariants" "$work/crates/cache_times/proofs/$loop/Invariants.antt"
 done
 echo 'cache_times: page_cache page_file block_device' >>"$work/crates.txt"
-git -C "$work" init -q
-(cd "$work/crates/cache_times" && rt run) >"$work/log" 2>&1 || { cat "$work/log" >&2; exit 1; }
+build_program cache_times
 program="$work/crates/cache_times/out/cache_times"
 
 # The least processor seconds of five runs.

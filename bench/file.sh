@@ -9,6 +9,7 @@ rounds=${1:-20}
 blocks=16384
 work=$(mktemp -d)
 trap 'rm -rf "$work"' EXIT
+. "$here/below.sh"
 mkdir -p "$work/crates"
 for crate in refusing block_device file_device; do
     cp -a "$here/../crates/$crate" "$work/crates/$crate"
@@ -17,8 +18,7 @@ mkdir -p "$work/crates/file_times/src"
 cp "$here/file_times.rattle" "$work/crates/file_times/src/main.rt"
 grep -E '^(refusing|block_device|file_device):' "$here/../crates.txt" >"$work/crates.txt"
 echo 'file_times: file_device block_device anyhow' >>"$work/crates.txt"
-git -C "$work" init -q
-(cd "$work/crates/file_times" && rt run -- "$work/built" 1) >"$work/log" 2>&1 || { cat "$work/log" >&2; exit 1; }
+build_program file_times
 g++ -O2 -std=c++17 -o "$work/reference" "$here/file_times.cpp"
 
 for _ in $(seq "$rounds"); do

@@ -18,8 +18,7 @@ for loop in add_all remove_all sum_of; do
     cp "$here/ids_times_$loop.invariants" "$work/crates/ids_times/proofs/$loop/Invariants.antt"
 done
 echo 'ids_times: id_table node_page page_cache page_file block_device box_math' >>"$work/crates.txt"
-git -C "$work" init -q
-(cd "$work/crates/ids_times" && rt run) >"$work/log" 2>&1 || { cat "$work/log" >&2; exit 1; }
+build_program ids_times
 program="$work/crates/ids_times/out/ids_times"
 
 # least PROGRAM WORDS..: the least processor seconds of five runs.

@@ -12,8 +12,7 @@ copy_crates reinsert
 cp "$here/insert_times.rattle" "$work/crates/insert_times/src/main.rt"
 cp "$here/insert_times.invariants" "$work/crates/insert_times/proofs/insert_boxes/Invariants.antt"
 echo 'insert_times: reinsert tree_node node_page page_cache page_file block_device box_math arrayvec' >>"$work/crates.txt"
-git -C "$work" init -q
-(cd "$work/crates/insert_times" && rt run) >"$work/log" 2>&1 || grep -q '^level' "$work/log" || { cat "$work/log" >&2; exit 1; }
+build_program insert_times
 program="$work/crates/insert_times/out/insert_times"
 
 # The least processor seconds of five runs.

@@ -6,12 +6,12 @@ set -eu
 here=$(cd "$(dirname "$0")" && pwd)
 work=$(mktemp -d)
 trap 'rm -rf "$work"' EXIT
+. "$here/below.sh"
 mkdir -p "$work/crates/mask_times/src"
 cp -a "$here/../crates/box_math" "$work/crates/box_math"
 cp "$here/mask_times.rattle" "$work/crates/mask_times/src/main.rt"
 printf 'box_math:\nmask_times: box_math\n' >"$work/crates.txt"
-git -C "$work" init -q
-(cd "$work/crates/mask_times" && rt run) >"$work/log" 2>&1 || { cat "$work/log" >&2; exit 1; }
+build_program mask_times
 g++ -O2 -std=c++17 -o "$work/reference" "$here/mask_times.cpp"
 
 # The least processor seconds of five runs.

@@ -13,8 +13,7 @@ copy_crates range_query
 cp "$here/query_times.rattle" "$work/crates/query_times/src/main.rt"
 cp "$here/query_times.invariants" "$work/crates/query_times/proofs/tree/Invariants.antt"
 echo 'query_times: range_query node_page page_cache page_file block_device block_bytes box_math' >>"$work/crates.txt"
-git -C "$work" init -q
-(cd "$work/crates/query_times" && rt run) >"$work/log" 2>&1 || { cat "$work/log" >&2; exit 1; }
+build_program query_times
 
 # The least processor seconds of five runs.
 least() {

@@ -12,8 +12,7 @@ mkdir -p "$work/crates/rule_times/src"
 copy_crates reinsert
 cp "$here/rule_times.rattle" "$work/crates/rule_times/src/main.rt"
 echo 'rule_times: choose_subtree rstar_split reinsert node_page tree_node box_math arrayvec' >>"$work/crates.txt"
-git -C "$work" init -q
-(cd "$work/crates/rule_times" && rt run) >"$work/log" 2>&1 || { cat "$work/log" >&2; exit 1; }
+build_program rule_times
 program="$work/crates/rule_times/out/rule_times"
 
 # The least processor seconds of five runs.

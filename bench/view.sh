@@ -11,8 +11,7 @@ mkdir -p "$work/crates/view_times/src"
 copy_crates node_bytes
 cp "$here/view_times.rattle" "$work/crates/view_times/src/main.rt"
 echo 'view_times: node_bytes block_bytes box_math' >>"$work/crates.txt"
-git -C "$work" init -q
-(cd "$work/crates/view_times" && rt run) >"$work/log" 2>&1 || { cat "$work/log" >&2; exit 1; }
+build_program view_times
 
 # The least processor seconds of five runs.
 least() {

@@ -1,7 +1,7 @@
 #!/usr/bin/env bash
 # build.sh [OUT]: builds the C library and the Python module into OUT (default library/lib): librstore.a, librstore.so,
-# rstore.h, rstore.py and rstore_rtree.py. From a fresh clone it proves all crates first, which takes hours; where their
-# out/ folders are there, a minute. CC names another compiler, JOBS how many jobs rt has.
+# rstore.h, rstore.py and rstore_rtree.py. What its proved part is made of is proved first, where that is not done yet:
+# after ./rstore four crates. CC names another compiler, JOBS how many processors are used.
 set -eu
 here="$(cd "$(dirname "$0")" && pwd)"
 crates="$here/../crates"
@@ -17,31 +17,7 @@ fi
 kit="$(dirname "$(rt doc)")"
 built="$crates/rstore_c/out/librstore_c.a"
 
-# The library's proved code over the libraries below as `rt ci` has left them. They have no stamp that `rt lib` would take,
-# so the kit's compiler is called as `rt` calls it: it proves the one crate once more, and builds it.
-build_over_ci() {
-  local words=() name folder
-  for name in $(sed -n 's/^rstore_c staticlib: //p' "$crates/../crates.txt"); do
-    words+=(--extern "$name=$crates/$name/out/rlib/$name.rlib")
-  done
-  for folder in "$crates"/*/out/rlib; do words+=(-L "dependency=$folder"); done
-  mkdir -p "$crates/rstore_c/out"
-  cd "$crates/rstore_c"
-  "$kit/bin/rattle" build --crate-name rstore_c src/lib.rt --extern "std=$kit/rlibs/std.rlib" -L "dependency=$kit/rlibs" \
-    "${words[@]}" --antt-project "$kit/rattle/logic/antt-project.json" --logic-built "$kit/logic_built" \
-    --jobs "${JOBS:-1}" --links rstore_c= --crate-type staticlib --toolchain "$kit/toolchain" --backend llvm -o "$built"
-}
-
-# The proved code, anew where a source that it may be made of is newer.
-if [ ! -f "$built" ] || [ -n "$(find "$crates/../crates.txt" "$crates"/*/src "$crates"/*/specs "$crates"/*/proofs \
-  -type f -newer "$built" -print -quit 2>/dev/null)" ]; then
-  if [ -d "$crates/layer_store/out/rlib/layer_store.rlib" ] && [ ! -f "$crates/layer_store/out/rlib/stamp" ]; then
-    (build_over_ci >&2)
-  else
-    (cd "$crates/rstore_c" && rt lib --jobs "${JOBS:-1}" >&2)
-  fi
-  touch "$built"
-fi
+"$here/../tools/build" ${JOBS:+--jobs "$JOBS"} rstore_c >&2
 work="$(mktemp -d)"
 trap 'rm -rf "$work"' EXIT
 # The proved code has its files by streams: its read(0) and write(1) get the names of rstore.c's functions, in that one

@@ -1,0 +1,359 @@
+#!/usr/bin/env python3
+"""Runs tools/build on small repositories of its own: in which order crates are begun and by how many jobs, that nothing is
+proved twice and no change is missed, what is said of a failure, an interrupt, a crate that is killed, a full disk, little
+memory and no `rt`, and that the next call goes on. A script that plays the kit's compiler does all but the last test,
+which proves two crates by the kit.
+
+build.py [WORDS OF unittest]
+"""
+import json
+import os
+import pty
+import shutil
+import signal
+import subprocess
+import sys
+import tempfile
+import time
+import unittest
+
+TOP = os.path.dirname(os.path.dirname(os.path.realpath(__file__)))
+BUILD = f"{TOP}/tools/build"
+# A compiler that takes as many tenths of a second as the crate's source says, and then does what that says.
+COMPILER = r'''#!/usr/bin/env python3
+import json, os, signal, sys, time
+words = sys.argv[1:]
+name, made = words[words.index("--crate-name") + 1], words[words.index("-o") + 1]
+with open(next(it for it in words if it.startswith("src/"))) as it:
+    text = it.read()
+with open(os.environ["FAKE_LOG"], "a") as log:
+    log.write(json.dumps(["begin", name, int(words[words.index("--jobs") + 1]), words[words.index("--cpu") + 1] if "--cpu" in words else None]) + "\n")
+missing = [it for it in words if it.endswith(".rlib") and "=" in it and "/crates/" in it and not os.path.exists(it.partition("=")[2] + "/format")]
+if missing:
+    sys.exit(f"error: {missing[0]} is missing")
+seconds, _, what = text.partition(" ")
+time.sleep(int(seconds) / 10)
+if what.startswith("refuse"):
+    print("fn f: not proved\nlogic=not-proved")
+    sys.exit(1)
+if what.startswith("kill") and "--jobs 1 " not in " ".join(words) + " ":
+    os.kill(os.getpid(), signal.SIGKILL)
+if what.startswith("full"):
+    print("error: rlib: No space left on device (os error 28)")
+    sys.exit(2)
+if made.endswith(".rlib"):
+    os.makedirs(made, exist_ok=True)
+    made += "/format"
+with open(made, "w") as it:
+    it.write(what)
+with open(os.environ["FAKE_LOG"], "a") as log:
+    log.write(json.dumps(["end", name]) + "\n")
+'''
+LINKER = '#!/bin/sh\nwhile [ "$1" != -o ]; do shift; done\ncp "$3" "$2"\n'
+
+
+class Builds(unittest.TestCase):
+    """A repository and a kit in a folder of their own."""
+
+    def setUp(self):
+        room = tempfile.TemporaryDirectory()
+        self.addCleanup(room.cleanup)
+        self.room, self.top, self.calls = room.name, f"{room.name}/repository", 0
+        for file, text in (("rt", f"#!/bin/sh\necho {self.room}/kit/START\n"), ("rattle", COMPILER), ("rattle-link", LINKER)):
+            self.write(f"{self.room}/kit/bin/{file}", text)
+            os.chmod(f"{self.room}/kit/bin/{file}", 0o755)
+        self.write(f"{self.room}/kit/WHAT", "a kit")
+        self.path = f"{self.room}/kit/bin:{os.environ['PATH']}"
+
+    def write(self, file, text):
+        os.makedirs(os.path.dirname(file), exist_ok=True)
+        with open(file, "w") as it:
+            it.write(text)
+
+    def crate(self, name, text, kind="lib"):
+        self.write(f"{self.top}/crates/{name}/src/{kind}.rt", text)
+
+    def repository(self, lines, **texts):
+        """Crates of these lines of crates.txt, each of which takes a tenth of a second."""
+        self.write(f"{self.top}/crates.txt", lines)
+        for line in lines.splitlines():
+            name = line.partition(":")[0].split()[0]
+            self.crate(name, texts.get(name, f"1 {name}"), "main" if name == "top" else "lib")
+
+    def begin(self, *words, **how):
+        self.calls += 1
+        self.log = f"{self.room}/log{self.calls}"
+        self.write(self.log, "")
+        env = {**os.environ, "PATH": self.path, "FAKE_LOG": self.log}
+        how = {"stdout": subprocess.PIPE, "stderr": subprocess.PIPE, "text": True, "env": env, **how}
+        return subprocess.Popen([BUILD, "--top", self.top, *words], **how)
+
+    def build(self, *words):
+        """The status of a call, what it said, and which crates it began."""
+        ran = self.begin(*words)
+        said = ran.communicate(timeout=60)[1]
+        return ran.returncode, said, [it[1] for it in self.logged() if it[0] == "begin"]
+
+    def logged(self):
+        with open(self.log) as it:
+            return [json.loads(line) for line in it]
+
+    def assertBuilds(self, names, *words):
+        status, said, begun = self.build(*words)
+        self.assertEqual((status, sorted(begun)), (0, sorted(names)), said)
+
+
+class Order(Builds):
+    def test_a_crate_is_begun_once_all_below_it_are_proved(self):
+        self.repository("low:\nleft: low\nright: low\nmid: left\ntop: mid right low\n")
+        self.assertBuilds(["low", "left", "right", "mid", "top"], "--jobs", "3", "top")
+        ended = set()
+        below = {"low": [], "left": ["low"], "right": ["low"], "mid": ["left", "low"], "top": ["mid", "right", "left", "low"]}
+        for what, name, *_ in self.logged():
+            self.assertLessEqual({*below[name]}, ended)
+            ended |= {name} if what == "end" else set()
+
+    def test_the_longest_chain_is_first_and_has_all_processors(self):
+        self.repository("short:\nlow:\nmid: low\nlong: mid\ntop: long short\n", short="1 short")
+        self.build("--jobs", "4", "top")
+        begun = [it[1:3] for it in self.logged() if it[0] == "begin"]
+        self.assertEqual(begun[:2], [["low", 4], ["short", 2]])
+
+    def test_as_many_run_side_by_side_as_there_are_processors(self):
+        names = "abcdef"
+        self.repository("".join(f"{it}:\n" for it in names), **{it: f"10 {it}" for it in names})
+        self.assertBuilds(names, "--jobs", "2", *names)
+        most = now = 0
+        for what, *_ in self.logged():
+            now += 1 if what == "begin" else -1
+            most = max(most, now)
+        self.assertEqual(most, 2)
+
+    def test_only_what_a_target_stands_on_is_proved(self):
+        self.repository("low:\nother:\nleft: low\n")
+        self.assertBuilds(["low", "left"], "left")
+
+    def test_a_line_that_stands_too_low_is_refused(self):
+        self.repository("left: low\nlow:\n")
+        self.assertIn("low must be a library, and stand above left", self.build("left")[1])
+
+    def test_a_program_is_built_for_the_processor_that_is_named(self):
+        self.repository("top:\n")
+        self.build("--cpu", "x86-64-v2", "top")
+        self.assertEqual(self.logged()[0][3], "x86-64-v2")
+
+
+class Stamps(Builds):
+    LINES = "low:\nleft: low\nright: low\ntop: left right low\n"
+
+    def setUp(self):
+        super().setUp()
+        self.repository(self.LINES)
+        self.build("top")
+
+    def test_what_stands_is_not_proved_again(self):
+        self.assertBuilds([], "top")
+        os.utime(f"{self.top}/crates/low/src/lib.rt")  # times count for nothing
+        self.assertBuilds([], "top")
+
+    def test_a_change_is_noticed_and_all_that_stands_on_it_is_proved_again(self):
+        self.crate("left", "1 other")
+        self.assertBuilds(["left", "top"], "top")
+        self.crate("low", "1 changed")
+        os.utime(f"{self.top}/crates/low/src/lib.rt", (0, 0))
+        self.assertBuilds(["low", "left", "right", "top"], "top")
+
+    def test_a_proof_a_new_file_a_line_and_the_kit_count(self):
+        self.write(f"{self.top}/crates/left/proofs/Lib.antt", "")
+        self.assertBuilds(["left"], "left")
+        os.remove(f"{self.top}/crates/left/proofs/Lib.antt")
+        self.assertBuilds(["left"], "left")
+        self.write(f"{self.top}/crates.txt", self.LINES.replace("right: low", "right:"))
+        self.assertBuilds(["right"], "right")
+        self.write(f"{self.room}/kit/WHAT", "another kit")
+        self.assertBuilds(["low", "left"], "left")
+
+    def test_what_is_proved_anew_and_comes_to_the_same_changes_nothing_above(self):
+        self.crate("low", "2 low")
+        self.assertBuilds(["low"], "top")
+
+    def test_a_library_that_was_replaced_does_not_stand(self):
+        self.write(f"{self.top}/crates/low/out/rlib/low.rlib/format", "of another hand")
+        self.assertBuilds(["low"], "top")
+
+    def test_a_source_that_changes_meanwhile_is_proved_once_more(self):
+        self.crate("low", "10 slow")
+        ran = self.begin("low")
+        while not self.logged():
+            time.sleep(0.05)
+        self.crate("low", "1 quick")
+        self.assertIn("low was changed: once more", ran.communicate(timeout=60)[1])
+        with open(f"{self.top}/crates/low/out/rlib/low.rlib/format") as it:
+            self.assertEqual(it.read(), "quick")
+
+    def test_a_program_is_made_newer_than_its_sources(self):
+        os.utime(f"{self.top}/crates/top/src/main.rt")
+        self.assertBuilds([], "top")
+        made, source = (os.stat(f"{self.top}/crates/top/{it}").st_mtime for it in ("out/top", "src/main.rt"))
+        self.assertGreaterEqual(made, source)
+
+
+class BadCases(Builds):
+    LINES = "low:\nleft: low\nright: low\ntop: left right low\n"
+
+    def test_a_failure_names_crate_cause_and_log_and_the_next_call_goes_on(self):
+        self.repository(self.LINES, left="1 refuse", right="5 right")
+        status, said, _ = self.build("top")
+        self.assertEqual(status, 1)
+        self.assertIn(f"left failed; all that was said is in {self.top}/crates/left/out/build.log", said)
+        self.assertIn("fn f: not proved", said)
+        self.crate("left", "1 mended")
+        self.assertBuilds(["left", "top"], "top")
+
+    def test_an_interrupt_ends_all_and_the_next_call_goes_on(self):
+        for number in (signal.SIGINT, signal.SIGTERM):
+            self.repository(self.LINES, left="600 left", right="1 right")
+            shutil.rmtree(f"{self.top}/crates/low/out", ignore_errors=True)
+            shutil.rmtree(f"{self.top}/crates/right/out", ignore_errors=True)
+            ran = self.begin("--jobs", "2", "top")
+            while not os.path.exists(f"{self.top}/crates/right/out/rlib/right.stamp"):
+                time.sleep(0.05)
+            ran.send_signal(number)
+            self.assertIn("interrupted: what was proved so far is kept", ran.communicate(timeout=10)[1])
+            self.assertEqual(ran.returncode, 130)
+            self.assertNotIn("600 left", subprocess.run(["ps", "-e", "-o", "args"], capture_output=True, text=True).stdout)
+            self.crate("left", "1 left")
+            self.assertBuilds(["left", "top"], "top")
+            shutil.rmtree(f"{self.top}/crates/top/out")
+
+    def test_a_crate_that_is_killed_is_tried_once_more_alone(self):
+        self.repository(self.LINES, right="1 kill")
+        status, said, _ = self.build("--jobs", "2", "top")
+        self.assertEqual(status, 0, said)
+        self.assertIn("right was killed, perhaps for want of memory: once more", said)
+        self.assertIn(["begin", "right", 1, None], self.logged())
+
+    def test_a_full_disk(self):
+        self.repository(self.LINES, left="1 full")
+        status, said, _ = self.build("top")
+        self.assertEqual(status, 1)
+        self.assertIn("the disk is full: free some room, and call again", said)
+
+    @unittest.skipUnless(os.geteuid() == 0, "a small disk needs root")
+    def test_a_disk_that_is_really_full(self):
+        os.makedirs(self.top)
+        small = ["mount", "-t", "tmpfs", "-o", "size=256k", "none", self.top]
+        if subprocess.run(small, capture_output=True).returncode:
+            self.skipTest("nothing can be mounted here")
+        try:
+            self.repository(self.LINES)
+            with open(f"{self.top}/filler", "wb") as it:
+                it.write(bytes(1 << 16))
+            with self.assertRaises(OSError), open(f"{self.top}/more", "wb", buffering=0) as it:
+                while True:
+                    if it.write(bytes(4096)) < 4096:
+                        raise OSError
+            status, said, _ = self.build("top")
+            self.assertNotEqual(status, 0)
+            self.assertIn("free some room, and call again", said)
+            self.assertNotIn("Traceback", said)
+            os.remove(f"{self.top}/more")
+            self.assertEqual(self.build("top")[0], 0)
+        finally:
+            subprocess.run(["umount", "-l", self.top], check=True)
+
+    def test_no_rt(self):
+        self.repository(self.LINES)
+        self.path = "/usr/bin:/bin"
+        status, said, _ = self.build("top")
+        self.assertEqual((status, said), (2, "build: the Rattle kit's rt is not on the PATH (README.md, \"Build it\")\n"))
+
+    def test_no_memory_for_two_checks(self):
+        self.repository("a:\nb:\ntop: a b\n", a="3 a", b="3 b")
+        script = f"import importlib.machinery as m, sys; it = m.SourceFileLoader('build', {BUILD!r}).load_module(); "
+        script += "it.free_memory = lambda: 2e9; sys.exit(it.main())"
+        env = {**os.environ, "PATH": self.path, "FAKE_LOG": f"{self.room}/log"}
+        self.write(f"{self.room}/log", "")
+        self.log = f"{self.room}/log"
+        words = [sys.executable, "-c", script, "--top", self.top, "--jobs", "4", "top"]
+        ran = subprocess.run(words, env=env, capture_output=True, text=True, timeout=60)
+        self.assertEqual(ran.returncode, 0, ran.stderr)
+        self.assertIn("1.8 GB of memory are free, room for one check at a time", ran.stderr)
+        self.assertEqual([it[0] for it in self.logged()], ["begin", "end"] * 3)
+
+    def test_a_crate_that_is_not_there(self):
+        self.repository(self.LINES)
+        self.assertIn("crates.txt has no line of a crate nowhere", self.build("nowhere")[1])
+
+    def test_two_calls_at_once_prove_nothing_twice(self):
+        self.repository(self.LINES, low="10 low")
+        first = self.begin("top")
+        while not self.logged():
+            time.sleep(0.05)
+        status, said, begun = self.build("top")
+        self.assertEqual((status, begun), (0, []), said)
+        self.assertIn("waiting for it", said)
+        first.communicate()
+        self.assertEqual(first.returncode, 0)
+
+
+class Terminal(Builds):
+    def test_one_line_is_rewritten(self):
+        self.repository("low:\nleft: low\n", low="15 low", left="15 left")
+        ours, theirs = pty.openpty()
+        ran = self.begin("left", stdout=theirs, stderr=theirs)
+        os.close(theirs)
+        said = b""
+        while True:
+            try:
+                more = os.read(ours, 4096)
+            except OSError:
+                break
+            said += more
+        self.assertEqual(ran.wait(), 0)
+        text = said.decode()
+        self.assertIn("\r\x1b[Kbuild: 0 of 2 crates, 0 min gone, about ", text)
+        self.assertIn("\r\x1b[Kbuild: 1 of 2 crates, 0 min gone, about ", text)
+        self.assertEqual(text.count("\n"), 1)  # what it says before it begins
+        self.assertTrue(text.endswith("\r\x1b[K"))
+
+
+LOW = """#![tactic(auto)]
+
+ghost use Rattle.std.specs.Prelude.{◌≤◌};
+
+/// The greater of both.
+pub fn greater(a: u32, b: u32) -> u32
+    ensures { b ≤ result }
+{
+    if a < b { b } else { a }
+}
+"""
+ABOVE = """#![tactic(auto)]
+
+ghost use Rattle.std.specs.Prelude.{◌≤◌};
+
+/// Seven, or more.
+pub fn seven(a: u32) -> u32
+    ensures { 7 ≤ result }
+{
+    low::greater(a, 7)
+}
+"""
+
+
+class WithTheKit(Builds):
+    def test_a_right_crate_is_proved_and_a_wrong_one_refused(self):
+        self.path = os.environ["PATH"]
+        self.repository("low:\nabove: low\n", low=LOW, above=ABOVE)
+        for status, text, said in ((0, ABOVE, ""), (1, ABOVE.replace("a, 7", "7, a"), "fn above::seven: not proved")):
+            self.crate("above", text)
+            ran = self.begin("above")
+            told = ran.communicate(timeout=600)[1]
+            self.assertEqual(ran.returncode, status, told)
+            self.assertIn(said, told)
+            self.assertEqual(os.path.exists(f"{self.top}/crates/above/out/rlib/above.stamp"), status == 0)
+
+
+if __name__ == "__main__":
+    unittest.main()
