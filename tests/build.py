@@ -1,8 +1,8 @@
 #!/usr/bin/env python3
-"""Runs tools/build on small repositories of its own: in which order crates are begun and by how many jobs, that nothing is
-proved twice and no change is missed, what is said of a failure, an interrupt, a crate that is killed, a full disk, little
-memory and no `rt`, and that the next call goes on. A script that plays the kit's compiler does all but the last test,
-which proves two crates by the kit.
+"""Runs tools/build on small repositories of its own: in which order crates are begun and by how many jobs, that
+nothing is proved twice and no change is missed, what is said of a failure, an interrupt, a crate that is killed, a full
+disk, little memory and no `rt`, and that the next call goes on. In all but the last test, which proves two crates, a
+script plays the kit's compiler.
 
 build.py [WORDS OF unittest]
 """
@@ -21,22 +21,38 @@ TOP = os.path.dirname(os.path.dirname(os.path.realpath(__file__)))
 BUILD = f"{TOP}/tools/build"
 # A compiler that takes as many tenths of a second as the crate's source says, and then does what that says.
 COMPILER = r'''#!/usr/bin/env python3
-import json, os, signal, sys, time
+import json
+import os
+import signal
+import sys
+import time
+
+def after(flag):
+    return words[words.index(flag) + 1] if flag in words else None
+
+def note(*what):
+    with open(os.environ["FAKE_LOG"], "a") as log:
+        log.write(json.dumps(what) + "\n")
+
 words = sys.argv[1:]
-name, made = words[words.index("--crate-name") + 1], words[words.index("-o") + 1]
+name, made = after("--crate-name"), after("-o")
 with open(next(it for it in words if it.startswith("src/"))) as it:
     text = it.read()
-with open(os.environ["FAKE_LOG"], "a") as log:
-    log.write(json.dumps(["begin", name, int(words[words.index("--jobs") + 1]), words[words.index("--cpu") + 1] if "--cpu" in words else None]) + "\n")
-missing = [it for it in words if it.endswith(".rlib") and "=" in it and "/crates/" in it and not os.path.exists(it.partition("=")[2] + "/format")]
-if missing:
-    sys.exit(f"error: {missing[0]} is missing")
-seconds, _, what = text.partition(" ")
-time.sleep(int(seconds) / 10)
+note("begin", name, int(after("--jobs")), after("--cpu"))
+below = [it.partition("=")[2] for it in words if "/crates/" in it and it.endswith(".rlib") and "=" in it]
+if not all(os.path.exists(f"{it}/format") for it in below):
+    sys.exit("error: a library is missing")
+tenths, _, what = text.partition(" ")
+time.sleep(int(tenths) / 10)
+for _ in range(600 if what.startswith("meet") else 0):
+    with open(os.environ["FAKE_LOG"]) as it:
+        if sum(json.loads(line)[0] == "begin" for line in it) > 1:
+            break
+    time.sleep(0.1)
 if what.startswith("refuse"):
     print("fn f: not proved\nlogic=not-proved")
     sys.exit(1)
-if what.startswith("kill") and "--jobs 1 " not in " ".join(words) + " ":
+if what.startswith("kill") and after("--jobs") != "1":
     os.kill(os.getpid(), signal.SIGKILL)
 if what.startswith("full"):
     print("error: rlib: No space left on device (os error 28)")
@@ -46,8 +62,7 @@ if made.endswith(".rlib"):
     made += "/format"
 with open(made, "w") as it:
     it.write(what)
-with open(os.environ["FAKE_LOG"], "a") as log:
-    log.write(json.dumps(["end", name]) + "\n")
+note("end", name)
 '''
 LINKER = '#!/bin/sh\nwhile [ "$1" != -o ]; do shift; done\ncp "$3" "$2"\n'
 
@@ -59,7 +74,8 @@ class Builds(unittest.TestCase):
         room = tempfile.TemporaryDirectory()
         self.addCleanup(room.cleanup)
         self.room, self.top, self.calls = room.name, f"{room.name}/repository", 0
-        for file, text in (("rt", f"#!/bin/sh\necho {self.room}/kit/START\n"), ("rattle", COMPILER), ("rattle-link", LINKER)):
+        tools = {"rt": f"#!/bin/sh\necho {self.room}/kit/START\n", "rattle": COMPILER, "rattle-link": LINKER}
+        for file, text in tools.items():
             self.write(f"{self.room}/kit/bin/{file}", text)
             os.chmod(f"{self.room}/kit/bin/{file}", 0o755)
         self.write(f"{self.room}/kit/WHAT", "a kit")
@@ -108,20 +124,20 @@ class Order(Builds):
         self.repository("low:\nleft: low\nright: low\nmid: left\ntop: mid right low\n")
         self.assertBuilds(["low", "left", "right", "mid", "top"], "--jobs", "3", "top")
         ended = set()
-        below = {"low": [], "left": ["low"], "right": ["low"], "mid": ["left", "low"], "top": ["mid", "right", "left", "low"]}
+        below = {"low": [], "left": ["low"], "right": ["low"], "mid": ["left", "low"], "top": ["mid", "right", "low"]}
         for what, name, *_ in self.logged():
             self.assertLessEqual({*below[name]}, ended)
             ended |= {name} if what == "end" else set()
 
     def test_the_longest_chain_is_first_and_has_all_processors(self):
-        self.repository("short:\nlow:\nmid: low\nlong: mid\ntop: long short\n", short="1 short")
+        self.repository("short:\nlow:\nmid: low\nlong: mid\ntop: long short\n", low="0 meet short")
         self.build("--jobs", "4", "top")
         begun = [it[1:3] for it in self.logged() if it[0] == "begin"]
-        self.assertEqual(begun[:2], [["low", 4], ["short", 2]])
+        self.assertEqual(sorted(begun[:2]), [["low", 4], ["short", 2]])
 
     def test_as_many_run_side_by_side_as_there_are_processors(self):
         names = "abcdef"
-        self.repository("".join(f"{it}:\n" for it in names), **{it: f"10 {it}" for it in names})
+        self.repository("".join(f"{it}:\n" for it in names), a="0 meet another")
         self.assertBuilds(names, "--jobs", "2", *names)
         most = now = 0
         for what, *_ in self.logged():
@@ -221,7 +237,8 @@ class BadCases(Builds):
             ran.send_signal(number)
             self.assertIn("interrupted: what was proved so far is kept", ran.communicate(timeout=10)[1])
             self.assertEqual(ran.returncode, 130)
-            self.assertNotIn("600 left", subprocess.run(["ps", "-e", "-o", "args"], capture_output=True, text=True).stdout)
+            told = subprocess.run(["ps", "-e", "-o", "args"], capture_output=True, text=True).stdout
+            self.assertNotIn(f"{self.room}/kit/bin/rattle", told)
             self.crate("left", "1 left")
             self.assertBuilds(["left", "top"], "top")
             shutil.rmtree(f"{self.top}/crates/top/out")
@@ -266,7 +283,8 @@ class BadCases(Builds):
         self.repository(self.LINES)
         self.path = "/usr/bin:/bin"
         status, said, _ = self.build("top")
-        self.assertEqual((status, said), (2, "build: the Rattle kit's rt is not on the PATH (README.md, \"Build it\")\n"))
+        self.assertEqual(status, 2)
+        self.assertEqual(said, 'build: the Rattle kit\'s rt is not on the PATH (README.md, "Build it")\n')
 
     def test_no_memory_for_two_checks(self):
         self.repository("a:\nb:\ntop: a b\n", a="3 a", b="3 b")
