@@ -64,7 +64,7 @@ with open(made, "w") as it:
     it.write(what)
 note("end", name)
 '''
-LINKER = '#!/bin/sh\nwhile [ "$1" != -o ]; do shift; done\ncp "$3" "$2"\n'
+LINKER = "#!/bin/sh\nwhile [ \"$1\" != -o ]; do shift; done\ncp \"$3\" \"$2\"\nchmod +x \"$2\"\n"
 
 
 class Builds(unittest.TestCase):
@@ -313,6 +313,49 @@ class BadCases(Builds):
         self.assertIn("waiting for it", said)
         first.communicate()
         self.assertEqual(first.returncode, 0)
+
+
+class Wrapper(Builds):
+    """The script rstore, in a repository of its own."""
+
+    def setUp(self):
+        super().setUp()
+        self.repository("rstore:\n")
+        os.rename(f"{self.top}/crates/rstore/src/lib.rt", f"{self.top}/crates/rstore/src/main.rt")
+        for file in ("rstore", "tools/build", "docs/help.txt"):
+            os.makedirs(os.path.dirname(f"{self.top}/{file}"), exist_ok=True)
+            shutil.copy(f"{TOP}/{file}", f"{self.top}/{file}")
+        self.crate("rstore", "1 #!/bin/sh\necho the program has $1; cat\n", "main")
+
+    def run_it(self, *words):
+        self.log = f"{self.room}/log"
+        self.write(self.log, "")
+        env = {**os.environ, "PATH": self.path, "FAKE_LOG": self.log}
+        return subprocess.run([f"{self.top}/rstore", *words], env=env, input="a line\n", capture_output=True, text=True)
+
+    def test_help_is_there_at_once(self):
+        for words in (("--help",), ("-h", "more")):
+            ran = self.run_it(*words)
+            with open(f"{TOP}/docs/help.txt") as it:
+                self.assertEqual((ran.returncode, ran.stdout, ran.stderr), (0, it.read(), ""))
+            self.assertEqual(self.logged(), [])
+
+    def test_the_first_call_tells_what_to_do_meanwhile_and_then_runs_the_program(self):
+        ran = self.run_it("--create")
+        self.assertEqual((ran.returncode, ran.stdout), (0, "the program has --create\na line\n"), ran.stderr)
+        self.assertIn("rt try <../../examples/first.txt", ran.stderr)
+        self.assertIn("build: crates to prove: 1, in about 1 min on ", ran.stderr)
+        ran = self.run_it("--help")
+        self.assertEqual((ran.stdout, ran.stderr, self.logged()), ("the program has --help\na line\n", "", []))
+
+    def test_a_source_that_is_newer_is_proved_first(self):
+        self.run_it()
+        later = os.stat(f"{self.top}/crates/rstore/out/rstore").st_mtime + 5
+        self.crate("rstore", "1 #!/bin/sh\necho another\n", "main")
+        os.utime(f"{self.top}/crates/rstore/src/main.rt", (later, later))
+        ran = self.run_it()
+        self.assertEqual((ran.stdout, len(self.logged())), ("another\n", 2), ran.stderr)
+        self.assertNotIn("rt try", ran.stderr)
 
 
 class Terminal(Builds):

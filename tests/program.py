@@ -16,7 +16,7 @@ import string
 import struct
 import tty
 
-from runs import FIRST, NO_JOURNAL, NOT_A_STORE, UNCLOSED, Runs, main
+from runs import FIRST, NO_JOURNAL, NOT_A_STORE, TOP, UNCLOSED, Runs, main
 
 UNENDED = "rstore: the last run did not end; what changed after its last closing is lost\n"
 FAULT = "rstore: input or output failed\n"
@@ -55,6 +55,12 @@ def let_no_file_be_locked():
         raise OSError("the system takes no filter of calls")
 
 
+def text_of(file):
+    """A file of the repository."""
+    with open(os.path.join(TOP, file), encoding="utf-8") as it:
+        return it.read()
+
+
 class Sessions(Runs):
     """The words, and the texts that are answered in memory and over a file."""
 
@@ -69,6 +75,12 @@ class Sessions(Runs):
     def test_an_empty_file_is_made_a_store_by_words_in_either_order(self):
         self.write("store", b"")
         self.answers("store --create", FIRST, SAID)
+
+    def test_the_session_that_a_newcomer_tries(self):
+        self.answers("", text_of("examples/first.txt"), text_of("examples/first.out"))
+
+    def test_what_is_told_before_anything_is_built_is_what_the_program_tells(self):
+        self.assertEqual(self.result("--help", "")[1], text_of("docs/help.txt"))
 
     def test_words_that_are_told(self):
         for words in ("--help", "-h", "--version"):
