@@ -13,15 +13,16 @@ from typing import NamedTuple
 
 SIZE = 4096  # of a block
 MOST = 1 << 24  # bytes of a file that are looked at
-FILE, JOURNAL = NAMES = "store", "store-journal"
+FILE, JOURNAL, _ = NAMES = "store", "store-journal", "store-journal-part"  # all that a run may make
+NONE = (None,) * len(NAMES)  # the state of an empty folder
 ZEROS = bytes(SIZE)
 GARBAGE = [random.Random(number).randbytes(SIZE) for number in range(3)]
 
-TRACED = "openat,pwrite64,write,fsync,fdatasync,unlink,unlinkat,exit_group"
+TRACED = "openat,pwrite64,write,fsync,fdatasync,unlink,unlinkat,rename,renameat,renameat2,exit_group"
 # Of the files no run may make these: the disk below does not know them.
 UNKNOWN = (
-    "open,creat,pwritev,pwritev2,writev,ftruncate,truncate,fallocate,rename,renameat,renameat2,link,linkat,symlink,"
-    "symlinkat,copy_file_range,sendfile,splice,sync,syncfs,sync_file_range,fadvise64,mmap,io_uring_setup,dup,dup2,dup3"
+    "open,creat,pwritev,pwritev2,writev,ftruncate,truncate,fallocate,link,linkat,symlink,symlinkat,"
+    "copy_file_range,sendfile,splice,sync,syncfs,sync_file_range,fadvise64,mmap,io_uring_setup,dup,dup2,dup3"
 )
 STRACE = ["strace", "-f", "--seccomp-bpf", "-y", "-xx", "-s", "100000", "-e", "signal=none", "-e",
           f"trace={TRACED},{UNKNOWN}"]
@@ -38,12 +39,13 @@ class Call(NamedTuple):
         sync    of a file, by the call that is its data, which may fail
         folder  a sync of the folder, likewise
         remove  a name is removed
+        rename  a file gets the name that is the data, and loses its own
         reply   these bytes are answered
         end     the run ends with a status, its place
     """
 
     word: str
-    file: tuple = ()  # its name, and how many files had that name before it
+    file: tuple = ()  # the name by which it was made or found, and how many had that name before it
     at: int = 0
     data: bytes = b""
     went: bool = True
@@ -63,14 +65,14 @@ class Trace:
 
     def __init__(self, folder, names):
         self.folder = folder
-        self.made = {name: 0 for name in names}  # how many files of this name were made or found, from 0
-        self.there = set(names)
-        self.numbers = {}  # what file has this number
+        self.named = {name: (name, 0) for name in names}
+        self.count = {name: 1 for name in names}  # how many files were made or found by this name
+        self.numbers = {}  # what file has this number, or '.' for the folder
         self.calls = []
 
     def name_of(self, path):
         """The name in the folder, or '.' for the folder itself, or none."""
-        path = os.path.normpath(os.path.join(self.folder, os.fsdecode(path)))
+        path = os.path.normpath(os.path.join(self.folder, os.fsdecode(plain(path))))
         if path == self.folder:
             return "."
         return os.path.basename(path) if os.path.dirname(path) == self.folder else None
@@ -86,18 +88,22 @@ class Trace:
         return self.calls
 
     def take(self, word, given, answer):
+        """Takes a call that is one of the files, their folder or the replies, with its operands and answer."""
         went = answer == "?" or int(answer) >= 0
         files = [self.numbers.get(int(number)) for number, _ in NUMBER.findall(given)]
+        names = [self.name_of(path) for path in TEXT.findall(given)] if "at" in word or "name" in word or "link" in word else []
         file = files[0] if files else None
         if word == "exit_group":
             self.calls.append(Call("end", at=int(given)))
         elif word == "openat":
-            self.open(given, int(answer))
+            self.open(names[0], given, int(answer))
         elif word in ("unlink", "unlinkat"):
-            name = self.name_of(plain(TEXT.search(given)[1]))
-            if went and name in self.there:
-                self.there.remove(name)
-                self.calls.append(Call("remove", (name, self.made[name])))
+            if went and names[0] in self.named:
+                self.calls.append(Call("remove", self.named.pop(names[0])))
+        elif word.startswith("rename"):
+            if went and names[0] in self.named:
+                self.named[names[1]] = file = self.named.pop(names[0])
+                self.calls.append(Call("rename", file, data=names[1].encode()))
         elif word == "write" and given.startswith("1<"):
             self.calls.append(Call("reply", data=plain(TEXT.search(given)[1])))
         elif word in ("fsync", "fdatasync") and file:
@@ -106,28 +112,25 @@ class Trace:
         elif word == "pwrite64" and file:
             data, at = plain(TEXT.search(given)[1]), int(given.rsplit(",", 1)[1])
             self.calls.append(Call("write", file, at, data[: int(answer)] if went else data, went))
-        elif word != "write" and went and (any(files) or word == "sync" or self.speaks_of(given)) or file:
+        elif went and (any(files) or word == "sync" or set(names) & set(NAMES)):
             raise ValueError(f"a call that the disk does not know: {word}")
 
-    def speaks_of(self, given):
-        """Whether a path that is given is that of a file of the folder."""
-        return any(self.name_of(plain(text)) in NAMES for text in TEXT.findall(given))
-
-    def open(self, given, number):
+    def open(self, name, given, number):
         if number < 0:
             return
         self.numbers.pop(number, None)
-        name = self.name_of(plain(TEXT.search(given)[1]))
         if name == ".":
             self.numbers[number] = "."
         elif name in NAMES:
-            if "O_TRUNC" in given or "O_DIRECT|" in given or "O_APPEND" in given:
+            if re.search("O_TRUNC|O_DIRECT[|,)]|O_APPEND", given):
                 raise ValueError(f"a file that is opened otherwise: {given[-80:]}")
-            if name not in self.there:
-                self.there.add(name)
-                self.made[name] = self.made.get(name, -1) + 1
-                self.calls.append(Call("make", (name, self.made[name])))
-            self.numbers[number] = name, self.made[name]
+            if name not in self.named:
+                self.named[name] = name, self.count.get(name, 0)
+                self.count[name] = self.count.get(name, 0) + 1
+                self.calls.append(Call("make", self.named[name]))
+            self.numbers[number] = self.named[name]
+        elif name and "O_CREAT" in given:
+            raise ValueError(f"a file that the disk does not know: {name}")
 
 
 class File:
@@ -178,12 +181,20 @@ class File:
 
 
 class Disk:
-    """A folder with a file and its journal. What is left of both is a pair: the blocks of each, or none."""
+    """A folder. Its state are the blocks of each file in it, or none, in the order of their names."""
 
-    def __init__(self, pair=(None, None)):
-        self.names = {name: (name, 0) for name, blocks in zip(NAMES, pair) if blocks is not None}
-        self.files = {(name, 0): File(blocks) for name, blocks in zip(NAMES, pair) if blocks is not None}
+    def __init__(self, state=NONE):
+        self.names = {name: (name, 0) for name, blocks in zip(NAMES, state) if blocks is not None}
+        self.files = {(name, 0): File(blocks) for name, blocks in zip(NAMES, state) if blocks is not None}
         self.earlier = {}  # of a name, what it named since the folder was synced, the first of it on the disk
+
+    @staticmethod
+    def behind(state, calls):
+        """The disk of a folder in a state, behind these calls."""
+        disk = Disk(state)
+        for call in calls:
+            disk.take(call)
+        return disk
 
     def copy(self):
         disk = Disk()
@@ -209,8 +220,10 @@ class Disk:
         if call.word == "make":
             self.name(call.file[0], call.file)
             self.files[call.file] = File()
-        elif call.word == "remove":
-            self.name(call.file[0], None)
+        elif call.word in ("remove", "rename"):
+            self.name(next(name for name, file in self.names.items() if file == call.file), None)
+            if call.word == "rename":
+                self.name(call.data.decode(), call.file)
         elif call.word == "write":
             self.files[call.file].write(call.at, call.data)
         elif call.word == "sync":
@@ -225,7 +238,7 @@ class Disk:
             self.names[name] = now
 
     def shown(self):
-        """The pair as it is read."""
+        """The state as it is read."""
         return tuple(tuple(self.files[self.names[name]].read) if name in self.names else None for name in NAMES)
 
     def is_sure(self):
@@ -257,32 +270,34 @@ class Disk:
         return found
 
     def left(self, chosen):
-        """The pair that a stop with these choices leaves."""
-        pair = []
+        """The state that a stop with these choices leaves."""
+        state = []
         for name in NAMES:
             file = chosen.get(("name", name), self.names.get(name))
             if file is None:
-                pair.append(None)
+                state.append(None)
                 continue
             kept = self.files[file]
             blocks = {block: chosen["block", file, block] for block in kept.loose}
-            pair.append(kept.as_left(blocks, chosen.get(("size", file), len(kept.read))))
-        return tuple(pair)
+            state.append(kept.as_left(blocks, chosen.get(("size", file), len(kept.read))))
+        return tuple(state)
 
     def outcomes(self, chance, sets, brief=False):
-        """The pairs that a stop may leave: all kept, all lost, each choice alone kept or lost, or garbage or zeros among
-        what is kept or lost, each size, the one file kept and the other lost; and so many random sets."""
+        """The states that a stop may leave: all kept, all lost, each choice alone kept or lost; where it is not to be
+        brief each other thing that a choice may be, garbage and zeros too, among what is kept and among what is lost, and
+        one file kept and the others lost; and so many random sets."""
         choices = self.choices()
         kept = {what: may[0] for what, may in choices.items()}
         lost = {what: may[1] for what, may in choices.items()}
         found = [self.left(kept), self.left(lost)]
         for what, may in choices.items():
-            torn = [torn_of(chance, *may[:2])] if what[0] == "block" else []
-            others = [*may[2:], *torn, chance.choice(GARBAGE), ZEROS] if torn else may[2:]
-            for other in chance.sample(others, 1) if brief and others else others:
-                found += [self.left({**kept, what: other}), self.left(self.reached({**lost, what: other}, what))]
             found += [self.left({**kept, what: may[1]}), self.left(self.reached({**lost, what: may[0]}, what))]
-        for name in NAMES:
+            if not brief:
+                is_block = what[0] == "block"
+                others = [*may[2:], *([torn_of(chance, *may[:2]), chance.choice(GARBAGE), ZEROS] if is_block else [])]
+                found += [self.left({**kept, what: other}) for other in others]
+                found += [self.left(self.reached({**lost, what: other}, what)) for other in others]
+        for name in () if brief else NAMES:
             found.append(self.left({what: may[name in (what[1], what[1][0])] for what, may in choices.items()}))
         for _ in range(sets if choices else 0):
             found.append(self.left({what: any_of(chance, what, may) for what, may in choices.items()}))
@@ -309,9 +324,9 @@ def any_of(chance, what, may):
     return chance.choice([torn_of(chance, *may[:2]), ZEROS, *GARBAGE])
 
 
-def pair_in(folder):
-    """The pair that lies in a folder."""
-    pair = []
+def state_of(folder):
+    """The state of a folder."""
+    state = []
     for name in NAMES:
         path = os.path.join(folder, name)
         data = None
@@ -319,13 +334,13 @@ def pair_in(folder):
             with open(path, "rb") as file:
                 data = file.read(MOST)
             data = tuple(data[at : at + SIZE] for at in range(0, len(data), SIZE))
-        pair.append(data)
-    return tuple(pair)
+        state.append(data)
+    return tuple(state)
 
 
-def put_pair(folder, pair):
-    """Puts a pair into a folder."""
-    for name, blocks in zip(NAMES, pair):
+def put_state(folder, state):
+    """Brings a folder into a state."""
+    for name, blocks in zip(NAMES, state):
         path = os.path.join(folder, name)
         if os.path.exists(path):
             os.remove(path)
@@ -347,12 +362,12 @@ def asked(process, command):
 
 
 class Run:
-    """A run that is recorded, over a pair in a folder: its calls, its replies, its status and what it said. It is given
+    """A run that is recorded, over a folder in a state: its calls, its replies, its status and what it said. It is given
     commands, each when the one before was answered, or a text."""
 
-    def __init__(self, work, pair, program, given, fails=None):
+    def __init__(self, work, state, program, given, fails=None):
         folder, trace = os.path.join(work, "run"), os.path.join(work, "trace")
-        put_pair(folder, pair)
+        put_state(folder, state)
         self.given, self.told = given, []
         inject = ["-e", f"inject={fails}"] if fails else []
         pipes = {"stdin": subprocess.PIPE, "stdout": subprocess.PIPE, "stderr": subprocess.PIPE}
@@ -365,13 +380,10 @@ class Run:
         except BrokenPipeError:
             self.said = process.stderr.read()
         self.status = process.wait(timeout=60)
-        names = [name for name, blocks in zip(NAMES, pair) if blocks is not None]
+        names = [name for name, blocks in zip(NAMES, state) if blocks is not None]
         with open(trace, encoding="ascii") as lines:
             self.calls = Trace(folder, names).read(lines)
-        disk = Disk(pair)
-        for call in self.calls:
-            disk.take(call)
-        if disk.shown() != pair_in(folder):
+        if Disk.behind(state, self.calls).shown() != state_of(folder):
             raise ValueError(f"the calls of {program} do not tell what became of the files")
 
     def answered(self, count):

@@ -2,7 +2,7 @@
 """What a stop of the machine leaves of FILE and FILE-journal, by the system calls of runs (after ALICE: Pillai et al., "All
 File Systems Are Not Created Equal", OSDI 2014).
 
-Each script is run under `strace`. Behind each of its calls pairs of files are made that a stop there may leave (stops.py),
+Each script is run under `strace`. Behind each of its calls states of files are made that a stop there may leave (stops.py),
 and the program opens each, checks it and dumps it: it has to find the table of the last closing that was answered, or of
 the one in progress, the same when it is opened again, and refuse none once the store stood; where it refuses, it changes
 nothing. So it has to be
@@ -11,7 +11,7 @@ nothing. So it has to be
     kill    where the run is killed there, the next one reads what was never synced, and then the machine stops
     sync    where a sync fails, whose blocks are then read and not on the disk, and the next run goes on
 
-and where a pair was damaged by hand, or FILE is a link that is turned while it is open. And the checker is checked: where
+and where a state was damaged by hand, or FILE is a link that is turned while it is open. And the checker is checked: where
 a sync is left out of the calls, or a call moved ahead, it has to find what is wrong.
 
 stops_of_files.py [SECONDS [SEED [SCRIPT ..]]]      without SECONDS, or with 0: all, which takes hours
@@ -19,6 +19,7 @@ stops_of_files.py [SECONDS [SEED [SCRIPT ..]]]      without SECONDS, or with 0: 
 PROGRAM names another program than the built one, and ONLY, as "closings kill 31", does one task of a seed alone.
 """
 import collections
+import contextlib
 import copy
 import itertools
 import multiprocessing
@@ -34,7 +35,8 @@ from typing import NamedTuple
 
 from plain_table import Table
 from runs import BUILT, TOP
-from stops import FILE, JOURNAL, SIZE, ZEROS, Disk, Run, asked, pair_in, put_pair
+from stops import FILE, JOURNAL, NONE, Disk, Run, asked, put_state, state_of
+from stops_by_hand import damages, filters, place, syncs_of, writes
 
 UNENDED = "rstore: the last run did not end; what changed after its last closing is lost\n"
 REFUSED = "a refusal"  # in the place of a table
@@ -68,7 +70,7 @@ KNOWN = set()  # the faults that are known, which are told and let pass
 
 
 class Found(NamedTuple):
-    """What an opening finds: a table, by its dump, or a refusal; or what goes wrong. And the pair that it leaves."""
+    """What an opening finds: a table, by its dump, or a refusal; or what goes wrong. And the state that it leaves."""
 
     what: str
     text: str
@@ -125,19 +127,19 @@ class Checker:
         self.program, self.work, self.seed, self.until = program, work, seed, until
         self.known, self.firsts, self.tally, self.wrong = {}, {}, collections.Counter(), {}
         os.mkdir(os.path.join(work, "run"))
-        put_pair(work, (None, None))
+        put_state(work, NONE)
         self.opens("".join(f"{line}\n" for line in BASE), "--create")
-        self.base = pair_in(work)
+        self.base = state_of(work)
 
     def opens(self, text, *words):
-        """Runs the program over the pair in the folder."""
+        """Runs the program over the state in the folder."""
         ways = {"capture_output": True, "text": True, "cwd": self.work, "timeout": 60, "close_fds": False}
         return subprocess.run([self.program, *words, FILE], input=text, **ways)
 
-    def found(self, pair):
-        """What is found in a pair."""
-        if pair not in self.known:
-            put_pair(self.work, pair)
+    def found(self, state):
+        """What is found in a state."""
+        if state not in self.known:
+            put_state(self.work, state)
             try:
                 run = self.opens("check\ndump\n")
             except subprocess.TimeoutExpired:
@@ -148,29 +150,28 @@ class Checker:
                 what, text = REFUSED, run.stderr.strip()
             else:
                 what, text = "no table", f"status {run.returncode}, {run.stdout[:60]!r}, {run.stderr[:200]!r}"
-            self.known[pair] = Found(what, text, pair_in(self.work))
-        return self.known[pair]
+            self.known[state] = Found(what, text, state_of(self.work))
+        return self.known[state]
 
-    def fault_of(self, pair, may):
-        """What is wrong with what is found in a pair, where one of these may be found, or none."""
-        found = self.found(pair)
+    def fault_of(self, state, may):
+        """What is wrong with what is found in a state, where one of these may be found, or none."""
+        found = self.found(state)
         if found.what == "a table" and found.text in may:
             again = self.found(found.left)
             return None if again[:2] == found[:2] else f"opened again it has {again.what}: {again.text[:300]}"
         if found.what == REFUSED and REFUSED in may:
-            changed = [name for name, was, now in zip((FILE, JOURNAL), pair, found.left) if was not in (now, None)]
-            return f"a refused start changes {changed}: {found.text}" if changed else None
+            return f"a refused start changes files: {found.text}" if is_changed(state, found.left) else None
         if found.what == "a table":
             return f"a table that was not closed: {found.text[:300]}"
         return f"{found.what}: {found.text}"
 
-    def look(self, pairs, may, *story):
-        """Looks at pairs that a stop leaves; one of these may be found."""
-        for pair in pairs:
+    def look(self, states, may, *story):
+        """Looks at states that a stop leaves; one of these may be found."""
+        for state in states:
             if time.time() > self.until:
                 raise OutOfTime
             self.tally["stops"] += 1
-            fault = self.fault_of(pair, may)
+            fault = self.fault_of(state, may)
             if fault:
                 self.tell(fault, *story)
 
@@ -180,39 +181,39 @@ class Checker:
         self.wrong.setdefault(story[0], f"{self.task}: {'; '.join(map(str, story))}: {fault}")
 
     def first(self, script, fails=None):
-        """The first run of a script, over which pair it was, and what may be found by the count of replies."""
+        """The first run of a script, over which state it was, and what may be found by the count of replies."""
         if (script, fails) not in self.firsts:
             words, given, is_there = SCRIPTS[script]
-            pair = self.base if is_there else (None, None)
+            state = self.base if is_there else NONE
             program = library() if script == "library" else [self.program, *words]
-            run = Run(self.work, pair, program, given, fails)
+            run = Run(self.work, state, program, given, fails)
             table, loads = Table(), []
             if is_there:
-                table = table_of(self.found(pair).text)
+                table = table_of(self.found(state).text)
             if isinstance(given, str):
                 layer, _, fanout = words[-1].partition(":")
                 loads = [f"create {layer} 2 {fanout}"] if fanout else []
                 loads += [f"insert {layer} {row.replace(',', ' ')}" for row in given.splitlines()[1:]]
             before = {answer_of(table, "dump")} | (set() if is_there else {REFUSED})
-            self.firsts[script, fails] = pair, run, moments_of(run, before, table, loads)
+            self.firsts[script, fails] = state, run, moments_of(run, before, table, loads)
         return self.firsts[script, fails]
 
     def stop(self, script, number):
         """The machine stops behind so many calls."""
-        pair, run, moments = self.first(script)
-        disk = disk_behind(pair, run.calls[:number])
+        state, run, moments = self.first(script)
+        disk = Disk.behind(state, run.calls[:number])
         may = may_be(run, moments, number)
-        pairs = disk.outcomes(self.chance, 20)
-        self.look(pairs, may, "stop", self.at(run, number))
-        pair = self.chance.choice(pairs)
-        if self.found(pair).what == "a table":
+        states = disk.outcomes(self.chance, 20)
+        self.look(states, may, "stop", self.at(run, number))
+        state = self.chance.choice(states)
+        if self.found(state).what == "a table":
             story = ("stop, then a stop", self.at(run, number))
-            self.follow(Disk(pair), {self.found(pair).text}, 1, *story)
+            self.follow(Disk(state), {self.found(state).text}, 1, *story)
 
     def kill(self, script, number):
         """The run is killed behind so many calls, where some of it is not on the disk, and the next one goes on."""
-        pair, run, moments = self.first(script)
-        disk = disk_behind(pair, run.calls[:number])
+        state, run, moments = self.first(script)
+        disk = Disk.behind(state, run.calls[:number])
         if not disk.is_sure():
             unsynced = ", ".join(sorted(disk.unsynced()))
             self.follow(disk, may_be(run, moments, number), 1, f"killed before a sync of {unsynced}", self.at(run, number))
@@ -221,10 +222,10 @@ class Checker:
         """The sync that is the call of this number fails, or all from it on, and then the next run goes on."""
         call = self.first(script)[1].calls[number]
         before = sum(other.data == call.data for other in self.first(script)[1].calls[:number] if other.word in SYNCS)
-        pair, run, moments = self.first(script, f"{call.data.decode()}:error=EIO:when={before + 1}{more}")
+        state, run, moments = self.first(script, f"{call.data.decode()}:error=EIO:when={before + 1}{more}")
         if run.status == 0:
             self.tell("status 0", "a sync that fails is not told", self.at(run, number))
-        disk = disk_behind(pair, run.calls[:number])
+        disk = Disk.behind(state, run.calls[:number])
         ends = self.chance.sample(range(number + 1, len(run.calls) + 1), 1) + [len(run.calls)]
         for count, call in enumerate(run.calls[number:], number + 1):
             disk.take(call)
@@ -235,7 +236,7 @@ class Checker:
                 self.follow(disk, may, 0, *story, self.at(run, count))
 
     def follow(self, disk, before, more, *story):
-        """Another run over the pair as it is read, where one of these may be found before, which is stopped behind each
+        """Another run over the state as it is read, where one of these may be found before, which is stopped behind each
         call; and so on from one of them."""
         given = ["dump", *self.chance.choice(NEXT)]
         words = self.chance.choice([[], [], [], ["--cache", "8"], ["--read-only"]])
@@ -253,11 +254,11 @@ class Checker:
         for count, call in enumerate(run.calls, 1):
             disk.take(call)
             may = may_be(run, moments, count)
-            pairs = disk.outcomes(self.chance, 3, True)
-            self.look(pairs, may, *story, self.at(run, count))
+            states = disk.outcomes(self.chance, 3, True)
+            self.look(states, may, *story, self.at(run, count))
             if count == goes_on:
-                pair = self.chance.choice(pairs)
-                then, may = (disk.copy(), may) if self.chance.random() < 0.5 else (Disk(pair), {self.found(pair).text})
+                state = self.chance.choice(states)
+                then, may = (disk.copy(), may) if self.chance.random() < 0.5 else (Disk(state), {self.found(state).text})
                 self.follow(then, may, more - 1, *story, f"cut short at {self.at(run, count)}")
         return None
 
@@ -286,26 +287,26 @@ class Checker:
 
     def damaged(self):
         """Pairs whose journal is complete, which are damaged: where they are refused, they stay as they were."""
-        pair, run, _ = self.first("closings")
+        state, run, _ = self.first("closings")
         gate = place(run.calls, writes(JOURNAL, 2, 1))
         for count in (place(run.calls, syncs_of(JOURNAL), gate) + 1, place(run.calls, writes(JOURNAL, 2, 0), gate)):
-            behind = disk_behind(pair, run.calls[:count]).shown()
-            for what, other in damages(behind, pair):
+            behind = Disk.behind(state, run.calls[:count]).shown()
+            for what, other in damages(behind, state):
                 self.tally["damaged"] += 1
                 found = self.found(other)
-                if found.what == REFUSED and found.left != other:
+                if found.what == REFUSED and is_changed(other, found.left):
                     self.tell(found.text, "a refused start writes", what)
                 if found.text.startswith("status") and not found.text.startswith(("status 0,", "status 1,")):
-                    self.tell(found.text, "a damaged pair", what)
+                    self.tell(found.text, "a damaged state", what)
 
     def turned(self):
         """FILE is a link, which is turned to another file whose run was killed: that one keeps its journal."""
         folder = os.path.join(self.work, "links")
         os.mkdir(folder)
-        pairs = {name: os.path.join(folder, name) for name in ("one", "two")}
-        for path in pairs.values():
+        states = {name: os.path.join(folder, name) for name in ("one", "two")}
+        for path in states.values():
             os.mkdir(path)
-            put_pair(path, self.base)
+            put_state(path, self.base)
         link = os.path.join(folder, "link")
         pipes = {"stdin": subprocess.PIPE, "stdout": subprocess.PIPE, "stderr": subprocess.DEVNULL, "text": True}
 
@@ -315,25 +316,25 @@ class Checker:
                 asked(process, command)
             return process
 
-        killed = begun(os.path.join(pairs["two"], FILE))
+        killed = begun(os.path.join(states["two"], FILE))
         killed.kill()
         killed.communicate()
-        os.symlink(os.path.join(pairs["one"], FILE), link)
+        os.symlink(os.path.join(states["one"], FILE), link)
         process = begun(link)
         os.remove(link)
-        os.symlink(os.path.join(pairs["two"], FILE), link)
+        os.symlink(os.path.join(states["two"], FILE), link)
         process.communicate()
         table = table_of(self.found(self.base).text)
         for command in CHANGES[:-1]:
             answer_of(table, command)
-        for name, path in pairs.items():
-            fault = self.fault_of(pair_in(path), {answer_of(table, "dump")})
+        for name, path in states.items():
+            fault = self.fault_of(state_of(path), {answer_of(table, "dump")})
             if fault:
                 self.tell(fault, "a link that is turned", f"of both files {name}")
 
     def filtered(self):
         """Calls that were put in another order, or lack some: each is found wrong."""
-        pair, run, moments = self.first("closings")
+        state, run, moments = self.first("closings")
         for what, calls in filters(run.calls):
             other = copy.copy(run)
             other.calls = calls
@@ -341,7 +342,7 @@ class Checker:
             if not any(
                 self.fault_of(left, may_be(other, moments, count))
                 for count in range(begin, len(calls) + 1)
-                for left in disk_behind(pair, calls[:count]).outcomes(self.chance, 20)
+                for left in Disk.behind(state, calls[:count]).outcomes(self.chance, 20)
             ):
                 self.tell("no stop shows it", "the checker", what)
             self.tally["filters"] += 1
@@ -352,86 +353,14 @@ def library():
     return [os.path.realpath(sys.executable), "-I", "-S", os.path.join(TOP, "tests", "library_session.py"), LIBRARY]
 
 
-def disk_behind(pair, calls):
-    """The disk with a pair behind these calls."""
-    disk = Disk(pair)
-    for call in calls:
-        disk.take(call)
-    return disk
+def is_changed(before, after):
+    """Whether a file that was there, or its journal, is another one or gone."""
+    return any(was not in (now, None) for was, now in zip(before[:2], after))
 
 
 def may_be(run, moments, count):
     """What may be found behind so many calls of a run."""
     return moments[-1] if count == len(run.calls) else moments[run.answered(count)]
-
-
-def writes(name, block=None, byte=None):
-    """Whether a call writes a file, that block, with that byte behind the text that it begins with."""
-    return lambda call: call.word == "write" and call.file[0] == name and (
-        block in (None, call.at // SIZE) and byte in (None, call.data[8])
-    )
-
-
-def syncs_of(name):
-    """Whether a call is a sync of a file."""
-    return lambda call: call.word == "sync" and call.file[0] == name
-
-
-def place(calls, test, begin=0):
-    """The place of the first call from one on that passes a test."""
-    return next(k for k, call in enumerate(calls) if k >= begin and test(call))
-
-
-def filters(calls):
-    """What is done to the calls of a run that changes a store, and the calls then."""
-
-    def without(test, begin, end):
-        return [call for k, call in enumerate(calls) if not (begin <= k < end and test(call))]
-
-    def moved(there, to):
-        others = calls[:there] + calls[there + 1 :]
-        return others[:to] + [calls[there]] + others[to:]
-
-    mark = place(calls, writes(FILE, 0, 2))
-    gate = place(calls, writes(JOURNAL, 2, 1))
-    commit = place(calls, syncs_of(JOURNAL), gate)
-    home = place(calls, writes(FILE), commit)
-    clear = place(calls, writes(JOURNAL, 2, 0), home)
-    told = place(calls, lambda call: call.word == "reply", clear)
-    end = place(calls, lambda call: call.data[:8] == b"RSTAREND", clear)
-    shut = place(calls, writes(FILE, 0, 1), end)
-    gone = place(calls, lambda call: call.word == "remove", shut)
-    entry = max(k for k in range(gate) if writes(JOURNAL)(calls[k]))
-    yield "no sync of the folder with the journal", without(lambda call: call.word == "folder", 0, mark)
-    yield "no sync of the mark", without(syncs_of(FILE), mark, home)
-    yield "no sync of the entries", without(syncs_of(JOURNAL), entry, gate)
-    yield "no sync of the journal's gate", without(syncs_of(JOURNAL), gate, home)
-    yield "no sync of what is copied", without(syncs_of(FILE), home, clear)
-    yield "no sync of the end", without(syncs_of(JOURNAL), end, shut)
-    yield "no sync of the shut gate", without(syncs_of(FILE), shut, gone)
-    yield "the journal's gate before the sync of the entries", moved(gate, place(calls, syncs_of(JOURNAL), entry))
-    yield "a copy before the sync of the journal's gate", moved(home, commit)
-    yield "a reply before the sync of the journal's gate", moved(told, gate)
-    yield "the removal before the sync of the shut gate", moved(gone, place(calls, syncs_of(FILE), shut))
-
-
-def damages(pair, older):
-    """Pairs that were damaged, and how: of `older` there is an older copy of FILE."""
-    for side, name in enumerate((FILE, JOURNAL)):
-        for number, block in enumerate(pair[side]):
-            for at in (0, 5, 8, 11, 15, 19, 23, 256, 290, 400, 4095):
-                other = list(pair[side])
-                other[number] = block[:at] + bytes([block[at] ^ 1 << at % 8]) + block[at + 1 :]
-                yield f"{name} block {number} byte {at}", put(pair, side, other)
-            yield f"{name} cut to {number}", put(pair, side, pair[side][:number])
-            yield f"{name} block {number} is zeros", put(pair, side, [*pair[side][:number], ZEROS, *pair[side][number + 1 :]])
-    for count in range(1, len(older[0]) + 1):
-        yield f"an older copy of FILE, cut to {count}", put(pair, 0, older[0][:count])
-
-
-def put(pair, side, blocks):
-    """The pair with these blocks on a side."""
-    return tuple(tuple(blocks) if k == side else kept for k, kept in enumerate(pair))
 
 
 def work_on(checker, number, tasks, results):
@@ -476,7 +405,8 @@ def main():
 def check(checker, scripts):
     """Does all that there is time for, and tells how much that was."""
     if "ONLY" in os.environ:
-        checker.do(os.environ["ONLY"])
+        with contextlib.suppress(OutOfTime):
+            checker.do(os.environ["ONLY"])
         return f"{dict(checker.tally)}"
     tasks = list(itertools.zip_longest(*(checker.tasks(script) for script in scripts)))
     tasks = [*WHOLE, *(task for row in tasks for task in row if task)]
