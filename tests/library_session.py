@@ -1,12 +1,11 @@
 """A session over a file by the library, which answers lines as the program does: library_session.py LIBRARY FILE, where
-LIBRARY is the path of librstore.so, beside rstore.py or in a folder beside it. It knows `create`, `insert`, `move`, `delete`,
-`reopen`, which commits, and `dump`."""
+LIBRARY is the path of librstore.so. It knows `create`, `insert`, `move`, `delete`, `reopen`, which commits, and `dump`.
+"""
 import os
 import sys
 
 os.environ["RSTORE_LIBRARY"] = sys.argv[1]
-for beside in (os.path.dirname(sys.argv[1]), os.path.join(os.path.dirname(os.path.dirname(__file__)), "library")):
-    sys.path.append(beside)
+sys.path.append(os.path.join(os.path.dirname(os.path.dirname(os.path.abspath(__file__))), "library"))
 import rstore  # noqa: E402
 
 

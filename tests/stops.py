@@ -1,14 +1,16 @@
 """What a stop of the machine may leave of a file and its journal: the calls of a run as `strace` tells them, and a disk
 that has taken no more of them than syncs say (docs/FORMAT.md, "The disk model of a stop").
 
-A block that was written since the last sync that succeeded may be as it was, as it was written, or hold any bytes; one that
-was added may be missing; a name that was made or removed since the folder was synced may be there or not. After a sync that
-failed the system takes its blocks for clean: they are read as they were written, and no later sync writes them.
+A block that was written since the last sync that succeeded may be as it was, as it was written, or hold any bytes; one
+that was added may be missing; a name that was made or removed since the folder was synced may be there or not. After a
+sync that failed the system takes its blocks for clean: they are read as they were written, and no later sync writes
+them.
 """
 import os
 import random
 import re
 import subprocess
+import threading
 from typing import NamedTuple
 
 SIZE = 4096  # of a block
@@ -16,6 +18,7 @@ MOST = 1 << 24  # bytes of a file that are looked at
 FILE, JOURNAL, _ = NAMES = "store", "store-journal", "store-journal-part"  # all that a run may make
 NONE = (None,) * len(NAMES)  # the state of an empty folder
 ZEROS = bytes(SIZE)
+BLOCKS = {}  # those that were read, so that each is held once
 GARBAGE = [random.Random(number).randbytes(SIZE) for number in range(3)]
 
 TRACED = "openat,pwrite64,write,fsync,fdatasync,unlink,unlinkat,rename,renameat,renameat2,exit_group"
@@ -91,7 +94,7 @@ class Trace:
         """Takes a call that is one of the files, their folder or the replies, with its operands and answer."""
         went = answer == "?" or int(answer) >= 0
         files = [self.numbers.get(int(number)) for number, _ in NUMBER.findall(given)]
-        names = [self.name_of(path) for path in TEXT.findall(given)] if "at" in word or "name" in word or "link" in word else []
+        names = [] if "write" in word else [self.name_of(path) for path in TEXT.findall(given)]
         file = files[0] if files else None
         if word == "exit_group":
             self.calls.append(Call("end", at=int(given)))
@@ -255,8 +258,8 @@ class Disk:
         return {f"{file[0]} block {block}" for file, kept in self.files.items() for block in kept.dropped}
 
     def choices(self):
-        """What a stop chooses: of each name, size and block that is not sure what it may be, the first as it is read and
-        the second as it is on the disk."""
+        """What a stop chooses: of each name, size and block that is not sure what it may be, the first as it is read
+        and the second as it is on the disk."""
         found, files = {}, set(self.names.values())
         for name, earlier in self.earlier.items():
             found["name", name] = [self.names.get(name), *earlier]
@@ -284,8 +287,8 @@ class Disk:
 
     def outcomes(self, chance, sets, brief=False):
         """The states that a stop may leave: all kept, all lost, each choice alone kept or lost; where it is not to be
-        brief each other thing that a choice may be, garbage and zeros too, among what is kept and among what is lost, and
-        one file kept and the others lost; and so many random sets."""
+        brief each other thing that a choice may be, garbage and zeros too, among what is kept and among what is lost,
+        and one file kept and the others lost; and so many random sets."""
         choices = self.choices()
         kept = {what: may[0] for what, may in choices.items()}
         lost = {what: may[1] for what, may in choices.items()}
@@ -313,7 +316,7 @@ class Disk:
 def torn_of(chance, new, old):
     """A block of which a part was written, or of which only the first bytes are what they are to be."""
     cut = chance.choice([8, 9, 16, 512, 1024, 2048, 3584])
-    first, second = chance.choice([(new, old), (old, new), (new, chance.choice(GARBAGE)), (old, chance.choice(GARBAGE))])
+    first, second = chance.sample([new, old, chance.choice(GARBAGE)], 2)
     return first[:cut] + second[cut:]
 
 
@@ -333,7 +336,8 @@ def state_of(folder):
         if os.path.exists(path):
             with open(path, "rb") as file:
                 data = file.read(MOST)
-            data = tuple(data[at : at + SIZE] for at in range(0, len(data), SIZE))
+            blocks = [data[at : at + SIZE] for at in range(0, len(data), SIZE)]
+            data = tuple(BLOCKS.setdefault(block, block) for block in blocks)
         state.append(data)
     return tuple(state)
 
@@ -362,8 +366,8 @@ def asked(process, command):
 
 
 class Run:
-    """A run that is recorded, over a folder in a state: its calls, its replies, its status and what it said. It is given
-    commands, each when the one before was answered, or a text."""
+    """A run that is recorded, over a folder in a state: its calls, its replies, its status and what it said. It is
+    given commands, each when the one before was answered, or a text."""
 
     def __init__(self, work, state, program, given, fails=None):
         folder, trace = os.path.join(work, "run"), os.path.join(work, "trace")
@@ -372,6 +376,8 @@ class Run:
         inject = ["-e", f"inject={fails}"] if fails else []
         pipes = {"stdin": subprocess.PIPE, "stdout": subprocess.PIPE, "stderr": subprocess.PIPE}
         process = subprocess.Popen([*STRACE, *inject, "-o", trace, *program, FILE], cwd=folder, text=True, **pipes)
+        limit = threading.Timer(60, process.kill)  # of a run that doesn't answer
+        limit.start()
         is_text = isinstance(given, str)
         for command in [] if is_text else given:
             self.told += [reply for reply in [asked(process, command)] if reply]
@@ -380,6 +386,7 @@ class Run:
         except BrokenPipeError:
             self.said = process.stderr.read()
         self.status = process.wait(timeout=60)
+        limit.cancel()
         names = [name for name, blocks in zip(NAMES, state) if blocks is not None]
         with open(trace, encoding="ascii") as lines:
             self.calls = Trace(folder, names).read(lines)
