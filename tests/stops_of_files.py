@@ -78,7 +78,9 @@ class Checker:
         self.task, self.chance = "", random.Random(seed)
         os.mkdir(os.path.join(work, "run"))
         put_state(work, NONE)
-        self.opens("".join(f"{line}\n" for line in BASE), "--create")
+        made = self.opens("".join(f"{line}\n" for line in BASE), "--create")
+        if made.returncode:
+            sys.exit(f"tests/stops_of_files.py: {program} makes no store: {made.stderr}")
         self.base = state_of(work)
 
     def opens(self, text, *words):
@@ -216,7 +218,7 @@ class Checker:
         """The run that follows where one is killed, or where a stop has left one of these states."""
         state = self.chance.choice(states)
         if self.chance.random() < 0.5:
-            self.follow(disk.copy(), may, more, *story)
+            self.follow(disk.copy(), may, more, name_of(story[0], disk.unsynced()), *story[1:])
         elif self.found(state).what == "a table":
             self.follow(Disk(state), {self.found(state).text}, more, *story)
 
@@ -344,7 +346,8 @@ def main():
     seed = int(sys.argv[2]) if len(sys.argv) > 2 else random.randrange(10**6)
     program = os.path.abspath(os.environ.get("PROGRAM", BUILT))
     if not shutil.which("strace"):
-        sys.exit("tests/stops_of_files.py: there is no strace here (Debian: apt-get install strace)")
+        print("tests/stops_of_files.py: there is no strace here: apt-get install strace", flush=True)
+        subprocess.run(["apt-get", "install", "-y", "-q", "strace"], check=True)
     if not os.access(program, os.X_OK):
         subprocess.run([os.path.join(TOP, "rstore")], stdin=subprocess.DEVNULL, stdout=subprocess.DEVNULL, check=True)
     memory = "/dev/shm" if os.access("/dev/shm", os.W_OK) else None  # where syncs take no time
@@ -366,7 +369,7 @@ def check(checker, scripts):
             checker.do(os.environ["ONLY"])
         return f"{dict(checker.tally)}"
     tasks = list(itertools.zip_longest(*(checker.tasks(script) for script in scripts)))
-    tasks = [*WHOLE, *(task for row in tasks for task in row if task)]
+    tasks = [*(WHOLE if len(scripts) > 1 else ()), *(task for row in tasks for task in row if task)]
     results, jobs = multiprocessing.Queue(), os.cpu_count()
     parts = [(checker, number, tasks[number::jobs], results) for number in range(jobs)]
     workers = [multiprocessing.Process(target=work_on, args=part) for part in parts]
