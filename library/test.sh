@@ -2,7 +2,8 @@
 # test.sh [QUICK]: builds the library where that is not done, and tests it: an example in C compiled with all warnings as
 # errors, in C++ too, each misuse, address and undefined-behaviour sanitizers over both, 2,000 allocations that fail in
 # turn, a thread with the least stack that is promised, and from Python random sessions beside dictionaries, kills,
-# processes and threads, files exchanged with the program both ways, and `Index` by its documentation and beside rtree.
+# processes and threads, files exchanged with the program both ways, `Index` by its documentation and beside rtree, and
+# what stops of the machine leave of the calls of a session (tests/stops_of_files.py).
 # It says what it has tried, a line each. With a word after its name it tries less.
 set -eu
 here="$(cd "$(dirname "$0")" && pwd)"
@@ -54,3 +55,4 @@ python=python3
 if /usr/bin/python3 -c 'import rtree' 2>/dev/null; then python=/usr/bin/python3; fi
 "$python" "$here/test/test_rstore.py" "$program"
 "$python" "$here/test/test_rtree.py"
+"$top/tests/stops_of_files.py" "$((rounds / 60))" "$RANDOM" library
