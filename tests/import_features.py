@@ -1,7 +1,7 @@
 #!/usr/bin/env python3
-"""Lines of GeoJSON that are imported (docs/COMMANDS.md, "Import"): the box of each geometry, identifiers and tags, which
-line is which, and what is told of a line that is no feature. The objects and the refusals were worked out by hand. It
-tests the programs that `rt ci` made, by both compilers; where there is none, one is made.
+"""Lines of GeoJSON that are imported (docs/COMMANDS.md, "Import"): the box of each geometry, identifiers and tags,
+which line is which, and what is told of a line that is no feature. The objects and the refusals were worked out by
+hand. It tests the programs that `rt ci` made, by both compilers; where there is none, one is made.
 
 import_features.py [WORDS OF unittest, as the name of a class or Class.test]
 """

@@ -1,7 +1,7 @@
 #!/usr/bin/env python3
-"""The numbers of imports (docs/COMMANDS.md, "Import"): decimals times a scale, which are rounded outward, so that the box
-in the store holds the box that was written. The values were worked out by hand, and random decimals are compared with
-exact fractions. It tests the programs that `rt ci` made, by both compilers; where there is none, one is made.
+"""The numbers of imports (docs/COMMANDS.md, "Import"): decimals times a scale, which are rounded outward, so that the
+box in the store holds the box that was written. The values were worked out by hand, and random decimals are compared
+with exact fractions. It tests the programs that `rt ci` made, by both compilers; where there is none, one is made.
 
 import_numbers.py [WORDS OF unittest, as the name of a class or Class.test]
 """

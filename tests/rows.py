@@ -68,3 +68,13 @@ class Answers(RunsOver):
             self.assertEqual(replies[at : at + len(reply)], reply, given)
             at += len(reply)
         self.assertEqual((replies[at:], status, said), ("", 0, ""))
+
+    def stands(self, words, made, asked):
+        """A run with these words, over a file, answers what is made and then what is asked: at once, after a `reopen`,
+        and in later runs, of which one only reads. What is asked changes nothing, and none of them writes the file."""
+        reopened = asked + [("reopen\n", "ok\n")] + asked
+        self.answers_rows(words, made + reopened)
+        before = self.store()
+        for words in ("--cache 8 store", "--read-only store"):
+            self.answers_rows(words, reopened)
+            self.assertTrue(self.store() == before, "a question changed the file")

@@ -286,15 +286,6 @@ check -> ok
 class Scenes(Answers):
     """Each scene is answered so."""
 
-    # The same rows are answered thrice, and once more by what only reads; and a run of questions writes nothing.
-    def stands(self, words, made, asked):
-        reopened = asked + [("reopen\n", "ok\n")] + asked
-        self.answers_rows(words, made + reopened)
-        before = self.store()
-        for words in ("--cache 8 store", "--read-only store"):
-            self.answers_rows(words, reopened)
-            self.assertTrue(self.store() == before, "a question changed the file")
-
     def test_each(self):
         for what, made, asked in SCENES:
             for words in ("--create store", "--create --format 2 --cache 8 store"):

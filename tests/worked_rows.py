@@ -1,8 +1,8 @@
 #!/usr/bin/env python3
-"""Worked rows of the command language (docs/COMMANDS.md): one session of two hundred lines, each of which is asked what
-the lines before it left. Its replies, which were worked out by hand, are those of the program in memory and over a file,
-of each version; of the plain table with which other tests compare the program (plain_table.py); and of a run that is
-given a byte at a time. Where the output has no more room, what is written is a front of them. And the sessions of
+"""Worked rows of the command language (docs/COMMANDS.md): one session of two hundred lines, each of which is asked
+what the lines before it left. Its replies, which were worked out by hand, are those of the program in memory and over a
+file, of each version; of the plain table with which other tests compare the program (plain_table.py); and of a run that
+is given a byte at a time. Where the output has no more room, what is written is a front of them. And the sessions of
 docs/COMMANDS.md are answered as it says. It tests the programs that `rt ci` made, by both compilers; where there is
 none, one is made.
 
@@ -211,7 +211,8 @@ point LONG MIN MIN MIN -> ok 2 / 0 MIN MIN MIN MAX 0 MIN / LAST MIN MIN MIN MIN 
 LEFT = rows_of(
     """
 layers -> ok 1 / LONG 3 100 2
-dump -> ok 3 / create LONG 3 100 / insert LONG 0 MIN MIN MIN MAX 0 MIN / insert LONG LAST MIN MIN MIN MIN MIN MIN tag TAG
+dump -> ok 3 / create LONG 3 100 / insert LONG 0 MIN MIN MIN MAX 0 MIN \
+    / insert LONG LAST MIN MIN MIN MIN MIN MIN tag TAG
 check -> ok
 """
 )
