@@ -276,7 +276,7 @@ class Broken(Answers):
         replies = replies_by(ROWS)
         for room in range(0, len(replies), 61):
             with open(self.path("replies"), "wb") as output:
-                ways = {"stdout": output, "preexec_fn": lambda: let_files_have(room), "restore_signals": False}
+                ways = {"stdout": output, "preexec_fn": lambda: let_files_have(room)}
                 status, _, said, _ = self.result("", given_by(ROWS), **ways)
             self.assertEqual((status, said), (1, FAULT), room)
             self.assertEqual(self.files()["replies"].decode(), replies[:room], room)

@@ -163,14 +163,14 @@ fn look_at(alloc: Global, store: &mut Store<MemoryDevice>, asked: &[Row]) -> boo
 }
 
 // Whether the queries of a scene do, in each state of the store.
-fn play(alloc: Global, before: &[&[Command<'_>]], scene: Scene) -> Result<bool, Refusal> {
+fn play(alloc: Global, before: &[&[Command<'static>]], scene: Scene) -> Result<bool, Refusal> {
     let mut store = new_store(alloc, 64)?;
     for changes in before {
         make(alloc, &mut store, changes)?;
     }
     make(alloc, &mut store, scene.made)?;
     let at_once = look_at(alloc, &mut store, scene.asked);
-    store.reopen()?;
+    answer(alloc, &mut store, Command::Reopen)?;
     let reopened = look_at(alloc, &mut store, scene.asked);
     let mut store = opened(alloc, device_of(store)?, 64)?;
     Ok(at_once && reopened && look_at(alloc, &mut store, scene.asked))

@@ -45,23 +45,23 @@ fn breaks_off(alloc: Global, replies: &'static [u8]) -> bool {
     true
 }
 
-// How much room there is for replies where a run first ends otherwise, or writes more or less. The last that is
-// tried is room for all of them, where the reader gives a byte a call.
-fn first_other_room(alloc: Global) -> Option<usize> {
-    for room in 0..REPLIES.len() {
-        if !breaks_off(alloc, &REPLIES[..room]) {
+// How much room there is for these replies, those to the text, where a run first ends otherwise, or writes more
+// or less. The last that is tried is room for all of them, where the reader gives a byte a call.
+fn first_other_room(alloc: Global, replies: &'static [u8]) -> Option<usize> {
+    for room in 0..replies.len() {
+        if !breaks_off(alloc, &replies[..room]) {
             return Some(room);
         }
     }
-    if ends(alloc, 1, Room::All, RunEnd::Finished, REPLIES) {
+    if ends(alloc, 1, Room::All, RunEnd::Finished, replies) {
         None
     } else {
-        Some(REPLIES.len())
+        Some(replies.len())
     }
 }
 
 #[test]
 fn a_run_ends_where_a_write_fails(rt: HostRuntime) -> Result<(), Fail> {
-    assert_eq!(rt; first_other_room(rt.alloc()), None);
+    assert_eq!(rt; first_other_room(rt.alloc(), REPLIES), None);
     Ok(())
 }
