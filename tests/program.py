@@ -340,6 +340,12 @@ class Strict(Runs):
         ):
             self.ends(3, "--strict", text, "ok\n" * oks + reply + "\n", f"rstore: line {told}\n")
 
+    def test_what_follows_a_refused_load_is_not_read_as_lines(self):
+        text = "create a 2 4\nreopen\nload a 1\n1 0 0\ninsert a 1 0 0 1 1\nreopen\n"
+        said = "rstore: line 3: load a 1: fail 24 BadLine: line 4 is no entry\n"
+        self.ends(3, "--strict --create store", text, "ok\nok\n" + BAD_LINE, said)
+        self.answers("store", "count a\n", "ok 1\n0\n")
+
     def test_a_run_without_a_refusal_is_as_another(self):
         self.answers("--strict", "create a 2 4\ncount a", "ok\nok 1\n0\n")
         self.answers("--strict", "")

@@ -55,14 +55,15 @@ class Runs(unittest.TestCase):
         return found
 
     def run_on(self, stdin, words, **ways):
-        """A run with these words, in one text with blanks between them."""
+        """A run with these words, as a list or in one text with blanks between them."""
+        words = words.split() if isinstance(words, str) else words
         ways = {"stdout": subprocess.PIPE, "stderr": subprocess.PIPE, "timeout": 300, **ways}
-        return subprocess.run([self.program, *words.split()], stdin=stdin, cwd=self.folder, **ways)
+        return subprocess.run([self.program, *words], stdin=stdin, cwd=self.folder, **ways)
 
     def result(self, words, given, **ways):
         """The status of a run, its replies, what it said, and how many bytes it read of what it was given."""
         with tempfile.TemporaryFile() as text:
-            text.write(given.encode())
+            text.write(given if isinstance(given, bytes) else given.encode())
             text.seek(0)
             run = self.run_on(text, words, **ways)
             read = os.lseek(text.fileno(), 0, os.SEEK_CUR)

@@ -1,12 +1,12 @@
-//! Commands put to a store to which something is refused, and what is left of a store.
+//! Commands put to a store to which something is refused, beside one in memory to which nothing is: the
+//! reference. What that one answers is tested by the program (tests/worked_rows.py, tests/random_sessions.py).
 
 use crate::scripts::SCRIPTS;
-use block_device::BlockDevice;
+use block_device::{BlockDevice, MemoryDevice};
 use layer_store::{Refusal, Store};
-use list_table::ListTable;
 use refusing::Refusing;
 use std::alloc::Global;
-use store_commands::{Answer, Command, answer, closed, listed, opened, represents};
+use store_commands::{Answer, Command, answer, closed, opened, represents};
 
 const NAMES: [&[u8]; 6] = [b"a", b"c", b"l", b"r", b"t", b"u"];
 
@@ -19,7 +19,7 @@ pub type Heap = Refusing<Global>;
 /// What became of a command, or of a run of commands.
 #[derive(Clone, Copy, PartialEq, Eq)]
 pub enum Ending {
-    /// It was answered as the plain list does.
+    /// It was answered as the reference does.
     Answered,
     /// It was refused for the cause, the store went on, and then it was answered.
     Refused,
@@ -40,7 +40,7 @@ fn is_refused(given: &Answer, refusal: Refusal) -> bool {
 pub fn put<D: BlockDevice>(
     alloc: Global,
     store: &mut Store<D, &Heap>,
-    table: &mut ListTable<Global>,
+    reference: &mut Store<MemoryDevice>,
     heap: &Heap,
     command: Command<'_>,
     cause: Refusal,
@@ -50,9 +50,9 @@ pub fn put<D: BlockDevice>(
         return fail(heap, command);
     }
     if is_refused(&given, cause) {
-        return go_on(alloc, store, table, heap, command, cause);
+        return go_on(alloc, store, reference, heap, command, cause);
     }
-    if given == listed(alloc, table, command) {
+    if given == answer(alloc, reference, command) {
         Ending::Answered
     } else {
         Ending::Wrong
@@ -73,14 +73,14 @@ fn fail(heap: &Heap, command: Command<'_>) -> Ending {
 fn go_on<D: BlockDevice>(
     alloc: Global,
     store: &mut Store<D, &Heap>,
-    table: &mut ListTable<Global>,
+    reference: &mut Store<MemoryDevice>,
     heap: &Heap,
     command: Command<'_>,
     cause: Refusal,
 ) -> Ending {
     let was_refused = heap.relent() || cause == Refusal::Device;
-    let stays = is_whole(alloc, store, table);
-    let again = answer(alloc, store, command) == listed(alloc, table, command);
+    let stays = is_whole(alloc, store, reference);
+    let again = answer(alloc, store, command) == answer(alloc, reference, command);
     if was_refused && stays && again {
         Ending::Refused
     } else {
@@ -88,19 +88,19 @@ fn go_on<D: BlockDevice>(
     }
 }
 
-/// Whether a store has the table of the plain list.
+/// Whether a store has the table of the reference.
 pub fn is_whole<D: BlockDevice>(
     alloc: Global,
     store: &mut Store<D, &Heap>,
-    table: &mut ListTable<Global>,
+    reference: &mut Store<MemoryDevice>,
 ) -> bool {
-    represents(alloc, store, table, &NAMES, IDS)
+    represents(alloc, store, reference, &NAMES, IDS)
 }
 
 /// What is left of a store.
 #[derive(Clone, Copy, PartialEq, Eq)]
 pub enum Left {
-    /// A store with the table of the plain list.
+    /// A store with the table of the reference.
     Table,
     /// One with another table.
     OtherTable,
@@ -112,11 +112,11 @@ pub enum Left {
 pub fn left_on<'a, D: BlockDevice + Drop>(
     alloc: Global,
     device: D,
-    table: &mut ListTable<Global>,
+    reference: &mut Store<MemoryDevice>,
     heap: &'a Heap,
 ) -> Left {
     match opened(heap, device, 8) {
-        Ok(store) => left_in(alloc, store, table),
+        Ok(store) => left_in(alloc, store, reference),
         Err(refusal) => Left::Refused(refusal),
     }
 }
@@ -124,10 +124,10 @@ pub fn left_on<'a, D: BlockDevice + Drop>(
 fn left_in<D: BlockDevice + Drop>(
     alloc: Global,
     store: Store<D, &Heap>,
-    table: &mut ListTable<Global>,
+    reference: &mut Store<MemoryDevice>,
 ) -> Left {
     let mut store = store;
-    if is_whole(alloc, &mut store, table) {
+    if is_whole(alloc, &mut store, reference) {
         Left::Table
     } else {
         Left::OtherTable
@@ -151,14 +151,14 @@ fn say_so<D: BlockDevice>(alloc: Global, store: &mut Store<D, &Heap>) -> bool {
 pub fn has_failed<'a, D: BlockDevice + Drop>(
     alloc: Global,
     store: Store<D, &'a Heap>,
-    table: &mut ListTable<Global>,
+    reference: &mut Store<MemoryDevice>,
     heap: &'a Heap,
     command: Command<'_>,
 ) -> bool {
     let mut store = store;
     let says_so = say_so(alloc, &mut store);
     let (refusal, device) = closed(store);
-    let left = left_on(alloc, device, table, heap);
+    let left = left_on(alloc, device, reference, heap);
     let is_kept = match left {
         Left::Table => command.is_closing(),
         Left::Refused(Refusal::NotClosed) => command.is_change(),

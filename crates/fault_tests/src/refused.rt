@@ -5,11 +5,10 @@ use crate::commands::{Ending, Heap, Left, has_failed, is_whole, left_on, put};
 use crate::scripts::{ROWS, SCRIPTS, row_script};
 use block_device::{BlockDevice, FuseDevice, FuseMode, MemoryDevice};
 use layer_store::{Refusal, Store, Version, create_store, open_store};
-use list_table::ListTable;
 use refusing::Refusing;
 use std::alloc::{AllocError, Global};
 use std::test::Fail;
-use store_commands::{Command, closed, opened};
+use store_commands::{Command, closed, new_store, opened};
 
 // More growths, and more calls of the device, than a script makes.
 const MOST: u32 = 10000;
@@ -27,14 +26,14 @@ pub enum Refused {
 fn close_and_open<'a, D: BlockDevice + Drop>(
     alloc: Global,
     store: Store<D, &'a Heap>,
-    table: &mut ListTable<Global>,
+    reference: &mut Store<MemoryDevice>,
     heap: &'a Heap,
     cause: Refusal,
 ) -> Ending {
     let (refusal, device) = closed(store);
     match refusal {
-        None => open_again(alloc, device, table, heap, cause),
-        Some(refusal) => leave(alloc, device, table, heap, refusal == cause),
+        None => open_again(alloc, device, reference, heap, cause),
+        Some(refusal) => leave(alloc, device, reference, heap, refusal == cause),
     }
 }
 
@@ -42,12 +41,12 @@ fn close_and_open<'a, D: BlockDevice + Drop>(
 fn leave<'a, D: BlockDevice + Drop>(
     alloc: Global,
     device: D,
-    table: &mut ListTable<Global>,
+    reference: &mut Store<MemoryDevice>,
     heap: &'a Heap,
     is_told: bool,
 ) -> Ending {
     heap.relent();
-    match left_on(alloc, device, table, heap) {
+    match left_on(alloc, device, reference, heap) {
         Left::Table | Left::Refused(Refusal::NotClosed) if is_told => Ending::Refused,
         _ => Ending::Wrong,
     }
@@ -57,15 +56,15 @@ fn leave<'a, D: BlockDevice + Drop>(
 fn open_again<'a, D: BlockDevice + Drop>(
     alloc: Global,
     device: D,
-    table: &mut ListTable<Global>,
+    reference: &mut Store<MemoryDevice>,
     heap: &'a Heap,
     cause: Refusal,
 ) -> Ending {
     match open_store(heap, device, 8, Version::Three) {
-        Ok(store) => hold(alloc, store, table, heap),
+        Ok(store) => hold(alloc, store, reference, heap),
         Err((refusal, device)) => {
             heap.relent();
-            open_after(alloc, device, table, heap, refusal == cause)
+            open_after(alloc, device, reference, heap, refusal == cause)
         }
     }
 }
@@ -74,12 +73,12 @@ fn open_again<'a, D: BlockDevice + Drop>(
 fn hold<'a, D: BlockDevice + Drop>(
     alloc: Global,
     store: Store<D, &'a Heap>,
-    table: &mut ListTable<Global>,
+    reference: &mut Store<MemoryDevice>,
     heap: &'a Heap,
 ) -> Ending {
     let mut store = store;
     let was_refused = heap.relent();
-    let holds = is_whole(alloc, &mut store, table) || is_whole(alloc, &mut store, table);
+    let holds = is_whole(alloc, &mut store, reference) || is_whole(alloc, &mut store, reference);
     match (holds, was_refused) {
         (true, true) => Ending::Refused,
         (true, false) => Ending::Answered,
@@ -91,13 +90,13 @@ fn hold<'a, D: BlockDevice + Drop>(
 fn open_after<'a, D: BlockDevice + Drop>(
     alloc: Global,
     device: D,
-    table: &mut ListTable<Global>,
+    reference: &mut Store<MemoryDevice>,
     heap: &'a Heap,
     is_told: bool,
 ) -> Ending {
     match opened(heap, device, 8) {
         Ok(store) => {
-            let held = hold(alloc, store, table, heap);
+            let held = hold(alloc, store, reference, heap);
             if is_told && held == Ending::Answered {
                 Ending::Refused
             } else {
@@ -112,14 +111,14 @@ fn open_after<'a, D: BlockDevice + Drop>(
 fn put_all<D: BlockDevice>(
     alloc: Global,
     store: &mut Store<D, &Heap>,
-    table: &mut ListTable<Global>,
+    reference: &mut Store<MemoryDevice>,
     script: &[Command<'static>],
     heap: &Heap,
     cause: Refusal,
 ) -> (Ending, Command<'static>) {
     let mut seen = Ending::Answered;
     for &command in script {
-        match put(alloc, store, table, heap, command, cause) {
+        match put(alloc, store, reference, heap, command, cause) {
             Ending::Answered => {}
             Ending::Refused => seen = Ending::Refused,
             ending => return (ending, command),
@@ -137,12 +136,14 @@ fn run<'a, D: BlockDevice + Drop>(
     cause: Refusal,
 ) -> Ending {
     let mut store = store;
-    let mut table = ListTable::new(alloc);
-    let (seen, last) = put_all(alloc, &mut store, &mut table, script, heap, cause);
+    let Ok(mut reference) = new_store(alloc, 64) else {
+        return Ending::Wrong;
+    };
+    let (seen, last) = put_all(alloc, &mut store, &mut reference, script, heap, cause);
     if seen == Ending::Failed {
-        return end_failed(alloc, store, &mut table, heap, last);
+        return end_failed(alloc, store, &mut reference, heap, last);
     }
-    let ending = close_and_open(alloc, store, &mut table, heap, cause);
+    let ending = close_and_open(alloc, store, &mut reference, heap, cause);
     match (seen, ending) {
         (Ending::Answered, ending) => ending,
         (Ending::Refused, Ending::Answered | Ending::Refused) => Ending::Refused,
@@ -154,11 +155,11 @@ fn run<'a, D: BlockDevice + Drop>(
 fn end_failed<'a, D: BlockDevice + Drop>(
     alloc: Global,
     store: Store<D, &'a Heap>,
-    table: &mut ListTable<Global>,
+    reference: &mut Store<MemoryDevice>,
     heap: &'a Heap,
     command: Command<'_>,
 ) -> Ending {
-    if has_failed(alloc, store, table, heap, command) {
+    if has_failed(alloc, store, reference, heap, command) {
         Ending::Failed
     } else {
         Ending::Wrong
@@ -190,8 +191,10 @@ fn leave_unmade<'a, D: BlockDevice + Drop>(
     is_told: bool,
 ) -> Ending {
     heap.relent();
-    let mut table = ListTable::new(alloc);
-    match left_on(alloc, device, &mut table, heap) {
+    let Ok(mut reference) = new_store(alloc, 64) else {
+        return Ending::Wrong;
+    };
+    match left_on(alloc, device, &mut reference, heap) {
         Left::Table | Left::Refused(Refusal::NotClosed | Refusal::NotAStore) if is_told => {
             Ending::Refused
         }

@@ -5,11 +5,10 @@ use crate::commands::{Ending, Heap, has_failed, put};
 use crate::refused::Refused;
 use block_device::{BlockDevice, FuseDevice, FuseMode, MemoryDevice};
 use layer_store::{RawBox, Refusal, Store, Version, create_store};
-use list_table::ListTable;
 use refusing::Refusing;
 use std::alloc::Global;
 use std::test::Fail;
-use store_commands::{Command, FIVE, TWO, answer, closed, listed, opened};
+use store_commands::{Command, FIVE, TWO, answer, closed, new_store, opened};
 
 // More growths, and more calls of the device, than a change makes.
 const MOST: u32 = 1000;
@@ -36,16 +35,16 @@ const CHANGES: [Command; 6] = [
     Command::Drop(b"l"),
 ];
 
-// Puts commands to a store and the plain list, and answers whether both took them.
+// Puts commands to a store and the reference, and answers whether both took them.
 fn make<D: BlockDevice>(
     alloc: Global,
     store: &mut Store<D, &Heap>,
-    table: &mut ListTable<Global>,
+    reference: &mut Store<MemoryDevice>,
 ) -> bool {
     for commands in MADE {
         for &command in commands {
             let is_made = answer(alloc, store, command).is_ok();
-            if !is_made || listed(alloc, table, command).is_err() {
+            if !is_made || answer(alloc, reference, command).is_err() {
                 return false;
             }
         }
@@ -53,14 +52,14 @@ fn make<D: BlockDevice>(
     true
 }
 
-// The device of a new store with layers, closed, and their plain list.
+// The device of a new store with layers, closed; the reference gets them too.
 fn made<'a>(
     alloc: Global,
     heap: &'a Heap,
-    table: &mut ListTable<Global>,
+    reference: &mut Store<MemoryDevice>,
 ) -> Option<MemoryDevice<&'a Heap>> {
     match create_store(heap, MemoryDevice::new(heap), 8, Version::Two) {
-        Ok(store) => filled(alloc, store, table),
+        Ok(store) => filled(alloc, store, reference),
         Err(_) => None,
     }
 }
@@ -69,10 +68,10 @@ fn made<'a>(
 fn filled<'a>(
     alloc: Global,
     store: Store<MemoryDevice<&'a Heap>, &'a Heap>,
-    table: &mut ListTable<Global>,
+    reference: &mut Store<MemoryDevice>,
 ) -> Option<MemoryDevice<&'a Heap>> {
     let mut store = store;
-    let is_made = make(alloc, &mut store, table);
+    let is_made = make(alloc, &mut store, reference);
     let (refusal, device) = closed(store);
     if is_made && refusal.is_none() {
         Some(device)
@@ -85,17 +84,17 @@ fn filled<'a>(
 fn change<'a, D: BlockDevice + Drop>(
     alloc: Global,
     store: Store<D, &'a Heap>,
-    table: &mut ListTable<Global>,
+    reference: &mut Store<MemoryDevice>,
     heap: &'a Heap,
     command: Command<'_>,
     cause: Refusal,
 ) -> Ending {
     let mut store = store;
-    let ending = put(alloc, &mut store, table, heap, command, cause);
+    let ending = put(alloc, &mut store, reference, heap, command, cause);
     if ending != Ending::Failed {
         return ending;
     }
-    if has_failed(alloc, store, table, heap, command) {
+    if has_failed(alloc, store, reference, heap, command) {
         Ending::Failed
     } else {
         Ending::Wrong
@@ -119,8 +118,10 @@ fn attempt(
     number: u32,
 ) -> Result<Ending, Refusal> {
     let heap = Refusing::new(alloc);
-    let mut table = ListTable::new(alloc);
-    let Some(device) = made(alloc, &heap, &mut table) else {
+    let Ok(mut reference) = new_store(alloc, 64) else {
+        return Ok(Ending::Wrong);
+    };
+    let Some(device) = made(alloc, &heap, &mut reference) else {
         return Ok(Ending::Wrong);
     };
     let (growths, calls, cause) = granted(refused, number);
@@ -128,7 +129,7 @@ fn attempt(
     match opened(&heap, fuse, 8) {
         Ok(store) => {
             heap.refuse_from(growths);
-            Ok(change(alloc, store, &mut table, &heap, command, cause))
+            Ok(change(alloc, store, &mut reference, &heap, command, cause))
         }
         Err(refusal) => Err(refusal),
     }

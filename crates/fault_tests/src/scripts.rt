@@ -141,7 +141,7 @@ pub fn row_script(
 
 // Adds the questions, each after a reopening.
 fn ask_anew(script: &mut Vec<Command<'static>>, asked: &[Row]) -> Result<(), AllocError> {
-    for (command, _, _) in asked {
+    for (command, _) in asked {
         script.extend_from_slice(&[Command::Reopen, *command])?;
     }
     Ok(())

@@ -3,11 +3,10 @@
 
 use block_device::{BlockDevice, FuseDevice, FuseMode, Left, MemoryDevice};
 use layer_store::{RawBox, Refusal, Store, Version, create_store};
-use list_table::ListTable;
 use std::alloc::{AllocError, Global};
 use std::process::Abort;
 use std::test::Fail;
-use store_commands::{Command, answer, closed, device_of, listed, opened, represents};
+use store_commands::{Command, answer, closed, device_of, new_store, opened, represents};
 
 // More calls of the device than the script makes.
 const MOST: u32 = 1000;
@@ -129,12 +128,14 @@ fn run_commands<D: BlockDevice>(
     store: &mut Store<D>,
     remains: &mut Remains,
 ) -> usize {
-    let mut table = ListTable::new(alloc);
+    let Ok(mut reference) = new_store(alloc, 64) else {
+        return 0;
+    };
     for (k, &command) in script.iter().enumerate() {
         let given = answer(alloc, store, command);
-        let before = listed(alloc, &mut table, Command::Dump);
-        listed(alloc, &mut table, command).is_ok();
-        if listed(alloc, &mut table, Command::Dump) != before {
+        let before = answer(alloc, &mut reference, Command::Dump);
+        answer(alloc, &mut reference, command).is_ok();
+        if answer(alloc, &mut reference, Command::Dump) != before {
             remains.is_changed = true;
         }
         // a reopening that fails has finished its closing
@@ -175,13 +176,17 @@ fn run(alloc: Global, script: &[Command<'_>], passes: u32) -> Remains {
     remains
 }
 
-// The plain list after so many commands.
-fn table_after(alloc: Global, script: &[Command<'_>], count: usize) -> ListTable<Global> {
-    let mut table = ListTable::new(alloc);
+// A store to which so many commands were put, and on whose device nothing failed.
+fn reference_after(
+    alloc: Global,
+    script: &[Command<'_>],
+    count: usize,
+) -> Result<Store<MemoryDevice>, Refusal> {
+    let mut reference = new_store(alloc, 64)?;
     for &command in script.iter().take(count) {
-        listed(alloc, &mut table, command).is_ok();
+        answer(alloc, &mut reference, command).is_ok();
     }
-    table
+    Ok(reference)
 }
 
 // What is found where a run was stopped.
@@ -202,8 +207,10 @@ fn is_after(
     store: &mut Store<MemoryDevice>,
     count: usize,
 ) -> bool {
-    let mut table = table_after(alloc, script, count);
-    represents(alloc, store, &mut table, &NAMES, IDS)
+    match reference_after(alloc, script, count) {
+        Ok(mut reference) => represents(alloc, store, &mut reference, &NAMES, IDS),
+        Err(_) => false,
+    }
 }
 
 // What is found in what is left of the device.
@@ -305,7 +312,29 @@ fn an_opening_syncs_what_was_read(rt: HostRuntime) -> Result<(), Fail> {
     assert_eq!(rt; refusal, Some(Refusal::Device));
     let device = device_of(opened(rt.alloc(), device, 8)?)?;
     let mut store = opened(rt.alloc(), device.into_inner().after_stop(Left::Synced), 8)?;
-    let mut table = table_after(rt.alloc(), &SCRIPT, SCRIPT.len());
-    assert!(rt; represents(rt.alloc(), &mut store, &mut table, &NAMES, IDS));
+    let mut reference = reference_after(rt.alloc(), &SCRIPT, SCRIPT.len())?;
+    assert!(rt; represents(rt.alloc(), &mut store, &mut reference, &NAMES, IDS));
+    Ok(())
+}
+
+// Whether a store has the table of another, and no longer once that has an object more.
+fn misses_an_object(
+    alloc: Global,
+    store: &mut Store<MemoryDevice>,
+    reference: &mut Store<MemoryDevice>,
+) -> bool {
+    let create = Command::Create(b"l", 2, 4);
+    let are_made = answer(alloc, store, create).is_ok() && answer(alloc, reference, create).is_ok();
+    let was_whole = represents(alloc, store, reference, &NAMES, IDS);
+    let insert = Command::Insert(b"l", 1, RawBox::Two([0, 0], [0, 0]));
+    let is_inserted = answer(alloc, reference, insert).is_ok();
+    are_made && was_whole && is_inserted && !represents(alloc, store, reference, &NAMES, IDS)
+}
+
+#[test]
+fn a_missing_object_is_seen(rt: HostRuntime) -> Result<(), Fail> {
+    let mut store = new_store(rt.alloc(), 8)?;
+    let mut reference = new_store(rt.alloc(), 8)?;
+    assert!(rt; misses_an_object(rt.alloc(), &mut store, &mut reference));
     Ok(())
 }

@@ -1,5 +1,6 @@
-//! Tests of what no contract of the shell says: that the definitions are those of docs/COMMANDS.md, and that
-//! a run goes on while it can. Texts and replies that want no fake are tested by tests/program.py too.
+//! Tests of what no contract of the shell says and no run of the program shows: how a run ends over readers,
+//! writers and devices that fail, and where memory is refused. Lines and their replies are tested by the program
+//! (tests/worked_rows.py, tests/lines.py, tests/program.py).
 #![tactic(auto)]
 
 #[cfg(test)]
@@ -7,15 +8,11 @@ mod breaks;
 #[cfg(test)]
 mod fakes;
 #[cfg(test)]
-mod lines;
-#[cfg(test)]
 mod memory;
 #[cfg(test)]
 mod player;
 #[cfg(test)]
 mod replies;
-#[cfg(test)]
-mod rows;
 #[cfg(test)]
 mod runs;
 #[cfg(test)]

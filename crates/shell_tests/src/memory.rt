@@ -1,10 +1,12 @@
 //! Lines whose growths are refused.
 
-use crate::rows::Row;
 use crate::stores::{Heap, NEVER, new_store, replies_to};
 use refusing::Refusing;
 use std::alloc::Global;
 use std::test::Fail;
+
+// A line, and what a window over the layer answers before it.
+type Row = (&'static [u8], &'static [u8]);
 
 // What a window over the layer answers where it has one object.
 const ONE: &[u8] = b"ok 1\n1 0 0 9 9\n";

@@ -1,5 +1,4 @@
-//! The texts of replies: of all refusals, and of numbers that no store reaches. Others stand with the worked
-//! rows.
+//! The texts of replies that no line is answered: of refusals, and of numbers that no store reaches.
 
 use command_shell::{Reply, write_layers, write_reply};
 use layer_store::Refusal;
@@ -7,35 +6,10 @@ use plain_table::{LayerInfo, LayerName};
 use std::alloc::Global;
 use std::test::Fail;
 
-const REFUSALS: [(Refusal, &[u8]); 25] = [
-    (Refusal::BadName, b"fail 1 BadName\n"),
-    (Refusal::LayerExists, b"fail 2 LayerExists\n"),
-    (Refusal::NoLayer, b"fail 3 NoLayer\n"),
-    (Refusal::BadDims, b"fail 4 BadDims\n"),
-    (Refusal::BadFanout, b"fail 5 BadFanout\n"),
-    (Refusal::TooManyLayers, b"fail 6 TooManyLayers\n"),
-    (Refusal::BadBox, b"fail 7 BadBox\n"),
-    (Refusal::WrongDims, b"fail 8 WrongDims\n"),
-    (Refusal::Duplicate, b"fail 9 Duplicate\n"),
-    (Refusal::NoObject, b"fail 10 NoObject\n"),
-    (Refusal::TooManyObjects, b"fail 11 TooManyObjects\n"),
-    (Refusal::NotEmpty, b"fail 12 NotEmpty\n"),
-    (
-        Refusal::DuplicateInLoad(u64::MAX),
-        b"fail 13 DuplicateInLoad 18446744073709551615\n",
-    ),
-    (Refusal::BadCount, b"fail 14 BadCount\n"),
-    (Refusal::DimsDiffer, b"fail 15 DimsDiffer\n"),
-    (Refusal::Memory, b"fail 16 Memory\n"),
-    (Refusal::Device, b"fail 17 Device\n"),
-    (Refusal::Damaged(3), b"fail 18 Damaged 3\n"),
-    (Refusal::StoreFailed(17), b"fail 19 StoreFailed 17\n"),
-    (Refusal::NotClosed, b"fail 20 NotClosed\n"),
-    (Refusal::NotAStore, b"fail 21 NotAStore\n"),
-    (Refusal::WrongVersion, b"fail 22 WrongVersion\n"),
+const REFUSALS: [(Refusal, &[u8]); 3] = [
     (Refusal::BadCache, b"fail 23 BadCache\n"),
-    (Refusal::BadLine, b"fail 24 BadLine\n"),
     (Refusal::NoPages, b"fail 25 NoPages\n"),
+    (Refusal::Damaged(u32::MAX), b"fail 18 Damaged 4294967295\n"),
 ];
 
 const COUNTS: [(u64, &[u8]); 2] = [

@@ -34,21 +34,7 @@ const UNWRITTEN: Script = Script {
     ..QUIET
 };
 
-const RUNS: [Script; 19] = [
-    Script {
-        what: "no line",
-        ..SLOW
-    },
-    Script {
-        what: "blank lines",
-        parts: &[Bytes(b"\n\n")],
-        ..SLOW
-    },
-    Script {
-        what: "a comment",
-        parts: &[Bytes(b"# a comment")],
-        ..SLOW
-    },
+const RUNS: [Script; 16] = [
     // The reply to a last line without a newline is not flushed.
     Script {
         what: "a line without a newline",
@@ -182,11 +168,7 @@ const WELL: Script = Script {
     ..QUIET
 };
 
-const CLOSINGS: [Script; 7] = [
-    Script {
-        what: "a good run says nothing and is closed",
-        ..WELL
-    },
+const CLOSINGS: [Script; 6] = [
     Script {
         what: "a run whose input fails is closed",
         parts: &[Bytes(CHANGES), Fails(ErrorKind::Interrupted)],
@@ -257,20 +239,7 @@ const STRICTLY_FAILED: Script = Script {
     ..STRICT
 };
 
-const STRICT_RUNS: [Script; 8] = [
-    Script {
-        what: "a run without a refusal is closed",
-        ..STRICT
-    },
-    Script {
-        what: "a refused line is told and nothing is closed",
-        parts: &[Bytes(b"create a 2 4\n# b\ncount b\ncreate c 2 4\n")],
-        end: End::Settled(Outcome::StoppedAtLine),
-        replies: b"ok\nfail 3 NoLayer\n",
-        said: b"rstore: line 3: count b: fail 3 NoLayer\n",
-        kept: ONLY_CREATED,
-        ..STRICT
-    },
+const STRICT_RUNS: [Script; 5] = [
     Script {
         parts: &[Bytes(CHANGES), Fails(ErrorKind::Interrupted)],
         kept: NOT_CLOSED,
@@ -297,16 +266,6 @@ const STRICT_RUNS: [Script; 8] = [
         end: End::Settled(Outcome::Unclosed),
         said: UNCLOSED,
         kept: NOT_CLOSED,
-        ..STRICT
-    },
-    // The object is in no line that is read as one, and so not in what was closed.
-    Script {
-        what: "what follows a refused line is not read as one",
-        parts: &[Bytes(b"create a 2 4\nreopen\nload a 1\n1 0 0\ninsert a 1 0 0 1 1\nreopen\n")],
-        end: End::Settled(Outcome::StoppedAtLine),
-        replies: b"ok\nok\nfail 24 BadLine\n",
-        said: b"rstore: line 3: load a 1: fail 24 BadLine: line 4 is no entry\n",
-        kept: Kept::Objects(0),
         ..STRICT
     },
 ];

@@ -1,7 +1,7 @@
 //! Stores over devices and memory that may be refused, and runs of texts on them.
 
 use block_device::{BlockDevice, FuseDevice, FuseMode, MemoryDevice};
-use command_shell::{CountedReader, RunEnd, run};
+use command_shell::{CountedReader, run};
 use layer_store::{Refusal, Store, Version, create_store, open_store};
 use refusing::Refusing;
 use std::alloc::Global;
@@ -27,22 +27,11 @@ pub fn new_store<'a>(heap: &'a Heap, passes: u32) -> Option<FrailStore<'a>> {
     }
 }
 
-// Runs a text, and answers whether all of it is read.
-fn run_text(store: &mut FrailStore<'_>, text: &[u8], output: &mut Vec<u8>) -> bool {
-    run(store, &mut CountedReader::over(text), output) == RunEnd::Finished
-}
-
 /// What the store answers to a text.
 pub fn replies_to(alloc: Global, store: &mut FrailStore<'_>, text: &[u8]) -> Vec<u8> {
     let mut output = Vec::new(alloc);
-    run_text(store, text, &mut output);
+    run(store, &mut CountedReader::over(text), &mut output);
     output
-}
-
-/// Whether the store answers a text so, all of which is read.
-pub fn answers(alloc: Global, store: &mut FrailStore<'_>, text: &[u8], replies: &[u8]) -> bool {
-    let mut output = Vec::new(alloc);
-    run_text(store, text, &mut output) && output.as_slice() == replies
 }
 
 /// What is left of a store.

@@ -1,8 +1,7 @@
-//! Commands as plain data, their answers as numbers, and a store beside the plain list.
+//! Commands as plain data, their answers as numbers, and a store beside another.
 
-use block_device::BlockDevice;
+use block_device::{BlockDevice, MemoryDevice};
 use layer_store::{AnyBox, RawBox, RawPoint, RawQuery, Refusal, Store};
-use list_table::ListTable;
 use plain_table::{DumpRow, LayerInfo};
 use std::alloc::{AllocError, Allocator, Global};
 
@@ -22,8 +21,6 @@ pub enum Command<'a> {
     Create(&'a [u8], u64, u64),
     /// A new object with the tag 0.
     Insert(&'a [u8], u64, RawBox),
-    /// A new object with a tag.
-    InsertTagged(&'a [u8], u64, RawBox, u32),
     /// All objects of a layer that has none.
     Load(&'a [u8], &'a [Object]),
     /// Another box for an object.
@@ -67,7 +64,6 @@ impl Command<'_> {
             self,
             Command::Create(..)
                 | Command::Insert(..)
-                | Command::InsertTagged(..)
                 | Command::Load(..)
                 | Command::Move(..)
                 | Command::Delete(..)
@@ -100,18 +96,6 @@ pub fn answer<D: BlockDevice, A: Allocator + Copy + Drop>(
     Ok(numbers)
 }
 
-/// Puts commands to a store, one after the other, up to the first that is refused.
-pub fn answer_all<D: BlockDevice, A: Allocator + Copy + Drop>(
-    alloc: Global,
-    store: &mut Store<D, A>,
-    commands: &[Command<'_>],
-) -> Result<(), Refusal> {
-    for &command in commands {
-        answer(alloc, store, command)?;
-    }
-    Ok(())
-}
-
 // Puts a change to a store. Here and in `ask` the other commands are named too, so that no new one is passed
 // over.
 fn change<D: BlockDevice, A: Allocator + Copy + Drop>(
@@ -121,7 +105,6 @@ fn change<D: BlockDevice, A: Allocator + Copy + Drop>(
     match change {
         Command::Create(name, dims, fanout) => store.create(name, dims, fanout),
         Command::Insert(name, id, bounds) => store.insert(name, id, bounds, 0),
-        Command::InsertTagged(name, id, bounds, tag) => store.insert(name, id, bounds, tag),
         Command::Load(name, objects) => store.load(name, objects),
         Command::Move(name, id, bounds) => store.move_object(name, id, bounds),
         Command::Delete(name, id) => store.delete(name, id),
@@ -173,67 +156,12 @@ fn ask<D: BlockDevice, A: Allocator + Copy + Drop>(
         Command::Reopen => store.reopen()?,
         Command::Create(..)
         | Command::Insert(..)
-        | Command::InsertTagged(..)
         | Command::Load(..)
         | Command::Move(..)
         | Command::Delete(..)
         | Command::Drop(..) => {}
     }
     Ok(())
-}
-
-/// Puts the command to the plain list.
-pub fn listed(alloc: Global, table: &mut ListTable<Global>, command: Command<'_>) -> Answer {
-    match command {
-        Command::Create(name, dims, fanout) => table.create(name, dims, fanout)?,
-        Command::Insert(name, id, bounds) => table.insert(name, id, bounds, 0)?,
-        Command::InsertTagged(name, id, bounds, tag) => table.insert(name, id, bounds, tag)?,
-        Command::Load(name, objects) => table.load(name, objects)?,
-        Command::Move(name, id, bounds) => table.move_object(name, id, bounds)?,
-        Command::Delete(name, id) => table.delete(name, id)?,
-        Command::Drop(name) => table.drop_layer(name)?,
-        _ => return list_answer(alloc, table, command),
-    }
-    Ok(Vec::new(alloc))
-}
-
-// The range query that a question is, if it is one: its layer, what it seeks, and the tag that is wanted.
-fn range_of(question: Command<'_>) -> Option<(&[u8], RawQuery, Option<u32>)> {
-    match question {
-        Command::Window(name, bounds) => Some((name, RawQuery::Window(bounds), None)),
-        Command::Inside(name, bounds) => Some((name, RawQuery::Inside(bounds), None)),
-        Command::Around(name, bounds) => Some((name, RawQuery::Around(bounds), None)),
-        Command::Point(name, point) => Some((name, RawQuery::Point(point), None)),
-        Command::Tagged(name, query, tag) => Some((name, query, Some(tag))),
-        _ => None,
-    }
-}
-
-// Puts a question to the plain list. A check and a closing find nothing to do, and changes have been made
-// before.
-fn list_answer(alloc: Global, table: &ListTable<Global>, question: Command<'_>) -> Answer {
-    let mut numbers = Vec::new(alloc);
-    if let Some((name, query, tag)) = range_of(question) {
-        push_rows(&mut numbers, &table.range(name, query, tag)?)?;
-        return Ok(numbers);
-    }
-    match question {
-        Command::Get(name, id) => {
-            let (bounds, tag) = table.get(name, id)?;
-            push_row(&mut numbers, &(id, bounds, tag))?
-        }
-        Command::Count(name) => numbers.push(i128::from(table.count(name)?))?,
-        Command::Nearest(name, k, point) => {
-            push_distances(&mut numbers, &table.nearest(name, k, point)?)?
-        }
-        Command::Join(first, second, within) => {
-            push_pairs(&mut numbers, &table.join(first, second, within)?)?
-        }
-        Command::Layers => push_infos(&mut numbers, &table.layers()?)?,
-        Command::Dump => push_dump(&mut numbers, &table.dump()?)?,
-        _ => {}
-    }
-    Ok(numbers)
 }
 
 fn push_coordinates(numbers: &mut Vec<i128>, coordinates: &[i32]) -> Result<(), AllocError> {
@@ -324,18 +252,18 @@ fn push_dump(numbers: &mut Vec<i128>, rows: &[DumpRow]) -> Result<(), AllocError
     Ok(())
 }
 
-/// Whether the store's pages are as they have to be, and it has the layers and objects that the plain list
+/// Whether the store's pages are as they have to be, and it has the layers and objects that the reference store
 /// has: by a dump, and the objects of the layers of these names by windows, those with an identifier below a
 /// bound by their identifier tables too, and their counts.
 pub fn represents<D: BlockDevice, A: Allocator + Copy + Drop>(
     alloc: Global,
     store: &mut Store<D, A>,
-    table: &mut ListTable<Global>,
+    reference: &mut Store<MemoryDevice>,
     names: &[&[u8]],
     ids: u64,
 ) -> bool {
     for question in [Command::Layers, Command::Dump, Command::Check] {
-        if answer(alloc, store, question) != listed(alloc, table, question) {
+        if answer(alloc, store, question) != answer(alloc, reference, question) {
             return false;
         }
     }
@@ -345,13 +273,13 @@ pub fn represents<D: BlockDevice, A: Allocator + Copy + Drop>(
             Command::Window(name, SPACE),
             Command::Count(name),
         ] {
-            if answer(alloc, store, question) != listed(alloc, table, question) {
+            if answer(alloc, store, question) != answer(alloc, reference, question) {
                 return false;
             }
         }
         for id in 0..ids {
             let question = Command::Get(name, id);
-            if answer(alloc, store, question) != listed(alloc, table, question) {
+            if answer(alloc, store, question) != answer(alloc, reference, question) {
                 return false;
             }
         }

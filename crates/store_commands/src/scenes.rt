@@ -1,21 +1,18 @@
-//! Worked scenes: changes that are made, and what is answered then. More of them stand with the tests.
+//! Worked scenes: changes that are made, and what is asked then. What is answered there is shown by
+//! tests/worked_rows.py.
 
 use crate::commands::Command;
-use layer_store::{RawBox, RawPoint, Refusal};
+use layer_store::{RawBox, RawPoint};
 
-/// A command, its answer, and how many nodes it looks at, where that is told.
-pub type Row = (
-    Command<'static>,
-    Result<&'static [i128], Refusal>,
-    Option<u64>,
-);
+/// A command, and how many nodes it looks at, a join at most, where that is told.
+pub type Row = (Command<'static>, Option<u64>);
 
-/// Changes that are made, and what is answered then.
+/// Changes that are made, and what is asked then.
 #[derive(Clone, Copy)]
 pub struct Scene {
     /// The changes.
     pub made: &'static [Command<'static>],
-    /// The questions.
+    /// The questions, and commands that are refused.
     pub asked: &'static [Row],
 }
 
@@ -27,74 +24,29 @@ pub const TOUCHING: Scene = Scene {
         Command::Insert(b"a", 2, RawBox::Two([1, 1], [2, 2])),
     ],
     asked: &[
-        (
-            Command::Window(b"a", RawBox::Two([1, 1], [1, 1])),
-            Ok(&[1, 0, 0, 1, 1, 2, 1, 1, 2, 2]),
-            Some(1),
-        ),
-        (
-            Command::Window(b"a", RawBox::Two([0, 0], [0, 1])),
-            Ok(&[1, 0, 0, 1, 1]),
-            Some(1),
-        ),
-        (
-            Command::Window(b"a", RawBox::Two([2, 2], [9, 9])),
-            Ok(&[2, 1, 1, 2, 2]),
-            Some(1),
-        ),
-        (
-            Command::Point(b"a", RawPoint::Two([1, 1])),
-            Ok(&[1, 0, 0, 1, 1, 2, 1, 1, 2, 2]),
-            Some(1),
-        ),
-        (
-            Command::Inside(b"a", RawBox::Two([0, 0], [1, 1])),
-            Ok(&[1, 0, 0, 1, 1]),
-            Some(1),
-        ),
-        (
-            Command::Around(b"a", RawBox::Two([1, 1], [2, 2])),
-            Ok(&[2, 1, 1, 2, 2]),
-            Some(1),
-        ),
-        (
-            Command::Insert(b"a", 1, RawBox::Two([5, 5], [6, 6])),
-            Err(Refusal::Duplicate),
-            None,
-        ),
-        (Command::Get(b"a", 1), Ok(&[1, 0, 0, 1, 1]), None),
-        (Command::Layers, Ok(&[97, 2, 4, 2]), None),
-        (
-            Command::Dump,
-            Ok(&[97, 2, 4, 97, 1, 0, 0, 1, 1, 97, 2, 1, 1, 2, 2]),
-            None,
-        ),
-        (
-            Command::Insert(b"a", 3, RawBox::Two([1, 0], [0, 0])),
-            Err(Refusal::BadBox),
-            None,
-        ),
+        (Command::Window(b"a", RawBox::Two([1, 1], [1, 1])), Some(1)),
+        (Command::Window(b"a", RawBox::Two([0, 0], [0, 1])), Some(1)),
+        (Command::Window(b"a", RawBox::Two([2, 2], [9, 9])), Some(1)),
+        (Command::Point(b"a", RawPoint::Two([1, 1])), Some(1)),
+        (Command::Inside(b"a", RawBox::Two([0, 0], [1, 1])), Some(1)),
+        (Command::Around(b"a", RawBox::Two([1, 1], [2, 2])), Some(1)),
+        (Command::Insert(b"a", 1, RawBox::Two([5, 5], [6, 6])), None),
+        (Command::Get(b"a", 1), None),
+        (Command::Layers, None),
+        (Command::Dump, None),
+        (Command::Insert(b"a", 3, RawBox::Two([1, 0], [0, 0])), None),
         (
             Command::Insert(b"a", 1, RawBox::Three([1, 1, 1], [0, 0, 0])),
-            Err(Refusal::WrongDims),
             None,
         ),
-        (Command::Count(b"a"), Ok(&[2]), None),
-        (Command::Create(b"A", 2, 4), Err(Refusal::BadName), None),
-        (
-            Command::Create(b"abcdefghijklmnopqrstuvwxy", 2, 4),
-            Err(Refusal::BadName),
-            None,
-        ),
-        (Command::Create(b"a", 4, 4), Err(Refusal::BadDims), None),
-        (Command::Create(b"b", 2, 3), Err(Refusal::BadFanout), None),
-        (Command::Create(b"b", 2, 101), Err(Refusal::BadFanout), None),
-        (Command::Create(b"a", 2, 4), Err(Refusal::LayerExists), None),
-        (
-            Command::Window(b"q", RawBox::Two([0, 0], [1, 1])),
-            Err(Refusal::NoLayer),
-            None,
-        ),
+        (Command::Count(b"a"), None),
+        (Command::Create(b"A", 2, 4), None),
+        (Command::Create(b"abcdefghijklmnopqrstuvwxy", 2, 4), None),
+        (Command::Create(b"a", 4, 4), None),
+        (Command::Create(b"b", 2, 3), None),
+        (Command::Create(b"b", 2, 101), None),
+        (Command::Create(b"a", 2, 4), None),
+        (Command::Window(b"q", RawBox::Two([0, 0], [1, 1])), None),
     ],
 };
 
@@ -111,16 +63,9 @@ pub const LINE: Scene = Scene {
     asked: &[
         (
             Command::Window(b"l", RawBox::Two([10, 0], [10, 0])),
-            Ok(&[5, 10, 0, 10, 0]),
             Some(2),
         ),
-        (
-            Command::Window(b"l", RawBox::Two([0, 0], [10, 0])),
-            Ok(&[
-                1, 0, 0, 0, 0, 2, 1, 0, 1, 0, 3, 2, 0, 2, 0, 4, 3, 0, 3, 0, 5, 10, 0, 10, 0,
-            ]),
-            Some(3),
-        ),
+        (Command::Window(b"l", RawBox::Two([0, 0], [10, 0])), Some(3)),
     ],
 };
 
@@ -140,15 +85,10 @@ pub const FIRST_OVERFLOW: Scene = Scene {
     asked: &[
         (
             Command::Window(b"r", RawBox::Two([60, 60], [60, 60])),
-            Ok(&[6, 60, 60, 60, 60]),
             Some(2),
         ),
         (
             Command::Window(b"r", RawBox::Two([0, 0], [104, 102])),
-            Ok(&[
-                1, 0, 0, 0, 0, 2, 2, 2, 2, 2, 3, 100, 100, 100, 100, 4, 102, 102, 102, 102, 5, 104,
-                100, 104, 100, 6, 60, 60, 60, 60, 7, 42, 42, 42, 42, 8, 103, 101, 103, 101,
-            ]),
             Some(3),
         ),
     ],
@@ -175,14 +115,10 @@ pub const FIVE: [Command; 6] = [
 pub const DELETED: Scene = Scene {
     made: &[Command::Delete(b"l", 1)],
     asked: &[
-        (
-            Command::Window(b"l", RawBox::Two([1, 0], [1, 0])),
-            Ok(&[2, 1, 0, 1, 0]),
-            Some(1),
-        ),
-        (Command::Get(b"l", 1), Err(Refusal::NoObject), None),
-        (Command::Delete(b"l", 1), Err(Refusal::NoObject), None),
-        (Command::Check, Ok(&[]), None),
+        (Command::Window(b"l", RawBox::Two([1, 0], [1, 0])), Some(1)),
+        (Command::Get(b"l", 1), None),
+        (Command::Delete(b"l", 1), None),
+        (Command::Check, None),
     ],
 };
 
@@ -206,22 +142,13 @@ pub const LOADED: Scene = Scene {
     asked: &[
         (
             Command::Window(b"t", RawBox::Two([10, 0], [10, 0])),
-            Ok(&[5, 10, 0, 10, 0]),
             Some(2),
         ),
-        (
-            Command::Window(b"t", RawBox::Two([3, 0], [3, 0])),
-            Ok(&[4, 3, 0, 3, 0]),
-            Some(2),
-        ),
-        (
-            Command::Window(b"t", RawBox::Two([0, 0], [2, 0])),
-            Ok(&[1, 0, 0, 0, 0, 2, 1, 0, 1, 0, 3, 2, 0, 2, 0]),
-            Some(2),
-        ),
-        (Command::Get(b"t", 4), Ok(&[4, 3, 0, 3, 0]), None),
-        (Command::Count(b"t"), Ok(&[5]), None),
-        (Command::Load(b"t", &[]), Err(Refusal::NotEmpty), None),
+        (Command::Window(b"t", RawBox::Two([3, 0], [3, 0])), Some(2)),
+        (Command::Window(b"t", RawBox::Two([0, 0], [2, 0])), Some(2)),
+        (Command::Get(b"t", 4), None),
+        (Command::Count(b"t"), None),
+        (Command::Load(b"t", &[]), None),
         (
             Command::Load(
                 b"u",
@@ -231,7 +158,6 @@ pub const LOADED: Scene = Scene {
                     (1, RawBox::Two([0, 0], [0, 0]), 0),
                 ],
             ),
-            Err(Refusal::DuplicateInLoad(1)),
             None,
         ),
         (
@@ -242,7 +168,6 @@ pub const LOADED: Scene = Scene {
                     (1, RawBox::Three([0; 3], [0; 3]), 0),
                 ],
             ),
-            Err(Refusal::WrongDims),
             None,
         ),
         (
@@ -253,11 +178,10 @@ pub const LOADED: Scene = Scene {
                     (1, RawBox::Two([1, 0], [0, 0]), 0),
                 ],
             ),
-            Err(Refusal::BadBox),
             None,
         ),
-        (Command::Count(b"u"), Ok(&[0]), None),
-        (Command::Check, Ok(&[]), None),
+        (Command::Count(b"u"), None),
+        (Command::Check, None),
     ],
 };
 
@@ -268,42 +192,17 @@ pub const JOINED: Scene = Scene {
         Command::Insert(b"c", 2, RawBox::Three([i32::MAX; 3], [i32::MAX; 3])),
     ],
     asked: &[
-        (
-            Command::Join(b"a", b"a", 0),
-            Ok(&[1, 1, 1, 2, 2, 1, 2, 2]),
-            None,
-        ),
-        (Command::Join(b"l", b"a", 0), Ok(&[1, 1, 2, 1]), None),
-        (Command::Join(b"a", b"l", 0), Ok(&[1, 1, 1, 2]), None),
-        (
-            Command::Join(b"l", b"a", 1),
-            Ok(&[1, 1, 2, 1, 2, 2, 3, 1, 3, 2]),
-            None,
-        ),
-        (
-            Command::Join(b"l", b"a", 2),
-            Ok(&[1, 1, 1, 2, 2, 1, 2, 2, 3, 1, 3, 2, 4, 2]),
-            None,
-        ),
-        (Command::Join(b"c", b"c", u64::MAX), Ok(&[2, 2]), None),
-        (Command::Join(b"a", b"c", 5), Err(Refusal::DimsDiffer), None),
-        (Command::Join(b"q", b"C", 0), Err(Refusal::BadName), None),
-        (Command::Join(b"a", b"q", 0), Err(Refusal::NoLayer), None),
-        (
-            Command::Layers,
-            Ok(&[97, 2, 4, 2, 99, 3, 4, 1, 108, 2, 4, 5]),
-            None,
-        ),
-        (
-            Command::Dump,
-            Ok(&[
-                97, 2, 4, 97, 1, 0, 0, 1, 1, 97, 2, 1, 1, 2, 2, 99, 3, 4, 99, 2, 2147483647,
-                2147483647, 2147483647, 2147483647, 2147483647, 2147483647, 108, 2, 4, 108, 1, 0,
-                0, 0, 0, 108, 2, 1, 0, 1, 0, 108, 3, 2, 0, 2, 0, 108, 4, 3, 0, 3, 0, 108, 5, 10, 0,
-                10, 0,
-            ]),
-            None,
-        ),
-        (Command::Check, Ok(&[]), None),
+        (Command::Join(b"a", b"a", 0), None),
+        (Command::Join(b"l", b"a", 0), Some(6)),
+        (Command::Join(b"a", b"l", 0), None),
+        (Command::Join(b"l", b"a", 1), Some(6)),
+        (Command::Join(b"l", b"a", 2), None),
+        (Command::Join(b"c", b"c", u64::MAX), None),
+        (Command::Join(b"a", b"c", 5), None),
+        (Command::Join(b"q", b"C", 0), None),
+        (Command::Join(b"a", b"q", 0), None),
+        (Command::Layers, None),
+        (Command::Dump, None),
+        (Command::Check, None),
     ],
 };
