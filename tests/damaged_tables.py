@@ -135,7 +135,9 @@ DAMAGED_CHAINS = [
     ("a hundred and one objects", 6, over(ALONE, (2, 2, 101)), 6),
     ("a bucket of another dimension", 6, over(ALONE, (1, 1, 3)), 6),
     ("a node", 6, over(ALONE, (0, 1, 6)), 6),
+    ("a count in the high byte", 6, over(ALONE, (2, 1, 1)), 6),
     ("a low above its high", 6, outside_in(ALONE), 6),
+    ("the last low above its high", 7, over(MIDDLE, (16 + 28 * 99 + 8, 1, 0x7F)), 7),
     ("a directory of another dimension", 3, over(LINKS, (1, 1, 3)), 3),
     ("a bucket as a directory", 3, over(LINKS, (0, 4, 0x07020001)), 3),
 ]

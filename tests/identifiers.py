@@ -281,8 +281,7 @@ class Chains(Tables):
                 self.has(wanted)
 
     def test_chains_are_of_full_buckets_behind_their_first(self):
-        loads = "\n".join([f"load a {250}", *objects(7, 249, 1000), "8 0 0 0 0"])
-        self.makes([loads])
+        self.makes(["\n".join(["load a 250", *objects(7, 249, 1000), "8 0 0 0 0"])])
         self.assertEqual((self.counts(7), self.counts(8)), ([49, 100, 100], [1]))
         self.changes([*added(1008), *added(249_007)])
         self.assertEqual((self.counts(7), self.counts(8)), ([50, 100, 100], [2]))
@@ -292,8 +291,8 @@ class Chains(Tables):
         def sevens(word, first, count, *rest):
             return [" ".join([word, "a", str(7 + 1000 * k), *rest]) for k in range(first, first + count)]
 
-        point = ("5 6 7 5 6 7", "tag 70")
-        self.makes(sevens("insert", 0, 250, *point), 3)
+        box = ("5 6 7 5 6 7", "tag 70")
+        self.makes(sevens("insert", 0, 250, *box), 3)
         self.assertEqual(self.counts(7), [50, 100, 100])
         self.says("store", ["get a 250007", "get a 8"], NONE * 2)
         self.changes(sevens("move", 0, 1, "9 9 9 9 9 9"))
@@ -301,7 +300,7 @@ class Chains(Tables):
         self.says("store", sevens("get", 0, 250), "ok 1\n7 9 9 9 9 9 9 tag 70\n" + rows)
         self.changes(sevens("delete", 0, 1))
         self.assertEqual(self.counts(7), [49, 100, 100])
-        self.changes(sevens("insert", 0, 1, *point) + sevens("delete", 100, 51))
+        self.changes(sevens("insert", 0, 1, *box) + sevens("delete", 100, 51))
         self.assertEqual(self.counts(7), [99, 100])
         self.changes(sevens("delete", 0, 100) + sevens("delete", 151, 99))
         self.assertEqual((self.chain(7), self.pages()), ([], 1))

@@ -1,6 +1,6 @@
 #!/usr/bin/env python3
-"""Runs the program over files of which pages are read and written by hand, as docs/FORMAT.md says: full pages, nodes
-above leaves, buckets and a full catalog have the bytes of the format; bytes that are not named are not looked at, in
+"""Runs the program over files of which pages are read and written by hand, as docs/FORMAT.md says: the examples of
+the format, full pages, nodes above leaves and a full catalog have its bytes; bytes that are not named are not looked at, in
 any kind of page; and each thing by itself that makes a page no node, no bucket or no catalog is answered as damage.
 It tests the programs that `rt ci` made, by both compilers; where there is none, one is made.
 
@@ -43,7 +43,7 @@ def objects_of(data, page, axes):
     return found
 
 
-def named(data, page, version_of=None):
+def named(data, page):
     """The places of a page that have a name, as ranges."""
     kind, axes, count = (number_at(data, page, k, width) for k, width in ((0, 1), (1, 1), (2, 2)))
     if page == 0:
@@ -103,7 +103,42 @@ class Bytes(Pages):
             for page in range(blocks_of(data)):
                 self.is_tidy(data, page)
 
-    def test_two_objects_of_a_bucket_in_three_axes(self):
+    def test_the_examples_of_the_format(self):
+        data = self.made("--format 2", ["create a 2 4", "insert a 1 -1 2 3 4 tag 7"])
+        example = with_numbers(
+            b"",
+            # the gate and the header
+            (0, 0, 8, 0x5253544152474154),
+            (0, 8, 1, 1),
+            (1, 0, 8, 0x5253544152484452),
+            (1, 8, 2, 2),
+            (1, 12, 4, 6),
+            # the catalog, the leaf, the directory and the bucket
+            (2, 0, 2, 0x0101),
+            (2, 256, 2, 0x0161),
+            (2, 281, 3, 0x020400),
+            (2, 284, 8, 0x00000003_00000004),
+            (2, 292, 8, 1),
+            (3, 0, 4, 0x06020001),
+            (3, 16, 4, 0xFFFFFFFF),
+            (3, 416, 4, 3),
+            (3, 816, 4, 2),
+            (3, 1216, 4, 4),
+            (3, 1616, 8, 1),
+            (3, 2416, 4, 7),
+            (4, 0, 2, 0x0302),
+            (4, 20, 4, 5),
+            (5, 0, 4, 0x07020001),
+            (5, 16, 8, 1),
+            (5, 24, 8, 0xFFFFFFFF_00000002),
+            (5, 32, 8, 0x00000003_00000004),
+            (5, 40, 4, 7),
+        )
+        for block in range(6):
+            self.assertTrue(block_of(data, block) == block_of(example, block), block)
+        self.assertEqual(len(data), len(example))
+
+    def test_two_objects_in_three_axes(self):
         first, second = 0x0102030405060708, 72_623_859_790_381_856  # in one chain
         boxes = ["-2 256 -2147483648 5 16909060 2147483647", "1 -1 3 1 -1 3"]
         commands = [f"insert a {first} {boxes[0]} tag 4294967294", f"insert a {second} {boxes[1]} tag 151521030"]
@@ -120,10 +155,24 @@ class Bytes(Pages):
             (0, 72, 12, 0x00000001_FFFFFFFF_00000003),
             (0, 84, 4, 0x09080706),
         )
-        (page,) = (page for page, kind in pages_of(data) if kind == BUCKET)
-        self.assertTrue(block_of(data, page) == bucket)
+        leaf = with_numbers(
+            b"",
+            (0, 0, 4, 0x06030002),
+            (0, 16, 8, 0xFFFFFFFE_00000001),
+            (0, 416, 8, 0x00000005_00000001),
+            (0, 816, 8, 0x00000100_FFFFFFFF),
+            (0, 1216, 8, 0x01020304_FFFFFFFF),
+            (0, 1616, 8, 0x80000000_00000003),
+            (0, 2016, 8, 0x7FFFFFFF_00000003),
+            (0, 2416, 8, first),
+            (0, 2424, 8, second),
+            (0, 3216, 8, 0xFFFFFFFE_09080706),
+        )
+        for kind, wanted in ((BUCKET, bucket), (NODE, leaf)):
+            (page,) = (page for page, found in pages_of(data) if found == kind)
+            self.assertTrue(block_of(data, page) == wanted, kind)
         rows = f"ok 2\n{second} {boxes[1]} tag 151521030\n{first} {boxes[0]} tag 4294967294\n"
-        self.tells(data, [f"window a {SPACE}"], rows if second < first else "")
+        self.tells(data, [f"window a {SPACE}"], rows)
 
     def test_full_pages_with_numbers_at_the_ends_of_their_ranges(self):
         for axes, end in ((2, 2816), (3, 3616)):
@@ -145,7 +194,6 @@ class Bytes(Pages):
 
     def test_a_node_above_leaves_has_their_boxes_and_no_tags(self):
         for axes in (2, 3):
-            commands = [f"insert a {k} " + f"{50 * k} {-k} {k}"[: 99 if axes == 3 else None] for k in range(9)]
             boxes = [[50 * k, -k, k][:axes] + [50 * k + 3, k, k][:axes] for k in range(9)]
             commands = [f"insert a {k} {' '.join(map(str, box))} tag 9" for k, box in enumerate(boxes)]
             data = self.made("", [f"create a {axes} 4", *commands])
@@ -158,7 +206,7 @@ class Bytes(Pages):
                 self.assertEqual((box, tag, number_at(data, child, 4, 1)), ([*lows, *highs], 0, 0))
 
     def test_a_full_catalog(self):
-        names = sorted(f"n{k}" + "_" * (22 if k == 30 else 0) for k in range(10, 70))
+        names = sorted(f"n{k}" + "_" * (21 if k == 30 else 0) for k in range(10, 70))
         commands = [f"create {name} {2 + k % 2} {4 + k}" for k, name in enumerate(names)]
         data = self.made("", [*commands, f"insert {names[59]} 7 1 1 1 2 2 2"])
         self.assertEqual(number_at(data, 2, 0, 2), 0x013C)
@@ -198,9 +246,7 @@ class Unnamed(Pages):
             self.answers("store", text_of(changes), "ok\n" * 5 + "ok 1\n1 0 0 1 1\n")
 
 
-# A root of three axes over two leaves: what is written over it or over the catalog's record, and the page that is
-# named where all is asked for. The root is on page 5, and its second entry refers to page 4.
-AXES = 3
+# What is written over the root of a tree of three axes and two leaves, as the block 5, or over its record.
 ROOT = [
     ("another kind", [(5, 0, 1, 4)]),
     ("the kind of a bucket", [(5, 0, 1, 7)]),
@@ -218,15 +264,13 @@ ROOT = [
 ]
 
 
-class NoPages(Pages):
-    """Each reason by itself makes a page no node."""
+class NoNodes(Pages):
+    """Each thing by itself makes a page no node."""
 
     def test_no_nodes(self):
-        leaves = [[(k + 2 * n, 10 * n + k) for k in range(2)] for n in range(2)]
         data = self.made("", ["create a 3 4", *(f"insert a {k} {k} {k} {k} {k} {k} {k}" for k in range(5))])
         root = number_at(data, 2, RECORD + 28, 4)
-        entries = entries_of(data, root, AXES)
-        self.assertEqual(len(entries), 2, leaves)
+        self.assertEqual(len(entries_of(data, root, 3)), 2)
         for what, numbers in ROOT:
             numbers = [(root if page == 5 else page, *number) for page, *number in numbers]
             with self.subTest(what=what):

@@ -1,9 +1,9 @@
-/* boxes FILE [QUICK]: random boxes beside plain scans of a list, with 4, 10 and 100 entries to a node, in a file with 8, 64
- * and 4096 pages held: 100,000 boxes of two axes that are loaded, uniform and in clusters, and as many that are inserted, of
- * which 750 range queries of five kinds are asked, each third with a tag; 20,000 boxes whose nearest are the first of a
- * sort, and whose joins with themselves and with others, in a tree that is taller or lower, at a distance too, are those of a
- * double loop; and 80,000 insertions, moves and deletions of boxes of two and three axes, down to a tree that is one empty
- * leaf. On the way the file is checked, closed and opened, and has all objects. */
+/* boxes FILE [QUICK]: random boxes beside plain scans of a list, with 4, 10 and 100 entries to a node, in a file with 8,
+ * 64 and 4096 pages held: 100,000 boxes of two axes that are loaded, uniform and in clusters, and as many that are
+ * inserted, of which 750 range queries of five kinds are asked, each third with a tag; 20,000 boxes whose nearest are the
+ * first of a sort, and whose joins with themselves and with others, in a tree that is taller or lower, at a distance too,
+ * are those of a double loop; and 80,000 insertions, moves and deletions of boxes of two axes, and 20,000 of three, down
+ * to a tree that is one empty leaf. On the way the file is checked, closed and opened, and has all objects. */
 #include <stdbool.h>
 #include <stdio.h>
 #include <stdlib.h>
@@ -159,7 +159,8 @@ static int by_distance(const void *a, const void *b) {
     return x->far != y->far ? (x->far > y->far) - (x->far < y->far) : (x->id > y->id) - (x->id < y->id);
 }
 static uint64_t gap(int32_t low, int32_t high, int32_t other_low, int32_t other_high) {
-    return low > other_high ? (uint64_t)((int64_t)low - other_high) : other_low > high ? (uint64_t)((int64_t)other_low - high) : 0;
+    int64_t gap = low > other_high ? (int64_t)low - other_high : other_low > high ? (int64_t)other_low - high : 0;
+    return (uint64_t)gap;
 }
 static uint64_t apart(const rstore_row *a, const rstore_row *b) {
     uint64_t sum = 0;
@@ -189,8 +190,8 @@ static void nearest_are_first(const char *layer, const rstore_row *list, size_t 
     }
     free(all);
 }
-static void is_join(const char *a, const rstore_row *left, size_t lefts, const char *b, const rstore_row *right, size_t rights,
-                    uint64_t within) {
+static void is_join(const char *a, const rstore_row *left, size_t lefts, const char *b, const rstore_row *right,
+                    size_t rights, uint64_t within) {
     rstore_pair *pairs;
     size_t count, found = 0;
     NEED(rstore_join(db, a, b, within, &pairs, &count));

@@ -63,13 +63,14 @@ static void refusals(rstore *db) {
     IS(RSTORE_DUPLICATE_IN_LOAD, rstore_load(db, "b", 3, twice, 2));
     IS(5, rstore_detail(db));
     OK(rstore_load(db, "b", 3, &row, 1));
-    IS(0, rstore_detail(db));
+    IS(5, rstore_detail(db)); /* of the last error */
     OK(rstore_count(db, "b", &count));
     IS(1, count);
     OK(rstore_get(db, "b", 5, &row));
     IS(3, row.axes);
     OK(rstore_delete(db, "b", 5));
     IS(RSTORE_NO_OBJECT, rstore_get(db, "b", 5, &row));
+    IS(0, rstore_detail(db));
     OK(rstore_drop_layer(db, "b"));
     IS(RSTORE_NO_LAYER, rstore_count(db, "b", &count));
     OK(rstore_move(db, "a", 1, (int32_t[]){1, 1, 2, 2}, 2));

@@ -71,7 +71,9 @@ int __wrap_open(const char *path, int how, ...) {
     if (disk.now[name] < 0) {
         if (!(how & O_CREAT)) { errno = ENOENT; return -1; }
         if (disk.count == FILES) die("too many files", disk.count);
-        disk.now[name] = disk.count++;
+        struct file *f = &disk.file[disk.now[name] = disk.count++];
+        f->size = f->synced_size = 0;
+        memset(f->dirty, 0, sizeof f->dirty);
     }
     while (slot < OPEN && file_of[slot] >= 0) slot++;
     if (slot == OPEN) die("too many open", slot);
@@ -428,7 +430,8 @@ int main(int argc, char **argv) {
     stops_of(changes, &made, RSTORE_EXISTING, quick ? 1 : 4, quick ? 9 : 2);
     if (!same(&kept, &working)) die("the session did not end well", 1);
     finds(true, RSTORE_EXISTING, -1);
-    printf("%ld stops of files in memory, %ld outcomes, %ld stops of openings after them: no table is lost (readers: %ld refused, %ld not)\n",
-           stops, outcomes, again, refused, answered);
+    printf("%ld stops over files in memory, %ld outcomes, %ld stops of openings after them: no table is lost; ", stops,
+           outcomes, again);
+    printf("%ld openings refused, %ld readers answered\n", refused, answered);
     return 0;
 }
