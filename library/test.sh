@@ -1,9 +1,10 @@
 #!/usr/bin/env bash
 # test.sh [QUICK]: builds the library where that is not done, and tests it: an example in C compiled with all warnings as
-# errors, in C++ too, each misuse, address and undefined-behaviour sanitizers over both, 2,000 allocations that fail in
-# turn, a thread with the least stack that is promised, and from Python random sessions beside dictionaries, kills,
-# processes and threads, files exchanged with the program both ways, `Index` by its documentation and beside rtree, and
-# what stops of the machine leave of the calls of a session (tests/stops_of_files.py).
+# errors, in C++ too, worked rows of each question and each misuse, address and undefined-behaviour sanitizers over them,
+# 2,000 allocations that fail in turn, a thread with the least stack that is promised, sessions that are stopped at each
+# call of the system, 100,000 random boxes beside plain lists, many questions in one call, and from Python random sessions
+# beside dictionaries, kills, processes and threads, files exchanged with the program both ways, `Index` by its
+# documentation and beside rtree, and what stops of the machine leave of the calls of a session (tests/stops_of_files.py).
 # It says what it has tried, a line each. With a word after its name it tries less.
 set -eu
 here="$(cd "$(dirname "$0")" && pwd)"
@@ -16,8 +17,8 @@ lib="$work/lib"
 program="$top/crates/rstore/out/rstore"
 [ -x "$program" ] || "$top/rstore" </dev/null >/dev/null
 warnings="-Wall -Wextra -Werror -Wpedantic"
-rounds=2000
-[ -z "${1:-}" ] || { rounds=200; export RSTORE_QUICK=1; }
+rounds=2000 quick=""
+[ -z "${1:-}" ] || { rounds=200 quick=quick; export RSTORE_QUICK=1; }
 cd "$work"
 
 # The example, from each library and each language.
@@ -30,15 +31,20 @@ c++ -std=c++11 $warnings -fsyntax-only -I"$lib" header.cpp
 [ ! -e a-journal ] && cmp a b && cmp a c
 nm -D --undefined-only "$lib/librstore.so" | grep -w -e abort -e exit -e printf && { echo "test.sh: it may end a program" >&2; exit 1; }
 [ "$(nm -D --defined-only "$lib/librstore.so" | grep -vc ' rstore_' || true)" = 0 ]
-cc -std=c11 $warnings -I"$lib" "$here/test/misuse.c" "$lib/librstore.a" -o misuse
+for name in rows misuse; do
+    cc -std=c11 $warnings -I"$lib" "$here/test/$name.c" "$lib/librstore.a" -o "$name"
+done
+./rows d
 ./misuse e
 
 # The same under sanitizers.
 sanitize="-fsanitize=address,undefined -fno-sanitize-recover=all -g"
 CFLAGS="$sanitize" "$here/build.sh" "$work/checked" 2>"$work/log" || { cat "$work/log" >&2; exit 1; }
-cc -std=c11 $warnings $sanitize -I"$lib" "$here/test/example.c" "$work/checked/librstore.a" -o example_checked
-cc -std=c11 $warnings $sanitize -I"$lib" "$here/test/misuse.c" "$work/checked/librstore.a" -o misuse_checked
+for name in example rows misuse; do
+    cc -std=c11 $warnings $sanitize -I"$lib" "$here/test/$name.c" "$work/checked/librstore.a" -o "${name}_checked"
+done
 ./example_checked f | diff - "$here/test/example.txt"
+./rows_checked j >/dev/null
 ./misuse_checked g >/dev/null
 echo "sanitizers find nothing"
 
@@ -48,6 +54,14 @@ cc -std=c11 $warnings -O1 -I"$lib" "$here/test/no_memory.c" "$lib/librstore.a" \
 ./no_memory h "$rounds"
 cc -std=c11 $warnings -I"$lib" "$here/test/stack.c" "$lib/librstore.a" -pthread -o stack
 ./stack 256 i
+
+# Stops, over files in memory, and many boxes.
+wrapped=""
+for call in open close flock fstat realpath unlink fsync fdatasync pread pwrite; do wrapped="$wrapped -Wl,--wrap=$call"; done
+cc -std=c11 $warnings -O2 -I"$lib" "$here/test/stops.c" "$lib/librstore.a" $wrapped -o stops
+./stops $quick
+cc -std=c11 $warnings -O2 -I"$lib" "$here/test/boxes.c" "$lib/librstore.a" -o boxes
+./boxes k $quick
 
 # Python. The package rtree is Debian's, so its Python is taken where it has one.
 export RSTORE_LIBRARY="$lib/librstore.so" PYTHONDONTWRITEBYTECODE=1

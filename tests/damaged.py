@@ -647,4 +647,5 @@ class ByChance(Live):
         self.assertEqual(sorted(tally), ["closed", "failed", "refused", "sound"], tally)
 
 
-main()
+if __name__ == "__main__":
+    main()

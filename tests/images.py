@@ -151,11 +151,13 @@ CHANGED = [
     (1, 16, 8, 0x0000000300000001, None),
     # the catalog's kind, and the count of layers
     (2, 0, 1, 0, CATALOG),
+    (2, 0, 1, 4, CATALOG),
     (2, 1, 1, 4, CATALOG),
     (2, 1, 1, 61, CATALOG),
     (2, 1, 1, 0, None),
     # no name, one that is too long, `0`, `A` and `a-`
     (2, 256, 1, 0, CATALOG),
+    (2, 320, 1, 0, CATALOG),
     (2, 256, 1, 25, CATALOG),
     (2, 257, 1, 0x30, CATALOG),
     (2, 257, 1, 0x41, CATALOG),
@@ -261,6 +263,18 @@ class Openings(RunsOver):
                     self.assertTrue(self.store() == data, "the file was changed")
                 else:
                     self.refuses(1, "store", said)
+
+    def test_the_first_check_that_fails_is_answered(self):
+        for numbers, said in (
+            ([(0, 8, 1, 0), (1, 8, 2, 9)], UNCLOSED),
+            ([(0, 0, 1, 0x72), (0, 8, 1, 0)], NOT_A_STORE),
+            ([(1, 7, 1, 0x72), (1, 8, 2, 0)], NOT_A_STORE),
+            ([(1, 8, 2, 0), (1, 12, 4, 2)], UNKNOWN),
+            ([(1, 12, 4, 2), (2, 0, 1, 0)], HEADER),
+        ):
+            self.write("store", with_numbers(OLD, *numbers))
+            with self.subTest(numbers=numbers):
+                self.refuses(1, "store", said)
 
     def test_missing_blocks(self):
         for count in range(3):

@@ -3,7 +3,5 @@
 #![tactic(auto)]
 
 mod session;
-#[cfg(test)]
-mod tests;
 
 pub use session::{BAD_NUMBERS, CLOSED, READ_ONLY, Session};

@@ -1,12 +1,12 @@
-//! Trees that are checked: one that stands, each damage that leaves none, and calls that survive it.
+//! Trees with damage, and calls that survive it.
 
-use crate::changes::{Call, TABLE, add_together, change_at, give_up, look};
-use Change::{Head, Id, Nothing, OutsideIn};
+use crate::changes::{Call, add_together, change_at, give_up, look};
+use Change::{Head, Nothing};
 use Page::{Fork, FullOf, Leaf, Second, Zeros};
-use block_bytes::{write_head, write_i32, write_u8, write_u32, write_u64};
+use block_bytes::{write_head, write_u8, write_u32, write_u64};
 use block_device::MemoryDevice;
 use box_math::BBox;
-use id_tree::{LeafPlace, check_table};
+use id_tree::LeafPlace;
 use node_page::Entry;
 use page_file::Fault;
 use std::alloc::Global;
@@ -32,12 +32,8 @@ enum Page {
 #[derive(Clone, Copy)]
 enum Change {
     Nothing,
-    // Another identifier in a place of a leaf.
-    Id(u8, u64),
     // Another kind, dimension and count.
     Head(u8, u8, u16),
-    // The low of the first object on the first axis is 1, above its high.
-    OutsideIn,
 }
 
 fn fork(level: u8, keys: [u64; 3], children: [u32; 3]) -> [u8; 4096] {
@@ -77,34 +73,26 @@ fn bytes_of(page: Page) -> [u8; 4096] {
 fn write_over(page: &mut [u8; 4096], change: Change) {
     match change {
         Change::Nothing => {}
-        Change::Id(place, id) => write_u64(page, 16 + 28 * usize::from(place.min(99)), id),
         Change::Head(kind, dims, count) => write_head(page, kind, dims, count),
-        Change::OutsideIn => write_i32(page, 24, 1),
     }
 }
 
 // Pages 3 to 7: the root, its three leaves, and a page of zeros.
-const KEYS: [u64; 3] = [0, 100, 200];
-
-const CHILDREN: [u32; 3] = [4, 5, 6];
-
-const ROOT: Page = Page::Fork(1, KEYS, CHILDREN);
-
-const MIDDLE: Page = Page::Leaf(100, 40);
+const ROOT: Page = Page::Fork(1, [0, 100, 200], [4, 5, 6]);
 
 const SCENE: [Page; 5] = [
     ROOT,
     Page::Leaf(10, 40),
-    MIDDLE,
+    Page::Leaf(100, 40),
     Page::Leaf(200, 2),
     Page::Zeros,
 ];
 
-// A damage: what it is, the page that is another one, what is written over it, and the page that is named.
-type Damage = (&'static str, usize, Page, Change, u32);
+// A damage: what it is, the page that is another one, and what is written over it.
+type Damage = (&'static str, usize, Page, Change);
 
 // No page is another one.
-const NONE: Damage = ("nothing", 0, Page::Zeros, Change::Nothing, 0);
+const NONE: Damage = ("nothing", 0, Page::Zeros, Change::Nothing);
 
 // The scene with a damage.
 fn scene(alloc: Global, damage: &Damage) -> Result<Cache, Fault> {
@@ -119,102 +107,6 @@ fn scene(alloc: Global, damage: &Damage) -> Result<Cache, Fault> {
     cache_of(alloc, MemoryDevice::new(alloc), pages.as_slice())
 }
 
-// Of some objects that the check tells, their places, their identifiers and their tags.
-const TOLD: [(usize, u64, u32); 4] = [(0, 10, 5), (39, 49, 44), (40, 100, 5), (81, 201, 6)];
-
-// The place of the first of these that is not there.
-fn first_other(pairs: &[(u64, (BBox<2>, u32))]) -> Option<usize> {
-    for (at, id, tag) in TOLD {
-        if !pairs
-            .get(at)
-            .is_some_and(|pair| pair.0 == id && pair.1.1 == tag)
-        {
-            return Some(at);
-        }
-    }
-    None
-}
-
-// What a check tells: whether the pages are right, how many objects there are, and the first one that is
-// another.
-type Told = (bool, usize, Option<usize>);
-
-fn told(alloc: Global, cache: &mut Cache) -> Result<Told, Fault> {
-    let facts = check_table::<2, _, _, _>(alloc, cache, TABLE)?;
-    let right = facts.pages.as_slice() == [3, 4, 5, 6].as_slice();
-    let other = first_other(facts.pairs.as_slice());
-    Ok((right, facts.pairs.len(), other))
-}
-
-// The same of the scene without a damage, and how many looks it takes.
-fn told_of_scene(alloc: Global) -> Result<(Told, u64), Fault> {
-    let mut cache = scene(alloc, &NONE)?;
-    let told = told(alloc, &mut cache)?;
-    Ok((told, cache.looks()))
-}
-
-#[test]
-fn a_tree_that_stands_has_its_objects_and_pages(rt: HostRuntime) -> Result<(), Fail> {
-    assert_eq!(rt; told_of_scene(rt.alloc())?, ((true, 82, None), 4));
-    Ok(())
-}
-
-const DAMAGED_LEAVES: &[Damage] = &[
-    ("an identifier twice in a leaf", 5, MIDDLE, Id(7, 100), 5),
-    ("an identifier of the next leaf", 5, MIDDLE, Id(7, 200), 5),
-    ("an identifier of the leaf before", 5, MIDDLE, Id(39, 99), 5),
-    ("too few objects", 5, Leaf(100, 36), Nothing, 5),
-    ("no objects at the edge", 6, Leaf(200, 0), Nothing, 6),
-    ("too many objects", 6, Leaf(200, 146), Nothing, 6),
-    ("another dimension", 5, MIDDLE, Head(9, 3, 40), 5),
-    ("a fork", 5, ROOT, Nothing, 5),
-    ("a bucket", 5, MIDDLE, Head(7, 2, 40), 5),
-    ("a low above its high", 5, MIDDLE, OutsideIn, 5),
-];
-
-const DAMAGED_ROOTS: &[Damage] = &[
-    ("another dimension", 3, ROOT, Head(8, 3, 3), 3),
-    ("a leaf", 3, Leaf(10, 40), Nothing, 3),
-    ("no level", 3, Fork(0, KEYS, CHILDREN), Nothing, 3),
-    ("a level too high", 3, Fork(7, KEYS, CHILDREN), Nothing, 3),
-    (
-        "forks that are none",
-        3,
-        Fork(2, KEYS, CHILDREN),
-        Nothing,
-        4,
-    ),
-];
-
-const DAMAGED_CHILDREN: &[Damage] = &[
-    ("a child twice", 3, Second(100, 4), Nothing, 4),
-    ("the root as a child", 3, Second(100, 3), Nothing, 3),
-    ("the catalog as a child", 3, Second(100, 2), Nothing, 2),
-    ("a page of zeros as a child", 3, Second(100, 7), Nothing, 7),
-    ("a page past the last", 3, Second(100, 8), Nothing, 8),
-    (
-        "a key below objects that are before it",
-        3,
-        Second(40, 5),
-        Nothing,
-        4,
-    ),
-    ("a key above its objects", 3, Second(101, 5), Nothing, 5),
-    ("a key of zero", 3, Second(0, 5), Nothing, 3),
-];
-
-#[test]
-fn damages_are_found(rt: HostRuntime) -> Result<(), Fail> {
-    for (subject, damages) in [
-        ("a leaf", DAMAGED_LEAVES),
-        ("a root", DAMAGED_ROOTS),
-        ("a child", DAMAGED_CHILDREN),
-    ] {
-        assert_eq!(rt; first_unnamed(rt.alloc(), damages)?, None, "{subject}");
-    }
-    Ok(())
-}
-
 // A call of the table, by an identifier.
 #[derive(Clone, Copy)]
 enum Attempt {
@@ -225,7 +117,6 @@ enum Attempt {
     Find,
     Fill,
     FreeAll,
-    Check,
 }
 
 const ATTEMPTS: [Attempt; 9] = [
@@ -285,11 +176,6 @@ fn free(cache: &mut Cache) -> Result<LeafPlace, Fault> {
     Ok(NOWHERE)
 }
 
-fn check(alloc: Global, cache: &mut Cache) -> Result<LeafPlace, Fault> {
-    let _facts = check_table::<2, _, _, _>(alloc, cache, TABLE)?;
-    Ok(NOWHERE)
-}
-
 // Makes the call on the scene with a damage, where a search found a place before. A search answers its place.
 fn make_attempt(
     alloc: Global,
@@ -299,27 +185,12 @@ fn make_attempt(
 ) -> Result<Result<LeafPlace, Fault>, Fault> {
     let mut cache = scene(alloc, damage)?;
     Ok(match attempt {
-        Attempt::Check => check(alloc, &mut cache),
         Attempt::InPlace(call) => change_one(&mut cache, call, found),
         Attempt::Nowhere(call) => change_one(&mut cache, call, NOWHERE),
         Attempt::Find => place_of(&mut cache),
         Attempt::Fill => add_two(&mut cache),
         Attempt::FreeAll => free(&mut cache),
     })
-}
-
-// The first damage of which the check does not name the page, and what it answers.
-fn first_unnamed(
-    alloc: Global,
-    damages: &[Damage],
-) -> Result<Option<(&'static str, Option<Fault>)>, Fault> {
-    for damage in damages {
-        let refusal = make_attempt(alloc, damage, Attempt::Check, NOWHERE)?.err();
-        if refusal != Some(Fault::Damaged(damage.4)) {
-            return Ok(Some((damage.0, refusal)));
-        }
-    }
-    Ok(None)
 }
 
 // Whether a call succeeded or named a page that is damaged.
@@ -347,44 +218,33 @@ fn first_unsurvived(
     Ok(None)
 }
 
-// No page is to be named in particular.
-const SOME: u32 = 0;
-
 const SURVIVED_FORKS: &[Damage] = &[
-    ("another dimension", 3, ROOT, Head(8, 3, 3), SOME),
-    ("too many children", 3, ROOT, Head(8, 2, 341), SOME),
-    ("as many as fit", 3, ROOT, Head(8, 2, 340), SOME),
-    ("no children", 3, ROOT, Head(8, 2, 0), SOME),
-    ("itself as a child", 3, Second(100, 3), Nothing, SOME),
+    ("another dimension", 3, ROOT, Head(8, 3, 3)),
+    ("too many children", 3, ROOT, Head(8, 2, 341)),
+    ("as many as fit", 3, ROOT, Head(8, 2, 340)),
+    ("no children", 3, ROOT, Head(8, 2, 0)),
+    ("itself as a child", 3, Second(100, 3), Nothing),
     (
         "itself below a high level",
         3,
         Fork(255, [0, 100, 200], [4, 3, 6]),
         Nothing,
-        SOME,
     ),
-    ("a page past the last", 3, Second(100, 8), Nothing, SOME),
+    ("a page past the last", 3, Second(100, 8), Nothing),
     (
         "keys that descend",
         3,
         Fork(1, [0, 200, 100], [4, 5, 6]),
         Nothing,
-        SOME,
     ),
 ];
 
 const SURVIVED_LEAVES: &[Damage] = &[
-    ("no objects", 5, Leaf(100, 0), Nothing, SOME),
-    ("one object", 5, Leaf(120, 1), Nothing, SOME),
-    ("too many objects", 5, Leaf(100, 146), Nothing, SOME),
-    (
-        "a full leaf of one identifier",
-        5,
-        FullOf(120),
-        Nothing,
-        SOME,
-    ),
-    ("zeros", 5, Zeros, Nothing, SOME),
+    ("no objects", 5, Leaf(100, 0), Nothing),
+    ("one object", 5, Leaf(120, 1), Nothing),
+    ("too many objects", 5, Leaf(100, 146), Nothing),
+    ("a full leaf of one identifier", 5, FullOf(120), Nothing),
+    ("zeros", 5, Zeros, Nothing),
 ];
 
 #[test]

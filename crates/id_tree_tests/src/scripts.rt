@@ -1,10 +1,8 @@
-//! Tests as lists of steps: the bytes of a small tree are those of the format, and a place that a search
-//! found serves a change of the same table later, whatever became of other pages.
+//! Tests as lists of steps: a place that a search found serves a change of the same table later, whatever
+//! became of other pages, and a change in it looks at few pages.
 
 use crate::changes::Call::{Add, Remove, Update};
-use crate::steps::Step::{
-    At, Counts, Differ, Each, Fill, Find, Has, Holds, Keep, Make, Miss, Pages,
-};
+use crate::steps::Step::{At, Counts, Differ, Each, Fill, Find, Keep, Looks, Make, Miss};
 use crate::steps::{Answer, Run, Step, play};
 use page_file::Fault;
 use std::alloc::Global;
@@ -25,68 +23,6 @@ fn first_wrong(alloc: Global, scripts: &[Script]) -> Result<Wrong, Fault> {
         }
     }
     Ok(None)
-}
-
-// The example of docs/FORMAT.md, "Identifier trees".
-const ROOT: &[u8] = &[
-    8, 2, 0, 1, 1, 0, 0, 0, 0, 0, 0, 0, 0, 0, 0, 0, //
-    0, 0, 0, 0, 0, 0, 0, 0, 0, 0, 0, 4,
-];
-
-const LEAF: &[u8] = &[
-    9, 2, 0, 3, 0, 0, 0, 0, 0, 0, 0, 0, 0, 0, 0, 0, //
-    0, 0, 0, 0, 0, 0, 0, 10, 0, 0, 0, 1, 0, 0, 0, 2, //
-    0, 0, 0, 1, 0, 0, 0, 2, 0, 0, 0, 5, 0, 0, 0, 0, //
-    0, 0, 0, 11, 255, 255, 255, 255, 0, 0, 0, 0, 0, 0, 0, 3, //
-    0, 0, 0, 4, 0, 0, 0, 6, 0, 0, 0, 0, 0, 0, 0, 7, //
-    0, 0, 0, 0, 0, 0, 0, 0, 0, 0, 0, 0, 0, 0, 0, 0, //
-    0, 0, 0, 7,
-];
-
-const BYTES: [Script; 1] = [(
-    "a small tree has the bytes of the format",
-    &[
-        Make,
-        Each(
-            Add,
-            Run {
-                first: 10,
-                low: [1, 2],
-                high: [1, 2],
-                tag: 5,
-                count: 1,
-            },
-        ),
-        Each(
-            Add,
-            Run {
-                first: 11,
-                low: [-1, 0],
-                high: [3, 4],
-                tag: 6,
-                count: 1,
-            },
-        ),
-        Each(
-            Add,
-            Run {
-                first: 7,
-                low: [0, 0],
-                high: [0, 0],
-                tag: 7,
-                count: 1,
-            },
-        ),
-        Has(3, ROOT),
-        Has(4, LEAF),
-        Pages(&[3, 4]),
-    ],
-)];
-
-#[test]
-fn a_small_tree_has_the_bytes_of_the_format(rt: HostRuntime) -> Result<(), Fail> {
-    assert_eq!(rt; first_wrong(rt.alloc(), &BYTES)?, None);
-    Ok(())
 }
 
 // Objects with the even identifiers from 0 on: their boxes are the point 0, 0, and their tags half their
@@ -143,7 +79,7 @@ const MOVE: Step = Each(Update, MOVED_EARLY);
 // The number of looks is not of interest.
 const ANY: u64 = u64::MAX;
 
-const PLACES: [Script; 4] = [
+const PLACES: [Script; 5] = [
     (
         "a place found before other pages changed serves",
         &[
@@ -212,136 +148,23 @@ const PLACES: [Script; 4] = [
             At(1, Add, ONE, 2),
         ],
     ),
+    (
+        // one look for each object, and some for each leaf
+        "objects that come into one leaf are added with one walk",
+        &[
+            Make,
+            Fill(Run {
+                count: 6000,
+                ..MANY
+            }),
+            Looks(6600),
+            Counts(6000, 43),
+        ],
+    ),
 ];
 
 #[test]
 fn places_serve_later_changes(rt: HostRuntime) -> Result<(), Fail> {
     assert_eq!(rt; first_wrong(rt.alloc(), &PLACES)?, None);
-    Ok(())
-}
-
-// The second leaf of the 400 is full.
-const FULL: Step = Each(Add, Run { first: 303, ..ZERO });
-
-// It gets one more.
-const MORE: Step = Each(Add, Run { first: 301, ..ZERO });
-
-const SHARES: [Script; 6] = [
-    (
-        // 100 and 145 are 122 and 123, and the first takes the new one
-        "a full leaf shares with the one before it, which is emptier",
-        &[
-            Make,
-            Fill(MANY),
-            FULL,
-            Each(Remove, Run { count: 44, ..MANY }),
-            MORE,
-            Holds(200, 123),
-            Holds(400, 123),
-            Holds(600, 112),
-            Counts(358, 4),
-        ],
-    ),
-    (
-        // 112 and 145 are 128 and 129
-        "a full leaf shares with the one before it, which is as full as the one behind",
-        &[
-            Make,
-            Fill(MANY),
-            FULL,
-            Each(Remove, Run { count: 32, ..MANY }),
-            MORE,
-            Holds(200, 129),
-            Holds(400, 129),
-            Holds(600, 112),
-            Counts(370, 4),
-        ],
-    ),
-    (
-        // 145 and 112 are 128 and 129
-        "a full leaf shares with the one behind it, which is emptier",
-        &[
-            Make,
-            Fill(MANY),
-            FULL,
-            Each(Remove, Run { count: 31, ..MANY }),
-            MORE,
-            Holds(200, 113),
-            Holds(400, 129),
-            Holds(600, 129),
-            Counts(371, 4),
-        ],
-    ),
-    (
-        // 145 and 116 are 130 and 131
-        "a full leaf shares with one that is four fifths full",
-        &[
-            Make,
-            Fill(MANY),
-            FULL,
-            Each(
-                Add,
-                Run {
-                    first: 701,
-                    count: 4,
-                    ..ZERO
-                },
-            ),
-            MORE,
-            Holds(200, 144),
-            Holds(400, 131),
-            Holds(600, 131),
-            Counts(406, 4),
-        ],
-    ),
-    (
-        // 145 are 72 and 73
-        "a full leaf between two that are fuller is cut",
-        &[
-            Make,
-            Fill(MANY),
-            FULL,
-            Each(
-                Add,
-                Run {
-                    first: 701,
-                    count: 5,
-                    ..ZERO
-                },
-            ),
-            MORE,
-            Holds(200, 144),
-            Holds(301, 73),
-            Holds(500, 73),
-            Holds(600, 117),
-            Counts(407, 5),
-        ],
-    ),
-    (
-        // 145 and 73 are 109 and 109
-        "a first leaf shares with the one behind it",
-        &[
-            Make,
-            Fill(MANY),
-            Each(
-                Remove,
-                Run {
-                    first: 288,
-                    count: 71,
-                    ..MANY
-                },
-            ),
-            CUT,
-            Holds(0, 110),
-            Holds(500, 109),
-            Holds(600, 112),
-            Counts(331, 4),
-        ],
-    ),
-];
-
-#[test]
-fn full_leaves_share(rt: HostRuntime) -> Result<(), Fail> {
-    assert_eq!(rt; first_wrong(rt.alloc(), &SHARES)?, None);
     Ok(())
 }

@@ -37,14 +37,10 @@ pub enum Step {
     Differ,
     /// Changes the first object in that place, with so many looks at most.
     At(usize, Call, Run, u64),
-    /// The leaf to which the search for an identifier leads has so many objects.
-    Holds(u64, u16),
     /// A check finds so many objects and pages.
     Counts(usize, usize),
-    /// A check finds these pages.
-    Pages(&'static [u32]),
-    /// The page of this number has these bytes, and zeros behind them.
-    Has(u32, &'static [u8]),
+    /// There were so many looks at most since the cache was made.
+    Looks(u64),
 }
 
 /// Whether a step ended as it should, or the refusal of a call.
@@ -74,9 +70,8 @@ fn take(alloc: Global, cache: &mut Cache, places: &mut [LeafPlace; 2], step: Ste
         Step::At(which, call, run, looks) => change_in_place(
             cache, places, which, call, run, looks,
         ),
-        Step::Holds(id, count) => holds(cache, id, count),
-        Step::Counts(..) | Step::Pages(_) => check(alloc, cache, step),
-        Step::Has(number, bytes) => has(cache, number, bytes),
+        Step::Counts(objects, pages) => check(alloc, cache, objects, pages),
+        Step::Looks(most) => Ok(cache.looks() <= most),
     }
 }
 
@@ -156,25 +151,7 @@ fn change_in_place(
     Ok(cache.looks().saturating_sub(before) <= looks)
 }
 
-fn holds(cache: &mut Cache, id: u64, count: u16) -> Answer {
-    let (at, _) = changes::look::<2, _, _>(cache, id)?;
-    let page = cache.page(at.leaf)?;
-    Ok([page[2], page[3]] == count.to_be_bytes())
-}
-
-fn check(alloc: Global, cache: &mut Cache, step: Step) -> Answer {
+fn check(alloc: Global, cache: &mut Cache, objects: usize, pages: usize) -> Answer {
     let facts = check_table::<2, _, _, _>(alloc, cache, TABLE)?;
-    Ok(match step {
-        Step::Counts(objects, pages) => facts.pairs.len() == objects && facts.pages.len() == pages,
-        Step::Pages(pages) => *facts.pages.as_slice() == *pages,
-        _ => false,
-    })
-}
-
-fn has(cache: &mut Cache, number: u32, bytes: &[u8]) -> Answer {
-    let mut wanted = [0; 4096];
-    for (place, byte) in wanted.iter_mut().zip(bytes) {
-        *place = *byte;
-    }
-    Ok(*cache.page(number)? == wanted)
+    Ok(facts.pairs.len() == objects && facts.pages.len() == pages)
 }

@@ -2,7 +2,6 @@
 
 ghost use Rattle.std.specs.Prelude.{◌≡◌, ◌^◌, ◌<◌, ◌≤◌, IfOk};
 
-use crate::boxes::{Spread, boxes};
 use arrayvec::ArrayVec;
 use block_device::BlockDevice;
 use bulk_load::load;
@@ -16,12 +15,6 @@ use tree_node::Fanout;
 
 /// Four entries to a node.
 pub const FOUR: Fanout = Fanout { most: 4 };
-
-/// Ten entries to a node.
-pub const TEN: Fanout = Fanout { most: 10 };
-
-/// A hundred entries to a node.
-pub const HUNDRED: Fanout = Fanout { most: 100 };
 
 /// A root whose page a node can refer to, and whose tree is not too tall.
 pub fn checked(root: Root) -> Result<Root, Fault>
@@ -130,16 +123,4 @@ pub fn load_tree<B: BlockDevice, A: Allocator + Copy>(
 ) -> Result<Root, Fault> {
     cache.begin_change()?;
     load(alloc, cache, objects, fanout)
-}
-
-/// Loads so many boxes into a tree.
-pub fn load_boxes<B: BlockDevice, A: Allocator + Copy>(
-    cache: &mut PageCache<B, A>,
-    alloc: Global,
-    spread: Spread,
-    count: u64,
-    fanout: Fanout,
-) -> Result<Root, Fault> {
-    let mut objects = boxes(alloc, spread, count)?;
-    load_tree(cache, alloc, objects.as_mut_slice(), fanout)
 }

@@ -1,7 +1,7 @@
 //! Worked rows: small trees made by insertion or loaded, by their leaves, their answers and their looks, and
 //! what removals leave of a tree in a file.
 
-use crate::boxes::{Asked, is_whole, point};
+use crate::boxes::{is_whole, point};
 use crate::calls::{FOUR, insert_tree, load_tree};
 use crate::scenes::{LINE, Points, file_with, objects_of, open_cache};
 use crate::steps::Step::{

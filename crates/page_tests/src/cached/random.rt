@@ -1,7 +1,7 @@
-//! Tests of many calls: which blocks are written and when, how many pages are held, and that caches answer
-//! random calls as a plain map does, whatever left them in between and whatever was refused.
-use crate::cached::maps::{Map, first_other, follow, is_lent};
-use crate::cached::scenes::{closed, new_cache};
+//! Tests of many calls: which blocks are written and when, how many pages are held, and that caches lose no
+//! page where a call of the device or a growth is refused within random calls, which a plain map follows.
+use crate::cached::maps::{Map, first_other, follow};
+use crate::cached::scenes::new_cache;
 use crate::cached::steps::Step::{Allocate, Flush, Free, Page, Put, Settle};
 use crate::cached::steps::{Answer, DONE, Step, repeat, take};
 use block_device::{BlockDevice, FuseDevice, FuseMode, MemoryDevice};
@@ -87,15 +87,6 @@ fn one_page_of_nine_is_written_at_the_ninth(rt: HostRuntime) -> Result<(), Fail>
     Ok(())
 }
 
-#[test]
-fn a_freed_page_is_given_out_again(rt: HostRuntime) -> Result<(), Fail> {
-    let round = &[Allocate, Put(3, 1), Free(3)];
-    let often = device_after(rt.alloc(), &[], round, 1000, &[Settle])?;
-    let once = device_after(rt.alloc(), &[], round, 1, &[Settle])?;
-    assert_eq!(rt; often.blocks(), once.blocks());
-    Ok(())
-}
-
 // A number that looks random.
 fn scrambled(x: u64) -> u64 {
     let a = x.wrapping_mul(0x9e37_79b9_7f4a_7c15);
@@ -174,57 +165,6 @@ fn map_of(all_live: bool) -> Map {
     map
 }
 
-// Random calls of a cache of so many pages over a new file, whose pages 3 to 22 are given out first if they
-// are to stay live.
-const RUNS: [(u32, bool, u64); 4] = [
-    (8, false, 10_000),
-    (9, false, 10_000),
-    (64, false, 10_000),
-    (8, true, 5000),
-];
-
-// Whether so many calls have the answers that a plain map gives, and leave the pages that it has, also where
-// the file is closed and opened again.
-fn runs_as_a_map(alloc: Global, capacity: u32, all_live: bool, count: u64) -> Result<bool, Fault> {
-    let mut cache = new_cache(MemoryDevice::new(alloc), alloc, capacity)?;
-    let mut map = map_of(all_live);
-    let same = runs(&mut cache, alloc, &mut map, all_live, count);
-    let again = is_lent(closed(cache)?, alloc, 8, &map)?;
-    Ok(same? && again)
-}
-
-// The same of a cache, before it is closed.
-fn runs<D: BlockDevice>(
-    cache: &mut PageCache<D, Global>,
-    alloc: Global,
-    map: &mut Map,
-    all_live: bool,
-    count: u64,
-) -> Result<bool, Fault> {
-    give_out(cache, alloc, all_live)?;
-    let done = turns(cache, alloc, map, all_live, count)?;
-    let other = first_other(cache, alloc, map)?;
-    Ok(done == count && other == 64 && cache.next_number() <= 43)
-}
-
-#[test]
-fn random_calls_answer_as_a_plain_map(rt: HostRuntime) -> Result<(), Fail> {
-    for (capacity, all_live, count) in RUNS {
-        let same = runs_as_a_map(rt.alloc(), capacity, all_live, count)?;
-        assert!(rt; same, "{capacity}, {all_live}");
-    }
-    Ok(())
-}
-
-// Gives out pages 3 to 22 if they are to stay live.
-fn give_out<D: BlockDevice>(
-    cache: &mut PageCache<D, Global>,
-    alloc: Global,
-    all_live: bool,
-) -> Answer {
-    repeat(cache, alloc, &[Allocate], if all_live { 20 } else { 0 })
-}
-
 // Whether random calls are ended by a refusal of the device, and lose no page, also where the cache is then
 // settled.
 fn keeps_pages<D: BlockDevice>(
@@ -232,7 +172,7 @@ fn keeps_pages<D: BlockDevice>(
     alloc: Global,
 ) -> Result<bool, Fault> {
     let mut map = map_of(true);
-    give_out(cache, alloc, true)?;
+    repeat(cache, alloc, &[Allocate], 20)?;
     if turns(cache, alloc, &mut map, true, 400) != Err(Fault::Device) {
         return Ok(false);
     }

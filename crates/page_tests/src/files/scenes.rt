@@ -63,20 +63,6 @@ pub fn freed(alloc: Global) -> Result<MemoryDevice, Fault> {
     }
 }
 
-/// Puts bytes at a place of a block, where it is there.
-pub fn patch<D: BlockDevice>(device: &mut D, i: u32, at: usize, bytes: &[u8]) -> Result<(), Fault> {
-    let mut block = block_of(device, i)?;
-    for (k, &byte) in bytes.iter().enumerate() {
-        if at < 4096 && k < 4096 - at {
-            block[at + k] = byte;
-        }
-    }
-    if i < device.blocks() && i < 1 << 31 {
-        device.write(i, &block)?;
-    }
-    Ok(())
-}
-
 // The bytes of a block.
 fn block_of<D: BlockDevice>(device: &mut D, i: u32) -> Result<[u8; 4096], Fault> {
     let mut block = [0; 4096];

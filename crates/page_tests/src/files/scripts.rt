@@ -1,6 +1,6 @@
 //! Tests of a few calls each, as tables of steps with their answers, and of the blocks that they leave; and
 //! of stops and failed calls of the device.
-use crate::files::scenes::{End, FREED, begins, created, freed, patch, reopened};
+use crate::files::scenes::{End, FREED, begins, created, freed, reopened};
 use crate::files::steps::Step::{
     Allocate, Catalog, CheckAgain, Flush, Free, FreePages, Next, Page, Raise, Settle, Version,
     Write,
@@ -181,25 +181,6 @@ fn calls_of_a_file_have_their_answers(rt: HostRuntime) -> Result<(), Fail> {
         assert_eq!(rt; other_block(&mut device, part.blocks), None, "{about}");
     }
     assert_eq!(rt; Fault::NoPages.number(), 25);
-    Ok(())
-}
-
-// Steps on a file of version 1, and how its header begins then.
-const VERSIONS: [(Steps, &'static [u8]); 2] = [
-    (&[(Page(3), Ok(7))], b"RSTARHDR\x00\x01"),
-    (CHANGE, b"RSTARHDR\x00\x02"),
-];
-
-#[test]
-fn a_file_keeps_its_version_until_it_is_changed(rt: HostRuntime) -> Result<(), Fail> {
-    let mut device = freed(rt.alloc())?;
-    patch(&mut device, 1, 8, b"\x00\x01")?;
-    for (steps, header) in VERSIONS {
-        let (left, other) = reopened(device, rt.alloc(), steps, End::Closed);
-        device = left;
-        assert_eq!(rt; other, None);
-        assert!(rt; begins(&mut device, 1, header));
-    }
     Ok(())
 }
 

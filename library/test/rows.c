@@ -1,0 +1,142 @@
+/* rows FILE: worked rows of each question, also from a later one on, the refusals that a session meets by their numbers with
+ * what comes with them, and what is found where the file is opened again and after it was not closed. */
+#include <stdio.h>
+#include <stdlib.h>
+#include <string.h>
+#include <sys/wait.h>
+#include <unistd.h>
+
+#include "rstore.h"
+
+#define IS(wanted, call) do { long got = (long)(call); if (got != (long)(wanted)) { \
+        fprintf(stderr, "rows.c:%d: %s is %ld, not %ld\n", __LINE__, #call, got, (long)(wanted)); exit(1); } } while (0)
+#define OK(call) IS(RSTORE_OK, call)
+
+static int is_row(const rstore_row *row, rstore_row wanted) { return !memcmp(row, &wanted, sizeof wanted); }
+
+/* A layer `a` of two axes and its objects 1 to 3. */
+static void fill(rstore *db) {
+    OK(rstore_create_layer(db, "a", 2, 4));
+    OK(rstore_insert(db, "a", 1, (int32_t[]){0, 0, 10, 10}, 2, 7));
+    OK(rstore_insert(db, "a", 2, (int32_t[]){20, 20, 30, 30}, 2, 8));
+    OK(rstore_insert(db, "a", 3, (int32_t[]){8, 8, 12, 12}, 2, 7));
+}
+
+static void questions(rstore *db) {
+    rstore_row rows[3] = {{.id = 99}, {.id = 99}, {.id = 99}}, *found;
+    rstore_near *near;
+    rstore_pair *pairs;
+    size_t count;
+    uint32_t eight = 8;
+    /* two rows, of which one has room; then the second, twice, and no third */
+    OK(rstore_range_into(db, "a", RSTORE_WINDOW, (int32_t[]){5, 5, 9, 9}, 2, NULL, rows, 1, &count));
+    IS(2, count);
+    IS(1, is_row(&rows[0], (rstore_row){1, {0, 0, 0}, {10, 10, 0}, 7, 2}));
+    IS(99, rows[1].id);
+    for (int turn = 0; turn < 2; turn++) {
+        IS(1, rstore_more(db, 1, rows, 2));
+        IS(1, is_row(&rows[0], (rstore_row){3, {8, 8, 0}, {12, 12, 0}, 7, 2}));
+        IS(99, rows[1].id);
+    }
+    IS(0, rstore_more(db, 2, rows, 2));
+    /* with a tag */
+    OK(rstore_window(db, "a", (int32_t[]){0, 0, 99, 99}, 2, &eight, &found, &count));
+    IS(1, count);
+    IS(2, found[0].id);
+    rstore_free(found);
+    OK(rstore_nearest(db, "a", 1, (int32_t[]){19, 19}, 2, &near, &count));
+    IS(1, count == 1 && near[0].id == 2 && near[0].distance == 2 && near[0].distance_high == 0);
+    rstore_free(near);
+    OK(rstore_join(db, "a", "a", 0, &pairs, &count));
+    static const rstore_pair wanted[5] = {{1, 1}, {1, 3}, {2, 2}, {3, 1}, {3, 3}};
+    IS(5, count);
+    IS(0, memcmp(pairs, wanted, sizeof wanted));
+    rstore_free(pairs);
+}
+
+static void refusals(rstore *db) {
+    rstore_row row = {.id = 5}, twice[2] = {{.id = 5}, {.id = 5}};
+    uint64_t count = 0;
+    IS(RSTORE_DUPLICATE, rstore_insert(db, "a", 3, (int32_t[]){1, 1, 2, 2}, 2, 0));
+    IS(RSTORE_BAD_BOX, rstore_insert(db, "a", 4, (int32_t[]){1, 3, 2, 2}, 2, 0));
+    OK(rstore_create_layer(db, "b", 3, 100));
+    IS(RSTORE_DUPLICATE_IN_LOAD, rstore_load(db, "b", 3, twice, 2));
+    IS(5, rstore_detail(db));
+    OK(rstore_load(db, "b", 3, &row, 1));
+    IS(5, rstore_detail(db)); /* of the last error */
+    OK(rstore_count(db, "b", &count));
+    IS(1, count);
+    OK(rstore_get(db, "b", 5, &row));
+    IS(3, row.axes);
+    OK(rstore_delete(db, "b", 5));
+    IS(RSTORE_NO_OBJECT, rstore_get(db, "b", 5, &row));
+    IS(0, rstore_detail(db));
+    OK(rstore_drop_layer(db, "b"));
+    IS(RSTORE_NO_LAYER, rstore_count(db, "b", &count));
+    OK(rstore_move(db, "a", 1, (int32_t[]){1, 1, 2, 2}, 2));
+    OK(rstore_check(db));
+}
+
+/* The greatest distance, of 2^66 - 2^35 + ..: more than 64 bits. */
+static void far(rstore *db) {
+    rstore_near *near;
+    size_t count;
+    OK(rstore_create_layer(db, "far", 3, 4));
+    OK(rstore_insert(db, "far", 9, (int32_t[]){INT32_MAX, INT32_MAX, INT32_MAX, INT32_MAX, INT32_MAX, INT32_MAX}, 3, 0));
+    OK(rstore_nearest(db, "far", 5, (int32_t[]){INT32_MIN, INT32_MIN, INT32_MIN}, 3, &near, &count));
+    IS(1, count == 1 && near[0].id == 9 && near[0].distance_high == 2 && near[0].distance == 18446744047939747843u);
+    rstore_free(near);
+    OK(rstore_drop_layer(db, "far"));
+}
+
+/* What a layer is told as, and that a store which is only read takes no change. */
+static void only_read(const char *path, uint64_t count_of_a) {
+    rstore *db;
+    rstore_layer *layers;
+    size_t count;
+    OK(rstore_open(path, RSTORE_READ_ONLY, 8, &db));
+    IS(0, rstore_detail(db));
+    IS(RSTORE_READ_ONLY_STORE, rstore_delete(db, "a", 1));
+    OK(rstore_layers(db, &layers, &count));
+    IS(1, count == 1 && layers[0].count == count_of_a && layers[0].axes == 2 && layers[0].fanout == 4);
+    static const char name[32] = "a";
+    IS(0, memcmp(layers[0].name, name, sizeof name));
+    rstore_free(layers);
+    OK(rstore_close(db));
+}
+
+int main(int argc, char **argv) {
+    rstore *db;
+    uint64_t count;
+    if (argc != 2) return 2;
+    OK(rstore_open(argv[1], RSTORE_CREATE, 8, &db));
+    fill(db);
+    questions(db);
+    refusals(db);
+    far(db);
+    OK(rstore_commit(db));
+    OK(rstore_close(db));
+    only_read(argv[1], 3);
+    /* a child commits, changes more, and ends without a closing: the next opening says so, once */
+    pid_t child = fork();
+    if (child == 0) {
+        OK(rstore_open(argv[1], RSTORE_EXISTING, 8, &db));
+        OK(rstore_delete(db, "a", 1));
+        OK(rstore_commit(db));
+        OK(rstore_delete(db, "a", 2));
+        _exit(0);
+    }
+    int status;
+    IS(child, waitpid(child, &status, 0));
+    IS(0, status);
+    for (int recovered = 1; recovered >= 0; recovered--) {
+        OK(rstore_open(argv[1], RSTORE_EXISTING, 8, &db));
+        IS(recovered, rstore_detail(db));
+        OK(rstore_count(db, "a", &count));
+        IS(2, count);
+        OK(rstore_close(db));
+    }
+    only_read(argv[1], 2);
+    puts("each row, number and detail is as worked");
+    return 0;
+}
