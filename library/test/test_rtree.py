@@ -1,4 +1,4 @@
-"""test_rtree.py: `rstore_rtree.Index` by the examples of rtree's documentation, by what it refuses, and, where the package
+"""test_rtree.py: `rstore.rtree.Index` by the examples of rtree's documentation, by what it refuses, and, where the package
 rtree is there, beside it in random sessions. RSTORE_LIBRARY names librstore.so."""
 
 import doctest
@@ -10,8 +10,9 @@ from pathlib import Path
 
 sys.path.insert(0, str(Path(__file__).resolve().parent.parent))
 
+import rstore.rtree
 import rstore_rtree
-from rstore_rtree import Index, Property, RTreeError, index
+from rstore.rtree import Index, Property, RTreeError, index
 
 try:
     import rtree.index as other
@@ -85,7 +86,7 @@ def refusals() -> None:
     refused(idx.__getstate__)
     refused(lambda: idx.leaves())
     refused(Index, [(1, (0, 0, 1, 1), None), (1, (0, 0, 1, 1), None)])
-    refused(lambda: Index(properties=Property(type=rstore_rtree.RT_TPRTree)))
+    refused(lambda: Index(properties=Property(type=rstore.rtree.RT_TPRTree)))
     refused(lambda: Index(properties=Property(dimension=4)))
     assert list(idx.intersection((-1e9, -1e9, 1e9, 1e9))) == [1]
     wide = Index(scale=100)
@@ -156,7 +157,7 @@ def main() -> int:
     with tempfile.TemporaryDirectory() as folder:
         tutorial(folder)
     refusals()
-    failed, tried = doctest.testmod(rstore_rtree)
+    failed, tried = doctest.testmod(rstore.rtree)
     assert not failed and tried >= 20, (failed, tried)
     if other is None:
         print(f"rtree: the tutorial and {tried} lines of its documentation; the package is not here to compare")
