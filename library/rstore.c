@@ -9,6 +9,7 @@
 #include <stdlib.h>
 #include <string.h>
 #include <sys/file.h>
+#include <sys/mman.h>
 #include <sys/stat.h>
 #include <unistd.h>
 
@@ -17,6 +18,7 @@ struct rstore {
     void *session;
     int fd[2];      /* the file, and its journal or -1 */
     char *journal;  /* the path of the journal, or NULL */
+    bool memory;    /* both files are in memory, without names */
     unsigned char letter, side, outcome; /* of the last request, and how it went */
     off_t at;
 };
@@ -52,9 +54,19 @@ static int open_locked(const char *path, int how, int lock, int *fd) {
     return error;
 }
 
-/* Opens the journal, or makes it; one that was open is closed. */
+/* A file in memory, which no other has. */
+static int open_memory(int *fd) {
+    int made = memfd_create("rstore", MFD_CLOEXEC);
+    if (made >= 3) return *fd = made, DONE;
+    if (made >= 0) close(made);
+    return REFUSED;
+}
+
+/* Opens the journal, or makes it; one that was open is closed. In memory there is none but one that is made. */
 static int open_journal(rstore *db, int how) {
-    int fd, error = db->journal ? open_locked(db->journal, O_RDWR | how, LOCK_EX, &fd) : REFUSED;
+    int fd, error = REFUSED;
+    if (db->journal) error = open_locked(db->journal, O_RDWR | how, LOCK_EX, &fd);
+    else if (db->memory && how & O_CREAT) error = open_memory(&fd);
     if (error) return error;
     if (db->fd[1] >= 0) close(db->fd[1]);
     db->fd[1] = fd;
@@ -63,6 +75,7 @@ static int open_journal(rstore *db, int how) {
 
 /* Removes the journal, and syncs its folder. */
 static int remove_journal(rstore *db) {
+    if (db->memory) return DONE; /* it goes with the handle */
     int folder = db->journal ? folder_of(db->journal) : -1;
     if (folder < 0) return REFUSED;
     bool gone = (!unlink(db->journal) || errno == ENOENT) && !fsync(folder);
@@ -162,6 +175,7 @@ uint64_t rstore_detail(rstore *db) { return db ? rstore_c_detail(db) : refused_d
 /* Opens the file, and knows the path of its journal, which lies beside the file itself and not beside a link to it. */
 static int open_files(rstore *db, const char *path, int flags) {
     static const int numbers[] = { RSTORE_OK, RSTORE_CANNOT_OPEN, RSTORE_BUSY, RSTORE_NO_LOCKS, RSTORE_MEMORY };
+    if (!path) return db->memory = true, numbers[open_memory(&db->fd[0])];
     bool reads = flags == RSTORE_READ_ONLY;
     int how = reads ? O_RDONLY : O_RDWR | (flags == RSTORE_CREATE ? O_CREAT : 0);
     int error = open_locked(path, how, reads ? LOCK_SH : LOCK_EX, &db->fd[0]);
@@ -189,7 +203,7 @@ int rstore_open(const char *path, int flags, uint32_t cache, rstore **opened) {
     refused_detail = 0;
     ASK(opened);
     *opened = NULL;
-    ASK(path && *path && flags >= RSTORE_EXISTING && flags <= RSTORE_READ_ONLY);
+    ASK(path ? *path && flags >= RSTORE_EXISTING && flags <= RSTORE_READ_ONLY : flags == RSTORE_CREATE);
     rstore *db = calloc(1, sizeof *db);
     if (!db) return RSTORE_MEMORY;
     db->fd[0] = db->fd[1] = -1;

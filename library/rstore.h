@@ -131,8 +131,9 @@ enum {
     RSTORE_READ_ONLY = 2 /* the file is only read, and may lack the right to be written; changes are refused */
 };
 
-/* Opens the store in the file at `path`. `cache` is how many pages of 4096 bytes are held in memory, 8 to 4096; 0 is
- * 1024. On success *db is the handle, else NULL. */
+/* Opens the store in the file at `path`; with NULL and RSTORE_CREATE makes one in memory, which goes with its handle and
+ * has no lock. `cache` is how many pages of 4096 bytes are held in memory, 8 to 4096; 0 is 1024. On success *db is the
+ * handle, else NULL. */
 int rstore_open(const char *path, int flags, uint32_t cache, rstore **db);
 
 /* Keeps all changes in the file and frees the handle, whatever it answers. NULL is fine. */

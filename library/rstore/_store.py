@@ -19,7 +19,7 @@ class Store:
     """A store in a file, from `rstore.open`. Close it, or use it in a `with`, which closes it also after an exception,
     and then keeps what was changed."""
 
-    def __init__(self, path: Union[str, os.PathLike[str]], create: bool, read_only: bool, cache: int) -> None:
+    def __init__(self, path: Union[str, os.PathLike[str], None], create: bool, read_only: bool, cache: int) -> None:
         self._lib = library()
         # functions of its own, with no argument types: their arguments are made once
         self._range_into: Callable[..., int] = self._lib["rstore_range_into"]
@@ -33,19 +33,21 @@ class Store:
         self._count_at = byref(self._count)
         self._at = c_void_p()
         self._at_at = byref(self._at)
-        self.path = os.fspath(path)
+        self.path = ":memory:" if path is None else os.fspath(path)
         handle = c_void_p()
         if create and read_only:
             raise Misuse("a store that is only read is not made")
         if not 8 <= cache <= 4096:
             raise BadCache("a cache holds 8 to 4096 pages")
-        flags = READ_ONLY if read_only else CREATE if create else EXISTING
-        name = os.fsencode(path)
-        if b"\0" in name or not name:
+        if path is None and read_only:
+            raise Misuse("a store in memory is not only read")
+        flags = READ_ONLY if read_only else CREATE if create or path is None else EXISTING
+        name = None if path is None else os.fsencode(path)
+        if name is not None and (b"\0" in name or not name):
             raise CannotOpen(f"{path!r}: cannot open the file")
         error = self._lib.rstore_open(name, flags, cache, byref(handle))
         if error:
-            raise self._error(error, str(path))
+            raise self._error(error, self.path)
         self._handle = handle
         #: whether the last session was cut short after a commit, which was brought back
         self.recovered: bool = self._lib.rstore_detail(handle) == 1
@@ -185,9 +187,9 @@ if hasattr(os, "register_at_fork"):
 
 
 def open(
-    path: Union[str, os.PathLike[str]], *, create: bool = False, read_only: bool = False, cache: int = 1024
+    path: Union[str, os.PathLike[str], None], *, create: bool = False, read_only: bool = False, cache: int = 1024
 ) -> Store:
-    """Opens the store in the file at `path`. With `create` a file that is missing or empty becomes an empty store; with
+    """Opens the store in the file at `path`, or with None makes one in memory, which goes when it is closed. With `create` a file that is missing or empty becomes an empty store; with
     `read_only` the file is only read, and changes are refused. `cache` is how many pages of 4096 bytes are held in
     memory, 8 to 4096."""
     return Store(path, create, read_only, cache)

@@ -7,21 +7,20 @@
     list(idx.intersection((1.0, 1.0, 2.0, 2.0)))
 
 Insertion, deletion, intersection, contains, nearest, count, bounds, size, both orders of coordinates, points, two or three
-axes, a stream for the constructor, files, `flush` and `close`, and a `with` are as in rtree. An index without a file is in
-a file in memory where the system has such files (/dev/shm), and goes with the index.
+axes, identifiers that occur more than once, a stream for the constructor, files, `flush` and `close`, and a `with` are as in
+rtree. An index without a file is in memory, and may be pickled.
+
+The store keeps whole numbers of 32 bits: coordinates times a scale, boxes rounded outwards. The scale is found from the
+data, `index.scale`: it starts at 10_000_000, and where a coordinate goes beyond it, 214.7 at first, the index is packed anew
+at a coarser power of ten, up to coordinates of 10^300. Boxes that the stored numbers do not tell are kept beside them (in a
+file in layers of their own), so that answers, `bbox` and `bounds` are exact: of the numbers that were given.
 
 What is other, each told by a clear error where it would matter:
 
-- **Coordinates are kept as whole numbers of 32 bits, times a scale**: 10_000_000 unless `Index(.., scale=n)` or
-  `rstore_rtree.SCALE = n` says otherwise. Within that a decimal number of at most seven places is exact; of others boxes are
-  rounded outwards, so that nothing is missed, and what is off by less than 1/scale may be found, too. `nearest` measures
-  from the nearest such number. A number beyond 2^31 / scale, 214.7 at that scale, is an `RTreeError`: give a smaller scale,
-  as 1_000 for metres. `bbox` shows what is kept.
-- **An identifier is unique**: a second insertion of it is an `RTreeError`.
-- **Objects are kept beside an index in memory, and not pickled** (with the box as it was given, for `bbox`): an object for an
-  index in a file is an `RTreeError`.
-- There are no TPR trees, custom storages, `leaves`, result limits, and indexes are not pickled. Properties of the tree's
-  making (capacities, fill factor, variant ..) are taken and have no effect.
+- `Index(.., scale=n)` fixes the scale: a coordinate beyond 2^31 / n is then an `RTreeError`.
+- **Objects are kept beside an index in memory**, not in a file: an object for an index in a file is an `RTreeError`.
+- There are no TPR trees, custom storages, result limits and `leaves` (no call of the library tells what lies in a node).
+  Properties of the tree's making (capacities, fill factor, variant ..) are taken and have no effect.
 - A file of name `x` is `x.rst`, a store of the layer `rtree`, which other programs may read by rstore.
 """
 
@@ -29,18 +28,17 @@ from __future__ import annotations
 
 import math
 import os
-import shutil
 import struct
 import sys
-import tempfile
 from typing import Any, Iterator, Optional, Sequence
 
 import rstore
+from rstore._exact import GivenBoxes, SharedIds, keep_scale, kept_scale, scale_of
 from rstore._library import BOXES, EPSILON, INSIDE, POINTS, WHOLE, WINDOW
 
 __all__ = ["Index", "Rtree", "Property", "Item", "RTreeError", "index", "SCALE"]
 
-#: the scale of an index that is given none
+#: the scale that an index begins with, a power of ten
 SCALE = 10_000_000
 
 RT_RTree, RT_MVRTree, RT_TPRTree = 0, 1, 2
@@ -48,7 +46,7 @@ RT_Linear, RT_Quadratic, RT_Star = 0, 1, 2
 RT_Memory, RT_Disk, RT_Custom = 0, 1, 2
 
 _LAYER = "rtree"
-_NO_OBJECTS = "rstore_rtree keeps no objects in a file: keep them by their identifiers elsewhere"
+_NO_OBJECTS = "rstore.rtree keeps no objects in a file: keep them by their identifiers elsewhere"
 _low, _high = math.floor, math.ceil
 _BIGGEST = sys.float_info.max
 
@@ -100,113 +98,161 @@ class Item:
 
 class Index:
     """An index of boxes by identifiers, as rtree's: `Index([filename], [stream], interleaved=True, properties=..,
-    overwrite=False, scale=SCALE)`. A stream is an iterable of (id, coordinates, object), which is loaded at once."""
+    overwrite=False, scale=None)`. A stream is an iterable of (id, coordinates, object), which is loaded at once."""
 
     def __init__(self, *args: Any, **kwargs: Any) -> None:
         self.properties: Property = kwargs.get("properties") or Property()
         if self.properties.type != RT_RTree:
-            raise RTreeError("rstore_rtree has R-trees alone (RT_RTree)")
+            raise RTreeError("rstore.rtree has R-trees alone (RT_RTree)")
         self._dims = int(self.properties.dimension)
         if self._dims not in (2, 3):
             raise RTreeError("an index has two or three dimensions")
         self.interleaved = bool(kwargs.get("interleaved", True))
-        self._scale = int(kwargs.get("scale") or SCALE)
+        self._fixed = kwargs.get("scale") is not None
+        self._scale: Any = int(kwargs["scale"]) if self._fixed else SCALE
         self._pack = BOXES[self._dims].pack
-        # of entries with an object: it, and the box that was given
-        self._objects: "dict[int, tuple[Any, tuple[float, ...]]]" = {}
+        self._objects: "dict[int, Any]" = {}
         self._negative = False
-        self._folder: Optional[str] = None
         name, stream = None, None
         rest = list(args)
         if rest and isinstance(rest[0], (str, bytes, os.PathLike)):
             name = os.fsdecode(rest.pop(0))
         elif rest and hasattr(rest[0], "registerCallbacks"):
-            raise RTreeError("rstore_rtree has no custom storage")
+            raise RTreeError("rstore.rtree has no custom storage")
         if rest:
             stream = rest[0]
         self._in_file = bool(name)
-        self._store: Optional[rstore.Store] = None
-        self._layer = self._opened(name, bool(kwargs.get("overwrite", self.properties.overwrite)))
+        self._store: Optional[rstore.Store] = self._opened(name, bool(kwargs.get("overwrite", self.properties.overwrite)))
+        self._layer = self._found_layer(self._store)
+        kept = self._store if self._in_file else None
+        self._given, self._shared = GivenBoxes(kept, self._dims), SharedIds(kept)
         self._bounds = self._found_bounds()
         if stream is not None:
             self._load(stream)
 
-    def _opened(self, name: Optional[str], overwrite: bool) -> rstore.Layer:
-        """The layer of a file, or of one in memory."""
-        if name:
-            path = name + ".rst"
-            self.properties.storage, self.properties.filename = RT_Disk, name
-            if overwrite and os.path.exists(path):
-                os.remove(path)
-                if os.path.exists(path + "-journal"):
-                    os.remove(path + "-journal")
-        else:
-            memory = "/dev/shm" if os.access("/dev/shm", os.W_OK) else None
-            self._folder = tempfile.mkdtemp(prefix="rstore_rtree", dir=memory)
-            path = os.path.join(self._folder, "index.rst")
-        self._store = rstore.open(path, create=True, cache=4096)
-        if _LAYER not in self._store:
-            return self._store.create_layer(_LAYER, dims=self._dims, scale=self._scale)
-        layer = self._store.layer(_LAYER, scale=self._scale)
+    def _opened(self, name: Optional[str], overwrite: bool) -> rstore.Store:
+        """The store of a file, or one in memory."""
+        if not name:
+            return rstore.open(None, cache=4096)
+        path = name + ".rst"
+        self.properties.storage, self.properties.filename = RT_Disk, name
+        if overwrite and os.path.exists(path):
+            os.remove(path)
+            if os.path.exists(path + "-journal"):
+                os.remove(path + "-journal")
+        return rstore.open(path, create=True, cache=4096)
+
+    def _found_layer(self, store: rstore.Store) -> rstore.Layer:
+        """The layer of the entries, at the scale that the file keeps."""
+        if _LAYER not in store:
+            if self._in_file and not self._fixed:
+                keep_scale(store, _exponent(self._scale))
+            return store.create_layer(_LAYER, dims=self._dims)
+        layer, kept = store.layer(_LAYER), kept_scale(store)
+        if kept is not None:
+            self._fixed, self._scale = False, kept
         if layer.dims != self._dims:
-            self._store.close()
-            raise RTreeError(f"{path} has {layer.dims} dimensions")
+            store.close()
+            raise RTreeError(f"{store.path} has {layer.dims} dimensions")
         return layer
+
+    @property
+    def scale(self) -> Any:
+        """How many times as large as a coordinate the number is that is stored for it."""
+        return self._scale
 
     # Coordinates.
 
-    def _whole(self, coordinates: Any) -> "tuple[int, ...]":
-        """A box as it is stored, the lows rounded down and the highs up."""
-        scale = self._scale
+    def _box(self, coordinates: Any) -> "tuple[float, ...]":
+        """A box as it was given, the lows and then the highs."""
         try:
             box = tuple(coordinates)
         except TypeError:
             raise TypeError("Bounds must be a sequence") from None
+        dims = self._dims
         if not self.interleaved:
             box = tuple(Index.interleave(box))
-        if len(box) == self._dims:
+        if len(box) == dims:
             box += box
+        if len(box) != 2 * dims:
+            raise RTreeError("Coordinates must be in the form (minx, miny, maxx, maxy) or (x, y) for 2D indexes")
+        for a in range(dims):
+            if not box[a] <= box[a + dims]:
+                raise RTreeError("Coordinates must not have minimums more than maximums")
+        return box
+
+    def _rounded(self, box: "tuple[float, ...]") -> "tuple[int, ...]":
+        """A box in stored numbers, the lows rounded down and the highs up."""
+        s = self._scale
+        if self._dims == 2:
+            a, b, c, d = box
+            return _low(a * s + EPSILON), _low(b * s + EPSILON), _high(c * s - EPSILON), _high(d * s - EPSILON)
+        return (*[_low(x * s + EPSILON) for x in box[:3]], *[_high(x * s - EPSILON) for x in box[3:]])
+
+    def _tells(self, numbers: Sequence[int], box: "tuple[float, ...]") -> bool:
+        """Whether the stored numbers tell the box."""
+        s = self._scale
+        return all(n / s == x for n, x in zip(numbers, box))
+
+    def _stored(self, box: "tuple[float, ...]") -> "tuple[tuple[int, ...], bytes]":
+        """The stored numbers of a box that is put in, also in bytes. The index is packed anew at a coarser scale where
+        the box goes beyond that of now."""
         try:
-            if len(box) == 4 and self._dims == 2:
-                a, b, c, d = box
-                if a <= c and b <= d:
-                    return _low(a * scale + EPSILON), _low(b * scale + EPSILON), _high(c * scale - EPSILON), _high(d * scale - EPSILON)
-            elif len(box) == 6 and self._dims == 3:
-                a, b, c, d, e, f = box
-                if a <= d and b <= e and c <= f:
-                    lows = [_low(x * scale + EPSILON) for x in box[:3]]
-                    return (*lows, *[_high(x * scale - EPSILON) for x in box[3:]])
-            else:
-                raise RTreeError("Coordinates must be in the form (minx, miny, maxx, maxy) or (x, y) for 2D indexes")
-        except (OverflowError, ValueError):
-            raise self._beyond(box) from None
-        raise RTreeError("Coordinates must not have minimums more than maximums")
+            numbers = self._rounded(box)
+            return numbers, self._pack(*numbers)
+        except (struct.error, OverflowError, ValueError):
+            pass
+        self._coarsen(box)
+        numbers = self._rounded(box)
+        return numbers, self._pack(*numbers)
 
-    def _beyond(self, box: Any) -> RTreeError:
-        most = (1 << 31) / self._scale
-        return RTreeError(f"a coordinate of {box} is beyond the scale {self._scale}, at most {most:g}: give Index(scale=..)")
+    def _coarsen(self, box: "tuple[float, ...]") -> None:
+        biggest = max(map(abs, box))
+        if not biggest <= 1e300:
+            raise RTreeError(f"a coordinate of {box} is beyond 10^300")
+        if self._fixed:
+            raise RTreeError(f"a coordinate of {box} is beyond the scale {self._scale}, at most {(1 << 31) / self._scale:g}")
+        # room for coordinates eight times as large before the next time
+        exponent = min(math.floor(math.log10((1 << 28) / biggest)), _exponent(self._scale) - 1)
+        entries = {key: self._box_of(key, numbers) for key, numbers in self._layer.all_rows().numbers()}
+        self._scale = scale_of(exponent)
+        self._store.drop_layer(_LAYER)
+        self._layer = self._store.create_layer(_LAYER, dims=self._dims)
+        if self._in_file:
+            keep_scale(self._store, exponent)
+        self._load_boxes(entries)
 
-    def _numbers(self, coordinates: Any) -> bytes:
-        """The same in bytes."""
+    def _load_boxes(self, entries: "dict[int, tuple[float, ...]]") -> None:
+        """Puts boxes into the empty layer by their keys."""
+        pack, rows, untold = self._layer._form.pack, [], {}
+        for key, box in entries.items():
+            numbers = self._rounded(box)
+            rows.append(pack(key, *numbers, 0))
+            if not self._tells(numbers, box) and self._given.get(key) is None:
+                untold[key] = box
+        self._layer.load_rows(b"".join(rows))
+        self._given.put_all(untold)
+
+    def _box_of(self, key: int, numbers: Sequence[int]) -> "tuple[float, ...]":
+        """The box that an entry was given."""
+        given = self._given.get(key)
+        if given is not None:
+            return given
+        s = self._scale
+        return tuple(n / s for n in numbers)
+
+    def _asked(self, coordinates: Any) -> "tuple[tuple[float, ...], tuple[int, ...], bool]":
+        """A box that is asked for, its stored numbers, clipped to what can be stored, and whether these tell all: then a
+        question by them is the question."""
+        box = self._box(coordinates)
         try:
-            return self._pack(*self._whole(coordinates))
-        except struct.error:
-            raise self._beyond(coordinates) from None
-
-    def _given(self, coordinates: Any) -> "tuple[float, ...]":
-        """A box as it was given, the lows and then the highs."""
-        box = tuple(coordinates) if self.interleaved else tuple(Index.interleave(tuple(coordinates)))
-        return tuple(float(x) for x in (box + box if len(box) == self._dims else box))
-
-    def _clipped(self, coordinates: Any) -> bytes:
-        """A box that is asked for: what is beyond the scale has no objects."""
-        try:
-            return self._numbers(coordinates)
-        except RTreeError as error:
-            if "beyond" not in str(error):
-                raise
-        most = ((1 << 31) - 1) / self._scale
-        return self._numbers([min(max(x, -most), most) for x in coordinates])
+            numbers = self._rounded(box)
+        except OverflowError:  # of an infinite one
+            numbers = self._rounded(tuple(min(max(x, -1e300), 1e300) for x in box))
+        low, high = WHOLE
+        if min(numbers) < low or max(numbers) > high:
+            return box, tuple(min(max(n, low), high) for n in numbers), False
+        return box, numbers, not len(self._given) and self._tells(numbers, box)
 
     @staticmethod
     def deinterleave(interleaved: Sequence[Any]) -> "list[Any]":
@@ -235,16 +281,22 @@ class Index:
         assert len(deinterleaved) % 2 == 0, "must be a pairwise list"
         return list(deinterleaved[0::2]) + list(deinterleaved[1::2])
 
-    # Identifiers: rtree's have a sign.
+    # Identifiers: rtree's have a sign, and may occur more than once.
 
-    def _key(self, id: int) -> int:
+    def _own(self, id: int) -> int:
         if id < 0:
             self._negative = True
             return int(id) + (1 << 64)
         return int(id)
 
-    def _back(self, ids: "list[int]") -> "list[int]":
-        return [id - (1 << 64) if id >> 63 else id for id in ids]
+    def _id(self, key: int) -> int:
+        own = self._shared.own(key)
+        return own - (1 << 64) if own >> 63 else own
+
+    def _ids(self, keys: "list[int]") -> "list[int]":
+        if not self._negative and not len(self._shared):
+            return keys
+        return [self._id(key) for key in keys]
 
     # Changes.
 
@@ -256,33 +308,43 @@ class Index:
         """
         if obj is not None and self._in_file:
             raise RTreeError(_NO_OBJECTS)
-        numbers, key = self._numbers(coordinates), self._key(id)
-        layer = self._layer
+        box, key = self._box(coordinates), self._own(id)
+        numbers, packed = self._stored(box)
+        if key in self._shared:
+            key = self._shared.add(key)
         try:
-            layer._insert(key, numbers, 0)
+            self._layer._insert(key, packed, 0)
         except rstore.Duplicate:
-            raise RTreeError(f"an entry of the identifier {id} is there: in rstore_rtree they are unique") from None
+            key = self._shared.add(key)
+            self._layer._insert(key, packed, 0)
+        if not self._tells(numbers, box):
+            self._given.put(key, box)
         if obj is not None:
-            self._objects[key] = (obj, self._given(coordinates))
-        self._grow(numbers)
+            self._objects[key] = obj
+        if self._bounds is not None:
+            self._bounds = _around(self._bounds, box)
 
     add = insert
 
     def delete(self, id: int, coordinates: Any) -> None:
-        """Takes out the entry of that identifier and those coordinates, if there is one.
+        """Takes out an entry of that identifier and those coordinates, if there is one.
 
         >>> idx = Index()
         >>> idx.delete(4321, (34.3776829412, 26.7375853734, 49.3776829412, 41.7375853734))
         """
-        numbers, key = self._numbers(coordinates), self._key(id)
-        try:
-            if self._layer._numbers_of(key) != numbers:
+        box, layer = self._box(coordinates), self._layer
+        for key in self._shared.keys(self._own(id)):
+            try:
+                numbers = layer._unpack_box(layer._numbers_of(key))
+            except rstore.NoObject:
+                continue
+            if self._shared.own(key) == self._own(id) and self._box_of(key, numbers) == box:
+                layer.delete(key)
+                self._given.take(key)
+                self._shared.take(key)
+                self._objects.pop(key, None)
+                self._bounds = None
                 return
-        except rstore.NoObject:
-            return
-        self._layer.delete(key)
-        self._objects.pop(key, None)
-        self._bounds = None
 
     def _load(self, stream: Any) -> None:
         """Puts in the entries of a stream, all at once where the index has none."""
@@ -290,26 +352,20 @@ class Index:
             for entry in stream:
                 self.insert(*entry)
             return
-        pack, whole = self._layer._form.pack, self._whole
-        rows, objects, negative = [], {}, False
-        add = rows.append
+        entries, objects = {}, {}
         for id, coordinates, obj in stream:
-            if id < 0:
-                id, negative = id + (1 << 64), True
+            key = self._own(id)
+            if key in entries or key in self._shared:
+                key = self._shared.add(key)
+            entries[key] = self._box(coordinates)
             if obj is not None:
-                objects[id] = (obj, self._given(coordinates))
-            try:
-                add(pack(id, *whole(coordinates), 0))
-            except struct.error:
-                raise self._beyond(coordinates) from None
+                objects[key] = obj
         if objects and self._in_file:
             raise RTreeError(_NO_OBJECTS)
-        try:
-            self._layer.load_rows(b"".join(rows))
-        except rstore.DuplicateInLoad as error:
-            raise RTreeError(f"the identifier {error.detail} comes twice: in rstore_rtree they are unique") from None
+        if entries:
+            self._stored(max(entries.values(), key=lambda box: max(map(abs, box))))  # which finds the scale
+        self._load_boxes(entries)
         self._objects.update(objects)
-        self._negative = self._negative or negative
         self._bounds = None
 
     # Questions.
@@ -325,27 +381,42 @@ class Index:
         >>> list(idx.intersection((0, 0, 60, 60), objects="raw"))
         [42]
         """
-        return self._answer(WINDOW, self._clipped(coordinates), objects)
+        return self._answer(WINDOW, coordinates, objects)
 
     def contains(self, coordinates: Any, objects: Any = False) -> Iterator[Any]:
         """The same of the entries that lie within the box."""
-        return self._answer(INSIDE, self._clipped(coordinates), objects)
+        return self._answer(INSIDE, coordinates, objects)
 
-    def _answer(self, kind: int, numbers: bytes, objects: Any) -> Iterator[Any]:
-        if not objects:
-            ids = self._layer._ids(kind, numbers, None)
-            return iter(self._back(ids) if self._negative else ids)
-        return self._items(self._layer._range(kind, numbers, None), objects)
+    def _answer(self, kind: int, coordinates: Any, objects: Any) -> Iterator[Any]:
+        keys = self._keys(kind, coordinates)
+        return self._items(keys, objects) if objects else iter(self._ids(keys))
 
-    def _items(self, rows: Any, objects: Any) -> Iterator[Any]:
+    def _keys(self, kind: int, coordinates: Any) -> "list[int]":
+        """The keys of the entries whose boxes, as they were given, meet the box or lie within it."""
+        box, numbers, whole = self._asked(coordinates)
+        keys = self._layer._ids(kind, self._pack(*numbers), None)
+        if whole:
+            return keys
+        # Rounding is off by less than one: what is found within two of the border is so for sure, and the rest is looked at.
+        dims = self._dims
+        inner = (*[n + 2 for n in numbers[:dims]], *[n - 2 for n in numbers[dims:]])
+        sure: "set[int]" = set()
+        if all(inner[a] <= inner[a + dims] for a in range(dims)):
+            sure = set(self._layer._ids(kind, self._pack(*inner), None))
+        if len(sure) == len(keys):
+            return keys
+        passes = _meet if kind == WINDOW else _within
+        return [key for key in keys if key in sure or passes(self._box_at(key), box, dims)]
+
+    def _box_at(self, key: int) -> "tuple[float, ...]":
+        """The box that the entry of a key was given."""
+        return self._given.get(key) or self._box_of(key, self._layer._unpack_box(self._layer._numbers_of(key)))
+
+    def _items(self, keys: "list[int]", objects: Any) -> Iterator[Any]:
         """Entries as rtree shows them."""
         if objects == "raw":
-            return iter([self._objects.get(key, (None, None))[0] for key, _, _ in rows])
-        made = []
-        for key, box, _ in rows:
-            obj, given = self._objects.get(key, (None, box))
-            made.append(Item(key - (1 << 64) if key >> 63 else key, given, obj))
-        return iter(made)
+            return iter([self._objects.get(key) for key in keys])
+        return iter([Item(self._id(key), self._box_at(key), self._objects.get(key)) for key in keys])
 
     def count(self, coordinates: Any) -> int:
         """How many entries meet the box.
@@ -355,7 +426,8 @@ class Index:
         >>> print(idx.count((0, 0, 60, 60)))
         1
         """
-        return self._layer._count_in(self._clipped(coordinates))
+        _, numbers, whole = self._asked(coordinates)
+        return self._layer._count_in(self._pack(*numbers)) if whole else len(self._keys(WINDOW, coordinates))
 
     def nearest(self, coordinates: Any, num_results: int = 1, objects: Any = False) -> Iterator[Any]:
         """The entries nearest to the box or point, by distance; of equally near ones all are given, so there may be more.
@@ -366,46 +438,23 @@ class Index:
         >>> [item.object for item in hits]
         [42]
         """
-        point = self._point(coordinates)
-        if point is not None:
-            keys = self._near_point(point, num_results)
-            if objects:
-                return self._items([self._layer.row(key) for key in keys], objects)
-            return iter(self._back(keys) if self._negative else keys)
-        box = self._layer._unpack_box(self._numbers(coordinates))
-        found = self._near_rows(box, min(num_results, len(self._layer)))
-        if objects:
-            scale = self._scale
-            return self._items([(key, tuple(x / scale for x in near), 0) for _, key, near in found], objects)
-        return iter(self._back([key for _, key, _ in found]))
-
-    def _point(self, coordinates: Any) -> Optional[bytes]:
-        """A point that is asked for, rounded to the nearest numbers; None where it is a box."""
-        dims, scale = self._dims, self._scale
-        point = coordinates if len(coordinates) == dims else tuple(coordinates)
-        if len(point) == 2 * dims:
-            box = point if self.interleaved else Index.interleave(point)
-            if box[:dims] != box[dims:]:
-                return None
-            point = box[:dims]
-        elif len(point) != dims:
-            return None
-        try:
-            if dims == 2:
-                x, y = point
-                return _POINT_2(_low(x * scale + 0.5), _low(y * scale + 0.5))
-            return _POINT_3(*[_low(x * scale + 0.5) for x in point])
-        except (struct.error, OverflowError, ValueError):
-            raise self._beyond(point) from None
+        box, numbers, whole = self._asked(coordinates)
+        k, dims = min(num_results, len(self._layer)), self._dims
+        if k < 1:
+            return iter([])
+        if k > 1_000_000:
+            raise RTreeError("rstore.rtree gives the nearest million at most")
+        if whole and numbers[:dims] == numbers[dims:]:
+            keys = self._near_point(POINTS[dims].pack(*numbers[:dims]), k)
+        else:
+            keys = self._near_box(box, numbers, k)
+        return self._items(keys, objects) if objects else iter(self._ids(keys))
 
     def _near_point(self, point: bytes, k: int) -> "list[int]":
         """The k nearest to a point, and those as near as the last of them."""
-        if k < 1:
-            return []
         asked = k + 1
         while True:
-            self._most(asked)
-            near = self._layer._near(point, asked)
+            near = self._layer._near(point, min(asked, 1_000_000))
             if len(near) <= k:
                 return [id for id, _, _ in near]
             last = near[k - 1][1:]
@@ -416,27 +465,19 @@ class Index:
             k += 1
         return [id for id, _, _ in near[:k]]
 
-    def _most(self, asked: int) -> None:
-        if asked > 1_000_000:
-            raise RTreeError("rstore_rtree gives the nearest million at most")
-
-    def _near_rows(self, box: "tuple[int, ...]", k: int) -> "list[tuple[int, int, tuple[int, ...]]]":
-        """Squared distances, identifiers and boxes of the k nearest entries and those as near as the last of them."""
-        if k < 1:
-            return []
-        self._most(k)
-        layer, dims = self._layer, self._dims
-        # The k nearest to the middle bound how far away the k nearest to the box are.
-        middle = POINTS[dims].pack(*[(box[a] + box[a + dims]) // 2 for a in range(dims)])
-        bound = max(_squared(box, layer._unpack_box(layer._numbers_of(key)), dims) for key in layer._nearest_ids(middle, k))
-        reach = math.isqrt(bound) + 1
+    def _near_box(self, box: "tuple[float, ...]", numbers: "tuple[int, ...]", k: int) -> "list[int]":
+        """The k nearest to a box, by the boxes that were given, and those as near as the last of them."""
+        layer, dims, unit = self._layer, self._dims, 1.0 if self._scale > 1e-140 else self._scale
+        # The k nearest to its middle bound how far away the k nearest are.
+        middle = POINTS[dims].pack(*[(numbers[a] + numbers[a + dims]) // 2 for a in range(dims)])
+        bound = max(_squared(box, self._box_at(key), dims, unit) for key in layer._nearest_ids(middle, k))
+        reach = math.ceil(min(math.sqrt(bound) / unit * self._scale, 1e10)) + 2
         low, high = WHOLE
-        lows = [max(x - reach, low) for x in box[:dims]]
-        highs = [min(x + reach, high) for x in box[dims:]]
-        rows = layer._rows(WINDOW, self._pack(*lows, *highs), None)
-        found = sorted((_squared(box, near, dims), key, near) for key, near in rows.numbers())
+        wide = (*[max(n - reach, low) for n in numbers[:dims]], *[min(n + reach, high) for n in numbers[dims:]])
+        rows = layer._rows(WINDOW, self._pack(*wide), None)
+        found = sorted((_squared(box, self._box_of(key, near), dims, unit), key) for key, near in rows.numbers())
         last = found[k - 1][0]
-        return [row for row in found if row[0] <= last]
+        return [key for squared, key in found if squared <= last]
 
     # The whole.
 
@@ -453,30 +494,18 @@ class Index:
     def __contains__(self, coordinates: Any) -> bool:
         return self.count(coordinates) > 0
 
-    def _grow(self, numbers: bytes) -> None:
-        if self._bounds is None:
-            return
-        dims, box, old = self._dims, self._layer._unpack_box(numbers), self._bounds
-        if not old:
-            self._bounds = box
-        else:
-            self._bounds = tuple(map(min, old[:dims], box[:dims])) + tuple(map(max, old[dims:], box[dims:]))
-
-    def _found_bounds(self) -> "Optional[tuple[int, ...]]":
+    def _found_bounds(self) -> "tuple[float, ...]":
         """The least box that has all entries, empty where there are none."""
-        dims, bounds = self._dims, ()
-        for _, box in self._layer.all_rows().numbers():
-            bounds = tuple(map(min, bounds[:dims], box[:dims])) + tuple(map(max, bounds[dims:], box[dims:])) if bounds else box
+        bounds: "tuple[float, ...]" = ()
+        for key, numbers in self._layer.all_rows().numbers():
+            bounds = _around(bounds, self._box_of(key, numbers))
         return bounds
 
     def get_bounds(self, coordinate_interleaved: Optional[bool] = None) -> "list[float]":
         """The least box that has all entries."""
         if self._bounds is None:
             self._bounds = self._found_bounds()
-        if self._bounds:
-            box = [x / self._scale for x in self._bounds]
-        else:
-            box = [_BIGGEST] * self._dims + [-_BIGGEST] * self._dims
+        box = [float(x) for x in self._bounds] or [_BIGGEST] * self._dims + [-_BIGGEST] * self._dims
         interleaved = self.interleaved if coordinate_interleaved is None else coordinate_interleaved
         return box if interleaved else Index.deinterleave(box)
 
@@ -493,14 +522,8 @@ class Index:
     def close(self) -> None:
         """Keeps all changes in the file, and closes it."""
         store, self._store = self._store, None
-        folder, self._folder = self._folder, None
-        if store is None:
-            return
-        if folder is not None:
-            os.remove(store.path)
-        store.close()
-        if folder is not None:
-            shutil.rmtree(folder, ignore_errors=True)
+        if store is not None:
+            store.close()
 
     def __enter__(self) -> Index:
         return self
@@ -516,24 +539,54 @@ class Index:
                 pass
 
     def __getstate__(self) -> Any:
-        raise RTreeError("rstore_rtree pickles no index: give it a file")
+        if self._in_file:
+            raise RTreeError("an index in a file is not pickled: open the file")
+        entries = []
+        for key, numbers in self._layer.all_rows().numbers():
+            box = self._box_of(key, numbers)
+            entries.append((self._id(key), box if self.interleaved else Index.deinterleave(box), self._objects.get(key)))
+        scale = self._scale if self._fixed else None
+        return {"properties": self.properties, "interleaved": self.interleaved, "scale": scale, "entries": entries}
+
+    def __setstate__(self, state: Any) -> None:
+        entries = state.pop("entries")
+        self.__init__(entries, **state)  # type: ignore[misc]
 
     def __getattr__(self, name: str) -> Any:
         if name in ("leaves", "set_result_limit", "get_result_limit", "set_result_offset", "get_result_offset", "clearBuffer", "__and__", "__or__", "dumps", "loads"):
-            raise RTreeError(f"rstore_rtree has no {name}")
+            raise RTreeError(f"rstore.rtree has no {name}")
         raise AttributeError(name)
 
 
 Rtree = Index
 
-_POINT_2, _POINT_3 = POINTS[2].pack, POINTS[3].pack
+
+def _exponent(scale: Any) -> int:
+    """The exponent of a power of ten."""
+    return round(math.log10(scale))
 
 
-def _squared(one: Sequence[int], other: Sequence[int], dims: int) -> int:
-    """The squared distance of two boxes."""
-    total = 0
+def _around(one: "tuple[float, ...]", other: "tuple[float, ...]") -> "tuple[float, ...]":
+    """The least box round both, of which the first may be none."""
+    if not one:
+        return other
+    dims = len(other) // 2
+    return tuple(map(min, one[:dims], other[:dims])) + tuple(map(max, one[dims:], other[dims:]))
+
+
+def _meet(one: Sequence[float], other: Sequence[float], dims: int) -> bool:
+    return all(one[a] <= other[a + dims] and other[a] <= one[a + dims] for a in range(dims))
+
+
+def _within(one: Sequence[float], other: Sequence[float], dims: int) -> bool:
+    return all(other[a] <= one[a] and one[a + dims] <= other[a + dims] for a in range(dims))
+
+
+def _squared(one: Sequence[float], other: Sequence[float], dims: int, unit: float) -> float:
+    """The squared distance of two boxes, in units that do not overflow."""
+    total = 0.0
     for a in range(dims):
-        apart = max(one[a] - other[a + dims], other[a] - one[a + dims], 0)
+        apart = max(one[a] - other[a + dims], other[a] - one[a + dims], 0.0) * unit
         total += apart * apart
     return total
 
