@@ -7,8 +7,8 @@
 #
 # The store is in a file, with 4096 cached pages, all others are in memory. Rows: windows of no row, of ten and of 900, and
 # of ten into an array of the caller's or as identifiers alone; the ten nearest to a point; an object by its identifier; a
-# count (what a call alone costs); insertions and deletions one by one; a load, of a box. Of rstore.py rows are tuples; of
-# rtree and of rstore_rtree.py identifiers.
+# count (what a call alone costs); insertions and deletions one by one; a load, of a box. Of rstore rows are tuples; of
+# rtree and of rstore.rtree identifiers.
 set -eu
 here=$(cd "$(dirname "$0")" && pwd)
 boxes=${1:-100000} rounds=${2:-15}
@@ -44,7 +44,7 @@ else
 fi
 echo "Boost, C++" >>"$work/names"
 number=3
-for module in rstore rstore_rtree rtree; do
+for module in rstore rstore.rtree rtree; do
     : >"$work/$number"
     if [ $module != rtree ] || "$python" -c 'import rtree' 2>/dev/null; then
         PYTHONPATH=$here/../library RSTORE_LIBRARY=$lib/librstore.so \
@@ -64,7 +64,7 @@ for k in range(len(names)):
 said = [("none", "window of no row"), ("ten", "of ten rows"), ("ten, own room", "of ten, the caller's array"),
         ("ids", "of ten, identifiers"), ("many", "of 900"), ("nearest", "ten nearest"), ("get", "get"), ("count", "count"),
         ("insert", "insert"), ("delete", "delete"), ("load", "load, a box")]
-print("| | " + " | ".join(names) + " | rtree to rstore | rtree to rstore_rtree |")
+print("| | " + " | ".join(names) + " | rtree to rstore | rtree to rstore.rtree |")
 print("|---" * (len(names) + 3) + "|")
 def ratio(a, b, name):
     return f"{a[name][0] / b[name][0]:.1f}" if name in a and name in b and b[name][0] else ""

@@ -1,4 +1,4 @@
-"""library_times.py MODULE BOXES ROUNDS FOLDER: the same from Python, of the module rstore, rstore_rtree or rtree: processor
+"""library_times.py MODULE BOXES ROUNDS FOLDER: the same from Python, of the module rstore, rstore.rtree or rtree: processor
 microseconds a call, the least of the rounds. Rows come as lists of tuples from rstore, and as lists of identifiers else;
 "ids" are identifiers of the windows of ten rows, also from rstore."""
 
@@ -62,7 +62,7 @@ else:
     if module == "rtree":
         from rtree import index
     else:
-        import rstore_rtree as index
+        import rstore.rtree as index
 
         index.SCALE = 1
     stream = [(k, box, None) for k, box in enumerate(boxes)]

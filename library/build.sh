@@ -1,7 +1,7 @@
 #!/usr/bin/env bash
 # build.sh [OUT]: builds the C library and the Python module into OUT (default library/lib): librstore.a, librstore.so,
-# rstore.h, rstore.py and rstore_rtree.py. What its proved part is made of is proved first, where that is not done yet:
-# after ./rstore four crates. CC names another compiler, JOBS how many processors are used.
+# rstore.h, the package rstore and rstore_rtree.py. What its proved part is made of is proved first, where that is not
+# done yet: after ./rstore four crates. CC names another compiler, JOBS how many processors are used.
 set -eu
 here="$(cd "$(dirname "$0")" && pwd)"
 crates="$here/../crates"
@@ -40,7 +40,7 @@ ar rcs "$out/librstore.a" "$work/rstore.o" "$work"/proved/*.o "$work"/kit/*.o
 ${CC:-cc} -shared -o "$out/librstore.so" -Wl,--version-script="$work/exports.map" -Wl,--gc-sections -Wl,-soname,librstore.so \
   ${CFLAGS:-} "$work/rstore.o" "$work"/proved/*.o "$kit/c/libos_c.a" "$kit/c/liblibc_c.a"
 cp "$here/rstore.h" "$out/"
-for module in rstore.py rstore_rtree.py; do
-  [ ! -f "$here/$module" ] || cp "$here/$module" "$out/"
-done
+mkdir -p "$out/rstore"
+cp "$here"/rstore/*.py "$here/rstore/py.typed" "$out/rstore/"
+cp "$here/rstore_rtree.py" "$out/"
 ls -l "$out" >&2

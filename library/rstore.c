@@ -9,6 +9,7 @@
 #include <stdlib.h>
 #include <string.h>
 #include <sys/file.h>
+#include <sys/mman.h>
 #include <sys/stat.h>
 #include <unistd.h>
 
@@ -17,6 +18,7 @@ struct rstore {
     void *session;
     int fd[2];      /* the file, and its journal or -1 */
     char *journal;  /* the path of the journal, or NULL */
+    bool memory;    /* both files are in memory, without names */
     unsigned char letter, side, outcome; /* of the last request, and how it went */
     off_t at;
 };
@@ -52,9 +54,19 @@ static int open_locked(const char *path, int how, int lock, int *fd) {
     return error;
 }
 
-/* Opens the journal, or makes it; one that was open is closed. */
+/* A file in memory, which no other has. */
+static int open_memory(int *fd) {
+    int made = memfd_create("rstore", MFD_CLOEXEC);
+    if (made >= 3) return *fd = made, DONE;
+    if (made >= 0) close(made);
+    return REFUSED;
+}
+
+/* Opens the journal, or makes it; one that was open is closed. In memory there is none but one that is made. */
 static int open_journal(rstore *db, int how) {
-    int fd, error = db->journal ? open_locked(db->journal, O_RDWR | how, LOCK_EX, &fd) : REFUSED;
+    int fd, error = REFUSED;
+    if (db->journal) error = open_locked(db->journal, O_RDWR | how, LOCK_EX, &fd);
+    else if (db->memory && how & O_CREAT) error = open_memory(&fd);
     if (error) return error;
     if (db->fd[1] >= 0) close(db->fd[1]);
     db->fd[1] = fd;
@@ -63,6 +75,7 @@ static int open_journal(rstore *db, int how) {
 
 /* Removes the journal, and syncs its folder. */
 static int remove_journal(rstore *db) {
+    if (db->memory) return DONE; /* it goes with the handle */
     int folder = db->journal ? folder_of(db->journal) : -1;
     if (folder < 0) return REFUSED;
     bool gone = (!unlink(db->journal) || errno == ENOENT) && !fsync(folder);
@@ -162,6 +175,7 @@ uint64_t rstore_detail(rstore *db) { return db ? rstore_c_detail(db) : refused_d
 /* Opens the file, and knows the path of its journal, which lies beside the file itself and not beside a link to it. */
 static int open_files(rstore *db, const char *path, int flags) {
     static const int numbers[] = { RSTORE_OK, RSTORE_CANNOT_OPEN, RSTORE_BUSY, RSTORE_NO_LOCKS, RSTORE_MEMORY };
+    if (!path) return db->memory = true, numbers[open_memory(&db->fd[0])];
     bool reads = flags == RSTORE_READ_ONLY;
     int how = reads ? O_RDONLY : O_RDWR | (flags == RSTORE_CREATE ? O_CREAT : 0);
     int error = open_locked(path, how, reads ? LOCK_SH : LOCK_EX, &db->fd[0]);
@@ -189,7 +203,7 @@ int rstore_open(const char *path, int flags, uint32_t cache, rstore **opened) {
     refused_detail = 0;
     ASK(opened);
     *opened = NULL;
-    ASK(path && *path && flags >= RSTORE_EXISTING && flags <= RSTORE_READ_ONLY);
+    ASK(path ? *path && flags >= RSTORE_EXISTING && flags <= RSTORE_READ_ONLY : flags == RSTORE_CREATE);
     rstore *db = calloc(1, sizeof *db);
     if (!db) return RSTORE_MEMORY;
     db->fd[0] = db->fd[1] = -1;
@@ -296,5 +310,117 @@ int rstore_join(rstore *db, const char *first, const char *second, uint64_t squa
     int error = DO(rstore_c_join(db, TEXT(first), TEXT(second), squared_distance, &found));
     if (error) return error;
     HAND_OUT(rstore_c_pair_rows);
+}
+/* ---- many questions in one call */
+/* An array that grows by doubling. */
+struct array { void *at; size_t used, room, size; };
+
+/* Makes room for `more` elements behind those used. */
+static int make_room(struct array *a, size_t more) {
+    size_t most = PTRDIFF_MAX / a->size, room = a->room ? a->room : 1024;
+    if (a->room - a->used >= more) return RSTORE_OK;
+    if (more > most - a->used) return RSTORE_MEMORY;
+    while (room < a->used + more) room = room > most / 2 ? most : 2 * room;
+    void *grown = realloc(a->at, room * a->size);
+    if (!grown) return RSTORE_MEMORY;
+    memset((char *)grown + a->room * a->size, 0, (room - a->room) * a->size); /* the proved code writes into values */
+    a->at = grown;
+    a->room = room;
+    return RSTORE_OK;
+}
+
+/* Hands out an array, cut to its length, or NULL where it has none; after an error frees it. */
+static int hand_out(struct array *a, int error, void **out) {
+    if (error || !a->used) { free(a->at); a->at = NULL; }
+    else { void *cut = realloc(a->at, a->used * a->size); if (cut) a->at = cut; }
+    if (!error) *out = a->at;
+    return error;
+}
+
+/* What the questions of one call have in common: the layer, and how each is asked. */
+struct asked { rstore *db; const char *layer; size_t named; int kind; const int32_t *numbers; size_t length; const uint32_t *tags; };
+
+static bool is_range(const struct asked *a, uint32_t axes, size_t count) {
+    return a->db && NAMED(a->layer) && AXES(axes) && a->kind >= RSTORE_WINDOW && a->kind <= RSTORE_POINT
+        && (a->numbers || !count) && count <= PTRDIFF_MAX / (6 * sizeof(int32_t));
+}
+
+/* The range query at a place, whose rows are then fetched. */
+static int ask_range(const struct asked *a, size_t q, size_t *found) {
+    const uint32_t *tag = a->tags ? a->tags + q : NULL;
+    *found = 0;
+    return DO(rstore_c_range(a->db, (const uint8_t *)a->layer, a->named, (uint32_t)a->kind, a->numbers + q * a->length, a->length,
+                             tag, tag ? *tag : 0, found));
+}
+
+#define ASKED { db, layer, NAMED(layer) ? strlen(layer) : 0, kind, numbers, kind == RSTORE_POINT ? axes : 2 * (size_t)axes, tags }
+
+/* All of them: each by `ask`, its results fetched into the array. */
+#define EACH(fetch, type) \
+    for (size_t q = 0; q < count && !error; q++) { \
+        size_t found; \
+        error = ask_range(&asked, q, &found); \
+        if (!error) error = make_room(&made, found); \
+        if (error) { if (refused) *refused = q; break; } \
+        if (found) fetch(db, 0, (type *)made.at + made.used, found); \
+        offsets[q + 1] = made.used += found; \
+    }
+
+int rstore_windows(rstore *db, const char *layer, int kind, const int32_t *numbers, uint32_t axes, size_t count,
+                   const uint32_t *tags, uint64_t **ids, size_t *offsets, size_t *refused) {
+    struct asked asked = ASKED;
+    struct array made = { NULL, 0, 0, sizeof **ids };
+    int error = RSTORE_OK;
+    ASK(is_range(&asked, axes, count) && ids && offsets);
+    offsets[0] = 0;
+    EACH(rstore_c_ids, uint64_t)
+    return hand_out(&made, error, (void **)ids);
+}
+int rstore_windows_rows(rstore *db, const char *layer, int kind, const int32_t *numbers, uint32_t axes, size_t count,
+                        const uint32_t *tags, rstore_row **rows, size_t *offsets, size_t *refused) {
+    struct asked asked = ASKED;
+    struct array made = { NULL, 0, 0, sizeof **rows };
+    int error = RSTORE_OK;
+    ASK(is_range(&asked, axes, count) && rows && offsets);
+    offsets[0] = 0;
+    EACH(rstore_c_rows, rstore_row)
+    return hand_out(&made, error, (void **)rows);
+}
+int rstore_counts(rstore *db, const char *layer, int kind, const int32_t *numbers, uint32_t axes, size_t count,
+                  const uint32_t *tags, size_t *counts, size_t *refused) {
+    struct asked asked = ASKED;
+    ASK(is_range(&asked, axes, count) && (counts || !count));
+    for (size_t q = 0; q < count; q++) {
+        int error = ask_range(&asked, q, counts + q);
+        if (error) { if (refused) *refused = q; return error; }
+    }
+    return RSTORE_OK;
+}
+int rstore_nearest_many(rstore *db, const char *layer, uint64_t k, const int32_t *points, uint32_t axes, size_t count,
+                        rstore_near **rows, size_t *offsets, size_t *refused) {
+    struct array made = { NULL, 0, 0, sizeof **rows };
+    int error = RSTORE_OK;
+    ASK(db && NAMED(layer) && AXES(axes) && (points || !count) && count <= PTRDIFF_MAX / (3 * sizeof *points) && rows && offsets);
+    size_t named = strlen(layer);
+    offsets[0] = 0;
+    for (size_t q = 0; q < count; q++) {
+        size_t found = 0;
+        error = DO(rstore_c_nearest(db, (const uint8_t *)layer, named, k, points + q * axes, axes, &found));
+        if (!error) error = make_room(&made, found);
+        if (error) { if (refused) *refused = q; break; }
+        if (found) rstore_c_near_rows(db, 0, (rstore_near *)made.at + made.used, found);
+        offsets[q + 1] = made.used += found;
+    }
+    return hand_out(&made, error, (void **)rows);
+}
+int rstore_get_many(rstore *db, const char *layer, const uint64_t *ids, size_t count, rstore_row *rows, size_t *refused) {
+    ASK(db && NAMED(layer) && ((ids && rows) || !count));
+    size_t named = strlen(layer);
+    for (size_t q = 0; q < count; q++) {
+        int error = DO(rstore_c_get(db, (const uint8_t *)layer, named, ids[q], rows + q));
+        if (error == RSTORE_NO_OBJECT) rows[q] = (rstore_row){ .id = ids[q] };
+        else if (error) { if (refused) *refused = q; return error; }
+    }
+    return RSTORE_OK;
 }
 void rstore_free(void *rows) { free(rows); }

@@ -131,8 +131,9 @@ enum {
     RSTORE_READ_ONLY = 2 /* the file is only read, and may lack the right to be written; changes are refused */
 };
 
-/* Opens the store in the file at `path`. `cache` is how many pages of 4096 bytes are held in memory, 8 to 4096; 0 is
- * 1024. On success *db is the handle, else NULL. */
+/* Opens the store in the file at `path`; with NULL and RSTORE_CREATE makes one in memory, which goes with its handle and
+ * has no lock. `cache` is how many pages of 4096 bytes are held in memory, 8 to 4096; 0 is 1024. On success *db is the
+ * handle, else NULL. */
 int rstore_open(const char *path, int flags, uint32_t cache, rstore **db);
 
 /* Keeps all changes in the file and frees the handle, whatever it answers. NULL is fine. */
@@ -203,6 +204,28 @@ int rstore_nearest(rstore *db, const char *layer, uint64_t k, const int32_t *poi
  * and then by second. */
 int rstore_join(rstore *db, const char *first, const char *second, uint64_t squared_distance, rstore_pair **rows,
                 size_t *count);
+
+/* ---- many questions in one call. Each is answered as by the call of one, in the order given. Results follow one another
+ * in one array: those of question q from offsets[q] to offsets[q + 1], where `offsets` is the caller's, of count + 1 numbers.
+ * The first question that is refused ends the call: *refused is its index (where refused is not NULL), and nothing is
+ * handed out. count may be 0. As ever one call at a time for a handle: part a long list where others wait for it. */
+
+/* Range queries of one kind, whose numbers follow one another: 2 * axes for a box, `axes` for a point. `tags` has a tag for
+ * each question, or is NULL where all tags are asked for. As identifiers, as rows, or how many there are of each
+ * (`counts` is the caller's, of `count` numbers). */
+int rstore_windows(rstore *db, const char *layer, int kind, const int32_t *numbers, uint32_t axes, size_t count,
+                   const uint32_t *tags, uint64_t **ids, size_t *offsets, size_t *refused);
+int rstore_windows_rows(rstore *db, const char *layer, int kind, const int32_t *numbers, uint32_t axes, size_t count,
+                        const uint32_t *tags, rstore_row **rows, size_t *offsets, size_t *refused);
+int rstore_counts(rstore *db, const char *layer, int kind, const int32_t *numbers, uint32_t axes, size_t count,
+                  const uint32_t *tags, size_t *counts, size_t *refused);
+
+/* The k nearest to each point. Each has as many rows as the others: k, or all objects where there are fewer. */
+int rstore_nearest_many(rstore *db, const char *layer, uint64_t k, const int32_t *points, uint32_t axes, size_t count,
+                        rstore_near **rows, size_t *offsets, size_t *refused);
+
+/* The objects of `count` identifiers into the caller's rows. One that is not there has axes 0 in its row, and is no error. */
+int rstore_get_many(rstore *db, const char *layer, const uint64_t *ids, size_t count, rstore_row *rows, size_t *refused);
 
 /* Frees an array of results. NULL is fine. */
 void rstore_free(void *rows);

@@ -48,6 +48,12 @@ done
 ./misuse_checked g >/dev/null
 echo "sanitizers find nothing"
 
+# Many questions in one call.
+cc -std=c11 $warnings -I"$lib" "$here/test/many.c" "$lib/librstore.a" -Wl,--wrap=realloc -o many
+./many j
+cc -std=c11 $warnings $sanitize -I"$lib" "$here/test/many.c" "$work/checked/librstore.a" -Wl,--wrap=realloc -o many_checked
+./many_checked k >/dev/null
+
 # Memory and stack.
 cc -std=c11 $warnings -O1 -I"$lib" "$here/test/no_memory.c" "$lib/librstore.a" \
     -Wl,--wrap=malloc,--wrap=realloc,--wrap=calloc -o no_memory
@@ -69,4 +75,5 @@ python=python3
 if /usr/bin/python3 -c 'import rtree' 2>/dev/null; then python=/usr/bin/python3; fi
 "$python" "$here/test/test_rstore.py" "$program"
 "$python" "$here/test/test_rtree.py"
+"$python" "$here/test/test_arrays.py"
 "$top/tests/stops_of_files.py" "$((rounds / 60))" "$RANDOM" library

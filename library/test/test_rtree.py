@@ -1,8 +1,10 @@
-"""test_rtree.py: `rstore_rtree.Index` by the examples of rtree's documentation, by what it refuses, and, where the package
+"""test_rtree.py: `rstore.rtree.Index` by the examples of rtree's documentation, by what it refuses, and, where the package
 rtree is there, beside it in random sessions. RSTORE_LIBRARY names librstore.so."""
 
 import doctest
+import math
 import os
+import pickle
 import random
 import sys
 import tempfile
@@ -10,8 +12,9 @@ from pathlib import Path
 
 sys.path.insert(0, str(Path(__file__).resolve().parent.parent))
 
+import rstore.rtree
 import rstore_rtree
-from rstore_rtree import Index, Property, RTreeError, index
+from rstore.rtree import SCALE, Index, Property, RTreeError, index
 
 try:
     import rtree.index as other
@@ -78,20 +81,98 @@ def refusals() -> None:
     """What the index can't do says so."""
     idx = Index()
     idx.insert(1, (0, 0, 1, 1))
-    refused(idx.insert, 1, (0, 0, 1, 1))
-    refused(idx.insert, 2, (0, 0, 300, 1))
     refused(idx.insert, 2, (1, 1, 0, 0))
     refused(idx.insert, 2, (1, 1, 0))
-    refused(idx.__getstate__)
+    refused(idx.insert, 2, (0, 0, math.inf, 1))
+    refused(idx.insert, 2, (0, 0, math.nan, 1))
+    refused(idx.insert, 2, (0, 0, 1e301, 1))
+    refused(Index(scale=SCALE).insert, 2, (0, 0, 300, 1))
     refused(lambda: idx.leaves())
-    refused(Index, [(1, (0, 0, 1, 1), None), (1, (0, 0, 1, 1), None)])
-    refused(lambda: Index(properties=Property(type=rstore_rtree.RT_TPRTree)))
+    refused(lambda: Index(properties=Property(type=rstore.rtree.RT_TPRTree)))
     refused(lambda: Index(properties=Property(dimension=4)))
-    assert list(idx.intersection((-1e9, -1e9, 1e9, 1e9))) == [1]
+    assert idx.scale == SCALE and len(idx) == 1
+    for window in ((-1e9, -1e9, 1e9, 1e9), (-math.inf, -math.inf, math.inf, math.inf)):
+        assert list(idx.intersection(window)) == [1]
     wide = Index(scale=100)
     wide.insert(-5, (-1e6, 2e6, 3.25e6, 4e6))
     assert list(wide.nearest((0, 0))) == [-5]
     assert [i.bbox for i in wide.intersection((0, 3e6), objects=True)] == [[-1e6, 2e6, 3.25e6, 4e6]]
+
+
+def scales(folder: str) -> None:
+    """The scale follows the data, what is told stays exact, and a file keeps it all."""
+    idx = Index()
+    boxes = {1: (0.1, 0.2, 0.30000000000000004, 0.4), 2: (1 / 3, 1 / 7, 200.5, 200.25), 3: (-5e8, 1e-9, 7e8, 2e-9)}
+    for id, box in boxes.items():
+        idx.insert(id, box)
+    assert idx.scale < 1 and idx.bounds == [-5e8, 1e-9, 7e8, 200.25]
+    assert [(i.id, tuple(i.bbox)) for i in idx.intersection((-1e300, -1e300, 1e300, 1e300), objects=True)] == list(boxes.items())
+    assert list(idx.intersection((0.4, 0.0, 0.5, 0.4))) == [2, 3] and list(idx.intersection((0.4, 1e-8, 0.5, 0.1))) == []
+    assert list(idx.contains((0, 0, 0.30000000000000004, 0.4))) == [1] and list(idx.contains((0, 0, 0.3, 0.4))) == []
+    huge = Index([(k, (x, -x, x, x), None) for k, x in enumerate((1.0, 1e30, 1e150, 1e300))])
+    assert huge.bounds == [1.0, -1e300, 1e300, 1e300] and list(huge.intersection((1e150, 0, 1e150, 0))) == [2]
+    assert list(huge.nearest((1e299, 0), 1)) == [0, 1, 2] or list(huge.nearest((1e299, 0), 1))[-1] == 2
+    name = os.path.join(folder, "scaled")
+    with Index(name) as one:
+        for id, box in boxes.items():
+            one.insert(id, box)
+        one.insert(2, boxes[1])
+    with Index(name) as again:
+        assert again.scale == idx.scale and again.bounds == idx.bounds
+        assert sorted((i.id, tuple(i.bbox)) for i in again.intersection((0, 0, 1, 1), objects=True)) == sorted(
+            [*boxes.items(), (2, boxes[1])]
+        )
+        again.delete(2, boxes[1])
+        again.delete(3, boxes[3])
+        assert sorted(again.intersection((0, 0, 1, 1))) == [1, 2]
+    with Index(name) as again:
+        assert sorted(again.intersection((0, 0, 1, 1))) == [1, 2] and again.bounds == [0.1, 1 / 7, 200.5, 200.25]
+        refused(again.__getstate__)
+
+
+def shared() -> None:
+    """Identifiers that occur more than once, and indexes that are pickled."""
+    idx = Index([(7, (k, k, k + 1, k + 1), f"object {k}") for k in range(5)])
+    idx.insert(7, (9, 9, 9, 9), "last")
+    idx.insert(-7, (9, 9, 9, 9))
+    again = pickle.loads(pickle.dumps(idx))
+    for one in (idx, again):
+        assert len(one) == 7 and sorted(one.intersection((0, 0, 9, 9))) == [-7, 7, 7, 7, 7, 7, 7]
+        assert list(one.intersection((2.5, 2.5, 2.6, 2.6), objects="raw")) == ["object 2"]
+        one.delete(7, (8, 8, 8, 8))
+        one.delete(7, (2, 2, 3, 3))
+        assert one.count((2.5, 2.5, 2.6, 2.6)) == 0 and len(one) == 6
+        one.delete(-7, (9, 9, 9, 9))
+        assert list(one.intersection((9, 9, 9, 9), objects="raw")) == ["last"]
+
+
+def beside_any(seed: int, size: float) -> None:
+    """A random session beside rtree's with coordinates of any size, which no stored number tells."""
+    dice = random.Random(seed)
+    here, there, entries = Index(), other.Index(), []
+
+    def box():
+        low = [dice.uniform(-size, size) for _ in range(2)]
+        return low + [x + dice.choice([0, 0.001, 0.3]) * size for x in low]
+
+    for step in range(300):
+        if step % 3 or not entries:
+            entries.append((dice.randrange(-50, 50), box()))
+            here.insert(*entries[-1])
+            there.insert(*entries[-1])
+        elif dice.random() < 0.3:
+            one = entries.pop(dice.randrange(len(entries)))
+            here.delete(*one)
+            there.delete(*one)
+        else:
+            window, k = dice.choice([box(), dice.choice(entries)[1]]), dice.randrange(1, 9)
+            assert sorted(here.intersection(window)) == sorted(there.intersection(window)), (size, window)
+            assert here.count(window) == there.count(window)
+            assert sorted(here.nearest(window, k)) == sorted(there.nearest(window, k)), (size, window, k)
+        if step % 50 == 49:
+            assert here.bounds == there.bounds and len(here) == len(entries)
+            one = sorted((i.id, i.bbox) for i in here.intersection(here.bounds, objects=True))
+            assert one == sorted((i.id, i.bbox) for i in there.intersection(there.bounds, objects=True))
 
 
 def beside(seed: int, dims: int, interleaved: bool, steps: int) -> None:
@@ -155,15 +236,20 @@ def main() -> int:
     """Runs all."""
     with tempfile.TemporaryDirectory() as folder:
         tutorial(folder)
+        scales(folder)
     refusals()
-    failed, tried = doctest.testmod(rstore_rtree)
+    shared()
+    failed, tried = doctest.testmod(rstore.rtree)
     assert not failed and tried >= 20, (failed, tried)
     if other is None:
         print(f"rtree: the tutorial and {tried} lines of its documentation; the package is not here to compare")
         return 0
     for seed in range(24):
         beside(seed, 2 + seed % 2 if seed < 12 else 2, seed % 3 != 0 or seed % 2 == 1, 400)
-    print(f"rtree: the tutorial, {tried} lines of its documentation, and 24 sessions beside the package agree")
+    sizes = (1e-3, 1, 1e4, 1e9, 1e100)
+    for seed in range(20):
+        beside_any(seed, sizes[seed % len(sizes)])
+    print(f"rtree: the tutorial, {tried} lines of its documentation, and 44 sessions beside the package agree")
     return 0
 
 

@@ -29,6 +29,10 @@ row_of object = record {
   axes = axes_of object.1;
 }
 
+-- the identifier of an object
+abbrev pub id_of : ℕ × AnyBox × ℕ → ℕ
+id_of object = object.0
+
 -- the row of an object with its squared distance
 abbrev pub near_of : ℕ × ℕ → Near
 near_of near = record { id = near.0; distance = near.1 % (2 ^ 64); distance_high = near.1 / (2 ^ 64) }

@@ -11,4 +11,6 @@ pub use boxes::{raw_box, raw_point, raw_query};
 pub use layers::{Layer, layer_row, write_layers};
 pub use numbers::{number_of, tell};
 pub use objects::objects_of;
-pub use rows::{Near, Pair, Row, near_row, object_row, write_nearest, write_objects, write_pairs};
+pub use rows::{
+    Near, Pair, Row, near_row, object_row, write_ids, write_nearest, write_objects, write_pairs,
+};

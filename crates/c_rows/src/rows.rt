@@ -1,6 +1,6 @@
 //! Rows of answers.
 ghost use Rattle.std.specs.Prelude.{◌≡◌, ◌++◌, length, min, map, take, drop};
-ghost use Rattle.c_rows.specs.Rows.{near_of, pair_of, row_of};
+ghost use Rattle.c_rows.specs.Rows.{id_of, near_of, pair_of, row_of};
 
 use plain_table::AnyBox;
 
@@ -89,6 +89,18 @@ pub fn write_objects(objects: &[(u64, AnyBox, u32)], out: &mut [Row]) -> usize
     for k in 0..count {
         let (id, bounds, tag) = &objects[k];
         out[k] = object_row(*id, bounds, *tag);
+    }
+    count
+}
+
+/// The same of their identifiers alone.
+pub fn write_ids(objects: &[(u64, AnyBox, u32)], out: &mut [u64]) -> usize
+    ensures count { result ≡ min (length objects.now) (length out.old) }
+    ensures rows { out.new ≡ map id_of (take result objects.now) ++ drop result out.old }
+{
+    let count = objects.len().min(out.len());
+    for k in 0..count {
+        out[k] = objects[k].0;
     }
     count
 }

@@ -1,11 +1,11 @@
 //! The rows that were answered last.
 ghost use Rattle.std.specs.Prelude.{◌≡◌, length};
-ghost use Rattle.c_rows.specs.Rows.{near_of, pair_of, row_of};
+ghost use Rattle.c_rows.specs.Rows.{id_of, near_of, pair_of, row_of};
 ghost use Rattle.c_session.specs.Fetching.{Fetches};
 
 use crate::session::Session;
 use block_device::BlockDevice;
-use c_rows::{Near, Pair, Row, write_nearest, write_objects, write_pairs};
+use c_rows::{Near, Pair, Row, write_ids, write_nearest, write_objects, write_pairs};
 use std::alloc::Allocator;
 
 impl<D: BlockDevice, A: Allocator + Copy> Session<D, A> {
@@ -40,6 +40,17 @@ impl<D: BlockDevice, A: Allocator + Copy> Session<D, A> {
             return 0;
         }
         write_objects(&rows[from..], out)
+    }
+
+    /// The same of their identifiers alone.
+    pub fn fetch_ids(&self, from: usize, out: &mut [u64]) -> usize
+        ensures { Fetches id_of self.now.boxes.items from out.old out.new result }
+    {
+        let rows = self.boxes.as_slice();
+        if from > rows.len() {
+            return 0;
+        }
+        write_ids(&rows[from..], out)
     }
 
     /// The same of the last nearest query.

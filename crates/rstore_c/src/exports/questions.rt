@@ -5,7 +5,7 @@ ghost use Rattle.plain_table.specs.Answers.{boxes_answer, count_answer, distance
 ghost use Rattle.plain_table.specs.Answers.{pairs_answer};
 ghost use Rattle.plain_table.specs.Commands.Command.{Count, Get, Join, Nearest, Range};
 ghost use Rattle.c_rows.specs.Boxes.{raw_point, raw_query};
-ghost use Rattle.c_rows.specs.Rows.{near_of, pair_of, row_of};
+ghost use Rattle.c_rows.specs.Rows.{id_of, near_of, pair_of, row_of};
 ghost use Rattle.c_session.specs.Calls.{AsksBy, AsksWith, HasCount, HasObject, TellsBy, tag_of};
 ghost use Rattle.c_session.specs.Fetching.{Fetches};
 ghost use Rattle.c_session.specs.Keeping.{with_boxes, with_near, with_pairs};
@@ -61,6 +61,15 @@ pub extern "C" fn rstore_c_rows(handle: &mut Handle, from: usize, out: &mut [Row
     ensures same { handle.new.value ≡ handle.old.value }
 {
     handle.held().session.fetch_boxes(from, out)
+}
+
+/// The same of their identifiers alone.
+#[unsafe(no_mangle)]
+pub extern "C" fn rstore_c_ids(handle: &mut Handle, from: usize, out: &mut [u64]) -> usize
+    ensures ids { Fetches id_of handle.old.value.session.boxes.items from out.old out.new result }
+    ensures same { handle.new.value ≡ handle.old.value }
+{
+    handle.held().session.fetch_ids(from, out)
 }
 
 /// The k objects nearest to a point, which the session keeps.

@@ -1,0 +1,355 @@
+"""A layer of a store."""
+
+from __future__ import annotations
+
+import ctypes
+import math
+import struct
+from ctypes import byref, c_size_t, c_uint32, c_uint64, c_void_p
+from typing import TYPE_CHECKING, Any, Iterable, Iterator, Optional, Sequence
+
+from rstore._arrays import ArrayQuestions
+from rstore._library import (
+    AROUND, BOXES, EPSILON, ID, INSIDE, NEAR, PAIR, POINT, POINTS, ROOM, ROW_SIZE, ROWS, WHOLE, WINDOW,
+    Box, CRow, Number, Point, name_of, tag_at, whole,
+)
+from rstore._rows import LayerInfo, Rows, tuples
+from rstore.errors import Duplicate, Error, Misuse, NoObject, WrongDims
+
+if TYPE_CHECKING:
+    from rstore._store import Store
+
+
+class Layer(ArrayQuestions):
+    """A layer of a store, from `Store.create_layer`, `Store.layer` or `store[name]`.
+
+    It is a mapping from identifiers to boxes: `layer[7] = box` inserts an object or gives it another box, `del layer[7]`
+    takes it out, `layer[7]` is its box, `len(layer)` counts, and iteration is over identifiers, ascending.
+
+    **scale**: with `scale=n` coordinates are decimal numbers, which are stored as whole ones, n times as large: 10_000_000
+    for degrees is a centimetre. A box that is stored or asked for is rounded outwards, each low down and each high up, and
+    a point down, but what is off a whole number by a millionth counts as it: so decimal numbers of as many places as n has
+    zeros are exact. No object is missed that meets, lies in or encloses what was asked for by the numbers as given; one
+    that is off by less than 1/n may be found, too. Boxes in answers are the rounded ones. Numbers of more than
+    (2^31 - 1) / n are refused by `Misuse`. The scale is not kept in the file: give the same one each time."""
+
+    def __init__(self, store: Store, info: LayerInfo, scale: Optional[int]) -> None:
+        if scale is not None and not (isinstance(scale, int) and scale > 0):
+            raise Misuse(f"a scale is a whole number above 0: {scale!r}")
+        self._store, self._lib, self._lock = store, store._lib, store._lock
+        self.name, self.dims, self.fanout, self.scale = info.name, info.dims, info.fanout, scale
+        self._c_name = name_of(info.name)
+        self._form, self._pack_box, self._pack_point = ROWS[self.dims], BOXES[self.dims].pack, POINTS[self.dims].pack
+        if scale is not None:
+            self._pack_box, self._pack_point = self._scaled_box, self._scaled_point
+        self._axes, self._unpack_box = c_uint32(self.dims), BOXES[self.dims].unpack
+
+    def __repr__(self) -> str:
+        return f"<rstore.Layer {self.name!r} of {self.dims} axes in {self._store.path!r}>"
+
+    # Numbers.
+
+    def _scaled_box(self, *box: Number) -> bytes:
+        dims, scale = self.dims, self.scale
+        if len(box) != 2 * dims:
+            raise struct.error("another number of axes than the layer")
+        lows = [math.floor(x * scale + EPSILON) for x in box[:dims]]
+        return BOXES[dims].pack(*lows, *[math.ceil(x * scale - EPSILON) for x in box[dims:]])
+
+    def _scaled_point(self, *point: Number) -> bytes:
+        return POINTS[self.dims].pack(*[math.floor(x * self.scale + EPSILON) for x in point])
+
+    def _refuse(self, numbers: Any, what: str, wanted: int) -> Error:
+        """What to raise of numbers that could not be packed."""
+        try:
+            if len(numbers) in (4, 6) and wanted in (4, 6) or len(numbers) in (2, 3) and wanted in (2, 3):
+                if len(numbers) != wanted:
+                    return WrongDims(f"{self.name}: another number of axes than the layer: {numbers!r}")
+        except TypeError:
+            pass
+        range_of = "of 32 bits" if self.scale is None else f"of at most {(1 << 31) / self.scale:g}"
+        kind = "whole numbers" if self.scale is None else "numbers"
+        more = " (or give the layer a scale)" if self.scale is None else ""
+        return Misuse(f"{self.name}: {what} has {wanted} {kind} {range_of}{more}: {numbers!r}")
+
+    def _box(self, box: Box) -> bytes:
+        try:
+            return self._pack_box(*box)
+        except (struct.error, TypeError, ValueError, OverflowError) as error:
+            raise self._refuse(box, "a box", 2 * self.dims) from error
+
+    def _point(self, point: Point) -> bytes:
+        try:
+            return self._pack_point(*point)
+        except (struct.error, TypeError, ValueError, OverflowError) as error:
+            raise self._refuse(point, "a point", self.dims) from error
+
+    # Changes.
+
+    def insert(self, id: int, box: Box, tag: int = 0) -> None:
+        """Adds an object; raises `Duplicate` where the layer has the identifier."""
+        self._insert(whole(id, 64, "an identifier"), self._box(box), whole(tag, 32, "a tag"))
+
+    def _insert(self, id: int, numbers: bytes, tag: int) -> None:
+        with self._lock:
+            error = self._lib.rstore_insert(self._store._open, self._c_name, id, numbers, self.dims, tag)
+            if error:
+                raise self._store._error(error, f"{self.name} {id}")
+
+    def move(self, id: int, box: Box) -> None:
+        """Gives an object another box; it keeps its tag. Raises `NoObject` where there is none."""
+        numbers, id = self._box(box), whole(id, 64, "an identifier")
+        with self._lock:
+            error = self._lib.rstore_move(self._store._open, self._c_name, id, numbers, self.dims)
+            if error:
+                raise self._store._error(error, f"{self.name} {id}")
+
+    def __setitem__(self, id: int, box: Box) -> None:
+        """Gives an object a box: a new one with tag 0, or one that is there, which keeps its tag."""
+        try:
+            self.insert(id, box)
+        except Duplicate:
+            self.move(id, box)
+
+    def delete(self, id: int) -> None:
+        """Takes out an object; raises `NoObject` where there is none."""
+        id = whole(id, 64, "an identifier")
+        with self._lock:
+            error = self._lib.rstore_delete(self._store._open, self._c_name, id)
+            if error:
+                raise self._store._error(error, f"{self.name} {id}")
+
+    __delitem__ = delete
+
+    def load(self, objects: Iterable[Sequence[Any]]) -> int:
+        """Puts objects into the layer, which must be empty, all of them or none, and says how many: each a pair of an
+        identifier and a box, or a triple with a tag. Several times as fast as inserts, and the tree is packed."""
+        data, form, pack_box, unpack = bytearray(), self._form, self._box, self._unpack_box
+        for one in objects:
+            id, box = one[0], one[1]
+            tag = one[2] if len(one) > 2 else 0
+            numbers = unpack(pack_box(box))
+            try:
+                data += form.pack(id, *numbers, tag)
+            except struct.error as error:
+                raise Misuse(f"{self.name}: no identifier or tag: {one!r}") from error
+        return self.load_rows(data)
+
+    def load_rows(self, rows: Any) -> int:
+        """The same of rows of 40 bytes as C has them (rstore_row), of whole numbers as they are stored: anything with the
+        buffer protocol, as an array of numpy with the fields of `Rows.numpy`, which is not copied where it may be
+        written."""
+        view = memoryview(rows).cast("B") if not isinstance(rows, (bytes, bytearray)) else memoryview(rows)
+        count, rest = divmod(len(view), ROW_SIZE)
+        if rest:
+            raise Misuse("a row has 40 bytes")
+        held = ctypes.create_string_buffer(bytes(view), len(view)) if view.readonly or not count else (ctypes.c_char * len(view)).from_buffer(view)
+        with self._lock:
+            error = self._lib.rstore_load(self._store._open, self._c_name, self.dims, ctypes.addressof(held), count)
+            if error:
+                raise self._store._error(error, self.name)
+        return count
+
+    # Questions of one object.
+
+    def row(self, id: int) -> "tuple[int, tuple[Number, ...], int]":
+        """An object: its identifier, box and tag. Raises `NoObject` where there is none."""
+        return tuples(self._form, memoryview(self._row(whole(id, 64, "an identifier"))).cast("B"), self.scale)[0]
+
+    def _row(self, id: int) -> CRow:
+        row = CRow()
+        with self._lock:
+            error = self._lib.rstore_get(self._store._open, self._c_name, id, byref(row))
+            if error:
+                raise self._store._error(error, f"{self.name} {id}")
+        return row
+
+    def _numbers_of(self, id: int) -> bytes:
+        """The box of an object as it is stored."""
+        row, dims = self._row(id), self.dims
+        return bytes(row.low)[: 4 * dims] + bytes(row.high)[: 4 * dims]
+
+    def __getitem__(self, id: int) -> "tuple[Number, ...]":
+        """The box of an object; raises `NoObject`, a `KeyError`, where there is none."""
+        return self.row(id)[1]
+
+    def get(self, id: int, default: Any = None) -> Any:
+        """The box of an object, or `default`."""
+        try:
+            return self.row(id)[1]
+        except NoObject:
+            return default
+
+    def __contains__(self, id: object) -> bool:
+        try:
+            self.row(id)  # type: ignore[arg-type]
+        except (NoObject, Misuse):
+            return False
+        return True
+
+    def __len__(self) -> int:
+        count = c_uint64()
+        with self._lock:
+            error = self._lib.rstore_count(self._store._open, self._c_name, byref(count))
+            if error:
+                raise self._store._error(error, self.name)
+        return count.value
+
+    def __bool__(self) -> bool:
+        return True
+
+    def __iter__(self) -> Iterator[int]:
+        """The identifiers, ascending, as they are when the iteration begins."""
+        for id, _, _ in self.all_rows():
+            yield id
+
+    def items(self) -> Iterator[Any]:
+        """Pairs of an identifier and its box, ascending."""
+        for id, box, _ in self.all_rows():
+            yield id, box
+
+    def all_rows(self) -> Rows:
+        """All objects, in the memory of the library."""
+        low, high = WHOLE
+        return self._rows(WINDOW, BOXES[self.dims].pack(*[low] * self.dims, *[high] * self.dims), None)
+
+    # Range queries.
+
+    def window(self, box: Box, tag: Optional[int] = None) -> "list[tuple[int, tuple[Number, ...], int]]":
+        """The objects whose boxes meet the box (boxes that touch meet), ascending by identifier: tuples of an identifier,
+        a box and a tag. With a tag only those that have it."""
+        return self._range(WINDOW, self._box(box), tag)
+
+    def inside(self, box: Box, tag: Optional[int] = None) -> "list[tuple[int, tuple[Number, ...], int]]":
+        """The objects whose boxes lie within the box."""
+        return self._range(INSIDE, self._box(box), tag)
+
+    def around(self, box: Box, tag: Optional[int] = None) -> "list[tuple[int, tuple[Number, ...], int]]":
+        """The objects whose boxes enclose the box."""
+        return self._range(AROUND, self._box(box), tag)
+
+    def point(self, point: Point, tag: Optional[int] = None) -> "list[tuple[int, tuple[Number, ...], int]]":
+        """The objects whose boxes hold the point."""
+        return self._range(POINT, self._point(point), tag)
+
+    def window_rows(self, box: Box, tag: Optional[int] = None) -> Rows:
+        """`window` with its rows in the memory of the library, for `memoryview` and numpy without a copy. `inside_rows`,
+        `around_rows` and `point_rows` are the same of the others."""
+        return self._rows(WINDOW, self._box(box), tag)
+
+    def inside_rows(self, box: Box, tag: Optional[int] = None) -> Rows:
+        """`inside`, in the memory of the library."""
+        return self._rows(INSIDE, self._box(box), tag)
+
+    def around_rows(self, box: Box, tag: Optional[int] = None) -> Rows:
+        """`around`, in the memory of the library."""
+        return self._rows(AROUND, self._box(box), tag)
+
+    def point_rows(self, point: Point, tag: Optional[int] = None) -> Rows:
+        """`point`, in the memory of the library."""
+        return self._rows(POINT, self._point(point), tag)
+
+    def window_ids(self, box: Box, tag: Optional[int] = None) -> "list[int]":
+        """The identifiers alone of the objects whose boxes meet the box, ascending."""
+        return self._ids(WINDOW, self._box(box), tag)
+
+    def window_count(self, box: Box, tag: Optional[int] = None) -> int:
+        """How many objects there are whose boxes meet the box."""
+        return self._count_in(self._box(box), tag)
+
+    def _count_in(self, numbers: bytes, tag: Optional[int] = None) -> int:
+        store = self._store
+        with self._lock:
+            error = self._lib.rstore_range_into(
+                store._open, self._c_name, WINDOW, numbers, self.dims, tag_at(tag), None, 0, store._count_at
+            )
+            if error:
+                raise store._error(error, self.name)
+            return store._count.value
+
+    def _ids(self, kind: int, numbers: bytes, tag: Optional[int]) -> "list[int]":
+        store = self._store
+        with self._lock:
+            error = store._range_into(
+                store._handle, self._c_name, kind, numbers, self._axes, tag_at(tag), store._room_at, store._room_size, store._count_at
+            )
+            if error:
+                raise store._error(error, self.name)
+            count = store._count.value
+            ids = [id for id, in ID.iter_unpack(store._view[: min(count, ROOM) * ROW_SIZE])]
+            while len(ids) < count:
+                got = self._lib.rstore_more(store._handle, len(ids), store._room_at, ROOM)
+                ids += [id for id, in ID.iter_unpack(store._view[: got * ROW_SIZE])]
+        return ids
+
+    def _range(self, kind: int, numbers: bytes, tag: Optional[int]) -> "list[tuple[int, tuple[Number, ...], int]]":
+        store = self._store
+        with self._lock:
+            count_at = store._count
+            # one call of C for up to 256 rows, into the store's own room
+            error = store._range_into(
+                store._handle, self._c_name, kind, numbers, self._axes, tag_at(tag), store._room_at, store._room_size, store._count_at
+            )
+            if error:
+                raise store._error(error, self.name)
+            count = count_at.value
+            if count <= ROOM:
+                return tuples(self._form, store._view[: count * ROW_SIZE], self.scale)
+            rows = tuples(self._form, store._view, self.scale)
+            while len(rows) < count:
+                got = self._lib.rstore_more(store._handle, len(rows), store._room_at, ROOM)
+                rows += tuples(self._form, store._view[: got * ROW_SIZE], self.scale)
+        return rows
+
+    def _rows(self, kind: int, numbers: bytes, tag: Optional[int]) -> Rows:
+        lib = self._lib
+        ask = (lib.rstore_window, lib.rstore_inside, lib.rstore_around, lib.rstore_point)[kind]
+        at, count = c_void_p(), c_size_t()
+        with self._lock:
+            error = ask(self._store._open, self._c_name, numbers, self.dims, tag_at(tag), byref(at), byref(count))
+            if error:
+                raise self._store._error(error, self.name)
+        return Rows(lib, at.value or 0, count.value, self.dims, self.scale)
+
+    # Nearest and joins.
+
+    def nearest(self, point: Point, k: int = 1) -> "list[tuple[int, Number]]":
+        """The k objects nearest to the point (1 to 1,000,000): pairs of an identifier and the squared distance, by
+        distance and then by identifier. The squared distance is a whole number, exact; with a scale it is divided by
+        the scale twice."""
+        found = self._near(self._point(point), whole(k, 64, "a count"))
+        if self.scale is None:
+            return [(id, high << 64 | low) for id, low, high in found]
+        squared = self.scale * self.scale
+        return [(id, (high << 64 | low) / squared) for id, low, high in found]
+
+    def _near(self, numbers: bytes, k: int) -> "list[tuple[int, int, int]]":
+        """Identifiers and squared distances, each in two halves, the lower first."""
+        store = self._store
+        with self._lock:
+            error = store._nearest(
+                store._handle, self._c_name, c_uint64(k), numbers, self._axes, store._at_at, store._count_at
+            )
+            if error:
+                raise store._error(error, self.name)
+            rows = store._taken(store._at, store._count.value, NEAR.size)
+        return list(NEAR.iter_unpack(rows))
+
+    def _nearest_ids(self, numbers: bytes, k: int) -> "list[int]":
+        return [id for id, _, _ in self._near(numbers, k)]
+
+    def join(self, other: Layer, within: Number = 0) -> "list[tuple[int, int]]":
+        """All pairs of an object of this layer and one of the other whose boxes are at most so far apart (0: that meet),
+        ascending. With a scale, which both must have, the distance is in its numbers, and rounded up."""
+        if self.scale != other.scale:
+            raise Misuse("the layers of a join have different scales")
+        if self._store is not other._store:
+            raise Misuse("the layers of a join are of different stores")
+        distance = within if self.scale is None else math.ceil(within * self.scale)
+        squared = min(whole(distance, 64, "a distance") ** 2, (1 << 64) - 1)
+        at, count = c_void_p(), c_size_t()
+        with self._lock:
+            error = self._lib.rstore_join(self._store._open, self._c_name, other._c_name, squared, byref(at), byref(count))
+            if error:
+                raise self._store._error(error, f"{self.name}, {other.name}")
+        return list(PAIR.iter_unpack(self._store._taken(at, count.value, PAIR.size)))

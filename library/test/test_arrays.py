@@ -1,0 +1,158 @@
+"""test_arrays.py: many questions in one call beside single ones, with numpy where it is installed and without it: kinds,
+tags, scales, two and three axes, arrays of other types, shapes and orders, and what is refused with its index.
+RSTORE_LIBRARY names librstore.so."""
+
+from __future__ import annotations
+
+import array
+import random
+import sys
+import tempfile
+from pathlib import Path
+
+sys.path.insert(0, str(Path(__file__).resolve().parent.parent))
+
+import rstore
+from rstore import _arrays
+
+KINDS = ("window", "inside", "around", "point")
+PREDICATES = {"intersects": "window", "contains": "inside", "within": "around"}
+
+
+def boxes(dice: random.Random, dims: int, count: int, wide: int, scale: int) -> "list[tuple]":
+    made = []
+    for _ in range(count):
+        low = [dice.randrange(1000) for _ in range(dims)]
+        high = [x + dice.randrange(wide) for x in low]
+        made.append(tuple(x / scale if scale > 1 else x for x in (*low, *high)))
+    return made
+
+
+def pairs(found) -> "list[list[int]]":
+    ids, offsets = list(map(int, found.ids)), list(map(int, found.offsets))
+    return [ids[a:b] for a, b in zip(offsets, offsets[1:])]
+
+
+def as_given(numbers, form):
+    """The same numbers as another kind of array."""
+    if form == "list":
+        return numbers
+    flat = [x for one in numbers for x in one]
+    if form == "buffer":
+        return array.array("i", flat)
+    import numpy
+
+    made = numpy.array(numbers, dtype={"int32": "i4", "int64": "i8", "floats": "f8", "turned": "i4"}[form])
+    return numpy.asfortranarray(made) if form == "turned" else made
+
+
+def compare(layer: rstore.Layer, dims: int, scale: int, forms: "list[str]") -> int:
+    dice, tried = random.Random(dims), 0
+    asked = boxes(dice, dims, 40, 200, scale)
+    points = [box[:dims] for box in asked]
+    tags = [dice.randrange(3) for _ in asked]
+    for form in forms:
+        for kind in KINDS:
+            numbers = points if kind == "point" else asked
+            given, single = as_given(numbers, form), getattr(layer, kind)
+            for tag in (None, 1, tags):
+                each = tags if tag is tags else [tag] * len(asked)
+                wanted = [single(one, t) for one, t in zip(numbers, each)]
+                assert pairs(layer.windows(given, kind, tag)) == [[id for id, _, _ in rows] for rows in wanted]
+                found = layer.windows_rows(given, kind, tag)
+                assert list(found.rows) == [row for rows in wanted for row in rows]
+                assert list(layer.counts(given, kind, tag)) == [len(rows) for rows in wanted]
+                tried += len(asked)
+        for k in (1, 10, 5000):
+            found = layer.nearest_many(as_given(points, form), k)
+            for q, point in enumerate(points):
+                single = layer.nearest(point, k)
+                assert [int(id) for id in found.ids[q]] == [id for id, _ in single]
+                assert all(abs(float(a) - b) <= 1e-9 * b for a, (_, b) in zip(found.squared[q], single))
+            tried += len(points)
+    ids = [0, 3, 10**9, 6, 3]
+    assert list(layer.get_many(ids)) == [layer.row(id) if id in layer else None for id in ids]
+    assert layer.get_many(ids)[2] is None and layer.get_many(ids)[-1] == layer.row(3)
+    return tried
+
+
+def refused(kind, act, index=None) -> None:
+    try:
+        act()
+    except kind as error:
+        assert index is None or error.index == index and str(index) in str(error), (error, index)
+    else:
+        raise AssertionError(f"{kind.__name__} was expected")
+
+
+def refusals(layer: rstore.Layer, numpy) -> None:
+    good = (0, 0, 9, 9)
+    refused(rstore.BadBox, lambda: layer.windows([good, good, (5, 5, 1, 9)]), 2)
+    refused(rstore.BadBox, lambda: layer.counts([(5, 5, 1, 9)]), 0)
+    refused(rstore.Error, lambda: layer.windows([good, (0, 0, 1 << 31, 9)]), 1)
+    refused(rstore.Misuse, lambda: layer.windows([good], "near"))
+    refused(rstore.Misuse, lambda: layer.windows([good], tag=1 << 32))
+    refused(rstore.Misuse, lambda: layer.windows([good, good], tag=[1, 1 << 32]), 1)
+    refused(rstore.Misuse, lambda: layer.windows([good, good], tag=[1]))
+    refused(rstore.BadCount, lambda: layer.nearest_many([(0, 0)], 0), 0)
+    refused(rstore.Misuse, lambda: layer.get_many([1, -1]), 1)
+    assert list(layer.windows([]).offsets) == [0] and not len(layer.windows([]).ids)
+    assert not len(layer.counts([])) and not len(layer.nearest_many([]).ids) and not len(layer.get_many([]))
+    if numpy is None:
+        refused(ImportError, lambda: layer.query([good]))
+        return
+    refused(rstore.Misuse, lambda: layer.windows(numpy.zeros((3, 6), "i4")))
+    refused(rstore.Misuse, lambda: layer.windows(numpy.zeros(4, "i8")))
+    refused(rstore.Misuse, lambda: layer.windows(numpy.zeros((3, 4), "f8")))
+    refused(rstore.Misuse, lambda: layer.windows(numpy.array([["a"] * 4])))
+    refused(rstore.Misuse, lambda: layer.query([good], "touches"))
+    refused(rstore.Misuse, lambda: layer.windows(numpy.array([good, (0, 0, 1 << 40, 9)])), 1)
+    for predicate, kind in PREDICATES.items():
+        found, singles = layer.query(numpy.array([good, (0, 0, 900, 900)]), predicate), []
+        for q, one in enumerate((good, (0, 0, 900, 900))):
+            singles += [(q, id) for id, _, _ in getattr(layer, kind)(one)]
+        assert found.shape == (2, len(singles)) and [tuple(map(int, pair)) for pair in found.T] == singles
+    kept = numpy.array([good], "i4")
+    kept.flags.writeable = False
+    assert len(layer.windows(kept).offsets) == 2
+
+
+def run(path: str, numpy) -> int:
+    """All of it, with numpy or without it."""
+    _arrays._NUMPY = numpy or False
+    tried = 0
+    with rstore.open(path, create=True) as db:
+        for dims in (2, 3):
+            for scale in (1, 100):
+                layer = db.create_layer(f"d{dims}_{scale}_{'n' if numpy else 'p'}", dims, scale=None if scale == 1 else scale)
+                dice = random.Random(7)
+                layer.load((3 * k, box, dice.randrange(3)) for k, box in enumerate(boxes(dice, dims, 2000, 40, scale)))
+                forms = ["list", "buffer"] if scale == 1 else ["list"]
+                if numpy:
+                    forms += ["int32", "int64", "turned"] if scale == 1 else ["floats"]
+                tried += compare(layer, dims, scale, forms)
+        flat = db.create_layer("flat" + ("n" if numpy else "p"))
+        flat.load((k, (k, k, k + 5, k + 5)) for k in range(1000))
+        refusals(flat, numpy)
+        if numpy:
+            large = db.create_layer("decimal", scale=100)
+            refused(rstore.Misuse, lambda: large.windows(numpy.array([[0, 0, 1, 1], [0, 0, numpy.nan, 1.0]])), 1)
+            refused(rstore.Misuse, lambda: large.windows(numpy.array([[0, 0, 1e9, 1.0]])), 0)
+    return tried
+
+
+def main() -> None:
+    try:
+        import numpy
+    except ImportError:
+        numpy = None
+    with tempfile.TemporaryDirectory() as folder:
+        tried = run(folder + "/plain.rst", None)
+        print(f"{tried} questions in one call as one by one, without numpy")
+        if numpy is None:
+            print("numpy is not installed: arrays of it were not tried")
+        else:
+            print(f"{run(folder + '/arrays.rst', numpy)} with numpy")
+
+
+main()
