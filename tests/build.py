@@ -407,7 +407,7 @@ class WithTheKit(Builds):
     def test_a_right_crate_is_proved_and_a_wrong_one_refused(self):
         self.path = os.environ["PATH"]
         self.repository("low:\nabove: low\n", low=LOW, above=ABOVE)
-        for status, text, said in ((0, ABOVE, ""), (1, ABOVE.replace("a, 7", "7, a"), "fn above::seven: not proved")):
+        for status, text, said in ((0, ABOVE, ""), (1, ABOVE.replace("a, 7", "7, a"), "fn above::seven: no proof")):
             self.crate("above", text)
             ran = self.begin("above")
             told = ran.communicate(timeout=600)[1]
