@@ -17,7 +17,7 @@ from plain_table import RandomText, Table
 from rows import Answers, told
 from runs import main
 
-SESSIONS = 8
+SESSIONS = 16
 RUNS_OF_A_SESSION = 16
 LINES_OF_A_RUN = 125
 
