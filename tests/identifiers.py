@@ -131,7 +131,7 @@ class Many(Tables):
     def test_a_hundred_thousand_objects_come_and_go(self):
         dice = random.Random(1)
         many = 100_000 if self.program == BUILT else 20_000
-        idents = dice.sample(range(2**64), many)
+        idents = [scattered(number + 1) for number in range(many)]
         kept = {ident: row(ident, number, 2, number % 1000) for number, ident in enumerate(idents)}
         commands = ["create a 2 100", *(f"insert a {kept[ident]}" for ident in idents)]
         self.write("store", b"")
