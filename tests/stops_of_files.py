@@ -16,7 +16,8 @@ checked: where a sync is left out of the calls, or a call is moved ahead, it has
 
 stops_of_files.py [SECONDS [SEED [SCRIPT ..]]]      without SECONDS, or with 0: all, which takes hours
 
-PROGRAM names another program than the built one, and ONLY, as "closings kill 31", does one task of a seed alone.
+PROGRAM names another program than the built one, JOBS how many tasks are done at once, and ONLY, as "closings kill 31",
+does one task of a seed alone.
 """
 import collections
 import contextlib
@@ -377,7 +378,7 @@ def check(checker, scripts):
         return f"{dict(checker.tally)}"
     tasks = list(itertools.zip_longest(*(checker.tasks(script) for script in scripts)))
     tasks = [*(WHOLE if len(scripts) > 1 else ()), *(task for row in tasks for task in row if task)]
-    results, jobs = multiprocessing.Queue(), os.cpu_count()
+    results, jobs = multiprocessing.Queue(), int(os.environ.get("JOBS", os.cpu_count()))
     parts = [(checker, number, tasks[number::jobs], results) for number in range(jobs)]
     workers = [multiprocessing.Process(target=work_on, args=part) for part in parts]
     for worker in workers:
