@@ -43,6 +43,7 @@ UNENDED = "rstore: the last run did not end; what changed after its last closing
 SYNCS = ("sync", "folder")
 MOST_KNOWN = 200000  # states of which it is kept what is found there
 REFUSED_WRITES = "a refused start writes"
+DAMAGED_WRITES = "a refused start of damaged files writes"
 WHOLE = ("filtered", "damaged", "turned")  # tasks of no script
 SHARED = os.environ.get("RSTORE_LIBRARY", os.path.join(TOP, "library", "lib", "librstore.so"))
 # The words of a session of the library.
@@ -55,6 +56,7 @@ KNOWN = {
     "a failed sync that is not told",
     "a link that is turned",
     REFUSED_WRITES,
+    DAMAGED_WRITES,
 }
 
 
@@ -261,7 +263,7 @@ class Checker:
                 self.tally["damaged"] += 1
                 found = self.found(other)
                 if found.what == REFUSED and is_changed(other, found.left):
-                    self.tell(found.text, REFUSED_WRITES, what)
+                    self.tell(found.text, DAMAGED_WRITES, what)
                 if found.text.startswith("status") and not found.text.startswith(("status 0,", "status 1,")):
                     self.tell(found.text, "damaged files", what)
 
