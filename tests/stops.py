@@ -112,11 +112,11 @@ class Trace:
         elif word in ("fsync", "fdatasync") and file:
             of = ("folder", ()) if file == "." else ("sync", file)
             self.calls.append(Call(*of, data=word.encode(), went=went))
-        elif word == "pwrite64" and file:
-            data, at = plain(TEXT.search(given)[1]), int(given.rsplit(",", 1)[1])
-            self.calls.append(Call("write", file, at, data[: int(answer)] if went else data, went))
-        elif went and (any(files) or word == "sync" or set(names) & set(NAMES)):
-            raise ValueError(f"a call that the disk does not know: {word}")
+        elif word == "pwrite64" and file and went:
+            data, at = plain(TEXT.search(given)[1])[: int(answer)], int(given.rsplit(",", 1)[1])
+            self.calls.append(Call("write", file, at, data))
+        elif file and "write" in word or went and (any(files) or word == "sync" or set(names) & set(NAMES)):
+            raise ValueError(f"a call that the disk does not know: {word} {answer}")
 
     def open(self, name, given, number):
         if number < 0:

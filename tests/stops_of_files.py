@@ -16,7 +16,8 @@ checked: where a sync is left out of the calls, or a call is moved ahead, it has
 
 stops_of_files.py [SECONDS [SEED [SCRIPT ..]]]      without SECONDS, or with 0: all, which takes hours
 
-PROGRAM names another program than the built one, and ONLY, as "closings kill 31", does one task of a seed alone.
+PROGRAM names another program than the built one, JOBS how many tasks are done at once, and ONLY, as "closings kill 31",
+does one task of a seed alone.
 """
 import collections
 import contextlib
@@ -42,6 +43,7 @@ UNENDED = "rstore: the last run did not end; what changed after its last closing
 SYNCS = ("sync", "folder")
 MOST_KNOWN = 200000  # states of which it is kept what is found there
 REFUSED_WRITES = "a refused start writes"
+DAMAGED_WRITES = "a refused start of damaged files writes"
 WHOLE = ("filtered", "damaged", "turned")  # tasks of no script
 SHARED = os.environ.get("RSTORE_LIBRARY", os.path.join(TOP, "library", "lib", "librstore.so"))
 # The words of a session of the library.
@@ -54,6 +56,7 @@ KNOWN = {
     "a failed sync that is not told",
     "a link that is turned",
     REFUSED_WRITES,
+    DAMAGED_WRITES,
 }
 
 
@@ -113,8 +116,8 @@ class Checker:
         found = self.found(state)
         if found.what == "a table" and found.text in may:
             again = self.found(found.left)
-            if any(found.left[1:]):
-                return "files are left beside it"
+            if found.left[1] is not None:
+                return "its journal is left"
             return None if again[:2] == found[:2] else f"opened again it has {again.what}: {again.text[:300]}"
         if found.what == REFUSED and REFUSED in may:
             return f"{REFUSED_WRITES}: {found.text}" if is_changed(state, found.left) else None
@@ -162,6 +165,7 @@ class Checker:
         self.look(states, may, "stop", self.at(run, number))
         state = self.chance.choice(states)
         if self.found(state).what == "a table":
+            self.ever |= may
             self.follow(Disk(state), {self.found(state).text}, 1, "stop, then a stop", self.at(run, number))
 
     def kill(self, script, number):
@@ -169,7 +173,7 @@ class Checker:
         state, run, moments = self.first(script)
         disk = Disk.behind(state, run.calls[:number])
         if not disk.is_sure():
-            story = name_of("a run that is killed", disk.unsynced()), self.at(run, number)
+            story = name_of("a run that is killed", disk, True), self.at(run, number)
             self.follow(disk, may_be(run, moments, number), 1, *story)
 
     def sync(self, script, number, more=""):
@@ -183,7 +187,7 @@ class Checker:
         ends = self.chance.sample(range(number + 1, len(run.calls) + 1), 1) + [len(run.calls)]
         for count, call in enumerate(run.calls[number:], number + 1):
             disk.take(call)
-            story = name_of("a failed sync", disk.dropped()), self.at(run, number + 1)
+            story = name_of("a failed sync", disk), self.at(run, number + 1)
             may = may_be(run, moments, count)
             self.look(disk.outcomes(self.chance, 3, True), may, *story, self.at(run, count))
             if count in ends:
@@ -191,15 +195,18 @@ class Checker:
 
     def follow(self, disk, before, more, *story):
         """Another run over the state as it is read, where one of these may be found before, which is stopped behind
-        each call; and so on from one of them."""
+        each call; and so on from one of them. A sync of it may fail."""
         given = ["dump", *self.chance.choice(NEXT)]
         words = self.chance.choice([[], [], [], ["--cache", "8"], ["--read-only"]])
+        fails = f"fdatasync:error=EIO:when={self.chance.randrange(1, 10)}{self.chance.choice(['', '+'])}"
+        fails = fails if self.chance.random() < 0.2 else None
         is_reader = "--read-only" in words
-        run = Run(self.work, disk.shown(), [self.program, *words], given[:1] if is_reader else given)
+        run = Run(self.work, disk.shown(), [self.program, *words], given[:1] if is_reader else given, fails)
         disk = disk.restarted()
-        story = (*story, f"a run {' '.join(words)} reads {given[1:]}")
+        story = (*story, " ".join(["a run", *words, "reads", str(given[1:]), *([fails] if fails else [])]))
         opened = run.told[0] if run.told else REFUSED
-        if opened not in before and not (is_reader and opened == REFUSED):
+        self.ever |= before
+        if opened not in (self.ever if is_reader else before) | ({REFUSED} if is_reader or fails else set()):
             return self.tell(f"it finds {opened[:300]} {run.said}", *story)
         if is_reader and any(call.word in ("write", "make", "remove", "rename") for call in run.calls):
             return self.tell("it writes", *story)
@@ -207,18 +214,18 @@ class Checker:
         goes_on = self.chance.randrange(len(run.calls) + 1) if more else None
         for count, call in enumerate(run.calls, 1):
             disk.take(call)
-            may = may_be(run, moments, count)
+            may, kind = may_be(run, moments, count), name_of(story[0], disk)
             states = disk.outcomes(self.chance, 3, True)
-            self.look(states, may, *story, self.at(run, count))
+            self.look(states, may, kind, *story[1:], self.at(run, count))
             if count == goes_on:
-                self.go_on(disk, states, may, more - 1, *story, f"cut short at {self.at(run, count)}")
+                self.go_on(disk, states, may, more - 1, kind, *story[1:], f"cut short at {self.at(run, count)}")
         return None
 
     def go_on(self, disk, states, may, more, *story):
         """The run that follows where one is killed, or where a stop has left one of these states."""
         state = self.chance.choice(states)
         if self.chance.random() < 0.5:
-            self.follow(disk.copy(), may, more, name_of(story[0], disk.unsynced()), *story[1:])
+            self.follow(disk.copy(), may, more, name_of(story[0], disk, True), *story[1:])
         elif self.found(state).what == "a table":
             self.follow(Disk(state), {self.found(state).text}, more, *story)
 
@@ -230,6 +237,7 @@ class Checker:
     def do(self, task):
         """Does a task."""
         self.task, self.chance = task, random.Random(f"{self.seed} {task}")
+        self.ever = set()  # what might be found so far, which one that only reads may find without the journal
         if task in WHOLE:
             getattr(self, task)()
         else:
@@ -255,7 +263,7 @@ class Checker:
                 self.tally["damaged"] += 1
                 found = self.found(other)
                 if found.what == REFUSED and is_changed(other, found.left):
-                    self.tell(found.text, REFUSED_WRITES, what)
+                    self.tell(found.text, DAMAGED_WRITES, what)
                 if found.text.startswith("status") and not found.text.startswith(("status 0,", "status 1,")):
                     self.tell(found.text, "damaged files", what)
 
@@ -308,15 +316,17 @@ class Checker:
             self.tally["filters"] += 1
 
 
-def name_of(kind, blocks):
-    """The name of a fault where these blocks were not synced."""
-    if "store-journal block 1" in blocks:
+def name_of(kind, disk, is_killed=False):
+    """The name of a fault of this kind, or by what a failed sync has dropped, or was not synced by a run that is
+    killed."""
+    dropped = disk.dropped()
+    if "store-journal block 1" in dropped or is_killed and "store-journal block 1" in disk.unsynced():
         return "an end that was not synced"
-    if kind == "a failed sync" and "store-journal block 2" in blocks:
+    if "store-journal block 2" in dropped:
         return "a journal's gate whose sync failed"
-    if kind == "a failed sync" and "store block 0" in blocks:
+    if "store block 0" in dropped:
         return "a mark whose sync failed"
-    return kind
+    return "a failed sync" if dropped else kind
 
 
 def is_changed(before, after):
@@ -370,7 +380,7 @@ def check(checker, scripts):
         return f"{dict(checker.tally)}"
     tasks = list(itertools.zip_longest(*(checker.tasks(script) for script in scripts)))
     tasks = [*(WHOLE if len(scripts) > 1 else ()), *(task for row in tasks for task in row if task)]
-    results, jobs = multiprocessing.Queue(), os.cpu_count()
+    results, jobs = multiprocessing.Queue(), int(os.environ.get("JOBS", os.cpu_count()))
     parts = [(checker, number, tasks[number::jobs], results) for number in range(jobs)]
     workers = [multiprocessing.Process(target=work_on, args=part) for part in parts]
     for worker in workers:
