@@ -339,14 +339,19 @@ static void settled(void) {
     for (int slot = 0; slot < OPEN; slot++) if (file_of[slot] >= 0) die("a file stays open", slot);
 }
 
+/* Whether this may be answered where no store stands: by a check of opening, or there is no file. */
+static bool refuses(int error) {
+    return error == RSTORE_NOT_CLOSED || error == RSTORE_NOT_A_STORE || error == RSTORE_WRONG_VERSION
+        || error == RSTORE_DAMAGED || error == RSTORE_CANNOT_OPEN;
+}
+
 /* Opens what is left to be only read, which writes nothing. */
 static void only_reads(void) {
     starts(-1);
     int error = rstore_open(names[0], RSTORE_READ_ONLY, 8, &db);
     if (error) {
         refused++;
-        if (error != RSTORE_NOT_CLOSED && error != RSTORE_NOT_A_STORE && error != RSTORE_CANNOT_OPEN)
-            die("a reader is refused:", error);
+        if (!refuses(error)) die("a reader is refused:", error);
     } else {
         answered++;
         struct table table = found();
@@ -362,8 +367,7 @@ static void finds(bool stood, int flags, long after) {
     starts(-1);
     int error = rstore_open(names[0], flags, 8, &db);
     if (error) {
-        if (stood || (error != RSTORE_NOT_CLOSED && error != RSTORE_NOT_A_STORE && error != RSTORE_CANNOT_OPEN))
-            die(rstore_errstr(error), after);
+        if (stood || !refuses(error)) die(rstore_errstr(error), after);
         refused++;
         settled();
         return;
