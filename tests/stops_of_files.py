@@ -327,7 +327,7 @@ def name_of(kind, disk, is_killed=False):
         return "a mark whose sync failed"
     if "store size" in dropped:
         return "added blocks whose sync failed"
-    return "a failed sync" if dropped else kind
+    return "a failed sync" if dropped and kind not in KNOWN else kind
 
 
 def is_changed(before, after):
