@@ -207,9 +207,7 @@ class Disk:
 
     def restarted(self):
         """The same disk for another run of the same boot, whose files of a name are numbered from 0 again."""
-        numbers = {}
-        for name, now in self.names.items():
-            numbers[now] = (name, 0)
+        numbers = {now: (name, 0) for name, now in self.names.items()}
         for file in self.files:
             numbers.setdefault(file, (file[0], -1 - len(numbers)))
         disk = self.copy()
@@ -254,8 +252,10 @@ class Disk:
         return {*self.earlier, *blocks}
 
     def dropped(self):
-        """The blocks that failed syncs have dropped, as texts."""
-        return {f"{file[0]} block {block}" for file, kept in self.files.items() for block in kept.dropped}
+        """The blocks that failed syncs have dropped, and the files that may lack such at their ends, as texts."""
+        files = self.files.items()
+        short = {f"{file[0]} size" for file, kept in files if kept.dropped - set(range(len(kept.sure)))}
+        return short | {f"{file[0]} block {block}" for file, kept in files for block in kept.dropped}
 
     def choices(self):
         """What a stop chooses: of each name, size and block that is not sure what it may be, the first as it is read

@@ -53,6 +53,7 @@ KNOWN = {
     "an end that was not synced",
     "a journal's gate whose sync failed",
     "a mark whose sync failed",
+    "added blocks whose sync failed",
     "a failed sync that is not told",
     "a link that is turned",
     REFUSED_WRITES,
@@ -131,8 +132,7 @@ class Checker:
             if time.time() > self.until:
                 raise OutOfTime
             self.tally["stops"] += 1
-            fault = self.fault_of(state, may)
-            if fault:
+            if fault := self.fault_of(state, may):
                 self.tell(fault, *story)
 
     def tell(self, fault, *story):
@@ -187,7 +187,7 @@ class Checker:
         ends = self.chance.sample(range(number + 1, len(run.calls) + 1), 1) + [len(run.calls)]
         for count, call in enumerate(run.calls[number:], number + 1):
             disk.take(call)
-            story = name_of("a failed sync", disk), self.at(run, number + 1)
+            story = name_of("a failed sync", disk, True), self.at(run, number + 1)
             may = may_be(run, moments, count)
             self.look(disk.outcomes(self.chance, 3, True), may, *story, self.at(run, count))
             if count in ends:
@@ -270,10 +270,9 @@ class Checker:
     def turned(self):
         """FILE is a link, which is turned to another file whose run was killed: that one keeps its journal."""
         folder = os.path.join(self.work, "links")
-        os.mkdir(folder)
         states = {name: os.path.join(folder, name) for name in ("one", "two")}
         for path in states.values():
-            os.mkdir(path)
+            os.makedirs(path)
             put_state(path, self.base)
         link = os.path.join(folder, "link")
         pipes = {"stdin": subprocess.PIPE, "stdout": subprocess.PIPE, "stderr": subprocess.DEVNULL, "text": True}
@@ -326,7 +325,9 @@ def name_of(kind, disk, is_killed=False):
         return "a journal's gate whose sync failed"
     if "store block 0" in dropped:
         return "a mark whose sync failed"
-    return "a failed sync" if dropped else kind
+    if "store size" in dropped:
+        return "added blocks whose sync failed"
+    return "a failed sync" if dropped and kind not in KNOWN else kind
 
 
 def is_changed(before, after):
