@@ -73,7 +73,8 @@ pub fn remove<const D: usize, B: BlockDevice, A: Allocator + Copy>(
 }
 
 /// Removes an object as `remove` does. The `Waiting` and the `Kept` serve again afterwards, also after a
-/// refusal; before the first write the `Waiting` gets room for insertions into a tree one level higher.
+/// refusal; before the first write the `Waiting` gets room for insertions into the tallest tree, so that none
+/// of them takes memory for what waits, however often the root rises.
 pub fn remove_with<const D: usize, B: BlockDevice, A: Allocator + Copy>(
     cache: &mut PageCache<B, A>,
     root: Root,
@@ -86,7 +87,8 @@ pub fn remove_with<const D: usize, B: BlockDevice, A: Allocator + Copy>(
     ensures { Removes D fanout.most root object.now.reference (object.now.bounds, object.now.tag)
         cache.old cache.new result }
 {
-    waiting.make_room(root.level + 1)?;
+    // what is kept comes back by many insertions, and the root may rise with each
+    waiting.make_room(40)?;
     let orphans = &mut kept.orphans;
     let hand = &mut kept.hand;
     orphans.begin();
