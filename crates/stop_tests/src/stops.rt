@@ -44,7 +44,7 @@ fn opened(alloc: Global, left: MemoryPair, passes: u64) -> Result<Device, Fused>
     let mut pair = FusePair::new(left, passes, FuseMode::Onward);
     let pair = match judge_and_finish(&mut pair) {
         Ok(Found::Own) => pair,
-        Ok(Found::Fresh) | Ok(Found::Ended) => renewed(alloc, pair, passes)?,
+        Ok(Found::Fresh) | Ok(Found::Ended) | Ok(Found::Unended) => renewed(alloc, pair, passes)?,
         _ => return Err(pair),
     };
     match open_over(pair, alloc) {
