@@ -6,6 +6,7 @@
 #include <errno.h>
 #include <fcntl.h>
 #include <stdbool.h>
+#include <stdio.h>
 #include <stdlib.h>
 #include <string.h>
 #include <sys/file.h>
@@ -16,9 +17,10 @@
 /* What the proved code calls a Handle is the first member: the address of a session, in a block of malloc's. */
 struct rstore {
     void *session;
-    int fd[2];      /* the file, and its journal or -1 */
+    int fd[3];      /* the file; its journal, or -1; and the copy that took the journal's place, or -1 */
     char *journal;  /* the path of the journal, or NULL */
-    bool memory;    /* both files are in memory, without names */
+    char *part;     /* where a copy of it is made, or NULL */
+    bool memory;    /* the files are in memory, without names */
     unsigned char letter, side, outcome; /* of the last request, and how it went */
     off_t at;
 };
@@ -62,25 +64,38 @@ static int open_memory(int *fd) {
     return REFUSED;
 }
 
-/* Opens the journal, or makes it; one that was open is closed. In memory there is none but one that is made. */
-static int open_journal(rstore *db, int how) {
+/* Opens the journal, or makes it, or makes a copy's file; one that was open is closed. In memory there is none but one that
+ * is made. */
+static int open_journal(rstore *db, int side, const char *path, int how) {
     int fd, error = REFUSED;
-    if (db->journal) error = open_locked(db->journal, O_RDWR | how, LOCK_EX, &fd);
+    if (path) error = open_locked(path, O_RDWR | how, LOCK_EX, &fd);
     else if (db->memory && how & O_CREAT) error = open_memory(&fd);
     if (error) return error;
-    if (db->fd[1] >= 0) close(db->fd[1]);
-    db->fd[1] = fd;
+    if (db->fd[side] >= 0) close(db->fd[side]);
+    db->fd[side] = fd;
     return DONE;
 }
 
-/* Removes the journal, and syncs its folder. */
-static int remove_journal(rstore *db) {
+/* Makes an empty file for a copy, in the place of one that was left. */
+static int make_copy(rstore *db) {
+    if (db->part) unlink(db->part);
+    return open_journal(db, 2, db->part, O_CREAT | O_EXCL);
+}
+
+/* Removes the journal that is open, or gives its path to its copy, and syncs the folder. Nothing is done to another file
+ * that lies there. */
+static int unlink_journal(rstore *db, bool replaced) {
+    struct stat there, open;
     if (db->memory) return DONE; /* it goes with the handle */
     int folder = db->journal ? folder_of(db->journal) : -1;
     if (folder < 0) return REFUSED;
-    bool gone = (!unlink(db->journal) || errno == ENOENT) && !fsync(folder);
+    bool found = !lstat(db->journal, &there), missing = !found && errno == ENOENT && !replaced;
+    bool own = found && !fstat(db->fd[db->fd[2] < 0 || replaced ? 1 : 2], &open)
+               && there.st_dev == open.st_dev && there.st_ino == open.st_ino;
+    bool done = missing || (own && !(replaced ? rename(db->part, db->journal) : unlink(db->journal)));
+    done = done && !fsync(folder);
     close(folder);
-    return gone ? DONE : REFUSED;
+    return done ? DONE : REFUSED;
 }
 
 /* A block, whole, read or written; what the file lacks reads as zeros. */
@@ -106,7 +121,7 @@ ssize_t rstore_stream_write(int fd, const void *bytes, size_t count) {
         db->outcome = (unsigned char)block(db, NULL, bytes);
         return 4096;
     }
-    if (!db || fd != 1 || count != 10 || b[1] > 1) { errno = EINVAL; return -1; }
+    if (!db || fd != 1 || count != 10 || b[1] > 2) { errno = EINVAL; return -1; }
     uint64_t at = 0;
     for (int k = 9; k >= 2; k--) at = at << 8 | b[k];
     db->letter = b[0];
@@ -114,9 +129,11 @@ ssize_t rstore_stream_write(int fd, const void *bytes, size_t count) {
     db->at = (off_t)at;
     switch (db->letter) {
     case 'y': db->outcome = fdatasync(db->fd[db->side]) ? REFUSED : DONE; break;
-    case 'o': db->outcome = (unsigned char)open_journal(db, 0); break;
-    case 'm': db->outcome = (unsigned char)open_journal(db, O_CREAT); break;
-    case 'x': db->outcome = (unsigned char)remove_journal(db); break;
+    case 'o': db->outcome = (unsigned char)open_journal(db, 1, db->journal, 0); break;
+    case 'm': db->outcome = (unsigned char)open_journal(db, 1, db->journal, O_CREAT); break;
+    case 'x': db->outcome = (unsigned char)unlink_journal(db, false); break;
+    case 'c': db->outcome = (unsigned char)make_copy(db); break;
+    case 'p': db->outcome = (unsigned char)unlink_journal(db, true); break;
     default: break;
     }
     return 10;
@@ -184,17 +201,19 @@ static int open_files(rstore *db, const char *path, int flags) {
     if (!real) return errno == ENOMEM ? RSTORE_MEMORY : RSTORE_CANNOT_OPEN;
     size_t length = strlen(real);
     db->journal = malloc(length + sizeof "-journal");
+    db->part = malloc(length + sizeof "-journal-part");
     if (db->journal) strcpy(strcpy(db->journal, real) + length, "-journal");
+    if (db->part) strcpy(strcpy(db->part, real) + length, "-journal-part");
     free(real);
-    return db->journal ? RSTORE_OK : RSTORE_MEMORY;
+    return db->journal && db->part ? RSTORE_OK : RSTORE_MEMORY;
 }
 
 /* Lets go of the files, with their locks, and of the handle. */
 static int let_go(rstore *db) {
     int failed = 0;
-    for (int side = 1; side >= 0; side--)
+    for (int side = 2; side >= 0; side--)
         if (db->fd[side] >= 0 && close(db->fd[side])) failed = RSTORE_DEVICE;
-    free(db->journal), free(db->session), free(db);
+    free(db->journal), free(db->part), free(db->session), free(db);
     serving = NULL;
     return failed;
 }
@@ -206,7 +225,7 @@ int rstore_open(const char *path, int flags, uint32_t cache, rstore **opened) {
     ASK(path ? *path && flags >= RSTORE_EXISTING && flags <= RSTORE_READ_ONLY : flags == RSTORE_CREATE);
     rstore *db = calloc(1, sizeof *db);
     if (!db) return RSTORE_MEMORY;
-    db->fd[0] = db->fd[1] = -1;
+    db->fd[0] = db->fd[1] = db->fd[2] = -1;
     int error = open_files(db, path, flags);
     if (!error) error = DO(rstore_c_open((uint32_t)flags, cache ? cache : 1024, &db->session, &refused_detail));
     if (error) let_go(db);

@@ -136,10 +136,11 @@ enum {
  * handle, else NULL. */
 int rstore_open(const char *path, int flags, uint32_t cache, rstore **db);
 
-/* Keeps all changes in the file and frees the handle, whatever it answers. NULL is fine. */
+/* Keeps all changes in the file and frees the handle, whatever it answers. RSTORE_DEVICE is answered, too, where all was
+ * kept and only the end of the session failed, which the next rstore_open does. NULL is fine. */
 int rstore_close(rstore *db);
 
-/* Keeps all changes in the file (four or five syncs, none where nothing was changed), and goes on. */
+/* Keeps all changes in the file (four to six syncs, none where nothing was changed), and goes on. */
 int rstore_commit(rstore *db);
 
 /* Reads every page: RSTORE_OK only where the file is sound, RSTORE_DAMAGED where it is not. */

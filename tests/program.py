@@ -278,6 +278,20 @@ class CutShort(Runs):
         os.rename(self.path("away"), self.path("store"))
         self.holds_one(UNENDED)
 
+    def test_a_run_removes_no_other_journal_where_its_link_was_turned(self):
+        self.answers("--create other", FIRST, SAID)
+        os.symlink("other", self.path("link"))
+        run = self.held("link", "insert a 3 0 0 1 1\nreopen\n", "ok\nok\n")
+        os.remove(self.path("link"))
+        os.symlink("store", self.path("link"))
+        run.stdin.close()
+        self.assertEqual(run.wait(), 0)
+        self.assertEqual(sorted(self.files()), ["link", "other", "store", "store-journal"])
+        self.answers("other", "count a\n", "ok 1\n3\n")
+        os.remove(self.path("link"))
+        os.remove(self.path("other"))
+        self.holds_one(UNENDED)
+
 
 class Strict(Runs):
     """The first line that is refused ends the run, is told by its number, and nothing is closed."""

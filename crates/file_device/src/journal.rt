@@ -2,9 +2,11 @@
 ghost use Rattle.std.specs.Prelude.{◌≡◌, ◌++◌, IfOk, codes, string_bytes};
 
 use crate::open::folder_of;
+use crate::{FileDevice, HostFile, OpenError, open_file};
 use std::alloc::{AllocError, Allocator};
 use std::fs::{self, File, Files};
 use std::io::{self, ErrorKind};
+use std::os::unix::fs::MetadataExt;
 
 /// The path of the journal of the file at `path`: it lies beside the file, by the file's name and `-journal`.
 pub fn journal_path<A: Allocator>(alloc: A, path: &str) -> Result<String<A>, AllocError>
@@ -13,15 +15,70 @@ pub fn journal_path<A: Allocator>(alloc: A, path: &str) -> Result<String<A>, All
     format!(in alloc; "{path}-journal")
 }
 
-/// Removes the journal at `path`, if there is one, and syncs its folder, so that a stop after this doesn't
-/// bring it back. A stop before leaves it or not.
+/// The path of the file in which a copy of the journal at `path` is made.
+pub fn copy_path<A: Allocator>(alloc: A, path: &str) -> Result<String<A>, AllocError>
+    ensures { IfOk result (λ name. string_bytes name ≡ path.now ++ codes "-part") }
+{
+    format!(in alloc; "{path}-part")
+}
+
+/// Removes the journal, which is open, from the path at which it was opened, and syncs its folder, so that a
+/// stop after this doesn't bring it back. A stop before leaves it or not.
 ///
 /// So it is for a journal that recovery leaves out: one that is not complete. The folder is opened first:
-/// where it can't be, nothing is removed.
-pub fn remove_journal<R: Files<File = File>>(rt: &R, path: &str) -> io::Result<()> {
+/// where it can't be, nothing is removed. Nor is it where another file lies at the path.
+pub fn remove_journal<R: Files<File = File>>(
+    rt: &R,
+    path: &str,
+    journal: &FileDevice<HostFile<File>>,
+) -> io::Result<()> {
     let folder = File::open(rt, folder_of(path))?;
-    match fs::remove_file(rt, path) {
-        Err(error) if error.kind() != ErrorKind::NotFound => Err(error),
-        _ => folder.sync_all(),
+    match lies_at(rt, path, journal) {
+        Err(error) if error.kind() == ErrorKind::NotFound => folder.sync_all(),
+        Err(error) => Err(error),
+        Ok(false) => Err(io::Error::from(ErrorKind::NotFound)),
+        Ok(true) => {
+            fs::remove_file(rt, path)?;
+            folder.sync_all()
+        }
     }
+}
+
+/// Gives a copy of the journal, which is open, its path, and syncs its folder: a stop before this leaves the
+/// one or the other there, and one after it the copy. Nothing is done where another file lies at the path.
+pub fn replace_journal<R: Files<File = File>>(
+    rt: &R,
+    copy: &str,
+    path: &str,
+    journal: &FileDevice<HostFile<File>>,
+) -> io::Result<()> {
+    let folder = File::open(rt, folder_of(path))?;
+    if !lies_at(rt, path, journal)? {
+        return Err(io::Error::from(ErrorKind::NotFound));
+    }
+    fs::rename(rt, copy, path)?;
+    folder.sync_all()
+}
+
+/// Makes an empty file at a path, in the place of one that a run left there which was cut short.
+pub fn make_anew<R: Files<File = File>>(
+    rt: &R,
+    path: &str,
+) -> Result<FileDevice<HostFile<File>>, OpenError> {
+    let _ = fs::remove_file(rt, path); // what can't be removed is found not to be empty
+    open_file(rt, path, true)
+}
+
+// Whether the file that lies at a path is this one, by the numbers that the system has for it.
+fn lies_at<R: Files<File = File>>(
+    rt: &R,
+    path: &str,
+    open: &FileDevice<HostFile<File>>,
+) -> io::Result<bool> {
+    let found = fs::symlink_metadata(rt, path)?;
+    let own = open.file().metadata()?;
+    if found.dev() != own.dev() {
+        return Ok(false);
+    }
+    Ok(found.ino() == own.ino())
 }

@@ -3,10 +3,13 @@
 use crate::failing::{Calls, FailingFile};
 use crate::steps::Step::{Begin, Blocks, Read, Sync, Write};
 use crate::steps::{DONE, FAILED, Other, Steps, first_other};
-use crate::turns::Turn::{Length, Opening, RemoveJournal};
-use crate::turns::{How, Opened, Part, Turn, opening, played};
+use crate::turns::Turn::{Length, Opening};
+use crate::turns::{How, Opened, Part, Turn, length_of, opening, played};
 use block_device::{DeviceError, MemoryDevice};
-use file_device::{BlocksFile, FileDevice, OpenError, journal_path, remove_journal};
+use file_device::{
+    BlocksFile, FileDevice, OpenError, copy_path, journal_path, make_anew, open_file,
+    remove_journal, replace_journal,
+};
 use std::alloc::Global;
 use std::test::Fail;
 use std::{fs, io};
@@ -102,18 +105,11 @@ const PARTS: [Part; 10] = [
             (Blocks, Ok(3)),
         ])],
     },
-    // It may be removed while it is open. Where there is none, nothing is left to do.
     Part {
-        about: "a journal is locked, and removed",
+        about: "a journal is locked",
         path: "file_tests/j-journal",
         how: How::Made,
-        turns: &[
-            Length(Some(0)),
-            Opening(How::Made, IN_USE),
-            RemoveJournal,
-            Length(None),
-            RemoveJournal,
-        ],
+        turns: &[Length(Some(0)), Opening(How::Made, IN_USE)],
     },
 ];
 
@@ -181,22 +177,72 @@ fn what_is_no_file_is_refused(rt: HostRuntime) -> Result<(), Fail> {
     for (path, ways, why) in REFUSED {
         assert_eq!(rt; other_opening(&rt, path, ways, why), None, "{path}");
     }
-    assert!(rt; remove_journal(&rt, "file_tests_d/none/a-journal").is_err());
     fs::remove_dir_all(&rt, "file_tests_d")?;
     Ok(())
 }
 
-// Whether this is the path of the journal of a file.
-fn is_journal(alloc: Global, path: &str, journal: &str) -> bool {
-    match journal_path(alloc, path) {
-        Ok(name) => name.as_str() == journal,
+// The paths of a journal and of its copy.
+const JOURNAL: &str = "file_tests_j/a-journal";
+
+const COPY: &str = "file_tests_j/a-journal-part";
+
+// Whether these are the paths of the journal of a file, and of its copy.
+fn are_paths(alloc: Global, path: &str) -> bool {
+    let Ok(journal) = journal_path(alloc, path) else {
+        return false;
+    };
+    match copy_path(alloc, journal.as_str()) {
+        Ok(copy) => journal.as_str() == JOURNAL && copy.as_str() == COPY,
         Err(_) => false,
     }
 }
 
 #[test]
 fn a_journal_lies_beside_its_file(rt: HostRuntime) {
-    assert!(rt; is_journal(rt.alloc(), "file_tests/j", "file_tests/j-journal"));
+    assert!(rt; are_paths(rt.alloc(), "file_tests_j/a"));
+}
+
+// It may be removed while it is open, and another file at its path is not. Where there is none, nothing is
+// left to do.
+#[test]
+fn the_journal_that_is_open_is_removed(rt: HostRuntime) -> Result<(), Fail> {
+    let _ = fs::remove_dir_all(&rt, "file_tests_j");
+    fs::create_dir(&rt, "file_tests_j")?;
+    let (Ok(journal), Ok(other)) = (
+        open_file(&rt, JOURNAL, true),
+        open_file(&rt, "file_tests_j/b-journal", true),
+    ) else {
+        return Err(Fail::from("not opened"));
+    };
+    assert!(rt; remove_journal(&rt, JOURNAL, &other).is_err());
+    assert!(rt; remove_journal(&rt, "file_tests_j/none/a-journal", &other).is_err());
+    assert_eq!(rt; length_of(&rt, JOURNAL), Some(0));
+    assert!(rt; remove_journal(&rt, JOURNAL, &journal).is_ok());
+    assert_eq!(rt; length_of(&rt, JOURNAL), None);
+    assert!(rt; remove_journal(&rt, JOURNAL, &journal).is_ok());
+    fs::remove_dir_all(&rt, "file_tests_j")?;
+    Ok(())
+}
+
+#[test]
+fn a_copy_takes_the_place_of_the_journal_that_is_open(rt: HostRuntime) -> Result<(), Fail> {
+    let _ = fs::remove_dir_all(&rt, "file_tests_p");
+    fs::create_dir(&rt, "file_tests_p")?;
+    fs::write(&rt, "file_tests_p/c-part", [7u8; 5].as_slice())?;
+    let (Ok(journal), Ok(copy)) = (
+        open_file(&rt, "file_tests_p/c", true),
+        make_anew(&rt, "file_tests_p/c-part"),
+    ) else {
+        return Err(Fail::from("not opened"));
+    };
+    assert_eq!(rt; length_of(&rt, "file_tests_p/c-part"), Some(0));
+    assert!(rt; replace_journal(&rt, "file_tests_p/c-part", "file_tests_p/c", &copy).is_err());
+    assert!(rt; replace_journal(&rt, "file_tests_p/c-part", "file_tests_p/c", &journal).is_ok());
+    assert_eq!(rt; length_of(&rt, "file_tests_p/c-part"), None);
+    assert!(rt; remove_journal(&rt, "file_tests_p/c", &journal).is_err());
+    assert!(rt; remove_journal(&rt, "file_tests_p/c", &copy).is_ok());
+    fs::remove_dir_all(&rt, "file_tests_p")?;
+    Ok(())
 }
 
 // Takes steps on a new device over a file over a device.

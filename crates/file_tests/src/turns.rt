@@ -2,7 +2,7 @@
 //! plays them.
 use crate::steps::{Steps, first_other};
 use block_device::BlockDevice;
-use file_device::{OpenError, open_file, open_reader, remove_journal};
+use file_device::{OpenError, open_file, open_reader};
 use read_only_device::{BlockReader, ReadOnlyDevice};
 use std::fs;
 
@@ -29,8 +29,6 @@ pub enum Turn {
     Opening(How, Opened),
     /// It has so many bytes, or there is none by its path.
     Length(Option<u64>),
-    /// Removes it as a journal is removed.
-    RemoveJournal,
 }
 
 /// A file that is opened, what is done until it is closed, and what that shows.
@@ -98,12 +96,11 @@ fn comes_to_that<D: BlockDevice>(rt: &HostRuntime, path: &str, device: &mut D, t
         Turn::Steps(steps) => first_other(device, steps).is_none(),
         Turn::Opening(how, want) => opening(rt, path, how) == want,
         Turn::Length(want) => length_of(rt, path) == want,
-        Turn::RemoveJournal => remove_journal(rt, path).is_ok(),
     }
 }
 
-// How many bytes a file has, if there is one.
-fn length_of(rt: &HostRuntime, path: &str) -> Option<u64> {
+/// How many bytes a file has, if there is one.
+pub fn length_of(rt: &HostRuntime, path: &str) -> Option<u64> {
     match fs::metadata(rt, path) {
         Ok(found) => Some(found.len()),
         Err(_) => None,

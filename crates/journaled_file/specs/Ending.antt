@@ -1,7 +1,8 @@
 -- What a stop leaves within a clean end (our format, docs/FORMAT.md, "The journal", "Files").
-use Rattle.std.specs.Prelude.{◌≡◌, ◌⊎◌, ℕ}
+use Rattle.std.specs.Prelude.{◌≡◌, ◌⊎◌}
 use Rattle.block_device.specs.Device.{Blocks, Torn}
 use Rattle.journaled_file.specs.Judged.{HasEnded}
+use Rattle.marked_pair.specs.Mark.{IsMarked}
 
 -- what a stop left before, or the base as it is read, beside such a journal with its end torn
 abbrev pub EndTorn : (Blocks → Blocks → Type 0) → Blocks → Blocks → Blocks → Type 0
@@ -19,3 +20,13 @@ pub record IsEnding (base a e : Blocks) : Type 0 where
 -- what a stop left before, with the journal's end torn, or what it leaves of a base that is ending
 abbrev pub LeavesEnding : (Blocks → Blocks → Type 0) → Blocks → Blocks → Blocks → Type 0
 LeavesEnding outcomes base a e = EndTorn outcomes base a e ⊎ IsEnding base a e
+
+-- both as they are read
+abbrev pub AreRead : Blocks → Blocks → Blocks → Blocks → Type 0
+AreRead base journal a e = (a ≡ base) × (e ≡ journal)
+
+-- What a stop left before; or both as they were read, but for the end of the journal of a base that has the mark,
+-- or for the gate of a base whose end is there.
+abbrev pub LeavesFinishing : (Blocks → Blocks → Type 0) → Blocks → Blocks → Blocks → Blocks → Type 0
+LeavesFinishing outcomes base journal a e =
+    outcomes a e ⊎ (IsMarked base × EndTorn (AreRead base journal) base a e) ⊎ IsEnding base a e

@@ -21,7 +21,7 @@ end_written b (x ∷ []) two = absurd (omega (arith, two))
 end_written b (x ∷ y ∷ d) two = (refl, refl)
 
 -- a base whose gate is torn has the header that it had
-torn_header : (base a : Blocks) → Torn 0 base a → header_in a ≡ header_in base
+pub torn_header : (base a : Blocks) → Torn 0 base a → header_in a ≡ header_in base
 torn_header base a torn = ⊎_elim
     (λ (e : a ≡ base). ap header_in e)
     (λ (w : (b : List ℕ) × IsBlock b × (a ≡ written 0 b base)). ap header_in w.2 ∙ header_written w.0 base)

@@ -5,7 +5,7 @@ use Rattle.block_device.specs.Device.{Blocks, block_at}
 use Rattle.journaled_device.specs.Journal.{gate_says}
 use Rattle.journaled_device.specs.Opening.{IsMalformed}
 use Rattle.journaled_file.specs.declared.judging.Found.{Found}
-use Rattle.journaled_file.specs.declared.judging.Found.TheVariants.{Fresh, Own, Ended, Missing, Foreign}
+use Rattle.journaled_file.specs.declared.judging.Found.TheVariants.{Fresh, Own, Unended, Ended, Missing, Foreign}
 use Rattle.marked_pair.specs.Mark.{unmarked, IsMarked}
 use Rattle.titled_pair.specs.Title.{end_of, reads_title, title_of, untitled}
 
@@ -41,8 +41,8 @@ pub record IsNeedless (a e : Blocks) : Type 0 where
 -- what is so of a base and such a file, of which just one is
 abbrev pub IsJudged : Found → Blocks → Blocks → Type 0
 IsJudged Fresh a e = (¬ IsMarked a) × (((¬ IsJournal e) × (length e ≤ 2)) ⊎ IsNeedless a e)
-IsJudged Own a e = IsJournal e × (¬ HasEnded a e)
-    × (IsMarked a ⊎ ((2 ≤ length a) × HasEntries e × IsOf a e))
+IsJudged Own a e = IsJournal e × (¬ HasEnded a e) × HasEntries e × (IsMarked a ⊎ ((2 ≤ length a) × IsOf a e))
+IsJudged Unended a e = IsJournal e × (¬ HasEnded a e) × IsMarked a × ¬ HasEntries e
 IsJudged Ended a e = IsJournal e × HasEnded a e
 IsJudged Missing a e = (¬ IsJournal e) × (IsMarked a ⊎ (2 < length e))
 IsJudged Foreign a e = IsJournal e × (¬ HasEnded a e) × (¬ IsMarked a) × HadEntries e

@@ -2,7 +2,8 @@
 pub mod Judged
 pub mod Ending
 pub mod Opened
+pub mod Paired
 -- Lemmas on them, which laws cite.
 pub mod JudgedLaws
 pub mod EndingLaws
-pub mod Paired
+pub mod FinishingLaws

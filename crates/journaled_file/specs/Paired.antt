@@ -1,11 +1,12 @@
 -- What a base and its journal are once they were paired for a run (our format, docs/FORMAT.md, "The journal",
 -- "Files").
-use Rattle.std.specs.Prelude.{◌≡◌, ◌⊎◌, ◌↔◌, Bool, false, true, length}
+use Rattle.std.specs.Prelude.{◌≡◌, ◌≤◌, ◌⊎◌, ◌↔◌, ℕ, Bool, true, [], length}
 use Rattle.block_bytes.specs.Numbers.{zeros}
 use Rattle.block_device.specs.Device.{Blocks, block_at}
-use Rattle.journaled_file.specs.Judged.{IsJudged}
+use Rattle.journaled_file.specs.Ending.{GateTorn}
+use Rattle.journaled_file.specs.Judged.{IsJudged, IsOf}
 use Rattle.journaled_file.specs.declared.judging.Found.TheVariants.{Own}
-use Rattle.marked_pair.specs.Mark.{IsMarked}
+use Rattle.marked_pair.specs.Mark.{unmarked, IsMarked}
 use Rattle.titled_pair.specs.Title.{title_of}
 
 -- a journal that has nothing but the title of this base
@@ -14,8 +15,31 @@ pub record IsNew (a e : Blocks) : Type 0 where
   pub title : block_at 0 e ≡ title_of a
   pub end : block_at 1 e ≡ zeros
 
--- Of a base that was `was`: it is as it was, with its own journal, and whether its last run had not ended is
--- told by its mark; or it has a new journal, and nothing is told.
+-- a stop at some moment since the files were paired might have left a journal without blocks: what is in it was
+-- written since then
+pub record HasBegunEmpty (now : ℕ) (left_since : ℕ → Blocks → Blocks → Type 0) : Type 0 where
+  pub moment : ℕ
+  pub past : moment ≤ now
+  pub base : Blocks
+  pub left : left_since moment base []
+
+-- of a base that had the mark, and beside a journal whose title is of it, the gate is another block than it was
+abbrev pub IsMarkedAnew : Blocks → Blocks → Blocks → Type 0
+IsMarkedAnew was a e = IsMarked was → 2 ≤ length was → IsOf was e → ¬ (block_at 0 a ≡ block_at 0 was)
+
+-- Of a base that was `was`: it is as it was, its mark aside, with its own journal, which has a commit to bring back.
+pub record IsRewritten (was a e : Blocks) : Type 0 where
+  pub shown : unmarked a ≡ unmarked was
+  pub own : IsJudged Own a e
+  pub sure : IsMarkedAnew was a e
+
+-- So it is, and whether its last run had not ended is told by its mark; or it has a new journal, and a run that
+-- is told to have not ended left its mark.
 abbrev pub IsPaired : Blocks → Blocks → Blocks → Bool → Type 0
 IsPaired was a e unended =
-    ((a ≡ was) × IsJudged Own a e × ((unended ≡ true) ↔ IsMarked a)) ⊎ (IsNew a e × (unended ≡ false))
+    (IsRewritten was a e × ((unended ≡ true) ↔ IsMarked was)) ⊎ (IsNew a e × (unended ≡ true → IsMarked was))
+
+-- what a stop left before; or both as they were but for the gate, where the title is of the base
+abbrev pub LeavesOwnGate : (Blocks → Blocks → Type 0) → Blocks → Blocks → Blocks → Blocks → Type 0
+LeavesOwnGate outcomes base journal a e =
+    outcomes a e ⊎ ((2 ≤ length base) × IsOf base journal × GateTorn outcomes a e)

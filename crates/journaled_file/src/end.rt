@@ -11,32 +11,30 @@ ghost use Rattle.titled_pair.specs.Calls.{IsQuiet};
 
 use crate::JournaledFile;
 use crate::judging::{has_entries, is_marked};
-use crate::open::{journal_name, shut_gate};
+use crate::open::shut_gate;
 use block_device::DeviceError;
 use device_pair::DevicePair;
 use file_device::remove_journal;
-use std::alloc::{Alloc, Global};
 use std::fs::{File, Files};
 use titled_pair::end_of_base;
 
-/// Ends a run over the file at `path`: what was not committed is given up, the mark is taken away, and the
-/// journal is removed. Whether it could be done is answered. Where it could not, or where this is cut short,
-/// the next opening brings the same blocks back.
-pub fn end_journaled<R: Files<File = File> + Alloc>(
+/// Ends a run over a file whose journal lies at `name`: what was not committed is given up, the mark is taken
+/// away, and the journal is removed. Where a commit was not finished nothing is written; where this is cut
+/// short, or fails, the next opening brings the same blocks back.
+///
+/// A failure of a device is answered. A journal that can't be removed is none: it says that the run has ended.
+pub fn end_journaled<R: Files<File = File>>(
     rt: &R,
-    alloc: Global,
-    path: &str,
+    name: &str,
     device: JournaledFile,
-) -> bool {
-    let Ok(name) = journal_name(rt, alloc, path) else {
-        return false;
-    };
+) -> Result<(), DeviceError> {
     let mut pair = device.into_pair().into_pair().into_pair();
     // The files are locked until the journal is gone.
-    match end_session(&mut pair) {
-        Ok(true) => remove_journal(rt, name.as_str()).is_ok(),
-        _ => false,
+    if end_session(&mut pair)? {
+        let (_base, journal) = pair.into_devices();
+        let _ = remove_journal(rt, name, &journal);
     }
+    Ok(())
 }
 
 /// Takes the mark of the base away, once the journal says that the session has ended. Whether the base is
@@ -77,7 +75,7 @@ pub fn end_session<P: DevicePair>(pair: &mut P) -> Result<bool, DeviceError>
 
 // Has the journal say that the session has ended with the base as it is, all of it synced. Whether it has
 // room for that is answered.
-fn put_end<P: DevicePair>(pair: &mut P) -> Result<bool, DeviceError>
+pub(crate) fn put_end<P: DevicePair>(pair: &mut P) -> Result<bool, DeviceError>
     ensures base { P.honest pair.old → P.base pair.new ≡ P.base pair.old }
     ensures end { P.honest pair.old →
         IfOk result (λ t. t ≡ true → HasEnded (P.base pair.old) (P.journal pair.new)) }

@@ -1,7 +1,8 @@
 //! What a base and the file beside it are, as they are found.
-ghost use Rattle.std.specs.Prelude.{◌≡◌, ◌<◌, ◌≤◌, ◌↔◌, true, false, length, IfOk};
+ghost use Rattle.std.specs.Prelude.{◌≡◌, ◌<◌, ◌≤◌, ◌↔◌, ◌⊎◌, true, false, length, IfOk};
 ghost use Rattle.block_device.specs.Device.{block_at};
 ghost use Rattle.journaled_file.specs.Judged.{HasEnded, HasEntries, IsJudged};
+ghost use Rattle.journaled_file.specs.declared.judging.Found.TheVariants.{Ended, Unended};
 ghost use Rattle.marked_pair.specs.Mark.{IsMarked};
 ghost use Rattle.titled_pair.specs.Calls.{IsQuiet};
 ghost use Rattle.titled_pair.specs.Title.{reads_title};
@@ -21,14 +22,27 @@ const EMPTY_BLOCKS: u32 = TITLE_BLOCKS + 2;
 pub enum Found {
     /// The base is read without it: it never had an entry or is empty again, or its making was cut short.
     Fresh,
-    /// The base's journal.
+    /// The base's journal, which has a commit to bring back.
     Own,
+    /// The journal of a base that has the mark, empty again: its session has not ended.
+    Unended,
     /// Its journal, whose session has ended but for the base's gate.
     Ended,
     /// No journal, where there is to be one, or is another file.
     Missing,
     /// The journal of another base.
     Foreign,
+}
+
+impl Found {
+    // Whether a session is over, or is to be, whose journal has nothing to bring back.
+    pub(crate) fn is_over(self) -> bool
+        ensures over { result ≡ true → (self ≡ Ended) ⊎ (self ≡ Unended) }
+        ensures not_ended { result ≡ false → ¬ (self ≡ Ended) }
+        ensures not_unended { result ≡ false → ¬ (self ≡ Unended) }
+    {
+        matches!(self, Found::Ended | Found::Unended)
+    }
 }
 
 /// Tells what the journal of a pair is to its base (docs/FORMAT.md, "The journal", "Files"). Nothing is
@@ -76,6 +90,10 @@ fn judge_titled<P: DevicePair>(
     if has_ended(pair)? {
         return Ok(Found::Ended);
     }
+    let complete = has_entries(pair)?;
+    if marked && !complete {
+        return Ok(Found::Unended);
+    }
     if marked {
         return Ok(Found::Own);
     }
@@ -87,11 +105,7 @@ fn judge_titled<P: DevicePair>(
     if pair.base_blocks() < 2 || *title != title_of_base(pair)? {
         return Ok(Found::Foreign);
     }
-    Ok(if has_entries(pair)? {
-        Found::Own
-    } else {
-        Found::Fresh
-    })
+    Ok(if complete { Found::Own } else { Found::Fresh })
 }
 
 /// Whether the gate of the base has the mark of a run that has not ended.

@@ -3,8 +3,9 @@ ghost use Rattle.std.specs.Prelude.{◌≡◌, ◌≤◌, length};
 ghost use Rattle.block_bytes.specs.Numbers.{zeros};
 ghost use Rattle.block_device.specs.Device.{Blocks, Torn, block_at, written};
 ghost use Rattle.journaled_file.specs.Ending.{IsEnding};
-ghost use Rattle.journaled_file.specs.Judged.{IsJournal, IsJudged, IsOf};
-ghost use Rattle.journaled_file.specs.declared.judging.Found.TheVariants.{Ended, Foreign, Missing};
+ghost use Rattle.journaled_file.specs.Judged.{HasEnded, IsJournal, IsJudged, IsOf};
+ghost use Rattle.journaled_file.specs.declared.judging.Found.TheVariants.{Ended, Foreign, Missing, Own};
+ghost use Rattle.journaled_file.specs.declared.judging.Found.TheVariants.{Unended};
 ghost use Rattle.marked_pair.specs.Behind.{IsLeft};
 ghost use Rattle.marked_pair.specs.Mark.{IsMarked};
 ghost use Rattle.page_file.specs.Layout.{gate_block};
@@ -32,4 +33,14 @@ pub fn an_end_that_is_cut_short_is_finished()
         written 0 (gate_block 1) a ≡ written 0 (gate_block 1) base }
     ensures torn { (d e : Blocks) → 2 ≤ length d → Torn 1 d e →
         (block_at 0 e ≡ block_at 0 d) × (untitled e ≡ untitled d) }
+{}
+
+/// What an opening writes again, before anything rests on it, takes nothing away where it is cut short: a mark
+/// that is torn, where the title is of the base, leaves a journal that is judged to be its own, and an end that
+/// is torn, beside a mark, one whose session is judged not to have ended, or to have.
+pub fn what_is_written_again_is_found_again()
+    ensures mark { (base a e : Blocks) → IsJudged Own base e → 2 ≤ length base → IsOf base e →
+        Torn 0 base a → IsJudged Own a e }
+    ensures end { (base e d : Blocks) → IsJudged Unended base e → Torn 1 e d → ¬ HasEnded base d →
+        IsJudged Unended base d }
 {}

@@ -1,25 +1,30 @@
 //! How a file and its journal are opened.
 ghost use Rattle.std.specs.Prelude.{◌≡◌, ◌<◌, ◌≤◌, ◌↔◌, ◌⊎◌, ℕ, length, IfErr, IfOk, OnOk};
 ghost use Rattle.block_device.specs.Device.{Blocks, written};
-ghost use Rattle.device_pair.specs.Pairs.{PairLeaves};
+ghost use Rattle.device_pair.specs.Pairs.{PairLeaves, PairsNoMore};
 ghost use Rattle.file_device.specs.declared.open.OpenError.TheVariants as error;
-ghost use Rattle.journaled_file.specs.Ending.{GateTorn};
-ghost use Rattle.journaled_file.specs.Judged.{IsJudged, IsNoJournal};
+ghost use Rattle.journaled_file.specs.Ending.{AreRead, GateTorn, LeavesFinishing};
+ghost use Rattle.journaled_file.specs.Judged.{HasEnded, IsJudged, IsNoJournal};
 ghost use Rattle.journaled_file.specs.Opened.{LeavesRead, read_of};
-ghost use Rattle.journaled_file.specs.declared.judging.Found.TheVariants.{Ended};
+ghost use Rattle.journaled_file.specs.declared.judging.Found.TheVariants.{Ended, Unended};
 ghost use Rattle.journaled_device.specs.Journaled.{inner_of, pair_of};
 ghost use Rattle.journaled_device.specs.declared.pair.open.OpenFault.TheVariants.{Malformed};
 ghost use Rattle.journaled_device.specs.Standing.{commits_of, shown_of, IsHonest};
-ghost use Rattle.marked_pair.specs.Behind.{LeavesBase};
+ghost use Rattle.marked_pair.specs.Behind.{IsSynced, LeavesBase};
+ghost use Rattle.marked_pair.specs.Mark.{IsMarked};
 ghost use Rattle.marked_pair.specs.Pair.{pair_of as titled_of};
 ghost use Rattle.page_file.specs.Layout.{gate_block};
 ghost use Rattle.titled_pair.specs.Pair.{pair_of as files_of};
 
-use crate::judging::{Found, judge};
+use crate::end::put_end;
+use crate::judging::{Found, is_marked, judge};
 use crate::pairing::{JournalSource, pair_up};
 use block_device::DeviceError;
 use device_pair::{DevicePair, TwoDevices};
-use file_device::{FileDevice, HostFile, OpenError, journal_path, open_file, remove_journal};
+use file_device::{
+    FileDevice, HostFile, OpenError, copy_path, journal_path, make_anew, open_file, remove_journal,
+    replace_journal,
+};
 use journaled_device::{JournaledDevice, OpenFault};
 use marked_pair::{MarkedPair, SHUT, gate_page};
 use std::alloc::{Alloc, Allocator, Global};
@@ -39,28 +44,33 @@ type SystemFile = FileDevice<HostFile<File>>;
 /// none. With `create` an empty file is made where there is none.
 ///
 /// Both are locked until they are closed. What a run that was cut short had closed is brought back; the
-/// answer says whether such a run had closed anything and not ended. A journal without entries, beside a file
-/// that needs none, is made anew. Where the journal is none or another file's, nothing is written into
-/// either.
+/// answer says whether such a run had closed anything and not ended, and where the journal lies. A journal
+/// without entries, beside a file that needs none, is made anew. Where the journal is none or another file's,
+/// nothing is written into either.
 pub fn open_journaled<R: Files<File = File> + Alloc>(
     rt: &R,
     alloc: Global,
     path: &str,
     create: bool,
-) -> Result<(JournaledFile, bool), OpenError> {
+) -> Result<(JournaledFile, String, bool), OpenError> {
     let base = open_file(rt, path, create)?;
     let name = journal_name(rt, alloc, path)?;
-    let name = name.as_str();
-    let (pair, unended) = pair_up(base, &mut JournalAt { rt, name })?;
+    let part = copy_path(alloc, name.as_str())?;
+    let mut source = JournalAt {
+        rt,
+        name: name.as_str(),
+        part: part.as_str(),
+    };
+    let (pair, unended) = pair_up(base, &mut source)?;
     match open_over(pair, alloc) {
-        Ok(device) => Ok((device, unended)),
+        Ok(device) => Ok((device, name, unended)),
         Err((error, _)) => Err(error),
     }
 }
 
-/// The path of the journal of the file that this path leads to: it lies beside the file itself, and not
-/// beside a link to it.
-pub(crate) fn journal_name<R: Files<File = File> + Alloc>(
+// The path of the journal of the file that this path leads to: it lies beside the file itself, and not beside
+// a link to it.
+fn journal_name<R: Files<File = File> + Alloc>(
     rt: &R,
     alloc: Global,
     path: &str,
@@ -76,38 +86,101 @@ pub(crate) fn journal_name<R: Files<File = File> + Alloc>(
 struct JournalAt<'a, R> {
     rt: &'a R,
     name: &'a str,
+    // where a copy of it is made
+    part: &'a str,
 }
 
 impl<R: Files<File = File>> JournalSource<SystemFile> for JournalAt<'_, R> {
+    ghost is_honest = { ⊥ };
+
     fn open(&mut self, make: bool) -> Result<SystemFile, OpenError> {
         open_file(self.rt, self.name, make)
     }
 
-    fn remove(&mut self) -> Result<(), OpenError> {
-        remove_journal(self.rt, self.name).map_err(|_| OpenError::Refused)
+    fn remove(&mut self, journal: &SystemFile) -> Result<(), OpenError> {
+        remove_journal(self.rt, self.name, journal).map_err(|_| OpenError::Refused)
+    }
+
+    fn make_copy(&mut self) -> Result<SystemFile, OpenError> {
+        make_anew(self.rt, self.part)
+    }
+
+    fn put_copy(&mut self, journal: &SystemFile) -> Result<(), OpenError> {
+        replace_journal(self.rt, self.part, self.name, journal).map_err(|_| OpenError::Refused)
     }
 }
 
-/// Judges, and finishes a clean end that was cut short, after which the base is read without its journal.
+/// Syncs both, judges, and ends a session whose journal has nothing to bring back: one whose clean end was cut
+/// short, and one that has not ended. After that the base is read without its journal.
+///
+/// Nothing is judged that is not synced, and an end that was found is written again before anything rests on
+/// it, since a sync of it may have failed.
 pub fn judge_and_finish<P: DevicePair>(pair: &mut P) -> Result<Found, DeviceError>
     ensures judged { P.honest pair.old →
         IfOk result (λ found. IsJudged found (P.base pair.old) (P.journal pair.old)) }
     ensures finished { P.honest pair.old → 0 < length (P.base pair.old) →
-        IfOk result (λ found. found ≡ Ended → P.base pair.new ≡ written 0 (gate_block 1) (P.base pair.old)) }
-    ensures other { P.honest pair.old →
-        IfOk result (λ found. ¬ (found ≡ Ended) → P.base pair.new ≡ P.base pair.old) }
-    ensures durable { P.honest pair.old → 0 < length (P.base pair.old) →
-        IfOk result (λ found. found ≡ Ended → LeavesBase (P.base pair.new) (P.may_leave pair.new)) }
-    ensures journal { P.honest pair.old → P.journal pair.new ≡ P.journal pair.old }
+        IfOk result (λ found. (found ≡ Ended) ⊎ (found ≡ Unended) →
+        P.base pair.new ≡ written 0 (gate_block 1) (P.base pair.old)) }
+    ensures ended { P.honest pair.old → IfOk result (λ found. (found ≡ Ended) ⊎ (found ≡ Unended) →
+        HasEnded (P.base pair.old) (P.journal pair.new)) }
+    ensures other { P.honest pair.old → IfOk result (λ found. ¬ (found ≡ Ended) → ¬ (found ≡ Unended) →
+        AreRead (P.base pair.old) (P.journal pair.old) (P.base pair.new) (P.journal pair.new)) }
+
+    // From then on a stop leaves both as they are read.
+    ensures durable { P.honest pair.old →
+        IfOk result (λ _. IsSynced (P.base pair.new) (P.journal pair.new) (P.may_leave pair.new)) }
     ensures stops { P.honest pair.old →
-        PairLeaves P.moment P.left_since pair.old pair.new (GateTorn (P.may_leave pair.old)) }
+        PairLeaves P.moment P.left_since pair.old pair.new
+        (LeavesFinishing (P.may_leave pair.old) (P.base pair.old) (P.journal pair.old)) }
     ensures honest { P.honest pair.old ↔ P.honest pair.new }
 {
+    sync_both(pair)?;
     let found = judge(pair)?;
-    if found == Found::Ended {
-        shut_gate(pair)?;
+    if !found.is_over() {
+        return Ok(found);
     }
+    finish_end(pair)?;
     Ok(found)
+}
+
+// Syncs both.
+fn sync_both<P: DevicePair>(pair: &mut P) -> Result<(), DeviceError>
+    ensures base { P.honest pair.old → P.base pair.new ≡ P.base pair.old }
+    ensures journal { P.honest pair.old → P.journal pair.new ≡ P.journal pair.old }
+    ensures durable { P.honest pair.old →
+        OnOk result (IsSynced (P.base pair.old) (P.journal pair.old) (P.may_leave pair.new)) }
+    ensures now { P.honest pair.old → PairsNoMore (P.may_leave pair.old) (P.may_leave pair.new) }
+    ensures stops { P.honest pair.old →
+        PairLeaves P.moment P.left_since pair.old pair.new (P.may_leave pair.old) }
+    ensures honest { P.honest pair.old ↔ P.honest pair.new }
+{
+    pair.sync_base()?;
+    pair.sync_journal()
+}
+
+// Writes the end of a base that has the mark, and then its gate, each with a sync.
+fn finish_end<P: DevicePair>(pair: &mut P) -> Result<(), DeviceError>
+    requires synced { P.honest pair.old →
+        IsSynced (P.base pair.old) (P.journal pair.old) (P.may_leave pair.old) }
+    requires over { P.honest pair.old →
+        IsMarked (P.base pair.old) ⊎ HasEnded (P.base pair.old) (P.journal pair.old) }
+    ensures shut { P.honest pair.old → 0 < length (P.base pair.old) →
+        OnOk result (P.base pair.new ≡ written 0 (gate_block 1) (P.base pair.old)) }
+    ensures ended { P.honest pair.old → OnOk result (HasEnded (P.base pair.old) (P.journal pair.new)) }
+    ensures durable { P.honest pair.old →
+        OnOk result (IsSynced (P.base pair.new) (P.journal pair.new) (P.may_leave pair.new)) }
+    ensures stops { P.honest pair.old →
+        PairLeaves P.moment P.left_since pair.old pair.new
+        (LeavesFinishing (P.may_leave pair.old) (P.base pair.old) (P.journal pair.old)) }
+    ensures honest { P.honest pair.old ↔ P.honest pair.new }
+{
+    if !is_marked(pair)? {
+        return shut_gate(pair);
+    }
+    if !put_end(pair)? {
+        return Err(DeviceError::Failed);
+    }
+    shut_gate(pair)
 }
 
 /// Writes the gate of the base shut, without a mark, and syncs it. A base without blocks has none.
@@ -116,6 +189,9 @@ pub(crate) fn shut_gate<P: DevicePair>(pair: &mut P) -> Result<(), DeviceError>
         OnOk result (P.base pair.new ≡ written 0 (gate_block 1) (P.base pair.old)) }
     ensures durable { P.honest pair.old → 0 < length (P.base pair.old) →
         OnOk result (LeavesBase (P.base pair.new) (P.may_leave pair.new)) }
+    ensures synced { P.honest pair.old →
+        IsSynced (P.base pair.old) (P.journal pair.old) (P.may_leave pair.old) →
+        OnOk result (IsSynced (P.base pair.new) (P.journal pair.new) (P.may_leave pair.new)) }
     ensures journal { P.honest pair.old → P.journal pair.new ≡ P.journal pair.old }
     ensures stops { P.honest pair.old →
         PairLeaves P.moment P.left_since pair.old pair.new (GateTorn (P.may_leave pair.old)) }

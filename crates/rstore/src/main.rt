@@ -8,6 +8,7 @@ use file_device::open_reader;
 use journaled_file::{end_journaled, open_journaled};
 use layer_store::Refusal;
 use std::alloc::Global;
+use std::cell::Cell;
 use std::io::{BufWriter, IsTerminal, Stderr, Write};
 use std::process::ExitCode;
 use std::{env, io};
@@ -60,18 +61,23 @@ fn run(rt: &HostRuntime) -> io::Result<u8> {
         progress(rt, alloc, words.as_slice()),
     ));
     let mut line = ProgressLine::to(progress(rt, alloc, words.as_slice()));
+    let journal = Cell::new(None);
+    let ended = Cell::new(true);
     let open = |path: &str, create: bool| {
-        let (device, unended) = open_journaled(rt, alloc, path, create)?;
+        let (device, name, unended) = open_journaled(rt, alloc, path, create)?;
+        journal.set(Some(name));
         if unended {
             let _ = rt.stderr().write_all(UNENDED);
         }
         Ok(device)
     };
     let read = |path: &str| open_reader(rt, path);
-    let end = |path: &str, device| {
-        let _ = end_journaled(rt, alloc, path, device); // where it can't be, the next opening does it
+    let end = |_path: &str, device| {
+        if let Some(name) = journal.take() {
+            ended.set(end_journaled(rt, name.as_str(), device).is_ok());
+        }
     };
-    Ok(serve(
+    let status = serve(
         alloc,
         words.as_slice(),
         open,
@@ -81,5 +87,11 @@ fn run(rt: &HostRuntime) -> io::Result<u8> {
         &mut output,
         &mut errors,
         &mut line,
-    ))
+    );
+    // A run that has failed has said why. The next opening ends it.
+    if ended.get() || status == 1 {
+        return Ok(status);
+    }
+    let _ = tell_refusal(Refusal::Device, &mut errors);
+    Ok(1)
 }

@@ -1,7 +1,7 @@
 //! How a file and its journal are opened and ended by streams, over which C opens, locks and removes.
 
 use crate::held::{ByStreams, Device};
-use block_device::BlockDevice;
+use block_device::{BlockDevice, DeviceError};
 use device_pair::TwoDevices;
 use file_device::{FileDevice, OpenError};
 use journaled_file::{Found, JournalSource, end_session, judge, open_over, pair_up};
@@ -31,12 +31,12 @@ impl Streams {
     }
 }
 
-/// The streams by which C opens the journal, and those by which it opens it once it was removed.
+/// The streams by which C opens the journal, and those by which it opens the one that takes its place.
 #[derive(Drop)]
 pub struct JournalStreams {
     /// By which it is opened first.
     pub first: Streams,
-    /// By which it is opened anew.
+    /// By which it is opened anew, or its copy.
     pub anew: Streams,
 }
 
@@ -88,7 +88,7 @@ pub fn open(
     match made {
         Ok(store) => Ok((store, unended)),
         Err((refusal, device)) => {
-            end(device, ask);
+            let _ = end(device, ask);
             Err(Unopened::Store(refusal))
         }
     }
@@ -122,12 +122,14 @@ pub fn open_to_read(
 }
 
 /// Ends a run over the files: what was not committed is given up, the mark is taken away, and the journal is
-/// removed. Where it can't be, the next opening brings the same blocks back.
-pub fn end(device: Device, ask: &mut Streams) {
+/// removed. Where a device fails the next opening brings the same blocks back. A journal that can't be removed
+/// is no failure: it says that the run has ended.
+pub fn end(device: Device, ask: &mut Streams) -> Result<(), DeviceError> {
     let mut pair = device.into_pair().into_pair().into_pair();
-    if let Ok(true) = end_session(&mut pair) {
+    if end_session(&mut pair)? {
         let _ = ask.ask(JournalWish::Remove);
     }
+    Ok(())
 }
 
 // The device of a file.
@@ -148,6 +150,8 @@ struct JournalByStreams<'a> {
 }
 
 impl JournalSource<ByStreams> for JournalByStreams<'_> {
+    ghost is_honest = { ⊥ };
+
     fn open(&mut self, make: bool) -> Result<ByStreams, OpenError> {
         let first = self.journal.take();
         let streams = if first.is_some() {
@@ -167,7 +171,20 @@ impl JournalSource<ByStreams> for JournalByStreams<'_> {
         side(streams, FileSide::Journal)
     }
 
-    fn remove(&mut self) -> Result<(), OpenError> {
+    // C knows which journal is open.
+    fn remove(&mut self, _journal: &ByStreams) -> Result<(), OpenError> {
         self.ask.ask(JournalWish::Remove)
+    }
+
+    fn make_copy(&mut self) -> Result<ByStreams, OpenError> {
+        let Some(streams) = self.anew.take() else {
+            return Err(OpenError::Refused);
+        };
+        self.ask.ask(JournalWish::MakeCopy)?;
+        side(streams, FileSide::Copy)
+    }
+
+    fn put_copy(&mut self, _journal: &ByStreams) -> Result<(), OpenError> {
+        self.ask.ask(JournalWish::PutCopy)
     }
 }

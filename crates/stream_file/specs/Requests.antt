@@ -5,7 +5,7 @@ use Rattle.std.specs.Io.KnownBytes.{Appends, Consumes}
 use Rattle.file_device.specs.declared.open.OpenError.{OpenError}
 use Rattle.file_device.specs.declared.open.OpenError.TheVariants as error
 use Rattle.stream_file.specs.declared.request.FileSide.{FileSide}
-use Rattle.stream_file.specs.declared.request.FileSide.TheVariants.{Base, Journal}
+use Rattle.stream_file.specs.declared.request.FileSide.TheVariants.{Base, Copy, Journal}
 use Rattle.stream_file.specs.declared.request.JournalWish.{JournalWish}
 use Rattle.stream_file.specs.declared.request.JournalWish.TheVariants as wish
 
@@ -13,12 +13,13 @@ use Rattle.stream_file.specs.declared.request.JournalWish.TheVariants as wish
 abbrev pub number_of : FileSide → ℕ
 number_of Base = 0
 number_of Journal = 1
+number_of Copy = 2
 
 -- a letter, the file's number, and a place in it, least byte first
 abbrev pub request_bytes : ℕ → FileSide → ℕ → List ℕ
 request_bytes letter side at = letter ∷ number_of side ∷ to_le_bytes w64 at
 
--- the letters: r, w, y and s of a file's blocks, its syncs and its size, o, m and x of the journal as a file
+-- the letters: r, w, y and s of a file's blocks, its syncs and its size, o, m, x, c and p of the journal as a file
 abbrev pub read_letter : ℕ
 read_letter = 114
 
@@ -35,6 +36,8 @@ abbrev pub letter_of : JournalWish → ℕ
 letter_of wish.Open = 111
 letter_of wish.Make = 109
 letter_of wish.Remove = 120
+letter_of wish.MakeCopy = 99
+letter_of wish.PutCopy = 112
 
 -- Of a call that was answered: these bytes went out, and these were taken of what came in. The last one taken
 -- says how it went, and is 0 where it was done.

@@ -102,6 +102,21 @@ impl<I: Read + Drop, O: Write + Drop> StreamFile<I, O> {
         outcome(&mut self.input)
     }
 
+    // Nor is anything written after it, which no sync would follow.
+    fn write_unless_lost(&mut self, at: u64, from: &[u8; 4096]) -> io::Result<()>
+        ensures lost { self.old.lost ≡ true → IsErr result × (self.new ≡ self.old) }
+        ensures stays { self.new.lost ≡ self.old.lost }
+        ensures size { OnOk result (self.new.size ≡ max self.old.size (min (at + 4096) (2 ^ 64 - 1))) }
+        ensures asked { OnOk result (Exchanges (request_bytes write_letter self.old.side at ++ from.now)
+            (0 ∷ []) (O.contents self.old.output) (O.contents self.new.output) (I.remaining self.old.input)
+            (I.remaining self.new.input)) }
+    {
+        if self.lost {
+            return Err(io::Error::from(ErrorKind::BrokenPipe));
+        }
+        self.write(at, from)
+    }
+
     // Has 4096 bytes written. A write that failed may have made the file longer, so its size is asked for.
     fn write(&mut self, at: u64, from: &[u8; 4096]) -> io::Result<()>
         ensures lost { self.new.lost ≡ self.old.lost }
@@ -188,7 +203,7 @@ impl<I: Read + Drop, O: Write + Drop> DiskFile for StreamFile<I, O> {
         if self.none {
             return self.forget(at);
         }
-        self.write(at, from)
+        self.write_unless_lost(at, from)
     }
 
     fn sync(&mut self) -> io::Result<()> {

@@ -15,6 +15,8 @@ pub enum FileSide {
     Base,
     /// Its journal.
     Journal,
+    /// A copy of its journal, which takes the journal's place.
+    Copy,
 }
 
 /// What is asked of the journal as a file.
@@ -26,6 +28,10 @@ pub enum JournalWish {
     Make,
     /// To remove it. One that is open stays open.
     Remove,
+    /// To make an empty file for a copy of it.
+    MakeCopy,
+    /// To put the copy in its place.
+    PutCopy,
 }
 
 impl FileSide {
@@ -36,6 +42,7 @@ impl FileSide {
         match self {
             FileSide::Base => 0,
             FileSide::Journal => 1,
+            FileSide::Copy => 2,
         }
     }
 }
@@ -49,6 +56,8 @@ impl JournalWish {
             JournalWish::Open => b'o',
             JournalWish::Make => b'm',
             JournalWish::Remove => b'x',
+            JournalWish::MakeCopy => b'c',
+            JournalWish::PutCopy => b'p',
         }
     }
 }
@@ -81,7 +90,7 @@ fn answer<I: Read>(input: &mut I) -> io::Result<u8>
     Ok(byte[0])
 }
 
-/// Asks for the journal to be opened, made or removed. Who serves the streams locks what it opens, in the way
+/// Asks for the journal to be opened, made, removed or copied. Who serves the streams locks what it opens, in the way
 /// in which `file_device::open_file` does, and refuses in its words.
 pub fn ask_journal<I: Read, O: Write>(
     input: &mut I,

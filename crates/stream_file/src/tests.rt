@@ -49,6 +49,7 @@ fn a_sync_that_failed_is_the_last(rt: HostRuntime) -> Result<(), Fail> {
     let mut file = StreamFile::over(input, Vec::new(alloc), FileSide::Base)?;
     assert!(rt; file.sync().is_err());
     assert!(rt; file.sync().is_err());
+    assert!(rt; file.write_at(0, &[1; 4096]).is_err());
     Ok(())
 }
 

@@ -1,5 +1,5 @@
 //! The calls that open, close and keep a store.
-ghost use Rattle.std.specs.Prelude.{◌≡◌, [], None, Some, if◌then◌else◌};
+ghost use Rattle.std.specs.Prelude.{◌≡◌, ◌⊎◌, ℕ, [], None, Some, if◌then◌else◌};
 ghost use Rattle.plain_table.specs.Answers.{done_answer, layers_answer};
 ghost use Rattle.plain_table.specs.Commands.Command.{Check, Layers};
 ghost use Rattle.c_session.specs.Calls.{AsksBy, ClosesBy, CommitsBy, HasListed, TellsBy};
@@ -15,6 +15,9 @@ use file_device::OpenError;
 use layer_store::{Refusal, Store};
 use std::alloc::Global;
 use std::rt::{Stdin, Stdout};
+
+// The number of the refusal by a device.
+const DEVICE: u32 = 17;
 
 // The number of a file that can't be opened.
 fn number_of(error: OpenError) -> u32
@@ -111,8 +114,8 @@ fn held_over(alloc: Global, store: Store<Device>, read_only: bool, unended: bool
     Held { session }
 }
 
-/// Closes the store, frees what the session has, and ends the run over its files. C then frees the session's
-/// block.
+/// Closes the store, frees what the session has, and ends the run over its files, which may fail where the
+/// closing went well. C then frees the session's block.
 #[unsafe(no_mangle)]
 pub extern "C" fn rstore_c_close(
     alloc: Global,
@@ -120,8 +123,8 @@ pub extern "C" fn rstore_c_close(
     output: Stdout,
     handle: &mut Handle,
 ) -> u32
-    ensures closes { (device : _) × ClosesBy handle.old.value.session handle.new.value.session
-        (result, device) }
+    ensures closes { (device : _) × (number : ℕ) × ClosesBy handle.old.value.session handle.new.value.session
+        (number, device) × ((result ≡ number) ⊎ ((number ≡ 0) × (result ≡ 17))) }
     ensures closed { handle.new.value.session.store ≡ None }
     ensures boxes { handle.new.value.session.boxes.items ≡ [] }
     ensures near { handle.new.value.session.near.items ≡ [] }
@@ -130,12 +133,20 @@ pub extern "C" fn rstore_c_close(
     let session = &mut handle.held().session;
     let read_only = session.is_read_only();
     let (number, device) = session.close(alloc);
-    if let Some(device) = device {
-        if !read_only {
-            files::end(device, &mut Streams::of(input, output));
-        }
+    let Some(device) = device else {
+        return number;
+    };
+    if read_only {
+        return number;
     }
-    number
+    let ended = files::end(device, &mut Streams::of(input, output));
+    if number != 0 {
+        return number;
+    }
+    match ended {
+        Ok(()) => number,
+        Err(_) => DEVICE,
+    }
 }
 
 /// The number that came with the last refusal; after the opening 1 where the last run had committed and not
