@@ -367,8 +367,9 @@ static bool is_range(const struct asked *a, uint32_t axes, size_t count) {
 /* The range query at a place, whose rows are then fetched. */
 static int ask_range(const struct asked *a, size_t q, size_t *found) {
     const uint32_t *tag = a->tags ? a->tags + q : NULL;
+    rstore *db = a->db;
     *found = 0;
-    return DO(rstore_c_range(a->db, (const uint8_t *)a->layer, a->named, (uint32_t)a->kind, a->numbers + q * a->length, a->length,
+    return DO(rstore_c_range(db, (const uint8_t *)a->layer, a->named, (uint32_t)a->kind, a->numbers + q * a->length, a->length,
                              tag, tag ? *tag : 0, found));
 }
 

@@ -21,7 +21,8 @@ int main(int argc, char **argv) {
     uint64_t count;
     const int32_t box[6] = {0, 0, 1, 1, 2, 2};
     if (argc != 2) return 2;
-    BAD(rstore_open(NULL, RSTORE_CREATE, 0, &db));
+    BAD(rstore_open(NULL, RSTORE_EXISTING, 0, &db));
+    BAD(rstore_open(NULL, RSTORE_READ_ONLY, 0, &db));
     BAD(rstore_open("", RSTORE_CREATE, 0, &db));
     BAD(rstore_open(argv[1], RSTORE_CREATE, 0, NULL));
     BAD(rstore_open(argv[1], 3, 0, &db));
