@@ -323,7 +323,7 @@ def processes(folder: str) -> None:
     code = "import sys; sys.path.insert(0, sys.argv[1]); import rstore\ntry: rstore.open(sys.argv[2], read_only=len(sys.argv) > 3).close(); print('opened')\nexcept rstore.Busy: print('busy')"
 
     def other(*more: str) -> str:
-        words = [sys.executable, "-c", code, str(Path(rstore.__file__).parent), path, *more]
+        words = [sys.executable, "-c", code, str(Path(rstore.__file__).parent.parent), path, *more]
         return subprocess.run(words, capture_output=True, text=True, check=True).stdout.strip()
 
     with rstore.open(path, create=True) as db:
