@@ -50,12 +50,7 @@ SHARED = os.environ.get("RSTORE_LIBRARY", os.path.join(TOP, "library", "lib", "l
 LIBRARY = [os.path.realpath(sys.executable), "-I", "-S", os.path.join(TOP, "tests", "library_session.py"), SHARED]
 # The faults that are known, which are told and let pass.
 KNOWN = {
-    "an end that was not synced",
-    "a journal's gate whose sync failed",
-    "a mark whose sync failed",
     "added blocks whose sync failed",
-    "a failed sync that is not told",
-    "a link that is turned",
     REFUSED_WRITES,
     DAMAGED_WRITES,
 }
