@@ -63,7 +63,7 @@ cc -std=c11 $warnings -I"$lib" "$here/test/stack.c" "$lib/librstore.a" -pthread 
 
 # Stops, over files in memory, and many boxes.
 wrapped=""
-for call in open close flock fstat realpath unlink fsync fdatasync pread pwrite; do wrapped="$wrapped -Wl,--wrap=$call"; done
+for call in open close flock fstat lstat rename realpath unlink fsync fdatasync pread pwrite; do wrapped="$wrapped -Wl,--wrap=$call"; done
 cc -std=c11 $warnings -O2 -I"$lib" "$here/test/stops.c" "$lib/librstore.a" $wrapped -o stops
 ./stops $quick
 cc -std=c11 $warnings -O2 -I"$lib" "$here/test/boxes.c" "$lib/librstore.a" -o boxes

@@ -19,9 +19,9 @@
 
 #include "rstore.h"
 
-/* ---- the disk: files by their bytes, as they are read and as they were synced, and a folder of two names */
-enum { SIZE = 4096, BLOCKS = 160, FILES = 6, FOLDER = 900, FIRST = 1000, OPEN = 8 };
-static const char *const names[2] = {"/m/store", "/m/store-journal"};
+/* ---- the disk: files by their bytes, as they are read and as they were synced, and a folder of three names */
+enum { SIZE = 4096, BLOCKS = 160, FILES = 8, FOLDER = 900, FIRST = 1000, OPEN = 8, NAMES = 3 };
+static const char *const names[NAMES] = {"/m/store", "/m/store-journal", "/m/store-journal-part"};
 
 struct file {
     long size, synced_size;
@@ -29,8 +29,8 @@ struct file {
     unsigned char now[BLOCKS * SIZE], synced[BLOCKS * SIZE];
 };
 struct disk {
-    int count;                /* of files */
-    int now[2], synced[2];    /* the file of each name, or -1 */
+    int count;                     /* of files */
+    int now[NAMES], synced[NAMES]; /* the file of each name, or -1 */
     struct file file[FILES];
 };
 static struct disk disk;
@@ -56,9 +56,15 @@ static struct file *at(int fd) {
     return &disk.file[file_of[fd - FIRST]];
 }
 
+/* Which of the names a path is, or -1. */
+static int name_of(const char *path) {
+    for (int name = 0; name < NAMES; name++) if (!strcmp(path, names[name])) return name;
+    return -1;
+}
+
 int __real_open(const char *path, int how, ...);
 int __wrap_open(const char *path, int how, ...) {
-    int name = !strcmp(path, names[0]) ? 0 : !strcmp(path, names[1]) ? 1 : -1, slot = 0;
+    int name = name_of(path), slot = 0;
     if (name < 0 && strcmp(path, "/m")) {
         va_list more;
         va_start(more, how);
@@ -74,7 +80,7 @@ int __wrap_open(const char *path, int how, ...) {
         struct file *f = &disk.file[disk.now[name] = disk.count++];
         f->size = f->synced_size = 0;
         memset(f->dirty, 0, sizeof f->dirty);
-    }
+    } else if (how & O_EXCL) { errno = EEXIST; return -1; }
     while (slot < OPEN && file_of[slot] >= 0) slot++;
     if (slot == OPEN) die("too many open", slot);
     file_of[slot] = disk.now[name];
@@ -92,19 +98,35 @@ int __wrap_flock(int fd, int how) {
     if (others != 1 || !how) die("a file is open twice", fd);
     return fails() ? -1 : 0;
 }
-int __wrap_fstat(int fd, struct stat *found) {
-    if (fails()) return -1;
+/* A file's number is its place on the disk. */
+static int tell(const struct file *f, struct stat *found) {
     memset(found, 0, sizeof *found);
     found->st_mode = S_IFREG | 0600;
-    found->st_size = at(fd)->size;
+    found->st_size = f->size;
+    found->st_ino = (ino_t)(f - disk.file) + 1;
+    return 0;
+}
+int __wrap_fstat(int fd, struct stat *found) { return fails() ? -1 : tell(at(fd), found); }
+int __wrap_lstat(const char *path, struct stat *found) {
+    int name = name_of(path);
+    if (name < 0) die("a path that is none of the three", 0);
+    if (fails()) return -1;
+    if (disk.now[name] < 0) { errno = ENOENT; return -1; }
+    return tell(&disk.file[disk.now[name]], found);
+}
+int __wrap_rename(const char *from, const char *to) {
+    if (name_of(from) != 2 || name_of(to) != 1 || disk.now[2] < 0) die("a name that is not the copy's", 0);
+    if (fails()) return -1;
+    disk.now[1] = disk.now[2], disk.now[2] = -1;
     return 0;
 }
 char *__wrap_realpath(const char *path, char *into) { return into ? NULL : strdup(path); }
 int __wrap_unlink(const char *path) {
-    if (strcmp(path, names[1])) die("a file is removed", 0);
+    int name = name_of(path);
+    if (name < 1) die("a file is removed", name);
     if (fails()) return -1;
-    if (disk.now[1] < 0) { errno = ENOENT; return -1; }
-    disk.now[1] = -1;
+    if (disk.now[name] < 0) { errno = ENOENT; return -1; }
+    disk.now[name] = -1;
     return 0;
 }
 int __wrap_fsync(int fd) {
@@ -188,12 +210,12 @@ static void leave_file(struct file *f, int how) {
     f->synced_size = f->size;
 }
 
-/* The disk after a stop which leaves a base, a journal and the names so; the two files have the first places then. */
+/* The disk after a stop which leaves a base, a journal, its copy as this, and the names so; the files have the first places. */
 static void leave(const struct disk *from, int base, int journal, bool renamed) {
     static const struct file none;
-    int how[2] = {base, journal};
-    disk.count = 2;
-    for (int name = 0; name < 2; name++) {
+    int how[NAMES] = {base, journal, journal};
+    disk.count = NAMES;
+    for (int name = 0; name < NAMES; name++) {
         int had = renamed ? from->now[name] : from->synced[name];
         copy(&disk.file[name], had < 0 ? &none : &from->file[had]);
         disk.now[name] = disk.synced[name] = had < 0 ? -1 : name;
@@ -375,7 +397,8 @@ static void finds(bool stood, int flags, long after) {
     struct table table = found();
     if (!same(&table, &kept) && !same(&table, &trying)) die("another table after a stop behind call", after);
     if (rstore_close(db)) die("closing", after);
-    if (disk.now[1] >= 0 || disk.synced[1] >= 0) die("the journal stays", after);
+    for (int name = 1; name < NAMES; name++)
+        if (disk.now[name] >= 0 || (name == 1 && disk.synced[name] >= 0)) die("the journal stays", after);
     settled();
 }
 
@@ -425,7 +448,7 @@ static void stops_of(bool (*session)(void), const struct disk *from, int flags, 
 int main(int argc, char **argv) {
     static struct disk empty, made;
     bool quick = argc > 1 && argv[1][0];
-    empty.now[0] = empty.now[1] = empty.synced[0] = empty.synced[1] = -1;
+    for (int name = 0; name < NAMES; name++) empty.now[name] = empty.synced[name] = -1;
     for (int slot = 0; slot < OPEN; slot++) file_of[slot] = -1;
     stops_of(makes, &empty, RSTORE_CREATE, quick ? 1 : 4, quick ? 9 : 1);
     if (!same(&kept, &working)) die("the session did not end well", 0);

@@ -133,20 +133,32 @@ pub extern "C" fn rstore_c_close(
     let session = &mut handle.held().session;
     let read_only = session.is_read_only();
     let (number, device) = session.close(alloc);
-    let Some(device) = device else {
-        return number;
-    };
-    if read_only {
-        return number;
+    let failed = fails_to_end(device, read_only, Streams::of(input, output));
+    closing_number(number, failed)
+}
+
+// Ends the run over the files of a store that was not only read, and says whether that failed.
+fn fails_to_end(device: Option<Device>, read_only: bool, streams: Streams) -> bool {
+    let mut streams = streams;
+    if let Some(device) = device {
+        if !read_only {
+            return files::end(device, &mut streams).is_err();
+        }
     }
-    let ended = files::end(device, &mut Streams::of(input, output));
+    false
+}
+
+// The number of a closing, or that of the device where it went well and the end of the run failed.
+fn closing_number(number: u32, is_end_failed: bool) -> u32
+    ensures { (result ≡ number) ⊎ ((number ≡ 0) × (result ≡ 17)) }
+{
     if number != 0 {
         return number;
     }
-    match ended {
-        Ok(()) => number,
-        Err(_) => DEVICE,
+    if is_end_failed {
+        return DEVICE;
     }
+    number
 }
 
 /// The number that came with the last refusal; after the opening 1 where the last run had committed and not
