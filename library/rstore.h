@@ -7,8 +7,8 @@
  * ERRORS. Each function that returns int answers RSTORE_OK (0) or the number of an error; rstore_errstr has a message
  * for each, and rstore_detail what came with it. But for RSTORE_STORE_FAILED, an error leaves the store as it was. Where
  * a call is refused, *rows, *count and the like are not written. After RSTORE_STORE_FAILED the store refuses each call:
- * close it, and open it again to have what was kept last. Null pointers, a number of axes other than 2 and 3, an unknown
- * kind of query and an empty name answer RSTORE_MISUSE.
+ * close it, and open it again to have what was kept last. Null pointers (but for a store in memory: rstore_open), a number
+ * of axes other than 2 and 3, an unknown kind of query and an empty name answer RSTORE_MISUSE.
  *
  * WHAT IS KEPT. Changes are in the file once rstore_commit or rstore_close answered RSTORE_OK, all of them or, before,
  * none. A process that is killed, or a machine that stops, at any moment, loses what was changed since the last of

@@ -189,7 +189,7 @@ if hasattr(os, "register_at_fork"):
 def open(
     path: Union[str, os.PathLike[str], None], *, create: bool = False, read_only: bool = False, cache: int = 1024
 ) -> Store:
-    """Opens the store in the file at `path`, or with None makes one in memory, which goes when it is closed. With `create` a file that is missing or empty becomes an empty store; with
-    `read_only` the file is only read, and changes are refused. `cache` is how many pages of 4096 bytes are held in
-    memory, 8 to 4096."""
+    """Opens the store in the file at `path`, or with None makes one in memory, which goes when it is closed. With `create`
+    a file that is missing or empty becomes an empty store; with `read_only` the file is only read, and changes are refused.
+    `cache` is how many pages of 4096 bytes are held in memory, 8 to 4096."""
     return Store(path, create, read_only, cache)
