@@ -1,8 +1,10 @@
-"""arrays.py [BOXES [QUESTIONS]]: processor microseconds a question in one call, over 100,000 uniform boxes of two axes: windows
-of about one, ten and a thousand rows, and the ten nearest to points, as arrays of numpy; beside single calls of rstore, of
-shapely's STRtree, geopandas' sindex and the package rtree, as far as they are installed (Debian's python3-numpy,
-python3-shapely, python3-geopandas, python3-rtree). The least of three rounds in processor time, programs in turns; what has
-a call of Python a question is asked fewer. All have their boxes made beforehand. The store is in a file, with 4096 pages held.
+"""arrays.py [BOXES [QUESTIONS [ROUNDS]]]: processor microseconds a question from Python, over 100,000 uniform boxes of
+two axes: windows of about one, ten and a thousand rows, and the ten nearest to points, among the boxes and among as
+many points. In one call of arrays of numpy (`windows`, `query`, `counts`, `nearest_many`) and one by one; beside
+shapely's STRtree, geopandas' sindex, the package rtree and rstore.rtree, as far as they are installed (Debian's
+python3-numpy, python3-shapely, python3-geopandas, python3-rtree). The least of ROUNDS rounds (3), programs in turns;
+what has a call of Python a question is asked fewer. All have their boxes made beforehand. The store is in a file, with
+4096 pages held.
 
     PYTHONPATH=library/lib python3 bench/arrays.py
 """
@@ -17,23 +19,20 @@ import warnings
 import numpy
 
 import rstore
+import rstore.rtree
 
 warnings.filterwarnings("ignore")
-BOXES, QUESTIONS = (int(x) for x in (sys.argv[1:] + ["100000", "100000"][len(sys.argv) - 1 :])[:2])
-SIDE, ROUNDS = 1_000_000, 3
+BOXES, QUESTIONS, ROUNDS = (int(x) for x in (sys.argv[1:] + ["100000", "100000", "3"][len(sys.argv) - 1 :])[:3])
+SIDE = 1_000_000
 dice = numpy.random.default_rng(7)
-ROW = numpy.dtype([("id", "u8"), ("low", "i4", 3), ("high", "i4", 3), ("tag", "u4"), ("axes", "u4")])
-rows = numpy.zeros(BOXES, ROW)
-rows["id"] = numpy.arange(BOXES)
-rows["low"][:, :2] = dice.integers(0, SIDE, (BOXES, 2))
-rows["high"][:, :2] = rows["low"][:, :2] + dice.integers(0, 1001, (BOXES, 2))
-corners = numpy.hstack([rows["low"][:, :2], rows["high"][:, :2]])
+low = dice.integers(0, SIDE, (BOXES, 2), dtype=numpy.int32)
+corners = numpy.hstack([low, low + dice.integers(0, 1001, (BOXES, 2), dtype=numpy.int32)])
 
 
 def windows(width: int) -> numpy.ndarray:
     """Square windows."""
-    low = dice.integers(0, SIDE, (QUESTIONS, 2), dtype=numpy.int32)
-    return numpy.hstack([low, low + numpy.int32(width * (100_000 / BOXES) ** 0.5)])
+    corner = dice.integers(0, SIDE, (QUESTIONS, 2), dtype=numpy.int32)
+    return numpy.hstack([corner, corner + numpy.int32(width * (100_000 / BOXES) ** 0.5)])
 
 
 def each(ask, asked) -> int:
@@ -51,60 +50,81 @@ def measured(row: str, column: str, act, questions: int) -> None:
 
 def ours(layer, name: str, asked: numpy.ndarray, few: int) -> None:
     tuples = [tuple(one) for one in asked[:few].tolist()]
-    measured(name, "rstore windows", lambda: len(layer.windows(asked).ids), len(asked))
-    measured(name, "rstore query", lambda: layer.query(asked).shape[1], len(asked))
-    measured(name, "rstore counts", lambda: int(layer.counts(asked).sum()), len(asked))
-    measured(name, "rstore window_ids, one by one", lambda: each(layer.window_ids, tuples), few)
+    measured(name, "rstore", lambda: len(layer.windows(asked).ids), len(asked))
+    measured(name, "rstore, pairs (query)", lambda: layer.query(asked).shape[1], len(asked))
+    measured(name, "rstore, counts", lambda: int(layer.counts(asked).sum()), len(asked))
+    measured(name, "rstore, one by one", lambda: each(layer.window_ids, tuples), len(tuples))
 
 
-def shapely_s(name: str, asked: numpy.ndarray, few: int) -> None:
-    from shapely.geometry import box
-    from shapely.strtree import STRtree
-
-    if not hasattr(shapely_s, "tree"):
-        shapely_s.tree = STRtree([box(*one) for one in corners.tolist()])
-    given, tree = [box(*one) for one in asked[:few].tolist()], shapely_s.tree
-    measured(name, "shapely STRtree, one by one", lambda: each(tree.query, given), few)
+def ours_near(layer, name: str, points: numpy.ndarray) -> None:
+    tuples = [tuple(one) for one in points[:5000].tolist()]
+    measured(name, "rstore", lambda: layer.nearest_many(points, 10).ids.size, len(points))
+    measured(name, "rstore, one by one", lambda: each(lambda one: layer.nearest(one, 10), tuples), len(tuples))
 
 
-def geopandas_s(name: str, asked: numpy.ndarray, few: int) -> None:
-    import geopandas
-    from shapely.geometry import box
+class Shapely:
+    """One call a question."""
 
-    if not hasattr(geopandas_s, "index"):
-        geopandas_s.index = geopandas.GeoSeries([box(*one) for one in corners.tolist()]).sindex
-    given, index = geopandas.GeoSeries([box(*one) for one in asked[: few // 4].tolist()]), geopandas_s.index
-    ask = index.query_bulk if hasattr(index, "query_bulk") else index.query
-    measured(name, "geopandas sindex", lambda: ask(given).shape[1], len(given))
+    def __init__(self) -> None:
+        from shapely.geometry import box
+        from shapely.strtree import STRtree
 
+        self.box, self.tree = box, STRtree([box(*one) for one in corners.tolist()])
 
-def rtree_s(name: str, asked: numpy.ndarray, few: int) -> None:
-    from rtree import index
-
-    if not hasattr(rtree_s, "index"):
-        rtree_s.index = index.Index([(k, one, None) for k, one in enumerate(corners.astype(float).tolist())])
-    given, tree = asked[: few // 2].tolist(), rtree_s.index
-    measured(name, "rtree, one by one", lambda: each(lambda one: list(tree.intersection(one)), given), len(given))
+    def ask(self, name: str, asked: numpy.ndarray, few: int) -> None:
+        given = [self.box(*one) for one in asked[:few].tolist()]
+        measured(name, "shapely STRtree, one by one", lambda: each(self.tree.query, given), len(given))
 
 
-def main() -> None:
-    folder = tempfile.mkdtemp(dir="/dev/shm" if os.access("/dev/shm", os.W_OK) else None)
-    db = rstore.open(folder + "/arrays.rst", create=True, cache=4096)
-    layer = db.create_layer("boxes")
-    layer.load_rows(rows)
-    db.commit()
-    for name, width, few in (("1 row", 2700, 10_000), ("10 rows", 9500, 5_000), ("1000 rows", 99_500, 300)):
-        asked = windows(width)
-        ours(layer, name, asked, few)
-        for other in (shapely_s, geopandas_s, rtree_s):
-            try:
-                other(name, asked, few)
-            except ImportError:
-                pass
-    points = dice.integers(0, SIDE, (QUESTIONS, 2), dtype=numpy.int32)
-    measured("10 nearest", "rstore windows", lambda: layer.nearest_many(points, 10).ids.size, len(points))
-    some = [tuple(one) for one in points[:5000].tolist()]
-    measured("10 nearest", "rstore window_ids, one by one", lambda: each(lambda one: layer.nearest(one, 10), some), len(some))
+class Geopandas:
+    """All in one call."""
+
+    def __init__(self) -> None:
+        import geopandas
+        from shapely.geometry import box
+
+        self.series, self.box = geopandas.GeoSeries, box
+        index = self.series([box(*one) for one in corners.tolist()]).sindex
+        self.query = index.query_bulk if hasattr(index, "query_bulk") else index.query
+
+    def ask(self, name: str, asked: numpy.ndarray, few: int) -> None:
+        given = self.series([self.box(*one) for one in asked[: few // 4].tolist()])
+        measured(name, "geopandas sindex", lambda: self.query(given).shape[1], len(given))
+
+
+class Rtree:
+    """The package, or rstore.rtree."""
+
+    def __init__(self, module, name: str) -> None:
+        self.name, self.tree = name, module.Index([(k, tuple(one), None) for k, one in enumerate(corners.tolist())])
+
+    def ask(self, name: str, asked: numpy.ndarray, few: int) -> None:
+        given, ask = [tuple(one) for one in asked[: few // 2].tolist()], self.tree.intersection
+        measured(name, f"{self.name}, one by one", lambda: each(lambda one: list(ask(one)), given), len(given))
+
+    def near(self, name: str, points: numpy.ndarray) -> None:
+        given, ask = [tuple(one) for one in points[:2000].tolist()], self.tree.nearest
+        measured(name, f"{self.name}, one by one", lambda: each(lambda one: list(ask(one, 10)), given), len(given))
+
+
+def others() -> list:
+    made: list = [Rtree(rstore.rtree, "rstore.rtree")]
+    for kind in (Shapely, Geopandas):
+        try:
+            made.append(kind())
+        except ImportError:
+            pass
+    try:
+        from rtree import index
+
+        made.append(Rtree(index, "rtree"))
+    except ImportError:
+        pass
+    return made
+
+
+def measure() -> dict:
+    """The least time of each task, and how many rows a question has."""
     best: dict = {}
     for _ in range(ROUNDS):
         for row, column, act, questions in tasks:
@@ -112,6 +132,29 @@ def main() -> None:
             found = act()
             took = (time.process_time() - start) * 1e6 / questions
             best[row, column] = min(best.get((row, column), (1e18, 0)), (took, found / questions))
+    return best
+
+
+def main() -> None:
+    folder = tempfile.mkdtemp(dir="/dev/shm" if os.access("/dev/shm", os.W_OK) else None)
+    db = rstore.open(folder + "/arrays.rst", create=True, cache=4096)
+    layer, dots = db.create_layer("boxes"), db.create_layer("points")
+    layer.load_arrays(numpy.arange(BOXES), corners)
+    dots.load_arrays(numpy.arange(BOXES), numpy.hstack([low, low]))
+    db.commit()
+    beside = others()
+    for name, width, few in (("1 row", 2700, 10_000), ("10 rows", 9500, 5_000), ("1000 rows", 99_500, 300)):
+        asked = windows(width)
+        ours(layer, name, asked, few)
+        for other in beside:
+            other.ask(name, asked, few)
+    points = dice.integers(0, SIDE, (QUESTIONS, 2), dtype=numpy.int32)
+    ours_near(layer, "10 nearest", points)
+    ours_near(dots, "10 nearest points", points)
+    for other in beside:
+        if hasattr(other, "near"):
+            other.near("10 nearest", points)
+    best = measure()
     db.close()
     shutil.rmtree(folder)
     names, columns = list(dict.fromkeys(r for r, _ in best)), list(dict.fromkeys(c for _, c in best))

@@ -7,6 +7,7 @@
 set -eu -o pipefail
 here="$(cd "$(dirname "$0")" && pwd)"
 rstore="$here/../rstore"
+[ -x "$rstore" ] || rstore=rstore # that of a package
 folder="${1:-$(mktemp -d)}"
 store="$folder/coast.rst"
 mkdir -p "$folder"

@@ -1,7 +1,8 @@
 #!/usr/bin/env bash
-# build.sh [OUT]: builds the C library and the Python module into OUT (default library/lib): librstore.a, librstore.so,
-# rstore.h, the package rstore and rstore_rtree.py. What its proved part is made of is proved first, where that is not
-# done yet: after ./rstore four crates. CC names another compiler, JOBS how many processors are used.
+# build.sh [OUT]: builds the C library and the Python module into OUT (default library/lib): librstore.a, librstore.so.0
+# with the link librstore.so, rstore.h, the package rstore and rstore_rtree.py. What its proved part is made of is proved
+# first, where that is not done yet: after ./rstore four crates. CC names another compiler, JOBS how many processors are
+# used, CPU the processor that its proved part is compiled for (x86-64-v2 or x86-64-v3; CFLAGS are for the rest).
 set -eu
 here="$(cd "$(dirname "$0")" && pwd)"
 crates="$here/../crates"
@@ -17,7 +18,7 @@ fi
 kit="$(dirname "$(rt doc)")"
 built="$crates/rstore_c/out/librstore_c.a"
 
-"$here/../tools/build" ${JOBS:+--jobs "$JOBS"} rstore_c >&2
+"$here/../tools/build" ${JOBS:+--jobs "$JOBS"} ${CPU:+--cpu "$CPU"} rstore_c >&2
 work="$(mktemp -d)"
 trap 'rm -rf "$work"' EXIT
 # The proved code has its files by streams: its read(0) and write(1) get the names of rstore.c's functions, in that one
@@ -35,10 +36,11 @@ ${CC:-cc} -std=c11 -O2 -Wall -Wextra -fPIC -I"$here" -I"$work" ${CFLAGS:-} -c "$
   echo 'local: *; };'
 } >"$work/exports.map"
 mkdir -p "$out"
-rm -f "$out/librstore.a"
+rm -f "$out/librstore.a" "$out"/librstore.so*
 ar rcs "$out/librstore.a" "$work/rstore.o" "$work"/proved/*.o "$work"/kit/*.o
-${CC:-cc} -shared -o "$out/librstore.so" -Wl,--version-script="$work/exports.map" -Wl,--gc-sections -Wl,-soname,librstore.so \
-  ${CFLAGS:-} "$work/rstore.o" "$work"/proved/*.o "$kit/c/libos_c.a" "$kit/c/liblibc_c.a"
+${CC:-cc} -shared -o "$out/librstore.so.0" -Wl,--version-script="$work/exports.map" -Wl,--gc-sections \
+  -Wl,-soname,librstore.so.0 ${CFLAGS:-} "$work/rstore.o" "$work"/proved/*.o "$kit/c/libos_c.a" "$kit/c/liblibc_c.a"
+ln -s librstore.so.0 "$out/librstore.so"
 cp "$here/rstore.h" "$out/"
 mkdir -p "$out/rstore"
 cp "$here"/rstore/*.py "$here/rstore/py.typed" "$out/rstore/"

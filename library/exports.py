@@ -5,7 +5,8 @@ import re
 import sys
 from pathlib import Path
 
-STRUCTS = {"Row": "rstore_row", "Near": "rstore_near", "Pair": "rstore_pair", "Layer": "rstore_layer"}
+STRUCTS = {"Row": "rstore_row", "Near": "rstore_near", "Pair": "rstore_pair", "Layer": "rstore_layer",
+           "NodeRow": "rstore_node"}
 NUMBERS = {"u8": "uint8_t", "u32": "uint32_t", "u64": "uint64_t", "i32": "int32_t", "usize": "size_t", "bool": "bool"}
 NOTHING = {"Global", "Stdin", "Stdout"}
 SIZES = {"u8": 1, "u32": 4, "i32": 4, "u64": 8}

@@ -21,8 +21,14 @@ struct rstore {
     char *journal;  /* the path of the journal, or NULL */
     char *part;     /* where a copy of it is made, or NULL */
     bool memory;    /* the files are in memory, without names */
+    bool unsure;    /* the folder of a journal that was opened could not be synced */
+    bool half;      /* a change was half done, and is to be rolled back */
+    bool abandoned; /* nothing is read or written any more */
     unsigned char letter, side, outcome; /* of the last request, and how it went */
     off_t at;
+    rstore_blocks blocks; /* in the place of the file, or NULL each */
+    void *context;
+    bool marked, shut;    /* of these: whether the gate has the mark; whether their gate is known to be shut */
 };
 
 /* The handle whose function runs, and what came with the last opening that was refused. */
@@ -31,6 +37,7 @@ static _Thread_local uint64_t refused_detail;
 
 /* ---- files, as crates/file_device opens them; the numbers are those of OpenError in crates/stream_file */
 enum { DONE = 0, REFUSED = 1, IN_USE = 2, NO_LOCKS = 3, NO_MEMORY = 4 };
+enum { UNSURE = -2 };
 
 /* The folder of a path, open; or -1. */
 static int folder_of(const char *path) {
@@ -41,15 +48,16 @@ static int folder_of(const char *path) {
     return fd;
 }
 
-/* Opens a regular file and locks it, a new one with its folder synced. Its number is none of a standard stream's. */
-static int open_locked(const char *path, int how, int lock, int *fd) {
+/* Opens a regular file and locks it, and syncs its folder where its name is to be kept: *fd is UNSURE where that failed.
+ * Its number is none of a standard stream's. */
+static int open_locked(const char *path, int how, int lock, bool keeps, int *fd) {
     struct stat found;
-    int folder = how & O_CREAT ? folder_of(path) : -1;
-    if (how & O_CREAT && folder < 0) return REFUSED;
+    int folder = keeps ? folder_of(path) : -1;
+    if (keeps && folder < 0) return *fd = UNSURE, REFUSED;
     int made = open(path, how | O_CLOEXEC | O_NOCTTY | O_NONBLOCK, 0666), error = REFUSED;
     if (made >= 3 && !fstat(made, &found) && S_ISREG(found.st_mode))
         error = !flock(made, lock | LOCK_NB) ? DONE : errno == EWOULDBLOCK ? IN_USE : NO_LOCKS;
-    if (!error && folder >= 0 && fsync(folder)) error = REFUSED;
+    if (!error && folder >= 0 && fsync(folder)) error = REFUSED, *fd = UNSURE;
     if (folder >= 0) close(folder);
     if (error && made >= 0) close(made);
     if (!error) *fd = made;
@@ -65,11 +73,13 @@ static int open_memory(int *fd) {
 }
 
 /* Opens the journal, or makes it, or makes a copy's file; one that was open is closed. In memory there is none but one that
- * is made. */
+ * is made. Once the name of one that is there was not synced none is opened: it was not looked at. */
 static int open_journal(rstore *db, int side, const char *path, int how) {
-    int fd, error = REFUSED;
-    if (path) error = open_locked(path, O_RDWR | how, LOCK_EX, &fd);
+    int fd = -1, error = REFUSED;
+    if (db->unsure) return error;
+    if (path) error = open_locked(path, O_RDWR | how, LOCK_EX, side == 1, &fd);
     else if (db->memory && how & O_CREAT) error = open_memory(&fd);
+    db->unsure = fd == UNSURE;
     if (error) return error;
     if (db->fd[side] >= 0) close(db->fd[side]);
     db->fd[side] = fd;
@@ -98,8 +108,63 @@ static int unlink_journal(rstore *db, bool replaced) {
     return done ? DONE : REFUSED;
 }
 
+/* ---- blocks of the caller's. The mark of a session that has not ended (docs/FORMAT.md, "The journal") stays in the
+ * handle, so these are the blocks of a file that was closed, but while they are written. */
+enum { GATE_BYTE = 8, SHUT = 1, MARKED = 2 }; /* as in crates/marked_pair */
+
+static bool is_gate(const void *bytes, unsigned char number) {
+    return !memcmp(bytes, "RSTARGAT", GATE_BYTE) && ((const unsigned char *)bytes)[GATE_BYTE] == number;
+}
+
+/* The callbacks may call the library for another handle. */
+static int done_by(rstore *db, int answer) {
+    serving = db;
+    return answer ? REFUSED : DONE;
+}
+
+static int write_lent(rstore *db, const void *from) {
+    unsigned char gate[4096];
+    uint64_t number = (uint64_t)db->at / 4096;
+    if (number) return done_by(db, db->blocks.write(db->context, number, from));
+    memcpy(gate, from, sizeof gate);
+    db->marked = is_gate(gate, MARKED);
+    if (db->marked) gate[GATE_BYTE] = SHUT;
+    bool shut = is_gate(gate, SHUT);
+    if (shut && db->shut) return DONE;
+    int answer = done_by(db, db->blocks.write(db->context, 0, gate));
+    db->shut = !answer && shut;
+    return answer;
+}
+
+static int read_lent(rstore *db, void *into) {
+    uint64_t number = (uint64_t)db->at / 4096;
+    int answer = done_by(db, db->blocks.read(db->context, number, into));
+    if (answer) { memset(into, 0, 4096); return answer; }
+    if (number) return DONE;
+    db->shut = is_gate(into, SHUT);
+    if (db->shut && db->marked) ((unsigned char *)into)[GATE_BYTE] = MARKED;
+    return DONE;
+}
+
+/* How many bytes a file has, or the blocks. */
+static int size_of(rstore *db, uint64_t *size) {
+    struct stat found;
+    bool lent = db->blocks.read && db->side == 0;
+    int answer = lent ? done_by(db, db->blocks.count(db->context, size))
+                      : fstat(db->fd[db->side], &found) ? REFUSED : DONE;
+    *size = answer ? 0 : lent ? *size * 4096 : (uint64_t)found.st_size;
+    return answer;
+}
+
+static int sync_file(rstore *db) {
+    if (!db->blocks.read || db->side) return fdatasync(db->fd[db->side]) ? REFUSED : DONE;
+    return db->blocks.sync ? done_by(db, db->blocks.sync(db->context)) : DONE;
+}
+
 /* A block, whole, read or written; what the file lacks reads as zeros. */
 static int block(rstore *db, void *into, const void *from) {
+    if (db->abandoned) { if (into) memset(into, 0, 4096); return REFUSED; }
+    if (db->blocks.read && db->side == 0) return into ? read_lent(db, into) : write_lent(db, from);
     int fd = db->fd[db->side];
     for (size_t done = 0; done < 4096;) {
         ssize_t n = into ? pread(fd, (char *)into + done, 4096 - done, db->at + (off_t)done)
@@ -127,8 +192,9 @@ ssize_t rstore_stream_write(int fd, const void *bytes, size_t count) {
     db->letter = b[0];
     db->side = b[1];
     db->at = (off_t)at;
+    if (db->abandoned) { db->outcome = REFUSED; return 10; }
     switch (db->letter) {
-    case 'y': db->outcome = fdatasync(db->fd[db->side]) ? REFUSED : DONE; break;
+    case 'y': db->outcome = (unsigned char)sync_file(db); break;
     case 'o': db->outcome = (unsigned char)open_journal(db, 1, db->journal, 0); break;
     case 'm': db->outcome = (unsigned char)open_journal(db, 1, db->journal, O_CREAT); break;
     case 'x': db->outcome = (unsigned char)unlink_journal(db, false); break;
@@ -142,14 +208,13 @@ ssize_t rstore_stream_write(int fd, const void *bytes, size_t count) {
 /* After 'r' the block, after 's' the size, and after each request a byte that says how it went. */
 ssize_t rstore_stream_read(int fd, void *into, size_t count) {
     rstore *db = serving;
-    struct stat found;
     if (db && fd == 0 && count == 1) {
         *(unsigned char *)into = db->outcome;
     } else if (db && fd == 0 && count == 4096 && db->letter == 'r') {
         db->outcome = (unsigned char)block(db, into, NULL);
     } else if (db && fd == 0 && count == 8 && db->letter == 's') {
-        db->outcome = fstat(db->fd[db->side], &found) ? REFUSED : DONE;
-        uint64_t size = db->outcome ? 0 : (uint64_t)found.st_size;
+        uint64_t size = 0;
+        db->outcome = (unsigned char)size_of(db, &size);
         for (int k = 0; k < 8; k++) ((unsigned char *)into)[k] = (unsigned char)(size >> 8 * k);
     } else { errno = EINVAL; return -1; }
     return (ssize_t)count;
@@ -163,7 +228,7 @@ ssize_t rstore_stream_read(int fd, void *into, size_t count) {
 #define NAMED(layer) ((layer) && *(layer))
 #define AXES(axes) ((axes) == 2 || (axes) == 3)
 /* A call that may read or write the files of db, and a function that is one. */
-#define DO(call) (serving = db, (int)(call))
+#define DO(call) (db->half ? RSTORE_STORE_FAILED : (serving = db, (int)(call)))
 #define CALL(condition, call) { ASK(condition); return DO(call); }
 
 /* ---- errors */
@@ -178,7 +243,8 @@ const char *rstore_errstr(int error) {
         "no memory", "the device failed", "a page is damaged", "the store failed", "the file was not closed",
         "not a store", "a version that is not known", "a cache holds 8 to 4096 pages", "not a command",
         "no page number is left" };
-    static const char *const own[] = { "cannot open the file", "the file is in use", "the store is closed",
+    static const char *const own[] = { "cannot open the file", "the file is in use",
+        "a rollback was refused, and the store is not open",
         "a null pointer, an empty name, or numbers that are no box, point or query", "the store is only read",
         "the file cannot be locked", "the journal beside the file is missing, or is no journal",
         "the journal beside the file is that of another file" };
@@ -195,7 +261,7 @@ static int open_files(rstore *db, const char *path, int flags) {
     if (!path) return db->memory = true, numbers[open_memory(&db->fd[0])];
     bool reads = flags == RSTORE_READ_ONLY;
     int how = reads ? O_RDONLY : O_RDWR | (flags == RSTORE_CREATE ? O_CREAT : 0);
-    int error = open_locked(path, how, reads ? LOCK_SH : LOCK_EX, &db->fd[0]);
+    int error = open_locked(path, how, reads ? LOCK_SH : LOCK_EX, how & O_CREAT, &db->fd[0]);
     if (error || reads) return numbers[error];
     char *real = realpath(path, NULL);
     if (!real) return errno == ENOMEM ? RSTORE_MEMORY : RSTORE_CANNOT_OPEN;
@@ -218,28 +284,70 @@ static int let_go(rstore *db) {
     return failed;
 }
 
-int rstore_open(const char *path, int flags, uint32_t cache, rstore **opened) {
-    refused_detail = 0;
-    ASK(opened);
-    *opened = NULL;
-    ASK(path ? *path && flags >= RSTORE_EXISTING && flags <= RSTORE_READ_ONLY : flags == RSTORE_CREATE);
+static rstore *new_handle(void) {
     rstore *db = calloc(1, sizeof *db);
-    if (!db) return RSTORE_MEMORY;
-    db->fd[0] = db->fd[1] = db->fd[2] = -1;
-    int error = open_files(db, path, flags);
+    if (db) db->fd[0] = db->fd[1] = db->fd[2] = -1;
+    return db;
+}
+
+/* Opens the store over the files, or hands out why not. */
+static int open_store(rstore *db, int error, int flags, uint32_t cache, rstore **opened) {
     if (!error) error = DO(rstore_c_open((uint32_t)flags, cache ? cache : 1024, &db->session, &refused_detail));
     if (error) let_go(db);
     else *opened = db;
     return error;
 }
 
-int rstore_close(rstore *db) {
-    if (!db) return RSTORE_OK;
-    int error = DO(rstore_c_close(db)), failed = let_go(db);
+int rstore_open(const char *path, int flags, uint32_t cache, rstore **opened) {
+    refused_detail = 0;
+    ASK(opened);
+    *opened = NULL;
+    ASK(path ? *path && flags >= RSTORE_EXISTING && flags <= RSTORE_READ_ONLY : flags == RSTORE_CREATE);
+    rstore *db = new_handle();
+    if (!db) return RSTORE_MEMORY;
+    return open_store(db, open_files(db, path, flags), flags, cache, opened);
+}
+
+int rstore_open_blocks(const rstore_blocks *blocks, void *context, int flags, uint32_t cache, rstore **opened) {
+    refused_detail = 0;
+    ASK(opened);
+    *opened = NULL;
+    ASK(blocks && blocks->count && blocks->read && blocks->write);
+    ASK(flags == RSTORE_EXISTING || flags == RSTORE_CREATE);
+    rstore *db = new_handle();
+    if (!db) return RSTORE_MEMORY;
+    db->memory = true; /* its journal */
+    db->blocks = *blocks, db->context = context;
+    return open_store(db, RSTORE_OK, flags, cache, opened);
+}
+
+/* Closes the store, and lets go of all. */
+static int end(rstore *db) {
+    serving = db;
+    int error = (int)rstore_c_close(db), failed = let_go(db);
     return error ? error : failed;
 }
 
+int rstore_close(rstore *db) {
+    if (!db) return RSTORE_OK;
+    bool failed_before = db->half;
+    if (failed_before) rstore_rollback(db); /* what was kept last stays, and is closed */
+    int error = end(db);
+    return failed_before ? RSTORE_STORE_FAILED : error;
+}
+
+void rstore_abandon(rstore *db) {
+    if (!db) return;
+    db->abandoned = true;
+    end(db);
+}
+
 int rstore_commit(rstore *db) CALL(db, rstore_c_commit(db))
+int rstore_rollback(rstore *db) {
+    ASK(db);
+    db->half = false; /* what is half done was changed since */
+    return DO(rstore_c_roll_back(db));
+}
 int rstore_check(rstore *db) CALL(db, rstore_c_check(db))
 
 /* ---- layers and changes */
@@ -264,6 +372,22 @@ int rstore_move(rstore *db, const char *layer, uint64_t id, const int32_t *box, 
     CALL(db && NAMED(layer) && box && AXES(axes), rstore_c_move(db, TEXT(layer), id, box, 2 * (size_t)axes))
 int rstore_delete(rstore *db, const char *layer, uint64_t id)
     CALL(db && NAMED(layer), rstore_c_delete(db, TEXT(layer), id))
+int rstore_put(rstore *db, const char *layer, uint64_t id, const int32_t *box, uint32_t axes, uint32_t tag) {
+    rstore_row old = { .id = id };
+    int32_t was[6];
+    int error = rstore_insert(db, layer, id, box, axes, tag);
+    if (error != RSTORE_DUPLICATE) return error;
+    error = rstore_get(db, layer, id, &old);
+    if (error || old.tag == tag) return error ? error : rstore_move(db, layer, id, box, axes);
+    error = rstore_delete(db, layer, id);
+    if (error) return error;
+    error = rstore_insert(db, layer, id, box, axes, tag);
+    if (!error || error == RSTORE_STORE_FAILED) return error;
+    for (uint32_t k = 0; k < old.axes; k++) was[k] = old.low[k], was[old.axes + k] = old.high[k];
+    if (!rstore_insert(db, layer, id, was, old.axes, old.tag)) return error;
+    db->half = true; /* so that it is never kept */
+    return RSTORE_STORE_FAILED;
+}
 int rstore_load(rstore *db, const char *layer, uint32_t axes, const rstore_row *rows, size_t count) {
     static const rstore_row none;
     ASK(db && NAMED(layer) && AXES(axes) && (rows || count == 0) && count <= PTRDIFF_MAX / sizeof *rows);
@@ -275,19 +399,33 @@ int rstore_count(rstore *db, const char *layer, uint64_t *count)
     CALL(db && NAMED(layer) && count, rstore_c_count(db, TEXT(layer), count))
 int rstore_get(rstore *db, const char *layer, uint64_t id, rstore_row *row)
     CALL(db && NAMED(layer) && row, rstore_c_get(db, TEXT(layer), id, row))
-int rstore_range_into(rstore *db, const char *layer, int kind, const int32_t *numbers, uint32_t axes,
-                      const uint32_t *tag, rstore_row *rows, size_t room, size_t *count) {
-    ASK(db && NAMED(layer) && numbers && AXES(axes) && count && (rows || room == 0));
-    ASK(kind >= RSTORE_WINDOW && kind <= RSTORE_POINT && room <= PTRDIFF_MAX / sizeof *rows);
-    size_t found = 0, length = kind == RSTORE_POINT ? axes : 2 * (size_t)axes;
-    int error = DO(rstore_c_range(db, TEXT(layer), (uint32_t)kind, numbers, length, tag, tag ? *tag : 0, &found));
-    if (error) return error;
-    if (room && found) rstore_c_rows(db, 0, rows, found < room ? found : room);
-    *count = found;
-    return RSTORE_OK;
+/* A range query, whose rows are then fetched. */
+static int ask_one(rstore *db, const char *layer, int kind, const int32_t *numbers, uint32_t axes, const uint32_t *tag,
+                   size_t *found) {
+    ASK(db && NAMED(layer) && numbers && AXES(axes) && kind >= RSTORE_WINDOW && kind <= RSTORE_POINT);
+    size_t length = kind == RSTORE_POINT ? axes : 2 * (size_t)axes;
+    *found = 0;
+    return DO(rstore_c_range(db, TEXT(layer), (uint32_t)kind, numbers, length, tag, tag ? *tag : 0, found));
 }
+/* The same with the first results fetched into the caller's room. */
+#define INTO(out, fetch) { \
+        size_t found; \
+        ASK(count && (out || room == 0) && room <= PTRDIFF_MAX / sizeof *out); \
+        int error = ask_one(db, layer, kind, numbers, axes, tag, &found); \
+        if (error) return error; \
+        if (room && found) fetch(db, 0, out, found < room ? found : room); \
+        *count = found; \
+        return RSTORE_OK; \
+    }
+int rstore_range_into(rstore *db, const char *layer, int kind, const int32_t *numbers, uint32_t axes,
+                      const uint32_t *tag, rstore_row *rows, size_t room, size_t *count) INTO(rows, rstore_c_rows)
+int rstore_ids_into(rstore *db, const char *layer, int kind, const int32_t *numbers, uint32_t axes,
+                    const uint32_t *tag, uint64_t *ids, size_t room, size_t *count) INTO(ids, rstore_c_ids)
 size_t rstore_more(rstore *db, size_t from, rstore_row *rows, size_t room) {
     return db && rows && room && room <= PTRDIFF_MAX / sizeof *rows ? rstore_c_rows(db, from, rows, room) : 0;
+}
+size_t rstore_more_ids(rstore *db, size_t from, uint64_t *ids, size_t room) {
+    return db && ids && room && room <= PTRDIFF_MAX / sizeof *ids ? rstore_c_ids(db, from, ids, room) : 0;
 }
 
 /* The rows that a question has left, as an array, which the proved code takes as memory that has a value. */
@@ -330,6 +468,16 @@ int rstore_join(rstore *db, const char *first, const char *second, uint64_t squa
     if (error) return error;
     HAND_OUT(rstore_c_pair_rows);
 }
+int rstore_nodes(rstore *db, const char *layer, rstore_node **rows, size_t *count) {
+    ASK(db && NAMED(layer) && rows && count);
+    size_t found = 0;
+    int error = DO(rstore_c_outline(db, TEXT(layer), &found));
+    if (error) return error;
+    HAND_OUT(rstore_c_nodes);
+}
+int rstore_id_pages(rstore *db, const char *layer, uint64_t *pages)
+    CALL(db && NAMED(layer) && pages, rstore_c_id_pages(db, TEXT(layer), pages))
+
 /* ---- many questions in one call */
 /* An array that grows by doubling. */
 struct array { void *at; size_t used, room, size; };
@@ -346,6 +494,14 @@ static int make_room(struct array *a, size_t more) {
     a->at = grown;
     a->room = room;
     return RSTORE_OK;
+}
+
+/* Makes room for `each` elements of so many answers, a million at most, where memory is given for them: an array that grows
+ * is copied and cleared anew. */
+static void expect(struct array *a, size_t count, uint64_t each) {
+    size_t most = (size_t)1 << 20, room = count && each >= most / count ? most : count * (size_t)each;
+    a->at = room ? calloc(room, a->size) : NULL;
+    a->room = a->at ? room : 0;
 }
 
 /* Hands out an array, cut to its length, or NULL where it has none; after an error frees it. */
@@ -422,6 +578,7 @@ int rstore_nearest_many(rstore *db, const char *layer, uint64_t k, const int32_t
     int error = RSTORE_OK;
     ASK(db && NAMED(layer) && AXES(axes) && (points || !count) && count <= PTRDIFF_MAX / (3 * sizeof *points) && rows && offsets);
     size_t named = strlen(layer);
+    expect(&made, count, k);
     offsets[0] = 0;
     for (size_t q = 0; q < count; q++) {
         size_t found = 0;

@@ -5,10 +5,11 @@
  * box is closed: it has its low and its high on each axis, low <= high, and boxes that touch meet.
  *
  * ERRORS. Each function that returns int answers RSTORE_OK (0) or the number of an error; rstore_errstr has a message
- * for each, and rstore_detail what came with it. But for RSTORE_STORE_FAILED, an error leaves the store as it was. Where
- * a call is refused, *rows, *count and the like are not written. After RSTORE_STORE_FAILED the store refuses each call:
- * close it, and open it again to have what was kept last. Null pointers (but for a store in memory: rstore_open), a number
- * of axes other than 2 and 3, an unknown kind of query and an empty name answer RSTORE_MISUSE.
+ * for each, and rstore_detail what came with it. But for RSTORE_STORE_FAILED, and of rstore_rollback, an error leaves
+ * the store as it was. Where a call is refused, *rows, *count and the like are not written. After RSTORE_STORE_FAILED the
+ * store refuses each call until rstore_rollback brings back what was kept last. Null pointers (but for a store in
+ * memory: rstore_open), a number of axes other than 2 and 3, an unknown kind of query and an empty name answer
+ * RSTORE_MISUSE.
  *
  * WHAT IS KEPT. Changes are in the file once rstore_commit or rstore_close answered RSTORE_OK, all of them or, before,
  * none. A process that is killed, or a machine that stops, at any moment, loses what was changed since the last of
@@ -69,6 +70,15 @@ typedef struct rstore_pair {
     uint64_t second;
 } rstore_pair;
 
+/* A node of the tree of a layer. */
+typedef struct rstore_node {
+    uint64_t count;  /* entries */
+    uint32_t page;   /* where it lies in the file */
+    uint32_t level;  /* 0 for a leaf */
+    int32_t low[3];  /* the least box round its entries; zeros where it has none, and behind two axes */
+    int32_t high[3];
+} rstore_node;
+
 /* A layer. */
 typedef struct rstore_layer {
     uint64_t count;  /* objects */
@@ -107,6 +117,7 @@ enum {
     RSTORE_NO_PAGES = 25,
     RSTORE_CANNOT_OPEN = 101,     /* the system refuses the file or its journal, or it is no regular file */
     RSTORE_BUSY = 102,            /* the file is open elsewhere */
+    RSTORE_NOT_OPEN = 103,        /* a rollback was refused, and the store is not open since */
     RSTORE_MISUSE = 104,          /* a null pointer, an empty name, or numbers that are no box, point or query */
     RSTORE_READ_ONLY_STORE = 105, /* a change of a store that was opened with RSTORE_READ_ONLY */
     RSTORE_NO_LOCKS = 106,        /* the system has no locks for the file */
@@ -140,11 +151,44 @@ int rstore_open(const char *path, int flags, uint32_t cache, rstore **db);
  * kept and only the end of the session failed, which the next rstore_open does. NULL is fine. */
 int rstore_close(rstore *db);
 
+/* Frees the handle and keeps nothing: what was changed since the last commit is given up, as after a kill. NULL is
+ * fine. */
+void rstore_abandon(rstore *db);
+
 /* Keeps all changes in the file (four to six syncs, none where nothing was changed), and goes on. */
 int rstore_commit(rstore *db);
 
+/* Gives up what was changed since the last rstore_commit, or the opening, and goes on with the table that was kept
+ * last, also after RSTORE_STORE_FAILED; after a commit that was refused it is that table, or the one of that commit, as
+ * after a kill. The pages that are held in memory are forgotten, and three are read; where blocks were added to the
+ * file, it is synced once. Rows for rstore_more stay. A store that is only read has nothing to give up.
+ *
+ * Refused, by RSTORE_MEMORY or RSTORE_DEVICE, it leaves the store not open: each call answers RSTORE_NOT_OPEN, until a
+ * further rstore_rollback goes well. rstore_close answers that too then, and keeps nothing that was changed. */
+int rstore_rollback(rstore *db);
+
 /* Reads every page: RSTORE_OK only where the file is sound, RSTORE_DAMAGED where it is not. */
 int rstore_check(rstore *db);
+
+/* ---- a store over blocks of the caller's */
+
+/* Blocks of 4096 bytes, numbered from 0 on. Each function answers 0 where it was done, and is called only within calls
+ * of the handle. What was written is what is read later. */
+typedef struct rstore_blocks {
+    int (*count)(void *context, uint64_t *count); /* how many there are */
+    int (*read)(void *context, uint64_t block, void *bytes);
+    int (*write)(void *context, uint64_t block, const void *bytes); /* one that is there, or the next behind the last */
+    int (*sync)(void *context); /* what was written stays; NULL where nothing is to do */
+} rstore_blocks;
+
+/* Opens the store in such blocks (RSTORE_EXISTING), or makes one where there is none (RSTORE_CREATE). It has no lock and
+ * no file beside it: what a journal does is the caller's, as by the transaction of a database. A block that was there at
+ * the last commit is written in rstore_commit and rstore_close alone, and where these answer 0 the blocks are those of a
+ * file that was closed. Where one of them fails, or is cut short, the caller puts back the blocks as they were before it,
+ * and abandons the handle; a handle is abandoned, too, where blocks are changed by anyone else. Over blocks as the handle
+ * has left them rstore_rollback does what it does over a file, and writes where it finishes a commit that was refused.
+ * `blocks` is read during the call only, `context` goes to each function. */
+int rstore_open_blocks(const rstore_blocks *blocks, void *context, int flags, uint32_t cache, rstore **db);
 
 /* ---- layers */
 
@@ -162,12 +206,19 @@ int rstore_count(rstore *db, const char *layer, uint64_t *count);
 
 /* ---- changes. A box is 2 * axes numbers: the lows, and then the highs. A point is `axes` numbers. */
 
+/* Adds an object. */
 int rstore_insert(rstore *db, const char *layer, uint64_t id, const int32_t *box, uint32_t axes, uint32_t tag);
 
 /* Gives an object another box. It keeps its tag. */
 int rstore_move(rstore *db, const char *layer, uint64_t id, const int32_t *box, uint32_t axes);
 
+/* Takes out an object. */
 int rstore_delete(rstore *db, const char *layer, uint64_t id);
+
+/* Inserts an object, or gives the one that is there this box and this tag: a move where its tag stays, else a deletion
+ * and an insertion. Where the second is refused the first is undone; where that is refused, too, RSTORE_STORE_FAILED is
+ * answered, and rstore_rollback is the way out. */
+int rstore_put(rstore *db, const char *layer, uint64_t id, const int32_t *box, uint32_t axes, uint32_t tag);
 
 /* Puts `count` objects into an empty layer at once: a packed tree, several times as fast as inserts. None or all. */
 int rstore_load(rstore *db, const char *layer, uint32_t axes, const rstore_row *rows, size_t count);
@@ -197,6 +248,11 @@ int rstore_range_into(rstore *db, const char *layer, int kind, const int32_t *nu
                       const uint32_t *tag, rstore_row *rows, size_t room, size_t *count);
 size_t rstore_more(rstore *db, size_t from, rstore_row *rows, size_t room);
 
+/* The same of identifiers alone, 8 bytes each. */
+int rstore_ids_into(rstore *db, const char *layer, int kind, const int32_t *numbers, uint32_t axes,
+                    const uint32_t *tag, uint64_t *ids, size_t room, size_t *count);
+size_t rstore_more_ids(rstore *db, size_t from, uint64_t *ids, size_t room);
+
 /* The k nearest to the point (1 to 1,000,000), by squared distance and then by identifier. */
 int rstore_nearest(rstore *db, const char *layer, uint64_t k, const int32_t *point, uint32_t axes, rstore_near **rows,
                    size_t *count);
@@ -205,6 +261,12 @@ int rstore_nearest(rstore *db, const char *layer, uint64_t k, const int32_t *poi
  * and then by second. */
 int rstore_join(rstore *db, const char *first, const char *second, uint64_t squared_distance, rstore_pair **rows,
                 size_t *count);
+
+/* The nodes of the tree of a layer, the root first, each before those below it: what one tunes a layer by, and draws. */
+int rstore_nodes(rstore *db, const char *layer, rstore_node **nodes, size_t *count);
+
+/* How many pages the identifier table of a layer has. It takes memory for the objects of the layer. */
+int rstore_id_pages(rstore *db, const char *layer, uint64_t *pages);
 
 /* ---- many questions in one call. Each is answered as by the call of one, in the order given. Results follow one another
  * in one array: those of question q from offsets[q] to offsets[q + 1], where `offsets` is the caller's, of count + 1 numbers.

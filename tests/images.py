@@ -393,4 +393,5 @@ class OldFiles(RunsOver):
             self.stands([self.command(layer) for layer in "ab" for _ in range(100)], "ab")
 
 
-main()
+if __name__ == "__main__":
+    main()

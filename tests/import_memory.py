@@ -57,8 +57,10 @@ class Memory(Imports):
             self.write("store", before)
             result, was_refused = self.refused(nth, words, text)
             seen.add(result)
+            has_journal = "store-journal" in self.files()
             left = self.result("store", "dump\n")
             with self.subTest(words=words, nth=nth):
+                self.assertFalse(result[0] == 0 and has_journal, "a journal behind status 0")
                 self.assertIn(result, [wanted, *((1, "", why) for why in WHYS)])
                 self.assertEqual(left[:2], (0, dump if result == wanted else "ok 0\n"))
                 self.assertIn(left[2], ("", UNENDED))
@@ -81,6 +83,24 @@ class Memory(Imports):
         self.write("store", b"")
         why = 'rstore: line 1, member coordinates: "true]}}" is no position\n'
         self.ends_or_has_no_memory("--geojson", POINT.format("1,true"), (3, "", why))
+
+    # Each call of malloc fails in turn in a run with these words: where it is refused, both files stay.
+    def test_refused_starts(self):
+        self.kill("--create store", "create a 2 4\nreopen\n", "ok\nok\n")
+        files = self.files()
+        for words in ("--format 2", "--create"):
+            for nth in range(1, MOST):
+                env = {**os.environ, "LD_PRELOAD": self.code, "NTH": str(nth)}
+                with self.subTest(words=words, nth=nth):
+                    self.assertEqual(self.result(f"{words} store", "", env=env)[:2], (1, ""))
+                    left = self.files()
+                    was_refused = left.pop("refused", None) is not None
+                    self.assertTrue(left == files, "a file was changed, made or removed")
+                for name, data in files.items():
+                    self.write(name, data)
+                if not was_refused:
+                    break
+                os.remove(self.path("refused"))
 
 
 main()

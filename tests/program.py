@@ -21,6 +21,7 @@ from runs import FIRST, NO_JOURNAL, NOT_A_STORE, TOP, UNCLOSED, Runs, main
 UNENDED = "rstore: the last run did not end; what changed after its last closing is lost\n"
 FAULT = "rstore: input or output failed\n"
 NOT_EMPTY = "rstore: FILE is not empty: without --create it is opened as it is\n"
+WRONG_VERSION = "rstore: fail 22 WrongVersion\n"
 READ_UNCLOSED = "rstore: fail 20 NotClosed: open FILE once for writing\n"
 BAD_LINE = "fail 24 BadLine\n"
 OTHER_JOURNAL = "FILE-journal is the journal of another file: move it beside its own file"
@@ -30,6 +31,7 @@ SAID = "ok\nok\nok\n" + ROWS + "ok 0\n"
 
 GATE_BYTE = 8  # where the gate says that the file was closed (docs/FORMAT.md)
 VERSION_AT = 4096 + 8  # where the header says its version, as two bytes
+EMPTY_JOURNAL = b"RSTARJNL" + bytes(4088)  # its gate: it has nothing to bring back
 
 
 def failing(text):
@@ -53,6 +55,12 @@ def let_no_file_be_locked():
     prctl.argtypes = [ctypes.c_int] + [ctypes.c_ulong] * 4
     if prctl(38, 1, 0, 0, 0) != 0 or prctl(22, 2, ctypes.addressof(calls), 0, 0) != 0:
         raise OSError("the system takes no filter of calls")
+
+
+def completed(journal):
+    """A journal that a run left which was killed, with a gate that says that it is complete."""
+    at = 2 * 4096 + 8  # where its gate says that it is complete
+    return journal[:at] + b"\1" + journal[at + 1 :]
 
 
 def text_of(file):
@@ -267,6 +275,39 @@ class CutShort(Runs):
         os.remove(self.path("store-journal"))
         self.holds_one("")
 
+    def test_a_refused_start_leaves_both_files(self):
+        kept = self.files()["store"]
+        for at, refusal in ((4096 + 9, "22 WrongVersion"), (4096 + 15, "18 Damaged 1"), (8192, "18 Damaged 2")):
+            self.write("store", kept[:at] + bytes([99 if at == 4105 else 0]) + kept[at + 1 :])
+            before = self.files()
+            for words, said in (("store", f"rstore: fail {refusal}\n"), ("--create store", NOT_EMPTY)):
+                self.assertEqual(self.result(words, FIRST), (1, "", said, 0))
+                self.assertTrue(self.files() == before, (words, refusal))
+        self.write("store", kept)
+        self.holds_one(UNENDED)
+
+    # Each making of the file is refused, and what stands there stays.
+    def is_not_made(self):
+        for words in ("--create store", "--create --strict store", "--create --format 2 store"):
+            self.refuses(1, words, NOT_EMPTY)
+        before = self.files()
+        self.ends(1, "--create --import b store", "id,x,y\n1,5,5\n", "", NOT_EMPTY)
+        self.assertTrue(self.files() == before, "an import changed a file, made or removed one")
+
+    def test_a_store_is_not_made_anew_over_one_with_a_journal(self):
+        self.is_not_made()
+        kept = self.files()
+        self.write("store-journal", completed(kept["store-journal"]))
+        self.is_not_made()
+        self.write("store-journal", kept["store-journal"])
+        self.holds_one(UNENDED)
+        title = b"RSTARTTL" + self.files()["store"][4104:8192]
+        end = b"RSTAREND" + title[8:]
+        for journal in (b"", title, title + bytes(4096), title + end, title + bytes(4096) + EMPTY_JOURNAL):
+            self.write("store-journal", journal)
+            self.is_not_made()
+            self.holds_one("")
+
     def test_a_file_that_was_moved_away_keeps_its_journal_where_another_is_made(self):
         os.rename(self.path("store"), self.path("away"))
         before = self.files()
@@ -367,7 +408,7 @@ class Strict(Runs):
 
 
 class Versions(Runs):
-    """The version that the header of a file has, by `--format N` and without that word."""
+    """The version that the header of a file has, by `--format N` and without that word, and what that word refuses."""
 
     MAKES = "create a 2 4\ninsert a 1 0 0 10 10\ninsert a 2 20 20 30 30\n"
     MADE = "ok\nok\nok\n"
@@ -378,8 +419,9 @@ class Versions(Runs):
     # A run with these words goes well, and leaves a file of this version.
     def leaves(self, version, words, given, replies):
         self.answers(words, given, replies)
+        file = "another" if "another" in words else "store"
         with self.subTest(words=words):
-            self.assertEqual(self.files()["store"][VERSION_AT : VERSION_AT + 2], bytes([0, version]))
+            self.assertEqual(self.files()[file][VERSION_AT : VERSION_AT + 2], bytes([0, version]))
 
     def test_a_new_file_has_the_version_that_is_asked_and_each_answers_the_same(self):
         for version, words in (
@@ -400,9 +442,10 @@ class Versions(Runs):
     def test_a_new_layer_raises_the_version_and_nothing_else_does_and_no_word_lowers_it(self):
         self.leaves(2, "--create --format 2 store", self.MAKES, self.MADE)
         self.leaves(2, "store", "insert a 4 70 70 71 71\ndelete a 4\n", "ok\nok\n")
+        self.leaves(2, "--format 2 store", self.ASKS, self.TOLD)
         self.leaves(3, "store", "create b 2 4\ninsert b 7 0 0 1 1\n", "ok\nok\n")
-        self.leaves(3, "--format 2 store", "create c 2 4\nget b 7\n", "ok\nok 1\n7 0 0 1 1\n")
-        self.leaves(3, "--format 2 store", self.ASKS, self.TOLD)
+        self.leaves(3, "store", "drop b\n", "ok\n")
+        self.leaves(3, "--format 3 store", self.ASKS, self.TOLD)
 
     def test_the_word_holds_for_strict_runs_and_imports_too_and_in_memory(self):
         self.leaves(2, "--strict --create --format 2 store", self.MAKES, self.MADE)
@@ -413,11 +456,57 @@ class Versions(Runs):
         self.answers("--format 2", self.MAKES, self.MADE)
 
     def test_where_nothing_is_written_the_word_changes_nothing(self):
+        self.leaves(2, "--create --format 2 store", self.MAKES, self.MADE)
+        before = self.files()
+        for word in ("--format 2", "--format 3", ""):
+            self.leaves(2, f"--read-only {word} store", self.ASKS, self.TOLD)
+            self.assertEqual(self.result(f"--stats {word} store", "")[::2], (0, ""))
+        self.assertTrue(self.files() == before)
+
+    def test_a_newer_file_is_refused_whatever_is_asked_of_it(self):
         self.leaves(3, "--create store", self.MAKES, self.MADE)
         before = self.files()
-        self.leaves(3, "--read-only --format 2 store", self.ASKS, self.TOLD)
-        self.assertEqual(self.result("--stats --format 2 store", "")[::2], (0, ""))
+        words = ("", "--read-only", "--strict", "--strict --read-only", "--stats", "--stats --json", "--draw a")
+        for word in words:
+            self.refuses(1, f"{word} --format 2 store", WRONG_VERSION)
+        self.ends(1, "--import b --format 2 store", self.POINT, "", WRONG_VERSION)
         self.assertTrue(self.files() == before)
+        self.leaves(2, "--create --format 2 another", self.MAKES, self.MADE)
+        self.leaves(3, "store", self.ASKS, self.TOLD)
+
+    # A run over the file, whose version is newer, was cut short. A start that may have version 2 alone is refused, and
+    # both files stay.
+    def is_refused_unended(self):
+        before = self.files()
+        self.assertEqual(sorted(before), ["store", "store-journal"])
+        for word in ("", "--strict", "--cache 8"):
+            self.refuses(1, f"{word} --format 2 store", WRONG_VERSION)
+        self.refuses(1, "--read-only --format 2 store", READ_UNCLOSED)
+        self.ends(1, "--import b --format 2 store", self.POINT, "", WRONG_VERSION)
+        self.assertTrue(self.files() == before, "an import changed a file, made or removed one")
+
+    def test_a_newer_file_whose_run_was_cut_short_is_refused_and_both_files_stay(self):
+        self.kill("--create store", self.MAKES + "reopen\ninsert a 3 40 40 50 50\n", self.MADE + "ok\nok\n")
+        self.is_refused_unended()
+        self.ends(0, "store", self.ASKS, self.TOLD, UNENDED)
+        self.leaves(3, "store", self.ASKS, self.TOLD)
+
+    def test_a_version_that_a_journal_brings_is_that_of_the_file(self):
+        self.leaves(2, "--create --format 2 store", self.MAKES, self.MADE)
+        old = self.files()["store"]
+        self.kill("store", "create b 2 4\nreopen\n", "ok\nok\n")
+        kept = self.files()
+        self.write("store-journal", completed(kept["store-journal"]))
+        self.write("store", kept["store"][:4096] + old[4096:8192] + kept["store"][8192:])
+        self.is_refused_unended()
+        self.ends(0, "store", self.ASKS, self.TOLD, UNENDED)
+        self.leaves(3, "store", "count b\n", "ok 1\n0\n")
+
+    def test_a_version_that_no_closing_wrote_is_not_that_of_the_file(self):
+        self.leaves(2, "--create --format 2 store", self.MAKES, self.MADE)
+        self.kill("store", "create b 2 4\n", "ok\n")
+        self.assertEqual(sorted(self.files()), ["store", "store-journal"])
+        self.leaves(2, "--format 2 store", self.ASKS + "count b\n", self.TOLD + "fail 3 NoLayer\n")
 
 
 PICTURE = """\

@@ -1,5 +1,5 @@
 """What a stop of the machine may leave of a file and its journal: the calls of a run as `strace` tells them, and a disk
-that has taken no more of them than syncs say (docs/FORMAT.md, "The disk model of a stop").
+that has taken no more of them than syncs say (docs/STOPS.md, "The disk model of a stop").
 
 A block that was written since the last sync that succeeded may be as it was, as it was written, or hold any bytes; one
 that was added may be missing; a name that was made or removed since the folder was synced may be there or not. After a
@@ -143,10 +143,12 @@ class File:
     def __init__(self, blocks=()):
         self.read, self.sure, self.loose = list(blocks), list(blocks), {}
         self.dropped = set()  # those that a failed sync has dropped
+        self.added = set()  # those of them that the disk did not have
 
     def copy(self):
         file = File()
-        file.read, file.sure, file.dropped = list(self.read), list(self.sure), set(self.dropped)
+        file.read, file.sure = list(self.read), list(self.sure)
+        file.dropped, file.added = set(self.dropped), set(self.added)
         file.loose = {block: list(written) for block, written in self.loose.items()}
         return file
 
@@ -159,11 +161,13 @@ class File:
             self.read[block] = before[:begin] + data[:count] + before[begin + count :]
             self.loose.setdefault(block, []).append(self.read[block])
             self.dropped.discard(block)
+            self.added.discard(block)
             at, data = at + count, data[count:]
 
     def sync(self, went):
         if not went:
             self.dropped |= set(self.loose)
+            self.added |= {block for block in self.loose if block >= len(self.sure)}
             return
         for block in sorted(set(self.loose) - self.dropped):
             self.sure += [ZEROS] * (block + 1 - len(self.sure))
@@ -252,10 +256,10 @@ class Disk:
         return {*self.earlier, *blocks}
 
     def dropped(self):
-        """The blocks that failed syncs have dropped, and the files that may lack such at their ends, as texts."""
+        """The blocks that failed syncs have dropped, and the files of which that were added ones, as texts."""
         files = self.files.items()
-        short = {f"{file[0]} size" for file, kept in files if kept.dropped - set(range(len(kept.sure)))}
-        return short | {f"{file[0]} block {block}" for file, kept in files for block in kept.dropped}
+        added = {f"{file[0]} added" for file, kept in files if kept.added}
+        return added | {f"{file[0]} block {block}" for file, kept in files for block in kept.dropped - kept.added}
 
     def choices(self):
         """What a stop chooses: of each name, size and block that is not sure what it may be, the first as it is read

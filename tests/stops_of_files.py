@@ -41,19 +41,18 @@ from stops_scripts import answer_of, damages, filters, loads_of, may_be, moments
 
 UNENDED = "rstore: the last run did not end; what changed after its last closing is lost\n"
 SYNCS = ("sync", "folder")
+# The syncs by which both files are looked at: of the folder, of FILE and of its journal.
+LOOKING = (("fsync", 1), ("fdatasync", 1), ("fdatasync", 2))
 MOST_KNOWN = 200000  # states of which it is kept what is found there
 REFUSED_WRITES = "a refused start writes"
 DAMAGED_WRITES = "a refused start of damaged files writes"
+FAILED_SYNC_WRITES = "a start that is refused, and of which a sync failed, writes"
 WHOLE = ("filtered", "damaged", "turned")  # tasks of no script
 SHARED = os.environ.get("RSTORE_LIBRARY", os.path.join(TOP, "library", "lib", "librstore.so"))
 # The words of a session of the library.
 LIBRARY = [os.path.realpath(sys.executable), "-I", "-S", os.path.join(TOP, "tests", "library_session.py"), SHARED]
 # The faults that are known, which are told and let pass.
-KNOWN = {
-    "added blocks whose sync failed",
-    REFUSED_WRITES,
-    DAMAGED_WRITES,
-}
+KNOWN = {"added blocks whose sync failed"}
 
 
 class Found(NamedTuple):
@@ -261,6 +260,17 @@ class Checker:
                     self.tell(found.text, DAMAGED_WRITES, what)
                 if found.text.startswith("status") and not found.text.startswith(("status 0,", "status 1,")):
                     self.tell(found.text, "damaged files", what)
+                if found.what == REFUSED and self.chance.random() < 0.4:
+                    self.refused_beside_a_sync_that_fails(other, what)
+
+    def refused_beside_a_sync_that_fails(self, state, what):
+        """Files that are refused stay as they were, also where a sync fails as they are looked at."""
+        call, number = self.chance.choice(LOOKING)
+        fails = f"{call}:error=EIO:when={number}"
+        run = Run(self.work, state, [self.program], [], fails)
+        self.tally["damaged, and a sync fails"] += 1
+        if is_changed(state, state_of(os.path.join(self.work, "run"))):
+            self.tell(f"status {run.status}, {run.said}", FAILED_SYNC_WRITES, what, fails)
 
     def turned(self):
         """FILE is a link, which is turned to another file whose run was killed: that one keeps its journal."""
@@ -320,7 +330,7 @@ def name_of(kind, disk, is_killed=False):
         return "a journal's gate whose sync failed"
     if "store block 0" in dropped:
         return "a mark whose sync failed"
-    if "store size" in dropped:
+    if "store added" in dropped:
         return "added blocks whose sync failed"
     return "a failed sync" if dropped and kind not in KNOWN else kind
 

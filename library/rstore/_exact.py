@@ -31,22 +31,19 @@ class GivenBoxes:
     """Boxes as they were given, by the keys of entries: the lows and then the highs, floating-point numbers."""
 
     def __init__(self, store: Optional[Store], dims: int) -> None:
-        self._boxes: "dict[int, tuple[float, ...]]" = {}
+        self.boxes: "dict[int, tuple[float, ...]]" = {}
         self._store, self._dims = store, dims
         if store is not None and _LOWS in store:
             highs = {key: self._doubles(box, tag) for key, box, tag in store[_HIGHS].all_rows()}
             for key, box, tag in store[_LOWS].all_rows():
-                self._boxes[key] = self._doubles(box, tag) + highs[key]
+                self.boxes[key] = self._doubles(box, tag) + highs[key]
 
     def _doubles(self, box: Sequence[int], tag: int) -> "tuple[float, ...]":
         return _DOUBLES.unpack(_bits_of(box, tag).to_bytes(28, "little")[:24])[: self._dims]
 
-    def __len__(self) -> int:
-        return len(self._boxes)
-
     def get(self, key: int) -> "Optional[tuple[float, ...]]":
         """The box of an entry, where it is kept."""
-        return self._boxes.get(key)
+        return self.boxes.get(key)
 
     def put(self, key: int, box: "tuple[float, ...]") -> None:
         """Keeps a box of a new entry."""
@@ -54,7 +51,7 @@ class GivenBoxes:
 
     def put_all(self, boxes: "dict[int, tuple[float, ...]]") -> None:
         """Keeps the boxes of new entries."""
-        self._boxes.update(boxes)
+        self.boxes.update(boxes)
         if self._store is None or not boxes:
             return
         for name, part in ((_LOWS, slice(0, self._dims)), (_HIGHS, slice(self._dims, None))):
@@ -65,7 +62,7 @@ class GivenBoxes:
 
     def take(self, key: int) -> None:
         """Forgets the box of an entry that is taken out."""
-        if self._boxes.pop(key, None) is not None and self._store is not None:
+        if self.boxes.pop(key, None) is not None and self._store is not None:
             self._store[_LOWS].delete(key)
             self._store[_HIGHS].delete(key)
 
@@ -74,7 +71,7 @@ class SharedIds:
     """Entries whose identifier another had when they came: each has a key of its own, from 2^63 on."""
 
     def __init__(self, store: Optional[Store]) -> None:
-        self._ids: "dict[int, int]" = {}
+        self.ids: "dict[int, int]" = {}
         self._keys: "dict[int, list[int]]" = {}
         self._store, self._next = store, 1 << 63
         if store is not None and _SHARED in store:
@@ -82,19 +79,16 @@ class SharedIds:
                 self._note(key, _bits_of(box, tag))
 
     def _note(self, key: int, own: int) -> None:
-        self._ids[key] = own
+        self.ids[key] = own
         self._keys.setdefault(own, []).append(key)
         self._next = max(self._next, key + 1)
 
-    def __len__(self) -> int:
-        return len(self._ids)
-
     def __contains__(self, key: int) -> bool:
-        return key in self._ids
+        return key in self.ids
 
     def own(self, key: int) -> int:
         """The identifier of the entry with this key, in 64 bits."""
-        return self._ids.get(key, key)
+        return self.ids.get(key, key)
 
     def keys(self, own: int) -> Iterator[int]:
         """The keys that entries of an identifier may have: itself, and those that were added."""
@@ -112,8 +106,8 @@ class SharedIds:
 
     def take(self, key: int) -> None:
         """Forgets a key, whose entry is taken out."""
-        if key in self._ids:
-            self._keys[self._ids.pop(key)].remove(key)
+        if key in self.ids:
+            self._keys[self.ids.pop(key)].remove(key)
             if self._store is not None:
                 self._store[_SHARED].delete(key)
 

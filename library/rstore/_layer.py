@@ -5,22 +5,26 @@ from __future__ import annotations
 import ctypes
 import math
 import struct
-from ctypes import byref, c_size_t, c_uint32, c_uint64, c_void_p
+from ctypes import byref, c_size_t, c_uint32, c_uint64
 from typing import TYPE_CHECKING, Any, Iterable, Iterator, Optional, Sequence
 
 from rstore._arrays import ArrayQuestions
+from rstore._given import Numbers, coordinates, given_rows, made_rows, refused_row, unsigned
 from rstore._library import (
-    AROUND, BOXES, EPSILON, ID, INSIDE, NEAR, PAIR, POINT, POINTS, ROOM, ROW_SIZE, ROWS, WHOLE, WINDOW,
-    Box, CRow, Number, Point, name_of, tag_at, whole,
+    AROUND, BOXES, EPSILON, ID_ROOM, INSIDE, NEAR, PAIR, POINT, POINTS, ROOM, ROW_SIZE, ROWS, WHOLE, WINDOW,
+    Box, CRow, Made, Number, Point, name_of, tag_at, whole,
 )
 from rstore._rows import LayerInfo, Rows, tuples
-from rstore.errors import Duplicate, Error, Misuse, NoObject, WrongDims
+from rstore._whole import WholeLayer
+from rstore.errors import Duplicate, Error, Misuse, NoObject, WrongDims, at_index
 
 if TYPE_CHECKING:
     from rstore._store import Store
 
+_NO_ROOM = c_size_t(0)
 
-class Layer(ArrayQuestions):
+
+class Layer(ArrayQuestions, WholeLayer):
     """A layer of a store, from `Store.create_layer`, `Store.layer` or `store[name]`.
 
     It is a mapping from identifiers to boxes: `layer[7] = box` inserts an object or gives it another box, `del layer[7]`
@@ -123,32 +127,51 @@ class Layer(ArrayQuestions):
 
     def load(self, objects: Iterable[Sequence[Any]]) -> int:
         """Puts objects into the layer, which must be empty, all of them or none, and says how many: each a pair of an
-        identifier and a box, or a triple with a tag. Several times as fast as inserts, and the tree is packed."""
-        data, form, pack_box, unpack = bytearray(), self._form, self._box, self._unpack_box
-        for one in objects:
-            id, box = one[0], one[1]
-            tag = one[2] if len(one) > 2 else 0
-            numbers = unpack(pack_box(box))
+        identifier and a box, or a triple with a tag. Several times as fast as inserts, and the tree is packed. Of the
+        first that is refused the exception has the place, as `index`; so it has in the two calls below."""
+        data, form, pack_box, unpack = bytearray(), self._form, self._pack_box, self._unpack_box
+        for index, one in enumerate(objects):
             try:
-                data += form.pack(id, *numbers, tag)
-            except struct.error as error:
-                raise Misuse(f"{self.name}: no identifier or tag: {one!r}") from error
+                data += form.pack(one[0], *unpack(pack_box(*one[1])), one[2] if len(one) > 2 else 0)
+            except (struct.error, TypeError, ValueError, OverflowError, LookupError) as error:
+                raise at_index(self._refuse_object(one), index, "object") from error
         return self.load_rows(data)
 
+    def _refuse_object(self, one: Any) -> Error:
+        """What to raise of an object that could not be packed."""
+        try:
+            id, box, *tag = one
+            self._box(box)
+            whole(id, 64, "an identifier")
+            whole(*tag or [0], 32, "a tag")
+        except Error as error:
+            return error
+        except (TypeError, ValueError):
+            pass
+        return Misuse(f"{self.name}: an object is an identifier, a box and perhaps a tag: {one!r}")
+
+    def load_arrays(self, ids: Any, boxes: Any, tags: Any = None) -> int:
+        """The same of arrays: identifiers, boxes of shape (n, 2 * dims) as `windows` takes them, and tags: none, one
+        for all or one for each."""
+        keys, numbers = unsigned(ids, 64, "an identifier", "object"), coordinates(self, boxes, False, "object")
+        labels = self._tags(tags, keys.count, "object")
+        if keys.count != numbers.count:
+            raise Misuse(f"{self.name}: {keys.count} identifiers, and {numbers.count} boxes")
+        return self.load_rows(made_rows(self.dims, keys, numbers, labels))
+
     def load_rows(self, rows: Any) -> int:
-        """The same of rows of 40 bytes as C has them (rstore_row), of whole numbers as they are stored: anything with the
-        buffer protocol, as an array of numpy with the fields of `Rows.numpy`, which is not copied where it may be
-        written."""
-        view = memoryview(rows).cast("B") if not isinstance(rows, (bytes, bytearray)) else memoryview(rows)
-        count, rest = divmod(len(view), ROW_SIZE)
-        if rest:
-            raise Misuse("a row has 40 bytes")
-        held = ctypes.create_string_buffer(bytes(view), len(view)) if view.readonly or not count else (ctypes.c_char * len(view)).from_buffer(view)
+        """The same of rows of 40 bytes as C has them (rstore_row), of whole numbers as they are stored: bytes, or an
+        array of numpy with the fields of `Rows.numpy`, which is not copied where it may be written."""
+        given = given_rows(rows)
         with self._lock:
-            error = self._lib.rstore_load(self._store._open, self._c_name, self.dims, ctypes.addressof(held), count)
+            error = self._lib.rstore_load(self._store._open, self._c_name, self.dims, given.at, given.count)
             if error:
-                raise self._store._error(error, self.name)
-        return count
+                raise self._load_refused(self._store._error(error, self.name), given)
+        return given.count
+
+    def _load_refused(self, error: Error, rows: Numbers) -> Error:
+        index = refused_row(error, self.dims, rows)
+        return error if index is None else at_index(error, index, "object")
 
     # Questions of one object.
 
@@ -255,13 +278,13 @@ class Layer(ArrayQuestions):
 
     def window_count(self, box: Box, tag: Optional[int] = None) -> int:
         """How many objects there are whose boxes meet the box."""
-        return self._count_in(self._box(box), tag)
+        return self._count_in(WINDOW, self._box(box), tag)
 
-    def _count_in(self, numbers: bytes, tag: Optional[int] = None) -> int:
+    def _count_in(self, kind: int, numbers: bytes, tag: Optional[int] = None) -> int:
         store = self._store
         with self._lock:
-            error = self._lib.rstore_range_into(
-                store._open, self._c_name, WINDOW, numbers, self.dims, tag_at(tag), None, 0, store._count_at
+            error = store._range_into(
+                store._handle, self._c_name, kind, numbers, self._axes, tag_at(tag), None, _NO_ROOM, store._count_at
             )
             if error:
                 raise store._error(error, self.name)
@@ -270,16 +293,19 @@ class Layer(ArrayQuestions):
     def _ids(self, kind: int, numbers: bytes, tag: Optional[int]) -> "list[int]":
         store = self._store
         with self._lock:
-            error = store._range_into(
-                store._handle, self._c_name, kind, numbers, self._axes, tag_at(tag), store._room_at, store._room_size, store._count_at
+            error = store._ids_into(
+                store._handle, self._c_name, kind, numbers, self._axes, tag_at(tag), store._ids_at, store._ids_size,
+                store._count_at,
             )
             if error:
                 raise store._error(error, self.name)
             count = store._count.value
-            ids = [id for id, in ID.iter_unpack(store._view[: min(count, ROOM) * ROW_SIZE])]
+            if count <= ID_ROOM:
+                return store._ids[:count].tolist()
+            ids = store._ids.tolist()
             while len(ids) < count:
-                got = self._lib.rstore_more(store._handle, len(ids), store._room_at, ROOM)
-                ids += [id for id, in ID.iter_unpack(store._view[: got * ROW_SIZE])]
+                got = self._lib.rstore_more_ids(store._handle, len(ids), store._ids_at, ID_ROOM)
+                ids += store._ids[:got].tolist()
         return ids
 
     def _range(self, kind: int, numbers: bytes, tag: Optional[int]) -> "list[tuple[int, tuple[Number, ...], int]]":
@@ -288,7 +314,8 @@ class Layer(ArrayQuestions):
             count_at = store._count
             # one call of C for up to 256 rows, into the store's own room
             error = store._range_into(
-                store._handle, self._c_name, kind, numbers, self._axes, tag_at(tag), store._room_at, store._room_size, store._count_at
+                store._handle, self._c_name, kind, numbers, self._axes, tag_at(tag), store._room_at, store._room_size,
+                store._count_at,
             )
             if error:
                 raise store._error(error, self.name)
@@ -302,14 +329,18 @@ class Layer(ArrayQuestions):
         return rows
 
     def _rows(self, kind: int, numbers: bytes, tag: Optional[int]) -> Rows:
+        with self._lock:
+            return self._rows_held(kind, numbers, tag)
+
+    def _rows_held(self, kind: int, numbers: bytes, tag: Optional[int]) -> Rows:
+        """The same where the lock is held."""
         lib = self._lib
         ask = (lib.rstore_window, lib.rstore_inside, lib.rstore_around, lib.rstore_point)[kind]
-        at, count = c_void_p(), c_size_t()
-        with self._lock:
-            error = ask(self._store._open, self._c_name, numbers, self.dims, tag_at(tag), byref(at), byref(count))
-            if error:
-                raise self._store._error(error, self.name)
-        return Rows(lib, at.value or 0, count.value, self.dims, self.scale)
+        made, count = Made(lib), c_size_t()
+        error = ask(self._store._open, self._c_name, numbers, self.dims, tag_at(tag), byref(made.address), byref(count))
+        if error:
+            raise self._store._error(error, self.name)
+        return Rows(made.array(CRow, count.value), self.dims, self.scale)
 
     # Nearest and joins.
 
@@ -347,9 +378,15 @@ class Layer(ArrayQuestions):
             raise Misuse("the layers of a join are of different stores")
         distance = within if self.scale is None else math.ceil(within * self.scale)
         squared = min(whole(distance, 64, "a distance") ** 2, (1 << 64) - 1)
-        at, count = c_void_p(), c_size_t()
+        return list(PAIR.iter_unpack(self._joined(other, squared)))
+
+    def _joined(self, other: Layer, squared: int) -> Any:
+        """The pairs in the memory of the library, by the square of a distance in stored numbers."""
+        made, count = Made(self._lib), c_size_t()
         with self._lock:
-            error = self._lib.rstore_join(self._store._open, self._c_name, other._c_name, squared, byref(at), byref(count))
+            error = self._lib.rstore_join(
+                self._store._open, self._c_name, other._c_name, squared, byref(made.address), byref(count)
+            )
             if error:
                 raise self._store._error(error, f"{self.name}, {other.name}")
-        return list(PAIR.iter_unpack(self._store._taken(at, count.value, PAIR.size)))
+        return made.array(ctypes.c_char, count.value * PAIR.size)

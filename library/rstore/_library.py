@@ -14,6 +14,8 @@ from rstore.errors import BadName, Misuse
 Number = Union[int, float]
 Box = Sequence[Number]
 Point = Sequence[Number]
+# Its number rises where a struct or a call changes.
+NAME = "librstore.so.0"
 
 class CRow(ctypes.Structure):
     _fields_ = [
@@ -26,13 +28,14 @@ class CRow(ctypes.Structure):
 
 
 ROW_SIZE = ctypes.sizeof(CRow)
-ROOM = 256
+ROOM, ID_ROOM = 256, 1024
 # A row without its axes, which are the layer's.
 ROWS = {2: struct.Struct("=Qii4xii4xI4x"), 3: struct.Struct("=QiiiiiiI4x")}
-ID = struct.Struct("=Q32x")
 NEAR = struct.Struct("=QQQ")
 PAIR = struct.Struct("=QQ")
 LAYER = struct.Struct("=Q32sII")
+# A node, whose box has zeros behind two axes.
+NODES = {2: struct.Struct("=QIIii4xii4x"), 3: struct.Struct("=QIIiiiiii")}
 BOXES = {2: struct.Struct("=iiii"), 3: struct.Struct("=iiiiii")}
 POINTS = {2: struct.Struct("=ii"), 3: struct.Struct("=iii")}
 WINDOW, INSIDE, AROUND, POINT = range(4)
@@ -43,10 +46,10 @@ EPSILON = 1e-6
 
 
 def _load_library() -> ctypes.CDLL:
-    beside = Path(__file__).resolve().parent.parent
-    found = [beside / "librstore.so", beside / "lib" / "librstore.so"]
-    path = os.environ.get("RSTORE_LIBRARY") or str(next((p for p in found if p.exists()), "librstore.so"))
-    lib = ctypes.CDLL(path)
+    within = Path(__file__).resolve().parent
+    # that of a wheel, of library/build.sh's folder, of the checkout, of a tar; else the system's
+    found = [within / NAME, within.parent / NAME, within.parent / "lib" / NAME, within.parent.parent / "lib" / NAME]
+    lib = ctypes.CDLL(os.environ.get("RSTORE_LIBRARY") or str(next((p for p in found if p.exists()), NAME)))
     at, text, out = c_void_p, c_char_p, c_void_p
     for name, arguments, result in [
         ("version", [], text),
@@ -55,6 +58,7 @@ def _load_library() -> ctypes.CDLL:
         ("open", [text, c_int, c_uint32, out], c_int),
         ("close", [at], c_int),
         ("commit", [at], c_int),
+        ("rollback", [at], c_int),
         ("check", [at], c_int),
         ("create_layer", [at, text, c_uint32, c_uint32], c_int),
         ("drop_layer", [at, text], c_int),
@@ -71,8 +75,12 @@ def _load_library() -> ctypes.CDLL:
         ("point", [at, text, text, c_uint32, c_void_p, out, out], c_int),
         ("range_into", [at, text, c_int, text, c_uint32, c_void_p, c_void_p, c_size_t, out], c_int),
         ("more", [at, c_size_t, c_void_p, c_size_t], c_size_t),
+        ("ids_into", [at, text, c_int, text, c_uint32, c_void_p, c_void_p, c_size_t, out], c_int),
+        ("more_ids", [at, c_size_t, c_void_p, c_size_t], c_size_t),
         ("nearest", [at, text, c_uint64, text, c_uint32, out, out], c_int),
         ("join", [at, text, text, c_uint64, out, out], c_int),
+        ("nodes", [at, text, out, out], c_int),
+        ("id_pages", [at, text, out], c_int),
         ("windows", [at, text, c_int, at, c_uint32, c_size_t, at, out, out, out], c_int),
         ("windows_rows", [at, text, c_int, at, c_uint32, c_size_t, at, out, out, out], c_int),
         ("counts", [at, text, c_int, at, c_uint32, c_size_t, at, out, out], c_int),
@@ -106,7 +114,7 @@ def whole(number: int, bits: int, what: str) -> int:
     try:
         if 0 <= number < 1 << bits:
             return int(number.__index__())
-    except (TypeError, AttributeError):
+    except (TypeError, ValueError, AttributeError):
         pass
     raise Misuse(f"{what} is a whole number below 2^{bits}: {number!r}")
 
@@ -122,3 +130,23 @@ def name_of(layer: str) -> bytes:
     if not name or b"\0" in name:
         raise BadName(f"not a layer name: {layer!r}")
     return name
+
+
+class Made:
+    """An array that the library makes, whose address a call writes. It is freed with this, which each view of it keeps:
+    so also where an exception comes in between, as that of Ctrl-C."""
+
+    def __init__(self, lib: Any) -> None:
+        self.address, self._free = c_void_p(), lib.rstore_free
+
+    def array(self, kind: Any, count: int) -> Any:
+        """Its elements, without a copy."""
+        if not self.address.value or not count:
+            return (kind * 0)()
+        held = (kind * count).from_address(self.address.value)
+        held.made = self
+        return held
+
+    def __del__(self) -> None:
+        if self.address.value:
+            self._free(self.address)

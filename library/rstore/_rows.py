@@ -2,12 +2,14 @@
 
 from __future__ import annotations
 
-import ctypes
 import struct
-import weakref
 from typing import Any, Iterator, NamedTuple, Optional, Sequence
 
-from rstore._library import ROW_SIZE, ROWS, CRow, Number
+from rstore._library import ROW_SIZE, ROWS, Number
+
+
+#: a row as numpy has it
+ROW_FIELDS = [("id", "u8"), ("low", "i4", 3), ("high", "i4", 3), ("tag", "u4"), ("axes", "u4")]
 
 
 class Rows(Sequence["tuple[int, tuple[Number, ...], int]"]):
@@ -16,12 +18,8 @@ class Rows(Sequence["tuple[int, tuple[Number, ...], int]"]):
 
     The memory is freed when nothing has it any more."""
 
-    def __init__(self, lib: ctypes.CDLL, at: int, count: int, dims: int, scale: Optional[int]) -> None:
-        self._form, self._scale, self._count = ROWS[dims], scale, count
-        self._held = (CRow * count).from_address(at) if count else (CRow * 0)()
-        if count:
-            # a view holds the array, and the array's end frees the memory
-            weakref.finalize(self._held, lib.rstore_free, at)
+    def __init__(self, held: Any, dims: int, scale: Optional[int]) -> None:
+        self._form, self._scale, self._held, self._count = ROWS[dims], scale, held, len(held)
 
     @property
     def memory(self) -> memoryview:
@@ -32,8 +30,7 @@ class Rows(Sequence["tuple[int, tuple[Number, ...], int]"]):
         """The rows as an array of numpy with the fields id, low, high, tag and axes, by the numbers that are stored."""
         import numpy
 
-        fields = [("id", "u8"), ("low", "i4", 3), ("high", "i4", 3), ("tag", "u4"), ("axes", "u4")]
-        return numpy.frombuffer(self._held, dtype=fields, count=self._count)
+        return numpy.frombuffer(self._held, dtype=ROW_FIELDS, count=self._count)
 
     def numbers(self) -> "Iterator[tuple[int, tuple[int, ...]]]":
         """Identifiers and boxes, by the numbers that are stored."""
@@ -72,3 +69,49 @@ class LayerInfo(NamedTuple):
     dims: int
     fanout: int
     count: int
+
+
+class Node(NamedTuple):
+    """A node of the tree of a layer: the page where it lies, its level (0 for a leaf), how many entries it has, and the
+    least box round them, the lows and then the highs, by the numbers that are stored (None where there is none)."""
+
+    page: int
+    level: int
+    count: int
+    box: "Optional[tuple[int, ...]]"
+
+
+class LevelStats(NamedTuple):
+    """What the nodes of a level have: the level, their number, their entries together, how many there are of a thousand
+    that they have room for, and the sum of the overlaps of each two children of one node, in area or volume."""
+
+    level: int
+    nodes: int
+    entries: int
+    fill_per_mille: int
+    overlap: int
+
+
+class LayerStats(NamedTuple):
+    """What one tunes a layer by: what `LayerInfo` has, how many levels its tree has, the pages of the tree and of its
+    identifier table, the bytes of both for each object (None where there is none), and the levels, from the root down."""
+
+    name: str
+    dims: int
+    fanout: int
+    objects: int
+    height: int
+    tree_pages: int
+    identifier_pages: int
+    bytes_per_object: Optional[int]
+    levels: "list[LevelStats]"
+
+
+class StoreInfo(NamedTuple):
+    """What is told of a whole store: its file, how many bytes this has on the disk (None in memory), its layers, and
+    their objects together."""
+
+    path: str
+    size: Optional[int]
+    layers: "list[LayerStats]"
+    objects: int

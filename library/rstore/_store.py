@@ -6,33 +6,39 @@ import ctypes
 import os
 import threading
 import weakref
-from ctypes import byref, c_size_t, c_void_p
+from ctypes import byref, c_size_t, c_uint64, c_void_p
 from typing import Any, Callable, Iterator, Optional, Union
 
 from rstore._layer import Layer
-from rstore._library import CREATE, EXISTING, LAYER, READ_ONLY, ROOM, CRow, library, name_of
-from rstore._rows import LayerInfo
+from rstore._library import CREATE, EXISTING, ID_ROOM, LAYER, READ_ONLY, ROOM, CRow, library, name_of
+from rstore._rows import LayerInfo, StoreInfo
 from rstore.errors import KINDS, BadCache, BadDims, BadFanout, CannotOpen, Closed, Error, Misuse, NoLayer
 
 
 class Store:
-    """A store in a file, from `rstore.open`. Close it, or use it in a `with`, which closes it also after an exception,
-    and then keeps what was changed."""
+    """A store in a file, from `rstore.open`. Close it, or use it in a `with`: left normally that keeps what was changed
+    and closes it; left by an exception it gives up what was not committed, and closes it too."""
 
     def __init__(self, path: Union[str, os.PathLike[str], None], create: bool, read_only: bool, cache: int) -> None:
         self._lib = library()
         # functions of its own, with no argument types: their arguments are made once
         self._range_into: Callable[..., int] = self._lib["rstore_range_into"]
+        self._ids_into: Callable[..., int] = self._lib["rstore_ids_into"]
         self._nearest: Callable[..., int] = self._lib["rstore_nearest"]
         self._handle: Optional[c_void_p] = None
         self._lock = threading.Lock()
+        self._in_transaction = False
         self._room = (CRow * ROOM)()
         self._view = memoryview(self._room).cast("B")
         self._room_at, self._room_size = c_void_p(ctypes.addressof(self._room)), c_size_t(ROOM)
+        held = (c_uint64 * ID_ROOM)()
+        self._ids = memoryview(held).cast("B").cast("Q")
+        self._ids_at, self._ids_size = c_void_p(ctypes.addressof(held)), c_size_t(ID_ROOM)
         self._count = c_size_t()
         self._count_at = byref(self._count)
         self._at = c_void_p()
         self._at_at = byref(self._at)
+        self._in_memory = path is None
         self.path = ":memory:" if path is None else os.fspath(path)
         handle = c_void_p()
         if create and read_only:
@@ -74,8 +80,10 @@ class Store:
         return self._handle is None
 
     def close(self) -> None:
-        """Keeps all changes in the file and closes it, whether or not that is refused. A second call does nothing."""
+        """Keeps all changes in the file, those that were not committed too, and closes it, whether or not that is
+        refused; call `rollback` first to give them up. A second call does nothing. Refused within a transaction."""
         with self._lock:
+            self._outside()
             handle, self._handle = self._handle, None
             if handle is not None:
                 error = self._lib.rstore_close(handle)
@@ -86,8 +94,18 @@ class Store:
         self._open
         return self
 
-    def __exit__(self, *_: object) -> None:
-        self.close()
+    def __exit__(self, kind: object, *_: object) -> None:
+        if kind is None:
+            self.close()
+            return
+        try:
+            self._end(self._lib.rstore_rollback, transaction=True)
+        except Error:
+            pass  # the store is not open then, and closing keeps nothing
+        try:
+            self.close()
+        except Error:
+            pass  # the exception that left the `with` tells more
 
     def __del__(self) -> None:
         if getattr(self, "_handle", None) is not None:
@@ -100,8 +118,36 @@ class Store:
         return f"<rstore.Store {self.path!r}{', closed' if self.closed else ''}>"
 
     def commit(self) -> None:
-        """Keeps all changes in the file, and goes on."""
-        self._ask(self._lib.rstore_commit)
+        """Keeps all changes in the file, and goes on. Refused within a transaction, which commits at its end."""
+        self._end(self._lib.rstore_commit)
+
+    def rollback(self) -> None:
+        """Gives up what was changed since the last `commit`, or the opening, and goes on with what was kept last, also
+        after `StoreFailed`. A layer that was made since is gone, and its `Layer` raises `NoLayer`. Where memory or the
+        device refuses this the store is not open, and calls raise `Closed`, until a further `rollback` goes well. Not for
+        within a transaction, which an exception gives up."""
+        self._end(self._lib.rstore_rollback)
+
+    def transaction(self) -> Transaction:
+        """For a `with`: what is changed in it is committed at its end, or given up where an exception leaves it, with
+        all that was changed since the last `commit`. Transactions do not nest: a second one raises `Misuse`, and so do
+        `commit`, `rollback` and `close` within one, by whatever thread."""
+        return Transaction(self)
+
+    def _outside(self) -> None:
+        """Refuses a call within a transaction. The lock is held."""
+        if self._in_transaction:
+            raise Misuse(f"{self.path}: a transaction is open: it ends by itself, and there is no other within it")
+
+    def _end(self, call: Callable[..., int], transaction: bool = False) -> None:
+        """Keeps or gives up all changes, also those of a transaction where its end asks for it."""
+        with self._lock:
+            if not transaction:
+                self._outside()
+            self._in_transaction = False
+            error = call(self._open)
+            if error:
+                raise self._error(error, str(self.path))
 
     def check(self) -> None:
         """Reads all pages; raises `Damaged` where the file is not sound."""
@@ -146,6 +192,13 @@ class Store:
         rows = LAYER.iter_unpack(self._taken(at, count.value, LAYER.size))
         return [LayerInfo(n.split(b"\0")[0].decode(), d, f, c) for c, n, d, f in rows]
 
+    def stats(self) -> StoreInfo:
+        """Its file and size, its layers as the program's `--stats` tells them, and how many objects these have
+        together. Each node of each tree is looked at, and each object is counted."""
+        layers = [Layer(self, info, None).stats() for info in self.layers()]
+        size = None if self._in_memory else os.stat(self.path).st_size
+        return StoreInfo(os.fsdecode(self.path), size, layers, sum(layer.objects for layer in layers))
+
     def layer(self, name: str, scale: Optional[int] = None) -> Layer:
         """The layer of that name; raises `NoLayer`, a `KeyError`, where there is none."""
         for info in self.layers():
@@ -170,6 +223,32 @@ class Store:
         return True
 
     __delitem__ = drop_layer
+
+
+class Transaction:
+    """A `with` whose changes are committed at its end, or given up, from `Store.transaction`."""
+
+    def __init__(self, store: Store) -> None:
+        self._store = store
+
+    def __enter__(self) -> Store:
+        store = self._store
+        with store._lock:
+            store._open
+            store._outside()
+            store._in_transaction = True
+        return store
+
+    def __exit__(self, kind: object, *_: object) -> None:
+        store = self._store
+        if kind is not None:
+            store._end(store._lib.rstore_rollback, transaction=True)
+            return
+        try:
+            store._end(store._lib.rstore_commit, transaction=True)
+        except Error:
+            store._end(store._lib.rstore_rollback, transaction=True)
+            raise
 
 
 _STORES: "weakref.WeakSet[Store]" = weakref.WeakSet()

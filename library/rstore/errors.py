@@ -2,12 +2,15 @@
 
 from __future__ import annotations
 
+from typing import Optional
+
 
 class Error(Exception):
     """What the library refused. `number` is that of rstore.h, and `detail` the number that came with it: an identifier, a
-    page or a fault, else 0."""
+    page or a fault, else 0. Where many were given, `index` is the place of the first that was refused, else None."""
 
     number: int = 0
+    index: Optional[int] = None
 
     def __init__(self, message: str = "", detail: int = 0) -> None:
         super().__init__(message)
@@ -125,7 +128,7 @@ class Damaged(Error):
 
 
 class StoreFailed(Error):
-    """The store failed half way through a change, or had failed before: close it, and open it again."""
+    """The store failed half way through a change, or had failed before: `rollback` brings back what was kept last."""
 
     number = 19
 
@@ -173,7 +176,7 @@ class Busy(Error, OSError):
 
 
 class Closed(Error, ValueError):
-    """The store is closed."""
+    """The store is closed, or a rollback was refused and it is not open until one goes well."""
 
     number = 103
 
@@ -206,6 +209,13 @@ class OtherJournal(Error):
     """The journal beside the file is that of another file."""
 
     number = 108
+
+
+def at_index(error: Error, index: int, where: str) -> Error:
+    """The same error of one of many, whose message tells where it stands: `where` and its index."""
+    told = type(error)(f"{where} {index}: {error}", error.detail)
+    told.index = index
+    return told
 
 
 KINDS = {kind.number: kind for kind in list(vars().values()) if isinstance(kind, type) and issubclass(kind, Error)}

@@ -112,7 +112,6 @@ class Index:
         self._scale: Any = int(kwargs["scale"]) if self._fixed else SCALE
         self._pack = BOXES[self._dims].pack
         self._objects: "dict[int, Any]" = {}
-        self._negative = False
         name, stream = None, None
         rest = list(args)
         if rest and isinstance(rest[0], (str, bytes, os.PathLike)):
@@ -121,7 +120,7 @@ class Index:
             raise RTreeError("rstore.rtree has no custom storage")
         if rest:
             stream = rest[0]
-        self._in_file = bool(name)
+        self._in_file = self._negative = bool(name)  # identifiers of a file may be below 0
         self._store: Optional[rstore.Store] = self._opened(name, bool(kwargs.get("overwrite", self.properties.overwrite)))
         self._layer = self._found_layer(self._store)
         kept = self._store if self._in_file else None
@@ -192,6 +191,9 @@ class Index:
     def _tells(self, numbers: Sequence[int], box: "tuple[float, ...]") -> bool:
         """Whether the stored numbers tell the box."""
         s = self._scale
+        if len(box) == 4:
+            a, b, c, d = box
+            return numbers[0] / s == a and numbers[1] / s == b and numbers[2] / s == c and numbers[3] / s == d
         return all(n / s == x for n, x in zip(numbers, box))
 
     def _stored(self, box: "tuple[float, ...]") -> "tuple[tuple[int, ...], bytes]":
@@ -224,13 +226,13 @@ class Index:
 
     def _load_boxes(self, entries: "dict[int, tuple[float, ...]]") -> None:
         """Puts boxes into the empty layer by their keys."""
-        pack, rows, untold = self._layer._form.pack, [], {}
+        pack, rows, untold = self._layer._form.pack, bytearray(), {}
         for key, box in entries.items():
             numbers = self._rounded(box)
-            rows.append(pack(key, *numbers, 0))
+            rows += pack(key, *numbers, 0)
             if not self._tells(numbers, box) and self._given.get(key) is None:
                 untold[key] = box
-        self._layer.load_rows(b"".join(rows))
+        self._layer.load_rows(rows)
         self._given.put_all(untold)
 
     def _box_of(self, key: int, numbers: Sequence[int]) -> "tuple[float, ...]":
@@ -247,12 +249,14 @@ class Index:
         box = self._box(coordinates)
         try:
             numbers = self._rounded(box)
+            self._pack(*numbers)
+            return box, numbers, not self._given.boxes and self._tells(numbers, box)
         except OverflowError:  # of an infinite one
             numbers = self._rounded(tuple(min(max(x, -1e300), 1e300) for x in box))
+        except struct.error:
+            pass
         low, high = WHOLE
-        if min(numbers) < low or max(numbers) > high:
-            return box, tuple(min(max(n, low), high) for n in numbers), False
-        return box, numbers, not len(self._given) and self._tells(numbers, box)
+        return box, tuple(min(max(n, low), high) for n in numbers), False
 
     @staticmethod
     def deinterleave(interleaved: Sequence[Any]) -> "list[Any]":
@@ -294,9 +298,11 @@ class Index:
         return own - (1 << 64) if own >> 63 else own
 
     def _ids(self, keys: "list[int]") -> "list[int]":
-        if not self._negative and not len(self._shared):
-            return keys
-        return [self._id(key) for key in keys]
+        if self._shared.ids:
+            return [self._id(key) for key in keys]
+        if self._negative:
+            return [key - (1 << 64) if key >> 63 else key for key in keys]
+        return keys
 
     # Changes.
 
@@ -391,20 +397,39 @@ class Index:
         keys = self._keys(kind, coordinates)
         return self._items(keys, objects) if objects else iter(self._ids(keys))
 
+    def _told(self, coordinates: Any) -> Optional[bytes]:
+        """The stored numbers of a box of two axes that is asked for, in bytes, where they tell it and all entries: then
+        a question by them is the question. None leaves it to `_asked`."""
+        if not self.interleaved or self._given.boxes or not isinstance(coordinates, (tuple, list)):
+            return None
+        try:
+            a, b, c, d = coordinates
+            s = self._scale
+            low_a, low_b, high_c, high_d = round(a * s), round(b * s), round(c * s), round(d * s)
+            if low_a / s == a and low_b / s == b and high_c / s == c and high_d / s == d and a <= c and b <= d:
+                return self._pack(low_a, low_b, high_c, high_d)
+        except (TypeError, ValueError, OverflowError, struct.error):
+            pass
+        return None
+
     def _keys(self, kind: int, coordinates: Any) -> "list[int]":
         """The keys of the entries whose boxes, as they were given, meet the box or lie within it."""
+        told = self._told(coordinates)
+        if told is not None:
+            return self._layer._ids(kind, told, None)
         box, numbers, whole = self._asked(coordinates)
         keys = self._layer._ids(kind, self._pack(*numbers), None)
-        if whole:
+        if whole or not keys:
             return keys
         # Rounding is off by less than one: what is found within two of the border is so for sure, and the rest is looked at.
         dims = self._dims
         inner = (*[n + 2 for n in numbers[:dims]], *[n - 2 for n in numbers[dims:]])
         sure: "set[int]" = set()
         if all(inner[a] <= inner[a + dims] for a in range(dims)):
-            sure = set(self._layer._ids(kind, self._pack(*inner), None))
-        if len(sure) == len(keys):
-            return keys
+            packed = self._pack(*inner)
+            if self._layer._count_in(kind, packed) == len(keys):
+                return keys
+            sure = set(self._layer._ids(kind, packed, None))
         passes = _meet if kind == WINDOW else _within
         return [key for key in keys if key in sure or passes(self._box_at(key), box, dims)]
 
@@ -426,8 +451,8 @@ class Index:
         >>> print(idx.count((0, 0, 60, 60)))
         1
         """
-        _, numbers, whole = self._asked(coordinates)
-        return self._layer._count_in(self._pack(*numbers)) if whole else len(self._keys(WINDOW, coordinates))
+        told = self._told(coordinates)
+        return len(self._keys(WINDOW, coordinates)) if told is None else self._layer._count_in(WINDOW, told)
 
     def nearest(self, coordinates: Any, num_results: int = 1, objects: Any = False) -> Iterator[Any]:
         """The entries nearest to the box or point, by distance; of equally near ones all are given, so there may be more.
@@ -496,6 +521,9 @@ class Index:
 
     def _found_bounds(self) -> "tuple[float, ...]":
         """The least box that has all entries, empty where there are none."""
+        if not self._given.boxes:
+            least = self._layer._least_box()
+            return () if least is None else tuple(n / self._scale for n in least)
         bounds: "tuple[float, ...]" = ()
         for key, numbers in self._layer.all_rows().numbers():
             bounds = _around(bounds, self._box_of(key, numbers))
@@ -571,14 +599,20 @@ def _around(one: "tuple[float, ...]", other: "tuple[float, ...]") -> "tuple[floa
     if not one:
         return other
     dims = len(other) // 2
+    if _within(other, one, dims):
+        return one
     return tuple(map(min, one[:dims], other[:dims])) + tuple(map(max, one[dims:], other[dims:]))
 
 
 def _meet(one: Sequence[float], other: Sequence[float], dims: int) -> bool:
+    if dims == 2:
+        return one[0] <= other[2] and other[0] <= one[2] and one[1] <= other[3] and other[1] <= one[3]
     return all(one[a] <= other[a + dims] and other[a] <= one[a + dims] for a in range(dims))
 
 
 def _within(one: Sequence[float], other: Sequence[float], dims: int) -> bool:
+    if dims == 2:
+        return other[0] <= one[0] and other[1] <= one[1] and one[2] <= other[2] and one[3] <= other[3]
     return all(other[a] <= one[a] and one[a + dims] <= other[a + dims] for a in range(dims))
 
 

@@ -39,6 +39,17 @@ static int single(rstore *db, const char *layer, uint32_t axes, const int32_t *b
     }
 }
 
+/* The identifiers of the same rows in the caller's room, and those that had none there. */
+static void into_room(rstore *db, const char *layer, uint32_t axes, int kind, const int32_t *box, const uint32_t *tag,
+                      const rstore_row *rows, size_t count) {
+    uint64_t some[7] = {0};
+    size_t all, rest = count < 3 ? 0 : count - 3;
+    NEED(!rstore_ids_into(db, layer, kind, box, axes, tag, some, 4, &all) && all == count);
+    for (size_t k = 0; k < 7; k++) NEED(some[k] == (k < 4 && k < count ? rows[k].id : 0));
+    NEED(rstore_more_ids(db, 3, some, 7) == (rest < 7 ? rest : 7));
+    for (size_t k = 0; k < 7 && k < rest; k++) NEED(some[k] == rows[3 + k].id);
+}
+
 /* Range queries of a kind: each has the rows that a single one has. */
 static void ranges(rstore *db, const char *layer, uint32_t axes, int kind, const uint32_t *asked) {
     static size_t offsets[QUESTIONS + 1], more[QUESTIONS + 1], counts[QUESTIONS];
@@ -62,6 +73,7 @@ static void ranges(rstore *db, const char *layer, uint32_t axes, int kind, const
             NEED(ids[offsets[q] + k] == one[k].id);
             NEED(!memcmp(rows + offsets[q] + k, one + k, sizeof *one));
         }
+        into_room(db, layer, axes, kind, boxes + q * step, asked ? asked + q : NULL, one, count);
         rstore_free(one);
     }
     rstore_free(ids);

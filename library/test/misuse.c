@@ -16,8 +16,10 @@ int main(int argc, char **argv) {
     rstore_row row = {0}, *rows;
     rstore_near *near;
     rstore_pair *pairs;
+    rstore_node *nodes;
     rstore_layer *layers;
     size_t n;
+    uint64_t id = 0;
     uint64_t count;
     const int32_t box[6] = {0, 0, 1, 1, 2, 2};
     if (argc != 2) return 2;
@@ -104,6 +106,13 @@ int main(int argc, char **argv) {
         BAD(rstore_range_into(db, "a", kind, box, 2, NULL, &row, 1, NULL));
         BAD(rstore_range_into(db, "a", kind, box, 2, NULL, &row, (size_t)-1, &n));
         IS(RSTORE_OK, rstore_range_into(db, "a", kind, box, 2, NULL, NULL, 0, &n));
+        BAD(rstore_ids_into(NULL, "a", kind, box, 2, NULL, &id, 1, &n));
+        BAD(rstore_ids_into(db, "", kind, box, 2, NULL, &id, 1, &n));
+        BAD(rstore_ids_into(db, "a", kind, NULL, 2, NULL, &id, 1, &n));
+        BAD(rstore_ids_into(db, "a", kind, box, 2, NULL, NULL, 1, &n));
+        BAD(rstore_ids_into(db, "a", kind, box, 2, NULL, &id, 1, NULL));
+        BAD(rstore_ids_into(db, "a", kind, box, 2, NULL, &id, (size_t)-1, &n));
+        IS(RSTORE_OK, rstore_ids_into(db, "a", kind, box, 2, NULL, NULL, 0, &n));
     }
     BAD(rstore_range_into(db, "a", 4, box, 2, NULL, &row, 1, &n));
     BAD(rstore_range_into(db, "a", -1, box, 2, NULL, &row, 1, &n));
@@ -112,6 +121,10 @@ int main(int argc, char **argv) {
     IS(0, rstore_more(db, 99, &row, 1) != 0);
     IS(0, rstore_more(db, (size_t)-1, &row, 1) != 0);
     IS(0, rstore_more(db, 0, &row, (size_t)-1) != 0);
+    IS(0, rstore_more_ids(NULL, 0, &id, 1) != 0);
+    IS(0, rstore_more_ids(db, 0, NULL, 1) != 0);
+    IS(0, rstore_more_ids(db, (size_t)-1, &id, 1) != 0);
+    IS(0, rstore_more_ids(db, 0, &id, (size_t)-1) != 0);
     BAD(rstore_nearest(NULL, "a", 1, box, 2, &near, &n));
     BAD(rstore_nearest(db, NULL, 1, box, 2, &near, &n));
     BAD(rstore_nearest(db, "", 1, box, 2, &near, &n));
@@ -120,6 +133,17 @@ int main(int argc, char **argv) {
     BAD(rstore_nearest(db, "a", 1, box, 2, NULL, &n));
     BAD(rstore_nearest(db, "a", 1, box, 2, &near, NULL));
     IS(RSTORE_BAD_COUNT, rstore_nearest(db, "a", 0, box, 2, &near, &n));
+    BAD(rstore_nodes(NULL, "a", &nodes, &n));
+    BAD(rstore_nodes(db, NULL, &nodes, &n));
+    BAD(rstore_nodes(db, "", &nodes, &n));
+    BAD(rstore_nodes(db, "a", NULL, &n));
+    BAD(rstore_nodes(db, "a", &nodes, NULL));
+    IS(RSTORE_NO_LAYER, rstore_nodes(db, "none", &nodes, &n));
+    BAD(rstore_id_pages(NULL, "a", &count));
+    BAD(rstore_id_pages(db, NULL, &count));
+    BAD(rstore_id_pages(db, "", &count));
+    BAD(rstore_id_pages(db, "a", NULL));
+    IS(RSTORE_NO_LAYER, rstore_id_pages(db, "none", &count));
     BAD(rstore_join(NULL, "a", "a", 0, &pairs, &n));
     BAD(rstore_join(db, NULL, "a", 0, &pairs, &n));
     BAD(rstore_join(db, "a", NULL, 0, &pairs, &n));
@@ -128,6 +152,7 @@ int main(int argc, char **argv) {
     BAD(rstore_join(db, "a", "a", 0, NULL, &n));
     BAD(rstore_join(db, "a", "a", 0, &pairs, NULL));
     BAD(rstore_commit(NULL));
+    BAD(rstore_rollback(NULL));
     BAD(rstore_check(NULL));
     IS(RSTORE_OK, rstore_check(db));
     IS(RSTORE_OK, rstore_close(db));
@@ -143,6 +168,7 @@ int main(int argc, char **argv) {
     IS(RSTORE_OK, rstore_count(other, "a", &count));
     IS(1, (int)count);
     IS(RSTORE_OK, rstore_commit(db));
+    IS(RSTORE_OK, rstore_rollback(db));
     IS(RSTORE_OK, rstore_close(db));
     IS(RSTORE_OK, rstore_close(other));
     puts("each misuse is answered");

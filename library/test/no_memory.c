@@ -39,6 +39,8 @@ int main(int argc, char **argv) {
         rstore_near *near;
         rstore_pair *pairs;
         rstore_layer *layers;
+        rstore_node *nodes;
+        uint64_t pages;
         size_t count;
         int committed = 0, error;
         unlink(argv[1]);
@@ -55,6 +57,8 @@ int main(int argc, char **argv) {
             if (!told(rstore_nearest(db, "b", 9, (int32_t[]){7, 7}, 2, &near, &count))) rstore_free(near);
             if (!told(rstore_join(db, "a", "b", 9, &pairs, &count))) rstore_free(pairs);
             if (!told(rstore_layers(db, &layers, &count))) rstore_free(layers);
+            if (!told(rstore_nodes(db, "b", &nodes, &count))) rstore_free(nodes);
+            told(rstore_id_pages(db, "b", &pages));
             committed = !told(rstore_commit(db));
             told(rstore_check(db));
             told(rstore_close(db));

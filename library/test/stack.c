@@ -34,6 +34,8 @@ static void *run(void *path) {
     rstore_free(layers);
     NEED(rstore_commit(db));
     NEED(rstore_check(db));
+    NEED(rstore_drop_layer(db, "a"));
+    NEED(rstore_rollback(db));
     NEED(rstore_create_layer(db, "b", 3, 100));
     rstore_row *many = calloc(20000, sizeof *many);
     for (int k = 0; k < 20000; k++)

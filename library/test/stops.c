@@ -1,5 +1,6 @@
 /* stops [QUICK]: sessions over a file, its journal and their folder in memory, which are stopped at each call of the system,
- * from their opening to their clean end: one that makes the file, and one that changes two layers between five commits.
+ * from their opening to their clean end: one that makes the file, and one that changes two layers between five commits
+ * and two rollbacks.
  * From the stop on each call fails. What it leaves of both files and of the folder is tried in 15 ways and more: each block
  * that was not synced is as it was written, as it was synced, filled with a byte or torn, appended ones are there, gone or
  * cut short, and of names that were not synced the old and the new one stand. What is left is opened to be only read, which
@@ -289,6 +290,11 @@ static void commit(void) {
     trying = working;
     if (done(rstore_commit(db))) kept = working;
 }
+static void roll_back(void) {
+    if (!well) return;
+    working = kept;
+    done(rstore_rollback(db));
+}
 /* Whether both have the same layers and objects. */
 static bool same(const struct table *a, const struct table *b) {
     for (int k = 0; k < LAYERS; k++) {
@@ -348,6 +354,8 @@ static bool changes(void) {
     delete(0, 12), move(0, 0, 9), commit();
     drop(1), create(2, 2, 100), insert(2, 1, 40), commit();
     commit(); /* of nothing */
+    create(1, 3, 5), load(1, 200, 240), delete(0, 5), roll_back();
+    insert(0, 50, 55), move(2, 3, 20), roll_back();
     delete(2, 30), move(2, 0, 9), insert(0, 40, 50);
     return closes();
 }

@@ -1,19 +1,22 @@
 """test_arrays.py: many questions in one call beside single ones, with numpy where it is installed and without it: kinds,
-tags, scales, two and three axes, arrays of other types, shapes and orders, and what is refused with its index.
-RSTORE_LIBRARY names librstore.so."""
+tags, scales, two and three axes, arrays of other types, shapes and orders, loads of arrays, what is refused with its
+index, and Ctrl-C in a long call. RSTORE_LIBRARY names librstore.so."""
 
 from __future__ import annotations
 
 import array
+import os
 import random
+import signal
 import sys
 import tempfile
+import threading
 from pathlib import Path
 
 sys.path.insert(0, str(Path(__file__).resolve().parent.parent))
 
 import rstore
-from rstore import _arrays
+from rstore import _given
 
 KINDS = ("window", "inside", "around", "point")
 PREDICATES = {"intersects": "window", "contains": "inside", "within": "around"}
@@ -117,9 +120,105 @@ def refusals(layer: rstore.Layer, numpy) -> None:
     assert len(layer.windows(kept).offsets) == 2
 
 
+def wrong_arrays(layer: rstore.Layer, numpy) -> None:
+    """Arrays of the wrong type, shape or order, and which member is wrong: nothing is answered, and nothing changed."""
+    good = (0, 0, 9, 9)
+    wrongs = [[good, one] for one in ((0, 0, 9), (0, 0, 9, 1 << 70), (0, 0, 9, 1.5), 7, "abcd", None)]
+    for wrong in [*wrongs, iter([good, None])]:
+        refused(rstore.Misuse, lambda: layer.windows(wrong), 1)
+    refused(rstore.Misuse, lambda: layer.windows(7))
+    refused(rstore.Misuse, lambda: layer.windows([good], tag=1.5))
+    refused(rstore.Misuse, lambda: layer.windows([good, good], tag=[1, "x"]), 1)
+    refused(rstore.Misuse, lambda: layer.get_many(7))
+    refused(rstore.Misuse, lambda: layer.get_many([1, 2, 1 << 64]), 2)
+    nine = memoryview(bytes(96)).cast("q", (3, 4)) if numpy is None else numpy.zeros((3, 3), "i8")
+    refused(rstore.Misuse, lambda: layer.windows(nine))
+    if numpy is None:
+        return
+    two = numpy.array([good, (5, 5, 30, 30)])
+    for tags in (numpy.array([1, 2]), numpy.array([1, 2], "u1"), numpy.array([1, 2], ">i2"), numpy.array([1, 2], "u4")):
+        assert pairs(layer.windows(two, tag=tags)) == pairs(layer.windows(two, tag=[1, 2]))
+    assert pairs(layer.windows(two, tag=numpy.int64(1))) == pairs(layer.windows(two, tag=1))
+    gaps, turns = numpy.repeat(two, 2, axis=0)[::2], [two.astype(kind) for kind in (">i4", "u2", "i8", "u8")]
+    for turned in [*turns, gaps, numpy.asfortranarray(two)]:
+        assert pairs(layer.windows(turned)) == pairs(layer.windows(two))
+    assert list(layer.get_many(numpy.array([3, 5], "i2"))) == list(layer.get_many([3, 5]))
+    refused(rstore.Misuse, lambda: layer.windows(two, tag=numpy.array([1, 1 << 32])), 1)
+    refused(rstore.Misuse, lambda: layer.windows(two, tag=numpy.array([1, -1])), 1)
+    refused(rstore.Misuse, lambda: layer.windows(two, tag=numpy.array([0.0, 1.0])), 0)
+    refused(rstore.Misuse, lambda: layer.windows(two, tag=two))
+    refused(rstore.Misuse, lambda: layer.get_many(numpy.array([5, 6, -1], "i1")), 2)
+    refused(rstore.Misuse, lambda: layer.windows(two.astype("O")))
+    refused(rstore.Misuse, lambda: layer.windows(numpy.zeros((2, 4), bool)))
+    refused(rstore.Misuse, lambda: layer.windows(numpy.array([good, (0, 0, 1 << 63, 9)], "u8")), 1)
+    refused(rstore.BadBox, lambda: layer.windows(two[:, [2, 1, 0, 3]]), 0)
+    refused(rstore.BadBox, lambda: layer.counts(numpy.vstack([two, two, (9, 9, 8, 9)])), 4)
+
+
+def wrong_loads(db: rstore.Store, numpy) -> None:
+    """Loads that are refused tell which object it was, and leave the layer empty."""
+    layer, good = db.create_layer("loaded"), (0, 0, 9, 9)
+    for wrong in (
+        [(1, good), (2, (0, 0, 9))], [(1, good), (2, good, 1 << 32)], [(1, good), (-2, good)], [(1, good), (2.0, good)],
+        [(1, good), (2,)], [(1, good), 7], [(1, good), (2, (0, 0, 9, 1 << 31))], [(1, good), (2, None)],
+    ):
+        refused(rstore.Misuse, lambda: layer.load(wrong), 1)
+    refused(rstore.WrongDims, lambda: layer.load([(1, good), (2, (0, 0, 0, 9, 9, 9))]), 1)
+    refused(rstore.BadBox, lambda: layer.load([(1, good), (2, good), (3, (0, 9, 9, 8))]), 2)
+    refused(rstore.DuplicateInLoad, lambda: layer.load([(7, good), (5, good), (5, good), (7, good)]), 2)
+    refused(rstore.Misuse, lambda: layer.load_arrays([1, 2, 1 << 64], [good] * 3), 2)
+    refused(rstore.Misuse, lambda: layer.load_arrays([1, 2], [good, (0, 0, 1, 1 << 31)]), 1)
+    refused(rstore.Misuse, lambda: layer.load_arrays([1, 2], [good, good], [0, 1 << 32]), 1)
+    refused(rstore.Misuse, lambda: layer.load_arrays([1, 2], [good, good], [0]))
+    refused(rstore.Misuse, lambda: layer.load_arrays([1, 2], [good]))
+    refused(rstore.BadBox, lambda: layer.load_arrays([1, 2], [good, (1, 0, 0, 0)]), 1)
+    refused(rstore.Misuse, lambda: layer.load_rows(b"123"))
+    refused(rstore.Misuse, lambda: layer.load_rows(7))
+    refused(rstore.Misuse, lambda: layer.load_rows(array.array("q", [0] * 5)))
+    assert len(layer) == 0
+    rows = [(k, (k, k, k + 2, k + 3), k % 7) for k in range(100)]
+    assert layer.load_arrays([], []) == 0 and layer.load_arrays([], [], []) == 0
+    assert layer.load_arrays(range(100), [box for _, box, _ in rows], [tag for *_, tag in rows]) == 100
+    assert list(layer.all_rows()) == rows
+    refused(rstore.NotEmpty, lambda: layer.load_arrays([1], [good]))
+    db.drop_layer("loaded")
+    three = db.create_layer("loaded", 3, scale=10)
+    assert three.load_arrays([5], [(0.5, 0, 0, 1, 1, 1)], 9) == 1 and three.row(5) == (5, (0.5, 0, 0, 1, 1, 1), 9)
+    db.drop_layer("loaded")
+    if numpy is None:
+        return
+    layer = db.create_layer("loaded")
+    made = numpy.zeros(100, rstore._rows.ROW_FIELDS)
+    made["id"], made["high"][:, :2] = numpy.arange(100), 5
+    turned = made.astype([(name, made.dtype[name].newbyteorder(">")) for name in made.dtype.names])
+    for wrong in (turned, numpy.zeros((3, 5), "i8"), made["low"], made["id"]):
+        refused(rstore.Misuse, lambda: layer.load_rows(wrong))
+    assert len(layer) == 0 and layer.load_rows(made[::2]) == 50 and list(layer) == list(range(0, 100, 2))
+    db.drop_layer("loaded")
+    layer = db.create_layer("loaded")
+    assert layer.load_arrays(numpy.arange(5), numpy.full((5, 4), 3.0).astype("i2"), numpy.arange(5)) == 5
+    assert list(layer.all_rows()) == [(k, (3, 3, 3, 3), k) for k in range(5)]
+    db.drop_layer("loaded")
+
+
+def interrupts(layer: rstore.Layer) -> None:
+    """Ctrl-C in a long call comes when it has ended, and the store goes on."""
+    asked = [(0, 0, 2000, 2000)] * 2000
+    wanted = list(layer.counts(asked[:2]))
+    signal.signal(signal.SIGINT, signal.default_int_handler)  # a shell lets what it starts behind it ignore SIGINT
+    try:
+        threading.Timer(0.05, os.kill, (os.getpid(), signal.SIGINT)).start()
+        for _ in range(50):
+            layer.windows_rows(asked)
+        raise AssertionError("Ctrl-C did not come")
+    except KeyboardInterrupt:
+        pass
+    assert list(layer.counts(asked[:2])) == wanted
+
+
 def run(path: str, numpy) -> int:
     """All of it, with numpy or without it."""
-    _arrays._NUMPY = numpy or False
+    _given._NUMPY = numpy or False
     tried = 0
     with rstore.open(path, create=True) as db:
         for dims in (2, 3):
@@ -134,6 +233,9 @@ def run(path: str, numpy) -> int:
         flat = db.create_layer("flat" + ("n" if numpy else "p"))
         flat.load((k, (k, k, k + 5, k + 5)) for k in range(1000))
         refusals(flat, numpy)
+        wrong_arrays(flat, numpy)
+        wrong_loads(db, numpy)
+        interrupts(flat)
         if numpy:
             large = db.create_layer("decimal", scale=100)
             refused(rstore.Misuse, lambda: large.windows(numpy.array([[0, 0, 1, 1], [0, 0, numpy.nan, 1.0]])), 1)

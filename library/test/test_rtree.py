@@ -130,6 +130,17 @@ def scales(folder: str) -> None:
         refused(again.__getstate__)
 
 
+def below_zero(folder: str) -> None:
+    """Identifiers below 0 come back as such from a file; a box may be given by an iterator."""
+    name = os.path.join(folder, "below")
+    with Index(name) as one:
+        one.insert(-7, (0, 0, 1, 1))
+        one.insert(7, (0, 0, 2, 1))
+    with Index(name) as again:
+        assert sorted(again.intersection(iter((0, 0, 1, 1)))) == [-7, 7] and again.bounds == [0, 0, 2, 1]
+        assert list(again.contains([0, 0, 1, 1])) == [-7] and again.count((2, 1)) == 1
+
+
 def shared() -> None:
     """Identifiers that occur more than once, and indexes that are pickled."""
     idx = Index([(7, (k, k, k + 1, k + 1), f"object {k}") for k in range(5)])
@@ -237,6 +248,7 @@ def main() -> int:
     with tempfile.TemporaryDirectory() as folder:
         tutorial(folder)
         scales(folder)
+        below_zero(folder)
     refusals()
     shared()
     failed, tried = doctest.testmod(rstore.rtree)

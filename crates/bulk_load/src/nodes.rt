@@ -9,7 +9,7 @@ ghost use Rattle.tree_node.specs.Boxes.{least_box};
 ghost use Rattle.tree_node.specs.Nodes.{items_of};
 ghost use Rattle.node_bytes.specs.Layout.{IsOfLevel, IsSpellable};
 ghost use Rattle.node_page.specs.Standing.{node_in};
-ghost use Rattle.node_page.specs.Faults.{IsNoDamage};
+ghost use Rattle.node_page.specs.Faults.{IsChangeFault, IsNoDamage};
 
 use arrayvec::ArrayVec;
 use block_device::BlockDevice;
@@ -54,6 +54,7 @@ pub(crate) fn write_new<const D: usize, B: BlockDevice, A: Allocator + Copy>(
     ensures others { IsPageMap cache.old → IfOk result (λ n. SameBut n (pages cache.old) (pages cache.new)) }
     ensures grows { Grows 1 cache.old cache.new }
     ensures faults { IsPageMap cache.old → IfErr result (IsNoDamage cache.new) }
+    ensures other_faults { IfErr result (IsChangeFault cache.new) }
 {
     let node = node_of(entries, level);
     let page = cache.allocate()?;
@@ -83,6 +84,7 @@ pub(crate) fn write_parent<const D: usize, B: BlockDevice, A: Allocator + Copy>(
         → IfOk result (λ parent. SameBut parent.reference (pages cache.old) (pages cache.new)) }
     ensures grows { Grows 1 cache.old cache.new }
     ensures faults { IsPageMap cache.old → IfErr result (IsNoDamage cache.new) }
+    ensures other_faults { IfErr result (IsChangeFault cache.new) }
 {
     let page = write_new(cache, entries, level)?;
     Ok(Entry {

@@ -11,7 +11,7 @@ ghost use Rattle.tree_node.specs.Nodes.{items_of};
 ghost use Rattle.tree_node.specs.Positions.{total};
 ghost use Rattle.tree_node.specs.Trees.{Branch};
 ghost use Rattle.node_bytes.specs.Layout.{IsOfLevel};
-ghost use Rattle.node_page.specs.Faults.{IsNoDamage};
+ghost use Rattle.node_page.specs.Faults.{IsChangeFault, IsNoDamage};
 ghost use Rattle.bulk_load.specs.Levels.{AreSizes, LevelPacked, LevelWritten, PackedAt, WaitFor};
 ghost use Rattle.bulk_load.specs.Loads.{Loads};
 ghost use Rattle.bulk_load.specs.Tiling.{joined};
@@ -30,8 +30,8 @@ use tree_node::{Fanout, see_boxes};
 ///
 /// It lets at most one page more become live than there are objects, also where it is refused.
 ///
-/// On a sound map a refusal is `Memory`, `Device` or `NoPages`, the last only where each page number is live.
-/// The memory for the order of the objects and for the list of
+/// On a sound map a refusal is `Memory`, `Device` or `NoPages`, and on any other map perhaps `Damaged`;
+/// `NoPages` only where each page number is live. The memory for the order of the objects and for the list of
 /// the leaves is taken before the first page; the lists of the levels above grow while pages are written.
 pub fn load<const D: usize, B: BlockDevice, A: Allocator + Copy, H: Allocator + Copy>(
     alloc: H,
@@ -48,6 +48,7 @@ pub fn load<const D: usize, B: BlockDevice, A: Allocator + Copy, H: Allocator + 
     ensures all { IsPermutation objects.old objects.new }
     ensures grows { Grows (length objects.old + 1) cache.old cache.new }
     ensures faults { IsPageMap cache.old → IfErr result (IsNoDamage cache.new) }
+    ensures other_faults { IfErr result (IsChangeFault cache.new) }
 {
     see_boxes(objects);
     pack(alloc, cache, objects, 0, fanout)
@@ -73,6 +74,7 @@ fn pack<const D: usize, B: BlockDevice, A: Allocator + Copy, H: Allocator + Copy
     ensures all { IsPermutation entries.old entries.new }
     ensures grows { Grows (length entries.old + 1) cache.old cache.new }
     ensures faults { IsPageMap cache.old → IfErr result (IsNoDamage cache.new) }
+    ensures other_faults { IfErr result (IsChangeFault cache.new) }
 {
     if entries.len() <= fanout.entries() {
         let page = write_new(cache, entries, level)?;
@@ -106,6 +108,7 @@ fn pack_level<const D: usize, B: BlockDevice, A: Allocator + Copy, H: Allocator 
     ensures all { IsPermutation entries.old entries.new }
     ensures grows { Grows (length entries.old / 2) cache.old cache.new }
     ensures faults { IsPageMap cache.old → IfErr result (IsNoDamage cache.new) }
+    ensures other_faults { IfErr result (IsChangeFault cache.new) }
 {
     let sizes = tile(alloc, entries, fanout)?;
     let parents = room_for(alloc, sizes.len())?;
@@ -146,6 +149,7 @@ fn write_level<const D: usize, B: BlockDevice, A: Allocator + Copy, H: Allocator
         (items_of parents.items)) }
     ensures grows { Grows (length sizes.now) cache.old cache.new }
     ensures faults { IsPageMap cache.old → IfErr result (IsNoDamage cache.new) }
+    ensures other_faults { IfErr result (IsChangeFault cache.new) }
 {
     let mut from = 0;
     'runs: for place in 0..sizes.len() {

@@ -3,3 +3,4 @@ pub mod Boxes
 pub mod Numbers
 pub mod Rows
 pub mod Layers
+pub mod Nodes

@@ -3,12 +3,14 @@
 
 mod boxes;
 mod layers;
+mod nodes;
 mod numbers;
 mod objects;
 mod rows;
 
 pub use boxes::{raw_box, raw_point, raw_query};
 pub use layers::{Layer, layer_row, write_layers};
+pub use nodes::{NodeRow, write_three, write_two};
 pub use numbers::{number_of, tell};
 pub use objects::objects_of;
 pub use rows::{

@@ -1,2 +1,3 @@
 -- The lemma files.
 mod Steps
+mod RollingBack

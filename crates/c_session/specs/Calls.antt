@@ -138,10 +138,11 @@ pub record Closes {D A : Type 0} {m : _} (s : Store D A m) (r : Result (Unit {0}
   pub quiet : IsSettled s → IsInState s Dead ⊎ IsOk r
   pub cause : HasRefusalCause (m.faults (device_in s)) (m.faults device) r
 
--- the number is that of what the store answered, and what came with a refusal is kept
+-- the number is that of what the store answered, and what came with a refusal is kept; without a store the device
+-- that was left is handed back
 abbrev pub ClosesBy : {D A : Type 0} {m : _} → Session D A m → Session D A m → ℕ × Option D → Type 0
 ClosesBy {D} {A} {m} old new result =
-    ((old.store ≡ None) × (result ≡ (103, None)) × (new.detail ≡ old.detail))
+    ((old.store ≡ None) × (result ≡ (103, old.left)) × (new.left ≡ None) × (new.detail ≡ old.detail))
     ⊎ ((s : Store D A m) × (r : Result (Unit {0}) Refusal) × (device : D) × (old.store ≡ Some s)
     × (result.1 ≡ Some device) × Closes s r device × (result.0 ≡ number_of r)
     × (new.detail ≡ detail_after r old.detail))

@@ -2,3 +2,5 @@
 pub mod Keeping
 pub mod Calls
 pub mod Fetching
+pub mod Outlining
+pub mod RollingBack

@@ -2,6 +2,7 @@
 //! answered is kept until it is fetched, by rows of plain numbers.
 #![tactic(auto)]
 
+pub mod laws;
 mod session;
 
-pub use session::{BAD_NUMBERS, CLOSED, READ_ONLY, Session};
+pub use session::{BAD_NUMBERS, CLOSED, Opening, READ_ONLY, Session};

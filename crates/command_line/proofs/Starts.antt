@@ -5,9 +5,10 @@ use Rattle.std.specs.Io.KnownBytes.{Keeps}
 use Rattle.block_device.specs.Device.{Blocks, LeavesOnly, Recovery}
 use Rattle.block_device.specs.Moments.{leaves_then, leaves_weaker}
 use Rattle.block_device.specs.declared.device.BlockDevice as device
-use Rattle.layer_store.specs.Representation.{BeginsWith, device_in, newest_in}
+use Rattle.layer_store.specs.Representation.{BeginsWith, device_in, file_version, newest_in}
 use Rattle.layer_store.specs.declared.store.Store.{Store}
 use Rattle.live_layers.specs.Image.{IsRefusedOrImageOf}
+use Rattle.page_file.specs.Layout.{IsWithin}
 use Rattle.page_file.specs.declared.header.Version.{Version}
 use Rattle.plain_table.specs.Table.{Table}
 use Rattle.store_law.specs.Sessions.{SessionState}
@@ -105,10 +106,10 @@ has_answered S shown moment left_since recovery may_leave faults P t device unre
 
 -- a store that begins with a table, and may raise its file to this version
 pub has_started : {D A : Type 0} {m : device.Ghosts D} (newest : Version) (store : Store D A m) (t : Table)
-    → newest_in store ≡ newest → BeginsWith store (m.moment (device_in store)) t
-    → HasStarted A m newest (device_in store) t
-has_started newest store t is begins =
-    record { store = store; lies = refl; begins = begins; newest_is = is }
+    → newest_in store ≡ newest → IsWithin newest (file_version store)
+    → BeginsWith store (m.moment (device_in store)) t → HasStarted A m newest (device_in store) t
+has_started newest store t is within begins =
+    record { store = store; lies = refl; begins = begins; newest_is = is; within = within }
 
 -- a start that was refused has not begun, and a run to the closing answers
 pub begun_or_answered : {D R W : Type 0} (S : D → Table → Type 0) (shown : D → Blocks) (moment : D → ℕ)

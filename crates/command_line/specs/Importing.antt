@@ -15,8 +15,8 @@ use Rattle.plain_table.specs.declared.refusal.Refusal.TheVariants as refusal
 use Rattle.command_shell.specs.Texts.{told_refusal}
 use Rattle.command_shell.specs.Writing.{AppendsSome}
 use Rattle.layer_import.specs.Imports.{HasImported, import_commands}
+use Rattle.program_words.specs.Targets.{IsTargetOf}
 use Rattle.command_line.specs.Serving.{IsMisused}
-use Rattle.command_line.specs.Targets.{IsTargetOf}
 use Rattle.command_line.specs.declared.program.Served.{Served}
 
 -- Objects were put into this layer, whose boxes have so many axes, in a store that held this table; with

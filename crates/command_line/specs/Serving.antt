@@ -2,15 +2,19 @@
 use Rattle.std.specs.Prelude.{ℕ, ◌≡◌, ◌<◌, ◌≤◌, ◌⊎◌, ◌==◌, Bool, true, false, List, length, Option, Result, Ok}
 use Rattle.std.specs.Prelude.{Err, ⊤, codes}
 use Rattle.std.specs.FinMap.{empty}
+use Rattle.clap.specs.Words.{IsAmong}
+use Rattle.clap.specs.declared.error.kind.ErrorKind.{ErrorKind}
+use Rattle.clap.specs.declared.error.kind.ErrorKind.TheVariants.{DisplayHelp, DisplayVersion}
 use Rattle.block_device.specs.Device.{Blocks, LeavesOnly, Only, Recovery}
 use Rattle.block_device.specs.declared.device.BlockDevice as device
 use Rattle.file_device.specs.declared.open.OpenError.{OpenError}
 use Rattle.read_only_device.specs.declared.reader.BlockReader as reader
+use Rattle.page_file.specs.Layout.{IsWithin}
 use Rattle.page_file.specs.Opening.{IsRefused}
 use Rattle.page_file.specs.declared.fault.Fault.{Fault}
 use Rattle.page_file.specs.declared.header.Version.{Version}
 use Rattle.live_layers.specs.Image.{IsImage, IsRefusedOrImageOf, OpeningRefuses}
-use Rattle.layer_store.specs.Representation.{BeginsWith, closed_since, device_in, newest_in}
+use Rattle.layer_store.specs.Representation.{BeginsWith, closed_since, device_in, file_version, newest_in}
 use Rattle.layer_store.specs.declared.store.Store.{Store}
 use Rattle.store_law.specs.Sessions.{SessionState}
 use Rattle.store_law.specs.States.StoreState.{Alive}
@@ -26,14 +30,15 @@ use Rattle.command_shell.specs.declared.session.RunEnd.{RunEnd}
 use Rattle.command_shell.specs.declared.session.RunEnd.TheVariants.{Finished}
 use Rattle.command_line.specs.declared.program.Served.{Served}
 
--- A store was made or opened: it lies on this device, begins with this table, and may raise its file to this
--- version and to no newer one.
+-- A store was made or opened: it lies on this device, begins with this table, and its file is of this version or
+-- an older one, and may be raised to this one and to no newer one.
 pub record HasStarted {D : Type 0} (A : Type 0) (m : device.Ghosts D) (newest : Version) (opened : D)
     (t : Table) : Type 0 where
   pub store : Store D A m
   pub lies : device_in store ≡ opened
   pub begins : BeginsWith store (m.moment opened) t
   pub newest_is : newest_in store ≡ newest
+  pub within : IsWithin newest (file_version store)
 
 -- The store could not be made or opened: nothing was read and no reply written, and a stop left blocks that
 -- have P.
@@ -186,3 +191,13 @@ pub record HasServedOn {D R W : Type 0} (m : device.Ghosts D) (S : D → Table �
       ⊎ ChecksToClose (left.status == 0) (m.shown left.device) unread unread' written written'
   pub refused : create ≡ false → m.honest device → (f : Fault) → OpeningRefuses (m.shown device) f →
       IsRefusedOpening m.shown m.moment m.left_since m.recovery m.may_leave device r r' w w' left
+
+-- the status with which the program ends where words are not taken: help and version were asked for
+abbrev pub status_of_fault : ErrorKind → ℕ
+status_of_fault DisplayHelp = 0
+status_of_fault DisplayVersion = 0
+status_of_fault _ = 2
+
+-- the status is that of one of the faults
+abbrev pub IsStatusOf : List ErrorKind → ℕ → Type 0
+IsStatusOf faults status = (k : ErrorKind) × IsAmong k faults × (status ≡ status_of_fault k)

@@ -12,49 +12,29 @@ ghost use Rattle.command_shell.specs.Writing.{AppendsSome};
 ghost use Rattle.command_line.specs.Importing.{HasImportedOn, IntoLayerOf, IsRefusedText, OpensAndImports};
 ghost use Rattle.command_line.specs.Importing.{PutsInto};
 ghost use Rattle.command_line.specs.Serving.{HasStarted};
-ghost use Rattle.command_line.specs.Targets.{IsTarget, IsTargetOf, colon_in};
+ghost use Rattle.program_words.specs.Targets.{IsTargetOf};
 ghost use Rattle.command_line.specs.declared.program.Served.{Served};
 ghost use Rattle.file_device.specs.declared.open.OpenError.{OpenError};
 
-use crate::misuse::{ImportMisuse, tell_misuse};
 use crate::program::{FAILED, Served, WENT_WELL, tell_no_store, tell_not_empty, tell_unopened};
-use crate::words::Options;
 use block_device::BlockDevice;
 use box_import::{
     Axes, ColumnFault, Columns, CsvRows, FeatureLines, ImportError, ImportedObject, Properties,
-    Scale, Why, whole_number,
+    Scale, Why,
 };
 use command_shell::{CountedRead, FlushedWrite, Reply, tell_refusal, write_reply};
 use file_device::OpenError;
 use layer_import::{Import, PutProgress, Unimported, import_and_close};
 use layer_store::{Refusal, Store, create_store, open_store};
+use program_words::{ImportForm, ImportMisuse, ImportTask, Options, import_task, tell_misuse};
 use std::alloc::Global;
 use std::io::{BufRead, BufReader, Read, Write};
-
-// The fanout of a layer that is made where none is asked for.
-const FANOUT: u64 = 100;
 
 // The exit status where the text of the input is refused.
 const REFUSED: u8 = 3;
 
 // How many bytes are read at once.
 const READ_BYTES: usize = 65536;
-
-// What an import reads, and where its objects go.
-#[derive(Clone, Copy)]
-struct Task<'a> {
-    layer: &'a [u8],
-    fanout: u64,
-    form: Form<'a>,
-    scale: Scale,
-}
-
-// In which form objects are read.
-#[derive(Clone, Copy)]
-enum Form<'a> {
-    Csv(Columns<'a>),
-    GeoJson(Properties<'a>, Axes),
-}
 
 // All objects of an input, and how many axes their boxes have.
 #[derive(Drop)]
@@ -100,7 +80,7 @@ pub(crate) fn import_asked<
         (option_map (λ w. w.now) options.now.import.layer)
         input.old input.new output.old output.new (E.contents errors.old) (E.contents errors.new) result) }
 {
-    let task = match task_of(options) {
+    let task = match import_task(options) {
         Ok(task) => task,
         Err(misuse) => return tell_misuse(misuse.text(), errors),
     };
@@ -161,118 +141,18 @@ fn cure_of(error: &ImportError) -> &'static str {
     }
 }
 
-// What is to be imported, or why the words do not go together.
-fn task_of<'a>(options: &Options<'a>) -> Result<Task<'a>, ImportMisuse>
-    ensures { IfOk result (λ task.
-        IsTargetOf (option_map (λ w. w.now) options.now.import.layer) task.layer.now task.fanout) }
-{
-    if options.read_only {
-        return Err(ImportMisuse::ReadOnly);
-    }
-    if options.strict {
-        return Err(ImportMisuse::Strict);
-    }
-    let Some(word) = options.import.layer else {
-        return Err(ImportMisuse::NoImport);
-    };
-    let Some((layer, fanout)) = target_of(word) else {
-        return Err(ImportMisuse::Fanout);
-    };
-    Ok(Task {
-        layer,
-        fanout,
-        form: form_of(options)?,
-        scale: scale_of(options.import.scale)?,
-    })
-}
-
-// The layer and the fanout that a word says.
-fn target_of(word: &str) -> Option<(&[u8], u64)>
-    ensures { IfSome result (λ target. IsTarget word.now target.0.now target.1) }
-{
-    let bytes = word.as_bytes();
-    match colon_in(bytes) {
-        None => Some((bytes, FANOUT)),
-        Some(at) => Some((&bytes[..at], whole_number(&bytes[at + 1..])?)),
-    }
-}
-
-// Where the first colon of a word stands.
-fn colon_in(word: &[u8]) -> Option<usize>
-    ensures { result ≡ colon_in word.now }
-{
-    word.iter().position(|byte| *byte == b':')
-}
-
-// In which form objects are to be read.
-fn form_of<'a>(options: &Options<'a>) -> Result<Form<'a>, ImportMisuse> {
-    let import = options.import;
-    if import.geojson {
-        return Ok(Form::GeoJson(properties_of(import.columns)?, axes_of(import.axes)?));
-    }
-    match (import.axes, import.columns) {
-        (Some(_), _) => Err(ImportMisuse::AxesOfCsv),
-        (None, None) => Ok(Form::Csv(Columns::Header)),
-        (None, Some(list)) => Ok(Form::Csv(Columns::Listed(list.as_bytes()))),
-    }
-}
-
-// How many axes of features are to be read.
-fn axes_of(word: Option<&str>) -> Result<Axes, ImportMisuse> {
-    match word {
-        None | Some("2") => Ok(Axes::Two),
-        Some("3") => Ok(Axes::Three),
-        Some(_) => Err(ImportMisuse::Axes),
-    }
-}
-
-// What coordinates are to be multiplied by. Where nothing is said they are whole numbers: degrees would else
-// become boxes of a whole degree, and nobody would notice.
-fn scale_of(word: Option<&str>) -> Result<Scale, ImportMisuse> {
-    match word {
-        None => Ok(Scale::WHOLE),
-        Some(text) => scale_in(text).ok_or(ImportMisuse::Scale),
-    }
-}
-
-// The scale that a word is.
-fn scale_in(text: &str) -> Option<Scale> {
-    Scale::new(u32::try_from(whole_number(text.as_bytes())?).ok()?)
-}
-
-// Which properties of features hold identifiers and tags.
-fn properties_of(list: Option<&str>) -> Result<Properties<'_>, ImportMisuse> {
-    let list = list.unwrap_or("").as_bytes();
-    let at = list
-        .iter()
-        .position(|byte| *byte == b',')
-        .unwrap_or(list.len());
-    let tag = list.get(at + 1..).unwrap_or(b"");
-    if tag.contains(&b',') {
-        return Err(ImportMisuse::Properties);
-    }
-    Ok(Properties {
-        id: name_of(&list[..at]),
-        tag: name_of(tag),
-    })
-}
-
-// A property's name, where there is one.
-fn name_of(text: &[u8]) -> Option<&[u8]> {
-    let name = text.trim_ascii();
-    if name.is_empty() { None } else { Some(name) }
-}
-
 // Reads all objects.
 fn read_batch<I: Read>(
     alloc: Global,
-    task: &Task<'_>,
+    task: &ImportTask<'_>,
     input: &mut I,
 ) -> Result<Batch, ImportError> {
     let text = BufReader::with_capacity(alloc, READ_BYTES, input)?;
     match task.form {
-        Form::Csv(columns) => read_rows(alloc, text, columns, task.scale),
-        Form::GeoJson(properties, axes) => read_lines(alloc, text, properties, axes, task.scale),
+        ImportForm::Csv(columns) => read_rows(alloc, text, columns, task.scale),
+        ImportForm::GeoJson(properties, axes) => read_lines(
+            alloc, text, properties, axes, task.scale,
+        ),
     }
 }
 

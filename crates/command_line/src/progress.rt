@@ -1,9 +1,7 @@
 //! Lines of progress at a terminal.
 ghost use Rattle.std.specs.Prelude.{◌≡◌};
 
-use crate::words::read_words;
 use layer_import::PutProgress;
-use std::alloc::Global;
 use std::io::{self, Read, Write};
 
 // How many bytes are read from one line of progress to the next.
@@ -127,13 +125,5 @@ impl<E: Write> PutProgress for ProgressLine<E> {
         if let Some(errors) = &mut self.errors {
             let _ = errors.write_all(b"\n");
         }
-    }
-}
-
-/// Whether the words ask for an import.
-pub fn imports(alloc: Global, words: &[&str]) -> bool {
-    match read_words(alloc, words) {
-        Ok(options) => options.import.any(),
-        Err(_) => false,
     }
 }

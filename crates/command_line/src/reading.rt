@@ -7,10 +7,10 @@ ghost use Rattle.command_line.specs.Strict.{OpensAndReads, ReadsAs};
 
 use crate::program::{FAILED, status_of, tell_unopened};
 use crate::strict::settle_reader;
-use crate::words::{Limits, Options};
 use command_shell::{CountedRead, FlushedWrite, run_and_close, tell_refusal};
 use file_device::OpenError;
 use layer_store::{Refusal, open_store};
+use program_words::{Limits, Options};
 use read_only_device::{BlockReader, ReadOnlyDevice};
 use std::alloc::{Allocator, Global};
 use std::io::Write;

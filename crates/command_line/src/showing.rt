@@ -4,14 +4,13 @@ ghost use Rattle.std.specs.Io.KnownBytes.{Keeps};
 ghost use Rattle.std.specs.Prelude.{◌≡◌, ◌≤◌, IfNone, IfSome};
 ghost use Rattle.command_line.specs.Serving.{OpensAndShows};
 
-use crate::misuse::{ShowMisuse, tell_misuse};
 use crate::program::{FAILED, WENT_WELL, tell_unopened};
 use crate::reading::tell_unread;
-use crate::words::Options;
 use block_device::BlockDevice;
 use command_shell::{FlushedWrite, tell_refusal};
 use file_device::OpenError;
 use layer_store::{AnyBox, LayerInfo, LayerOutline, RawBox, RawQuery, Refusal, Store, open_store};
+use program_words::{Options, ShowMisuse, show_misuse, tell_misuse};
 use read_only_device::{BlockReader, ReadOnlyDevice};
 use std::alloc::{AllocError, Global};
 use std::io::{Read, Write};
@@ -70,7 +69,7 @@ pub(crate) fn show_asked<
     ensures shown { IfSome options.now.file (λ path.
         OpensAndShows (P.post read_at path) output.old output.new result) }
 {
-    if let Some(misuse) = misuse_of(options) {
+    if let Some(misuse) = show_misuse(options) {
         return tell_misuse(misuse.text(), errors);
     }
     let Some(path) = options.file else {
@@ -83,26 +82,6 @@ pub(crate) fn show_asked<
             FAILED
         }
     }
-}
-
-// Why the words do not ask for one thing of a file that is there, if they do not.
-fn misuse_of(options: &Options<'_>) -> Option<ShowMisuse> {
-    if options.json && !options.stats {
-        return Some(ShowMisuse::JsonAlone);
-    }
-    if options.stats && options.draw.is_some() {
-        return Some(ShowMisuse::Both);
-    }
-    if options.create {
-        return Some(ShowMisuse::Create);
-    }
-    if options.strict {
-        return Some(ShowMisuse::Strict);
-    }
-    if options.import.any() {
-        return Some(ShowMisuse::Import);
-    }
-    None
 }
 
 // Shows what is asked for of the store that a reader has. No block is written: the reader is borrowed, and

@@ -4,9 +4,11 @@ ghost use Rattle.std.specs.Io.KnownBytes.{Keeps};
 ghost use Rattle.std.specs.Prelude.{◌≡◌, ◌≤◌, ◌⊎◌, IfErr, IfOk, length, true};
 ghost use Rattle.std.specs.declared.alloc.Global.{Global};
 ghost use Rattle.block_device.specs.Device.{LeavesOnly};
-ghost use Rattle.layer_store.specs.Representation.{Represents, closed_since, device_in, newest_in};
+ghost use Rattle.layer_store.specs.Representation.{Represents, closed_since, device_in, file_version};
+ghost use Rattle.layer_store.specs.Representation.{newest_in};
 ghost use Rattle.layer_store.specs.Starting.{is_cache};
 ghost use Rattle.live_layers.specs.Image.{IsImage, OpeningRefuses};
+ghost use Rattle.page_file.specs.Layout.{IsWithin};
 ghost use Rattle.page_file.specs.Opening.{IsRefused};
 ghost use Rattle.page_file.specs.declared.fault.Fault.{Fault};
 ghost use Rattle.plain_table.specs.Table.{Table};
@@ -18,10 +20,10 @@ ghost use Rattle.command_line.specs.Strict.{HasServedStrictlyOnceChecked, status
 
 use crate::program::{FAILED, Served, WENT_WELL, tell_no_store, tell_not_empty};
 use crate::reading::tell_unread;
-use crate::words::{Limits, Options};
 use block_device::BlockDevice;
 use command_shell::{CountedRead, FlushedWrite, Outcome, run_strictly_and_close};
 use layer_store::{Refusal, Store, create_store, open_store};
+use program_words::{Limits, Options};
 use read_only_device::{BlockReader, ReadOnlyDevice};
 use std::alloc::Global;
 use std::io::Write;
@@ -143,6 +145,7 @@ fn settle_store<D: BlockDevice, I: CountedRead, W: FlushedWrite, E: Write>(
         s.state ≡ Alive t → s.stops ≡ closed_since (D.moment (device_in it)) t →
         LeavesOnly D.moment D.left_since D.recovery device (device_in it) (D.may_leave device) →
         D.faults (device_in it) ≡ D.faults device →
+        IsWithin (newest_in it) (file_version it) →
         HasServedStrictly D.BlockDevice (HasStarted Global D.BlockDevice (newest_in it))
         (D.may_leave device) t device
         (I.remaining input.old) (I.remaining input.new) (W.contents output.old) (W.contents output.new)

@@ -36,5 +36,5 @@ no_room_removes {B} {A} {m} {dims} {most} {from} cache f result is memory = reco
       (λ n damaged. absurd (device_names_none f n (inl memory) damaged));
   number = λ h.
       at_error result f NamesInRange is (λ n damaged. absurd (device_names_none f n (inl memory) damaged));
-  other_faults = at_error result f IsChangeFault is (inl (inl memory));
+  other_faults = at_error result f (IsChangeFault cache) is (inl (inl memory));
 }

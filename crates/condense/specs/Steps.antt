@@ -184,4 +184,4 @@ pub record Removes {B A : Type 0} {m : _} (dims most : ℕ) (from : Root) (id : 
   pub damage : IsPageMap old → touched_of new ≡ false
       → IfErr result (λ f. (n : ℕ) → f ≡ fault.Damaged n → ComesTo dims (given old) from.page n)
   pub number : IsPageMap old → IfErr result NamesInRange
-  pub other_faults : IfErr result IsChangeFault
+  pub other_faults : IfErr result (IsChangeFault new)

@@ -27,7 +27,7 @@ pub(crate) fn insert_kept<const D: usize, B: BlockDevice, A: Allocator + Copy>(
     cache: &mut PageCache<B, A>,
     root: Root,
     fanout: Fanout,
-    waiting: &mut Waiting<D, A>,
+    waiting: &mut Waiting<D>,
     kept: &mut Orphans<D>,
 ) -> Result<Root, Fault>
     requires root { IsRoot root }
@@ -45,7 +45,7 @@ pub(crate) fn insert_kept<const D: usize, B: BlockDevice, A: Allocator + Copy>(
         → IfErr result (IsNoDamage cache.new) }
     ensures sound { IsPageMap cache.old → OnOk result (IsPageMap cache.new) }
     ensures number { IsPageMap cache.old → IfErr result NamesInRange }
-    ensures other_faults { IfErr result IsChangeFault }
+    ensures other_faults { IfErr result (IsChangeFault cache.new) }
 {
     let mut now = root;
     'inserting: while let Some(orphan) = kept.next() {

@@ -31,7 +31,7 @@ use block_device::BlockDevice;
 use node_page::write_node;
 use page_cache::PageCache;
 use page_file::Fault;
-use reinsert::{Waiting, fits_in_memory};
+use reinsert::Waiting;
 use std::alloc::Allocator;
 use tree_node::{Entry, Fanout, Node, Root};
 
@@ -63,32 +63,24 @@ pub fn remove<const D: usize, B: BlockDevice, A: Allocator + Copy>(
     ensures { Removes D fanout.most root object.now.reference (object.now.bounds, object.now.tag)
         cache.old cache.new result }
 {
-    // always so, and known when this is compiled
-    if !fits_in_memory::<Waiting<D, A>>() {
-        return Err(Fault::Memory);
-    }
-    let mut waiting = Waiting::new(alloc);
     let mut kept = Kept::make(alloc)?;
-    remove_with(cache, root, object, fanout, &mut waiting, &mut kept)
+    remove_with(cache, root, object, fanout, &mut kept)
 }
 
-/// Removes an object as `remove` does. The `Waiting` and the `Kept` serve again afterwards, also after a
-/// refusal; before the first write the `Waiting` gets room for insertions into the tallest tree, so that none
-/// of them takes memory for what waits, however often the root rises.
+/// Removes an object as `remove` does. The `Kept` serves again afterwards, also after a refusal. No allocator
+/// is given: only the cache asks for memory, however often the root rises while what is kept comes back.
 pub fn remove_with<const D: usize, B: BlockDevice, A: Allocator + Copy>(
     cache: &mut PageCache<B, A>,
     root: Root,
     object: &Entry<D>,
     fanout: Fanout,
-    waiting: &mut Waiting<D, A>,
     kept: &mut Kept<D>,
 ) -> Result<Root, Fault>
     requires root { IsRoot root }
     ensures { Removes D fanout.most root object.now.reference (object.now.bounds, object.now.tag)
         cache.old cache.new result }
 {
-    // what is kept comes back by many insertions, and the root may rise with each
-    waiting.make_room(40)?;
+    let waiting = &mut kept.waiting;
     let orphans = &mut kept.orphans;
     let hand = &mut kept.hand;
     orphans.begin();
@@ -105,7 +97,7 @@ fn put_root<const D: usize, B: BlockDevice, A: Allocator + Copy>(
     root: Root,
     hand: &InHand<D>,
     fanout: Fanout,
-    waiting: &mut Waiting<D, A>,
+    waiting: &mut Waiting<D>,
     kept: &mut Orphans<D>,
 ) -> Result<Root, Fault>
     requires root { IsRoot root }
@@ -129,7 +121,7 @@ fn put_root<const D: usize, B: BlockDevice, A: Allocator + Copy>(
         → (kept.old.list.items ≡ []) ⊎ (touched_of cache.old ≡ true) → touched_of cache.new ≡ false
         → IfErr result (λ f. IsOfDevice f ⊎ (f ≡ fault.Damaged root.page)) }
     ensures number { IsPageMap cache.old → IsLive cache.old root.page → IfErr result NamesInRange }
-    ensures other_faults { IfErr result IsChangeFault }
+    ensures other_faults { IfErr result (IsChangeFault cache.new) }
 {
     write_root(cache, root, hand)?;
     let filled = insert_kept(cache, root, fanout, waiting, kept)?;

@@ -1,10 +1,10 @@
 //! The file of a journal: where it lies, how it is opened, and how it is removed.
 ghost use Rattle.std.specs.Prelude.{◌≡◌, ◌++◌, IfOk, codes, string_bytes};
 
-use crate::open::folder_of;
+use crate::open::{folder_of, opened};
 use crate::{FileDevice, HostFile, OpenError, open_file};
 use std::alloc::{AllocError, Allocator};
-use std::fs::{self, File, Files};
+use std::fs::{self, File, Files, OpenOptions};
 use std::io::{self, ErrorKind};
 use std::os::unix::fs::MetadataExt;
 
@@ -22,6 +22,26 @@ pub fn copy_path<A: Allocator>(alloc: A, path: &str) -> Result<String<A>, AllocE
     format!(in alloc; "{path}-part")
 }
 
+/// Opens the journal that lies at a path, and syncs its folder, so that a stop after this doesn't take it away.
+/// None where the system opens none.
+pub fn open_journal<R: Files<File = File>>(
+    rt: &R,
+    path: &str,
+) -> Result<Option<FileDevice<HostFile<File>>>, OpenError> {
+    let journal = match open_file(rt, path, false) {
+        Ok(journal) => journal,
+        Err(error) if error.is_of_system() => return Ok(None),
+        Err(error) => return Err(error),
+    };
+    let Ok(folder) = File::open(rt, folder_of(path)) else {
+        return Err(OpenError::Refused);
+    };
+    if folder.sync_all().is_err() {
+        return Err(OpenError::Refused);
+    }
+    Ok(Some(journal))
+}
+
 /// Removes the journal, which is open, from the path at which it was opened, and syncs its folder, so that a
 /// stop after this doesn't bring it back. A stop before leaves it or not.
 ///
@@ -33,14 +53,21 @@ pub fn remove_journal<R: Files<File = File>>(
     journal: &FileDevice<HostFile<File>>,
 ) -> io::Result<()> {
     let folder = File::open(rt, folder_of(path))?;
+    unlink_journal(rt, path, journal)?;
+    folder.sync_all()
+}
+
+/// The same without a sync of the folder, for who makes a file at this path next, and syncs the folder then.
+pub fn unlink_journal<R: Files<File = File>>(
+    rt: &R,
+    path: &str,
+    journal: &FileDevice<HostFile<File>>,
+) -> io::Result<()> {
     match lies_at(rt, path, journal) {
-        Err(error) if error.kind() == ErrorKind::NotFound => folder.sync_all(),
+        Err(error) if error.kind() == ErrorKind::NotFound => Ok(()),
         Err(error) => Err(error),
         Ok(false) => Err(io::Error::from(ErrorKind::NotFound)),
-        Ok(true) => {
-            fs::remove_file(rt, path)?;
-            folder.sync_all()
-        }
+        Ok(true) => fs::remove_file(rt, path),
     }
 }
 
@@ -60,13 +87,31 @@ pub fn replace_journal<R: Files<File = File>>(
     folder.sync_all()
 }
 
-/// Makes an empty file at a path, in the place of one that a run left there which was cut short.
+/// Makes an empty file at a path, in the place of one that a run left there which was cut short. A stop may take
+/// it away.
 pub fn make_anew<R: Files<File = File>>(
     rt: &R,
     path: &str,
 ) -> Result<FileDevice<HostFile<File>>, OpenError> {
     let _ = fs::remove_file(rt, path); // what can't be removed is found not to be empty
-    open_file(rt, path, true)
+    let file = opened(
+        rt,
+        path,
+        OpenOptions::new().read(true).write(true).create(true),
+    )?;
+    Ok(FileDevice::over(HostFile::of(file))?)
+}
+
+/// Makes an empty file that has no name, and is gone once it is closed.
+pub fn make_nameless<R: Files<File = File>>(
+    rt: &R,
+    path: &str,
+) -> Result<FileDevice<HostFile<File>>, OpenError> {
+    let file = make_anew(rt, path)?;
+    match fs::remove_file(rt, path) {
+        Ok(()) => Ok(file),
+        Err(_) => Err(OpenError::Refused),
+    }
 }
 
 // Whether the file that lies at a path is this one, by the numbers that the system has for it.

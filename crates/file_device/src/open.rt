@@ -159,7 +159,11 @@ pub(crate) fn made<R: Files<File = File>>(rt: &R, path: &str) -> Result<File, Op
 }
 
 // Opened and locked.
-fn opened<R: Files<File = File>>(rt: &R, path: &str, how: &OpenOptions) -> Result<File, OpenError>
+pub(crate) fn opened<R: Files<File = File>>(
+    rt: &R,
+    path: &str,
+    how: &OpenOptions,
+) -> Result<File, OpenError>
     ensures { IfOk result (λ f. IsOwnNumber (file_raw_fd f)) }
 {
     let file = regular(rt, path, how)?;

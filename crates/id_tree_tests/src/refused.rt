@@ -8,7 +8,7 @@ use block_device::{BlockDevice, FuseDevice, FuseMode, MemoryDevice};
 use box_math::BBox;
 use id_tree::check_table;
 use page_cache::PageCache;
-use page_file::{Fault, open_pages};
+use page_file::{Fault, Version, open_pages};
 use refusing::Refusing;
 use std::alloc::{Allocator, Global};
 use std::test::Fail;
@@ -148,7 +148,7 @@ fn open_cache<'a>(
     alloc: &'a Refusing<Global>,
     device: FuseDevice<MemoryDevice>,
 ) -> Option<Frail<'a>> {
-    let Ok(file) = open_pages(device) else {
+    let Ok(file) = open_pages(device, Version::Three) else {
         return None;
     };
     let Ok(mut cache) = PageCache::over(alloc, file, 8) else {

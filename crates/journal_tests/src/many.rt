@@ -52,7 +52,7 @@ fn made<A: Allocator + Copy>(
     index: A,
     count: u32,
 ) -> Result<JournaledDevice<MemoryPair, A>, DeviceError> {
-    let mut device = match JournaledDevice::open(MemoryPair::new(alloc), index) {
+    let mut device = match JournaledDevice::open(MemoryPair::new(alloc), index, false) {
         Ok(device) => device,
         Err(_) => return Err(DeviceError::Failed),
     };

@@ -1,10 +1,10 @@
-//! A session of three commits, and what each of them leaves.
+//! A session of three commits, and what each of them leaves; behind the second one changes are given up.
 ghost use Rattle.std.specs.Prelude.{◌<◌, ◌-◌, ◌^◌};
 
 use block_bytes::{write_u8, write_u16, write_u32, write_u64};
 use block_device::{BlockDevice, DeviceError, FuseMode};
 use device_pair::{FusePair, MemoryPair};
-use journaled_device::JournaledDevice;
+use journaled_device::{GivesUp, JournaledDevice};
 use std::alloc::Global;
 
 /// More calls than a session makes.
@@ -65,8 +65,9 @@ pub fn begins<D: BlockDevice>(device: &mut D, bytes: &[u8]) -> bool {
     true
 }
 
-/// Makes three commits. Counts those that were begun, and those that were finished.
-pub fn session<D: BlockDevice>(
+/// Makes three commits, and gives up what is changed behind the second. Counts those that were begun, and those
+/// that were finished.
+pub fn session<D: GivesUp>(
     device: &mut D,
     begun: &mut u32,
     ended: &mut u32,
@@ -79,6 +80,7 @@ pub fn session<D: BlockDevice>(
     *begun = 2;
     device.sync()?;
     *ended = 2;
+    given_up(device)?;
     third(device)?;
     *begun = 3;
     device.sync()?;
@@ -108,6 +110,23 @@ fn second<D: BlockDevice>(device: &mut D) -> Result<(), DeviceError> {
     put(device, 0, 20, true)
 }
 
+// Changes that are given up, of blocks that were there and of such that are appended.
+fn given_up<D: GivesUp>(device: &mut D) -> Result<(), DeviceError> {
+    put(device, 0, 50, false)?;
+    device.sync()?;
+    put(device, 1, 51, false)?;
+    put(device, 5, 55, false)?;
+    put(device, 6, 56, false)?;
+    device.give_up()?;
+    put(device, 3, 53, false)?;
+    device.give_up()?;
+    if begins(device, committed(2)) {
+        Ok(())
+    } else {
+        Err(DeviceError::Failed)
+    }
+}
+
 fn third<D: BlockDevice>(device: &mut D) -> Result<(), DeviceError> {
     put(device, 0, 29, false)?;
     put(device, 4, 34, false)?;
@@ -133,7 +152,7 @@ pub fn stopped(alloc: Global, passes: u64) -> (MemoryPair, u32, u32, bool)
     let mut begun = 0;
     let mut ended = 0;
     let pair = FusePair::new(MemoryPair::new(alloc), passes, FuseMode::Onward);
-    match JournaledDevice::open(pair, alloc) {
+    match JournaledDevice::open(pair, alloc, false) {
         Err((_, pair)) => (pair.into_inner(), 0, 0, false),
         Ok(device) => {
             let mut device = device;

@@ -15,7 +15,7 @@ fn opened(alloc: Global, left: MemoryPair, passes: u64) -> (MemoryPair, bool, bo
     requires { passes < 2 ^ 64 - 1 }
 {
     let pair = FusePair::new(left, passes, FuseMode::Onward);
-    match JournaledDevice::open(pair, alloc) {
+    match JournaledDevice::open(pair, alloc, false) {
         Ok(device) => (device.into_pair().into_inner(), false, true),
         Err((OpenFault::Malformed, pair)) => (pair.into_inner(), true, false),
         Err((OpenFault::Device(_), pair)) => (pair.into_inner(), false, false),
@@ -24,7 +24,7 @@ fn opened(alloc: Global, left: MemoryPair, passes: u64) -> (MemoryPair, bool, bo
 
 // Whether opening gives what was committed last, or by the commit in progress.
 pub fn gives_a_commit(alloc: Global, left: MemoryPair, begun: u32, ended: u32) -> bool {
-    match JournaledDevice::open(left, alloc) {
+    match JournaledDevice::open(left, alloc, false) {
         Ok(device) => {
             let mut device = device;
             begins(&mut device, committed(ended)) || begins(&mut device, committed(begun))

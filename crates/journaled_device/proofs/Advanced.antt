@@ -3,6 +3,7 @@ use Rattle.std.proofs.Common.{◌≡◌, ◌∙◌, ℕ, ◌<◌, List, [], leng
 use Rattle.std.proofs.Common.{⊎_elim}
 use Rattle.std.specs.List.{All}
 use Rattle.std.proofs.lemmas.List.{take_all}
+use Rattle.std.proofs.lemmas.List.Elements.{All-weaker}
 use Rattle.block_device.specs.Device.{Blocks, block_at}
 use Rattle.block_device.specs.Device.{Begins}
 use Rattle.journaled_device.specs.Commits.{CommitsNoMore, OrNew}
@@ -55,18 +56,20 @@ module _ (stage : Stage) (kept : ℕ) (homes : List ℕ) (base base' journal jou
       (filling_stands kept homes base journal ml ml' more b_is (ap gate_says gate ∙ says-empty)
       (at_stage stage Clearing kept homes base journal ml e s))))
 
-  -- appended blocks were synced, where no other was written
-  pub appended : (n : ℕ) → n ≡ length base' → stage ≡ Filling → homes ≡ [] → PairsNoMore ml ml'
+  -- appended blocks were synced
+  pub appended : (n : ℕ) → n ≡ length base' → stage ≡ Filling → PairsNoMore ml ml'
       → ((a b : Blocks) → ml' a b → a ≡ base) → IsStanding stage kept homes base journal ml
       → IsStanding stage n homes base' journal' ml'
-  appended n n_is e none more a_is s =
+  appended n n_is e more a_is s =
       let t : IsStanding Filling kept homes base journal ml =
       at_stage stage Filling kept homes base journal ml e s in
       subst (λ (m : ℕ). IsStanding stage m homes base' journal' ml') (sym (n_is ∙ ap length base_is))
       (moved stage (length base) homes
       (at_stage Filling stage (length base) homes base journal ml' (sym e) (record {
         kept_there = omega arith;
-        homes_below = subst (All (λ h. h < length base)) (sym none) (λ k d lt. absurd (omega (arith, lt)));
+        homes_below =
+            All-weaker (λ h. h < kept) (λ h. h < length base) (λ h lt. omega (arith, lt, t.kept_there)) homes
+            t.homes_below;
         slots = t.slots;
         reads = tt;
         stops = λ a b left.

@@ -13,3 +13,5 @@ mod Opened
 mod Reached
 mod Calling
 mod Noting
+mod GivingUp
+mod Looked

@@ -129,6 +129,13 @@ pub noted_new : {P A : Type 0} {m : _} (p : JournaledPair P A m) (ns : List (Jou
 noted_new p ns e whole one =
     rw e record { whole = whole; leads = tt; falls = tt; durable = λ none taken. one }
 
+-- where there are none, a stop of a plain disk leaves what is read
+pub only_new : {P A : Type 0} {m : _} (blocks : Blocks) (ns : List (JournaledPair P A m × Option ℕ))
+    (c : Blocks) → ns ≡ [] → MayLeave blocks (events ns) c → c ≡ blocks
+only_new {P} {A} {m} blocks ns c e left =
+    only_shown blocks [] c
+    (subst (λ (es : List (JournaledPair P A m × Option ℕ)). MayLeave blocks (events es) c) e left)
+
 -- What stands of the notes after a call.
 module _ {P A : Type 0} {m : _} (p p' : JournaledPair P A m) (ns : List (JournaledPair P A m × Option ℕ))
     (n : IsNoted p ns) (later : m.moment p.pair ≤ m.moment p'.pair) where

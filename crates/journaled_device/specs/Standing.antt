@@ -1,5 +1,5 @@
 -- A journaled pair as its contracts see it.
-use Rattle.std.specs.Prelude.{◌≡◌, ℕ, List}
+use Rattle.std.specs.Prelude.{◌≡◌, ℕ, Bool, List}
 use Rattle.block_device.specs.Device.{Blocks}
 use Rattle.block_device.specs.Device.{BeginsOne}
 use Rattle.journaled_device.specs.Commits.{CommitsNoMore}
@@ -23,9 +23,13 @@ journal_of {m = m} d = m.journal d.pair
 abbrev pub IsHonest : {P A : Type 0} {m : _} → JournaledPair P A m → Type 0
 IsHonest {m = m} d = m.honest d.pair
 
--- how far a commit has come, how many blocks there were at the last one, the slots, and their homes
+-- how far a commit has come, whether it is only looked at, how many blocks there were at the last commit, the
+-- slots, and their homes
 abbrev pub stage_of : {P A : Type 0} {m : _} → JournaledPair P A m → Stage
 stage_of d = d.stage
+
+abbrev pub found_of : {P A : Type 0} {m : _} → JournaledPair P A m → Bool
+found_of d = d.found
 
 abbrev pub kept_of : {P A : Type 0} {m : _} → JournaledPair P A m → ℕ
 kept_of d = d.kept
@@ -56,6 +60,11 @@ pub record KeepsTo {P A : Type 0} {m : _} (commits : Blocks → Type 0) (old new
     0 where
   pub now : CommitsNoMore commits (commits_of new)
   pub stops : PairLeaves m.moment m.left_since old.pair new.pair (λ a b. BeginsOne commits (recovered a b))
+
+-- base and journal hold what they held
+pub record SameBlocks {P A : Type 0} {m : _} (old new : JournaledPair P A m) : Type 0 where
+  pub base : base_of new ≡ base_of old
+  pub journal : journal_of new ≡ journal_of old
 
 -- the same homes and the same count at the last commit
 pub record SameSlots {P A : Type 0} {m : _} (old new : JournaledPair P A m) : Type 0 where

@@ -4,6 +4,7 @@ ghost use Rattle.journaled_device.specs.EventsFact.{noted_is_fact};
 ghost use Rattle.journaled_device.specs.Standing.{IsHonest};
 
 mod calls;
+mod giving_up;
 mod noting;
 mod open;
 

@@ -4,12 +4,14 @@
 
 mod device;
 mod gate;
+mod giving_up;
 pub mod laws;
 mod pair;
 mod slots;
 mod stage;
 
 pub use device::JournaledDevice;
-pub use gate::says_complete;
-pub use pair::OpenFault;
+pub use gate::{gate_page, says_complete};
+pub use giving_up::GivesUp;
+pub use pair::{OpenFault, count_page};
 pub use stage::Stage;

@@ -14,15 +14,17 @@ use crate::judging::{has_entries, is_marked};
 use crate::open::shut_gate;
 use block_device::DeviceError;
 use device_pair::DevicePair;
-use file_device::remove_journal;
+use file_device::{FileDevice, HostFile, remove_journal};
 use std::fs::{File, Files};
+use std::io::ErrorKind;
 use titled_pair::end_of_base;
 
 /// Ends a run over a file whose journal lies at `name`: what was not committed is given up, the mark is taken
 /// away, and the journal is removed. Where a commit was not finished nothing is written; where this is cut
 /// short, or fails, the next opening brings the same blocks back.
 ///
-/// A failure of a device is answered. A journal that can't be removed is none: it says that the run has ended.
+/// A failure of a device is answered, and memory that is refused. Another journal that can't be removed is no
+/// failure: it says that the run has ended.
 pub fn end_journaled<R: Files<File = File>>(
     rt: &R,
     name: &str,
@@ -32,9 +34,24 @@ pub fn end_journaled<R: Files<File = File>>(
     // The files are locked until the journal is gone.
     if end_session(&mut pair)? {
         let (_base, journal) = pair.into_devices();
-        let _ = remove_journal(rt, name, &journal);
+        return removed(rt, name, &journal);
     }
     Ok(())
+}
+
+// Removes the journal, and tries it again where that is refused, since memory may be there by then.
+fn removed<R: Files<File = File>>(
+    rt: &R,
+    name: &str,
+    journal: &FileDevice<HostFile<File>>,
+) -> Result<(), DeviceError> {
+    if remove_journal(rt, name, journal).is_ok() {
+        return Ok(());
+    }
+    match remove_journal(rt, name, journal) {
+        Err(error) if error.kind() == ErrorKind::OutOfMemory => Err(DeviceError::Memory),
+        _ => Ok(()),
+    }
 }
 
 /// Takes the mark of the base away, once the journal says that the session has ended. Whether the base is

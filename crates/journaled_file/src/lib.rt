@@ -8,10 +8,14 @@
 mod end;
 mod judging;
 pub mod laws;
+mod looking;
 mod open;
 mod pairing;
 
 pub use end::{end_journaled, end_session};
 pub use judging::{Found, judge};
-pub use open::{JournaledFile, JournaledOver, judge_and_finish, open_journaled, open_over};
+pub use looking::{Looked, StoreJudge, look};
+pub use open::{
+    JournaledFile, JournaledOver, OpenedFile, judge_and_finish, open_journaled, open_over,
+};
 pub use pairing::{JournalSource, pair_up};

@@ -1,5 +1,5 @@
 //! How a file and its journal are opened.
-ghost use Rattle.std.specs.Prelude.{◌≡◌, ◌<◌, ◌≤◌, ◌↔◌, ◌⊎◌, ℕ, length, IfErr, IfOk, OnOk};
+ghost use Rattle.std.specs.Prelude.{◌≡◌, ◌<◌, ◌≤◌, ◌↔◌, ◌⊎◌, ℕ, length, true, IfErr, IfOk, OnOk};
 ghost use Rattle.block_device.specs.Device.{Blocks, written};
 ghost use Rattle.device_pair.specs.Pairs.{PairLeaves, PairsNoMore};
 ghost use Rattle.file_device.specs.declared.open.OpenError.TheVariants as error;
@@ -9,21 +9,23 @@ ghost use Rattle.journaled_file.specs.Opened.{LeavesRead, read_of};
 ghost use Rattle.journaled_file.specs.declared.judging.Found.TheVariants.{Ended, Unended};
 ghost use Rattle.journaled_device.specs.Journaled.{inner_of, pair_of};
 ghost use Rattle.journaled_device.specs.declared.pair.open.OpenFault.TheVariants.{Malformed};
-ghost use Rattle.journaled_device.specs.Standing.{commits_of, shown_of, IsHonest};
+ghost use Rattle.journaled_device.specs.Standing.{commits_of, found_of, shown_of, IsHonest};
 ghost use Rattle.marked_pair.specs.Behind.{IsSynced, LeavesBase};
-ghost use Rattle.marked_pair.specs.Mark.{IsMarked};
+ghost use Rattle.marked_pair.specs.Mark.{unmarked, IsMarked};
 ghost use Rattle.marked_pair.specs.Pair.{pair_of as titled_of};
 ghost use Rattle.page_file.specs.Layout.{gate_block};
 ghost use Rattle.titled_pair.specs.Pair.{pair_of as files_of};
+ghost use Rattle.titled_pair.specs.Title.{untitled};
 
 use crate::end::put_end;
 use crate::judging::{Found, is_marked, judge};
+use crate::looking::{Looked, StoreJudge, look, put_stand_in};
 use crate::pairing::{JournalSource, pair_up};
 use block_device::DeviceError;
 use device_pair::{DevicePair, TwoDevices};
 use file_device::{
-    FileDevice, HostFile, OpenError, copy_path, journal_path, make_anew, open_file, remove_journal,
-    replace_journal,
+    FileDevice, HostFile, OpenError, copy_path, journal_path, make_anew, make_nameless, open_file,
+    open_journal, replace_journal, unlink_journal,
 };
 use journaled_device::{JournaledDevice, OpenFault};
 use marked_pair::{MarkedPair, SHUT, gate_page};
@@ -40,19 +42,31 @@ pub type JournaledFile = JournaledOver<TwoDevices<SystemFile, SystemFile>, Globa
 // A file or its journal.
 type SystemFile = FileDevice<HostFile<File>>;
 
+/// A file with its journal, opened.
+#[derive(Drop)]
+pub struct OpenedFile {
+    /// Both as a device.
+    pub device: JournaledFile,
+    /// Where the journal lies; of a device that is only looked at none.
+    pub name: Option<String>,
+    /// Whether a run that was cut short had closed anything and not ended.
+    pub unended: bool,
+}
+
 /// Opens the file at `path` for reading and writing, and its journal beside it, which is made where there is
 /// none. With `create` an empty file is made where there is none.
 ///
-/// Both are locked until they are closed. What a run that was cut short had closed is brought back; the
-/// answer says whether such a run had closed anything and not ended, and where the journal lies. A journal
+/// Both are locked until they are closed. What a run that was cut short had closed is brought back. A journal
 /// without entries, beside a file that needs none, is made anew. Where the journal is none or another file's,
-/// nothing is written into either.
-pub fn open_journaled<R: Files<File = File> + Alloc>(
+/// nothing is written into either, and so it is where no store opens over both: the device is then only looked
+/// at, and is dropped and not ended.
+pub fn open_journaled<R: Files<File = File> + Alloc, G: StoreJudge>(
     rt: &R,
     alloc: Global,
     path: &str,
     create: bool,
-) -> Result<(JournaledFile, String, bool), OpenError> {
+    judge: &mut G,
+) -> Result<OpenedFile, OpenError> {
     let base = open_file(rt, path, create)?;
     let name = journal_name(rt, alloc, path)?;
     let part = copy_path(alloc, name.as_str())?;
@@ -61,9 +75,57 @@ pub fn open_journaled<R: Files<File = File> + Alloc>(
         name: name.as_str(),
         part: part.as_str(),
     };
-    let (pair, unended) = pair_up(base, &mut source)?;
-    match open_over(pair, alloc) {
-        Ok(device) => Ok((device, name, unended)),
+    let looked = look(base, create, &mut source, judge, alloc)?;
+    if !looked.opens {
+        return as_it_was(looked, &source, alloc);
+    }
+    let Looked {
+        base,
+        journal,
+        found: _,
+        opens: _,
+    } = looked;
+    let (pair, unended) = pair_up(base, journal, &mut source)?;
+    match open_over(pair, alloc, false) {
+        Ok(device) => Ok(OpenedFile {
+            device,
+            name: Some(name),
+            unended,
+        }),
+        Err((error, _)) => Err(error),
+    }
+}
+
+// Both files as they were found, over which no store opens. A journal that has nothing to bring back is left
+// out: in its place stands a file without a name.
+fn as_it_was<R: Files<File = File>>(
+    looked: Looked<SystemFile, SystemFile>,
+    source: &JournalAt<'_, R>,
+    alloc: Global,
+) -> Result<OpenedFile, OpenError> {
+    let Looked {
+        base,
+        journal,
+        found,
+        opens: _,
+    } = looked;
+    if found != Found::Own {
+        return seen(source.beside(base, found)?, alloc);
+    }
+    match journal {
+        Some(journal) => seen(TwoDevices::of(base, journal), alloc),
+        None => Err(OpenError::Refused),
+    }
+}
+
+// A pair that is only looked at.
+fn seen(pair: TwoDevices<SystemFile, SystemFile>, alloc: Global) -> Result<OpenedFile, OpenError> {
+    match open_over(pair, alloc, true) {
+        Ok(device) => Ok(OpenedFile {
+            device,
+            name: None,
+            unended: false,
+        }),
         Err((error, _)) => Err(error),
     }
 }
@@ -90,15 +152,35 @@ struct JournalAt<'a, R> {
     part: &'a str,
 }
 
+impl<R: Files<File = File>> JournalAt<'_, R> {
+    // A file beside a journal that has no name, and is gone with the run.
+    fn beside(
+        &self,
+        base: SystemFile,
+        found: Found,
+    ) -> Result<TwoDevices<SystemFile, SystemFile>, OpenError> {
+        let mut pair = TwoDevices::of(base, make_nameless(self.rt, self.part)?);
+        if pair.journal_blocks() != 0 {
+            return Err(OpenError::Refused);
+        }
+        put_stand_in(&mut pair, found)?;
+        Ok(pair)
+    }
+}
+
 impl<R: Files<File = File>> JournalSource<SystemFile> for JournalAt<'_, R> {
     ghost is_honest = { ⊥ };
+
+    fn open_there(&mut self) -> Result<Option<SystemFile>, OpenError> {
+        open_journal(self.rt, self.name)
+    }
 
     fn open(&mut self, make: bool) -> Result<SystemFile, OpenError> {
         open_file(self.rt, self.name, make)
     }
 
     fn remove(&mut self, journal: &SystemFile) -> Result<(), OpenError> {
-        remove_journal(self.rt, self.name, journal).map_err(|_| OpenError::Refused)
+        unlink_journal(self.rt, self.name, journal).map_err(|_| OpenError::Refused)
     }
 
     fn make_copy(&mut self) -> Result<SystemFile, OpenError> {
@@ -143,8 +225,8 @@ pub fn judge_and_finish<P: DevicePair>(pair: &mut P) -> Result<Found, DeviceErro
     Ok(found)
 }
 
-// Syncs both.
-fn sync_both<P: DevicePair>(pair: &mut P) -> Result<(), DeviceError>
+/// Syncs both.
+pub(crate) fn sync_both<P: DevicePair>(pair: &mut P) -> Result<(), DeviceError>
     ensures base { P.honest pair.old → P.base pair.new ≡ P.base pair.old }
     ensures journal { P.honest pair.old → P.journal pair.new ≡ P.journal pair.old }
     ensures durable { P.honest pair.old →
@@ -207,9 +289,13 @@ pub(crate) fn shut_gate<P: DevicePair>(pair: &mut P) -> Result<(), DeviceError>
 /// Opens a pair whose journal has a title. Where the pair is honest, what is then read is what recovery makes
 /// of the base, a gate with the mark as a shut one, and of the journal behind its title; and a stop within
 /// leaves what is read so again. Where it is refused, the pair is given back.
+///
+/// With `as_found` the base stays as it is, its mark aside, and so does a journal that has more than its title:
+/// what is opened is only looked at, and takes no write.
 pub fn open_over<P: DevicePair + Drop, A: Allocator + Copy>(
     pair: P,
     alloc: A,
+    as_found: bool,
 ) -> Result<JournaledOver<P, A>, (OpenError, P)>
     ensures shown { IfOk result (λ d. P.honest pair →
         shown_of (inner_of d) ≡ read_of (P.base pair) (P.journal pair)) }
@@ -221,6 +307,11 @@ pub fn open_over<P: DevicePair + Drop, A: Allocator + Copy>(
     ensures refused_stops { IfErr result (λ r. P.honest pair → (t : ℕ) (a e : Blocks) → t ≤ P.moment pair →
         P.left_since r.1 t a e →
         LeavesRead (P.left_since pair t) (read_of (P.base pair) (P.journal pair)) a e) }
+    ensures found { as_found ≡ true → IfOk result (λ d. found_of (inner_of d) ≡ true) }
+    ensures base { as_found ≡ true → IfOk result (λ d. P.honest pair →
+        unmarked (P.base (files_of (titled_of (pair_of d)))) ≡ unmarked (P.base pair)) }
+    ensures journal { as_found ≡ true → IfOk result (λ d. P.honest pair → 4 ≤ length (P.journal pair) →
+        untitled (P.journal (files_of (titled_of (pair_of d)))) ≡ untitled (P.journal pair)) }
     ensures honest { IfOk result (λ d. P.honest pair ↔ IsHonest (inner_of d)) }
     ensures refused_honest { IfErr result (λ e. P.honest pair ↔ P.honest e.1) }
     ensures refused { IfErr result (λ e. (e.0 ≡ error.NoJournal) ⊎ (e.0 ≡ error.Refused)) }
@@ -241,7 +332,7 @@ pub fn open_over<P: DevicePair + Drop, A: Allocator + Copy>(
         Ok(marked) => marked,
         Err((_, titled)) => return Err((OpenError::Refused, titled.into_pair())),
     };
-    match JournaledDevice::open(marked, alloc) {
+    match JournaledDevice::open(marked, alloc, as_found) {
         Ok(device) => Ok(device),
         Err((fault, left)) => Err((told(fault), left.into_pair().into_pair())),
     }

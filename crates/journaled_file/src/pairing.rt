@@ -1,5 +1,5 @@
 //! How a file gets its journal: the one that is there, or a new one.
-ghost use Rattle.std.specs.Prelude.{◌≡◌, ◌<◌, ◌≤◌, ◌^◌, ◌↔◌, ℕ, List, true, false, length, IfOk, OnOk};
+ghost use Rattle.std.specs.Prelude.{◌≡◌, ◌<◌, ◌≤◌, ◌^◌, ◌↔◌, ℕ, List, true, false, length, IfOk, IfSome, OnOk};
 ghost use Rattle.block_device.specs.Device.{Blocks, block_at, written};
 ghost use Rattle.device_pair.specs.Pairs.{PairLeaves};
 ghost use Rattle.journaled_file.specs.Ending.{GateTorn};
@@ -24,11 +24,16 @@ pub trait JournalSource<J: BlockDevice> {
     /// Each journal that it gives is honest.
     ghost is_honest: { Type 0 };
 
+    /// Opens the journal that is there, with its folder synced. None where the system opens none: `open` tells
+    /// why. Nothing is made.
+    fn open_there(&mut self) -> Result<Option<J>, OpenError>
+        ensures honest { is_honest → IfOk result (λ there. IfSome there (λ journal. J.honest journal)) };
+
     /// Opens the journal, or with `make` an empty one where there is none.
     fn open(&mut self, make: bool) -> Result<J, OpenError>
         ensures honest { is_honest → IfOk result (λ journal. J.honest journal) };
 
-    /// Removes this journal, which is open and stays so.
+    /// Removes this journal, which is open and stays so. It is gone for good once `open` has made another.
     fn remove(&mut self, journal: &J) -> Result<(), OpenError>;
 
     /// Makes an empty file for a copy of the journal, and locks it. One that was left is removed.
@@ -40,32 +45,30 @@ pub trait JournalSource<J: BlockDevice> {
     fn put_copy(&mut self, journal: &J) -> Result<(), OpenError>;
 }
 
-/// Gives a file its journal, and tells whether the last run over it had closed anything and not ended. The
-/// journal that is there is judged with it (`judge_and_finish`); one that is needless is removed, and made
-/// anew. One that has a commit to bring back is copied into a new file: what is read of it may have been lost
-/// by a sync that failed, and all that is brought back rests on it.
+/// Gives a file its journal, which may be open, and tells whether the last run over it had closed anything and
+/// not ended. The journal that is there is judged with it (`judge_and_finish`); one that is needless is removed,
+/// and made anew. One that has a commit to bring back is copied into a new file: what is read of it may have
+/// been lost by a sync that failed, and all that is brought back rests on it.
 ///
 /// `NoJournal` and `OtherJournal` come where the journal is none, or another file's: then nothing is written
 /// into either. Any other error is one of the source or of the devices.
 pub fn pair_up<B: BlockDevice + Drop, J: BlockDevice + Drop, S: JournalSource<J>>(
     base: B,
+    there: Option<J>,
     source: &mut S,
 ) -> Result<(TwoDevices<B, J>, bool), OpenError>
-    ensures paired { IfOk result (λ r. B.honest base → S.is_honest
+    ensures paired { IfOk result (λ r. B.honest base → S.is_honest → IfSome there (λ j. J.honest j)
         → IsPaired (B.shown base) (⟦<TwoDevices<B, J> as DevicePair>⟧.base r.0)
         (⟦<TwoDevices<B, J> as DevicePair>⟧.journal r.0) r.1) }
     ensures anew { IfOk result (λ r. ⟦<TwoDevices<B, J> as DevicePair>⟧.honest r.0
         → HasBegunEmpty (⟦<TwoDevices<B, J> as DevicePair>⟧.moment r.0)
         (⟦<TwoDevices<B, J> as DevicePair>⟧.left_since r.0)) }
-    ensures honest { IfOk result (λ r. B.honest base → S.is_honest → ⟦<TwoDevices<B, J> as DevicePair>⟧.honest r.0) }
+    ensures honest { IfOk result (λ r. B.honest base → S.is_honest → IfSome there (λ j. J.honest j)
+        → ⟦<TwoDevices<B, J> as DevicePair>⟧.honest r.0) }
 {
     let mut base = base;
     let marked = has_mark(&mut base)?;
-    // A file that has the mark can't be read without its journal.
-    let journal = match source.open(!marked) {
-        Err(error) if marked && error.is_of_system() => return Err(OpenError::NoJournal),
-        opened => opened?,
-    };
+    let journal = journal_of(there, marked, source)?;
     let mut pair = TwoDevices::of(base, journal);
     match judge_and_finish(&mut pair)? {
         Found::Own => Ok((rewritten(pair, source)?, marked)),
@@ -73,6 +76,24 @@ pub fn pair_up<B: BlockDevice + Drop, J: BlockDevice + Drop, S: JournalSource<J>
         Found::Fresh | Found::Ended => Ok((renewed(pair, source)?, false)),
         Found::Missing => Err(OpenError::NoJournal),
         Found::Foreign => Err(OpenError::OtherJournal),
+    }
+}
+
+// The journal of a file: the one that is open, or it is opened or made. A file that has the mark can't be read
+// without its journal.
+fn journal_of<J: BlockDevice + Drop, S: JournalSource<J>>(
+    there: Option<J>,
+    marked: bool,
+    source: &mut S,
+) -> Result<J, OpenError>
+    ensures honest { IfOk result (λ journal. S.is_honest → IfSome there (λ j. J.honest j) → J.honest journal) }
+{
+    if let Some(journal) = there {
+        return Ok(journal);
+    }
+    match source.open(!marked) {
+        Err(error) if marked && error.is_of_system() => Err(OpenError::NoJournal),
+        opened => opened,
     }
 }
 
@@ -119,8 +140,8 @@ fn renewed<B: BlockDevice + Drop, J: BlockDevice + Drop, S: JournalSource<J>>(
     Ok(pair)
 }
 
-// Makes the title of a journal without blocks.
-fn put_title<P: DevicePair>(pair: &mut P) -> Result<(), DeviceError>
+/// Makes the title of a journal without blocks.
+pub(crate) fn put_title<P: DevicePair>(pair: &mut P) -> Result<(), DeviceError>
     requires none { length (P.journal pair.old) ≡ 0 }
     ensures new { P.honest pair.old → OnOk result (IsNew (P.base pair.new) (P.journal pair.new)) }
     ensures anew { P.honest pair.old → HasBegunEmpty (P.moment pair.new) (P.left_since pair.new) }

@@ -1,5 +1,8 @@
-//! The laws of a store over a base and its journal: no stop loses what was closed, and none is refused.
+//! The laws of a store over a base and its journal: no stop loses what was closed, and none is refused. And who
+//! tells whether such a store opens.
 #![tactic(auto)]
+
+mod judge;
 
 ghost use Rattle.block_device.specs.Device.{Blocks};
 ghost use Rattle.journaled_device.specs.Journal.{recovered};
@@ -21,6 +24,7 @@ use block_device::BlockDevice;
 use device_pair::DevicePair;
 use journaled_device::JournaledDevice;
 use journaled_device::laws::{recovery_gives_a_commit, stops_of_the_pair_are_found};
+pub use judge::OpeningJudge;
 use layer_store::laws::a_stop_is_found_to_have_left_a_closed_table;
 use marked_pair::MarkedPair;
 use std::alloc::Allocator;

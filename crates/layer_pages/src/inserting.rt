@@ -28,7 +28,7 @@ pub fn insert<const D: usize, B: BlockDevice, A: Allocator + Copy>(
     cache: &mut PageCache<B, A>,
     layer: Layer,
     object: &ObjectAt<D>,
-    waiting: &mut Waiting<D, A>,
+    waiting: &mut Waiting<D>,
 ) -> Result<Root, Fault>
     requires root { CanBeRoot layer.root }
     ensures changes { Changes cache.old cache.new result }
@@ -48,7 +48,7 @@ pub fn insert<const D: usize, B: BlockDevice, A: Allocator + Copy>(
     ensures faults { IsPageMap cache.old → (l : LayerPages) (objects : Objects)
         → IsLayerAt D layer.fanout.most (pages cache.old) layer.root layer.ids_root l objects
         → IsAtSpot (pages cache.old) layer.ids_root object.now → IfErr result (IsNoDamage cache.new) }
-    ensures other_faults { IfErr result IsChangeFault }
+    ensures other_faults { IfErr result (IsChangeFault cache.new) }
 {
     // a box that was looked at is known to be one
     let _ = object.entry.bounds.low();

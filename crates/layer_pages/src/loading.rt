@@ -6,7 +6,7 @@ ghost use Rattle.std.specs.FinMap as map;
 ghost use Rattle.box_math.specs.Bounds.{IsDims};
 ghost use Rattle.page_cache.specs.Cache.{Grows, IsPageMap, pages};
 ghost use Rattle.page_cache.specs.Calls.{Changes};
-ghost use Rattle.node_page.specs.Faults.{IsNoDamage};
+ghost use Rattle.node_page.specs.Faults.{IsChangeFault, IsNoDamage};
 ghost use Rattle.id_table.specs.Table.{kind_of};
 ghost use Rattle.id_words.specs.Objects.{pairs_in};
 ghost use Rattle.layer_pages.specs.Changes.{BecomesLayer, BecomesTable, HasPacked};
@@ -60,6 +60,7 @@ pub fn load<const D: usize, B: BlockDevice, A: Allocator + Copy, H: Allocator + 
         → IsLayerAt D most (pages cache.old) layer.root layer.ids_root l map.empty →
         IsPermutation (pairs_in entries.old) (map.entries all)
         → IfErr result (IsNoDamage cache.new) }
+    ensures other_faults { IfErr result (IsChangeFault cache.new) }
 {
     see_boxes(entries);
     let after = bulk_load::load(alloc, cache, entries, layer.fanout)?;
@@ -106,6 +107,7 @@ fn put_ids<const D: usize, B: BlockDevice, A: Allocator + Copy>(
         → IsLayerAt D most (pages cache.old) root ids_root l map.empty →
         IsPermutation (pairs_in entries.old) (map.entries all)
         → IfErr result (IsNoDamage cache.new) }
+    ensures other_faults { IfErr result (IsChangeFault cache.new) }
 {
     fill(cache, ids_root, entries)?;
     free_tree::<D, B, A>(cache, root)?;

@@ -38,7 +38,7 @@ pub fn make<const D: usize, B: BlockDevice, A: Allocator + Copy>(
         IsEmptyLeaf) }
     ensures grows { Grows 2 cache.old cache.new }
     ensures faults { IsPageMap cache.old → IfErr result (IsNoDamage cache.new) }
-    ensures other_faults { IfErr result IsChangeFault }
+    ensures other_faults { IfErr result (IsChangeFault cache.new) }
 {
     let page = make_leaf::<D, B, A>(cache)?;
     let ids_root = id_table::make::<D, B, A>(cache, kind)?;
@@ -60,7 +60,7 @@ fn make_leaf<const D: usize, B: BlockDevice, A: Allocator + Copy>(
         IfOk result (λ page. SameBut page (pages cache.old) (pages cache.new)) }
     ensures grows { Grows 1 cache.old cache.new }
     ensures faults { IsPageMap cache.old → IfErr result (IsNoDamage cache.new) }
-    ensures other_faults { IfErr result IsChangeFault }
+    ensures other_faults { IfErr result (IsChangeFault cache.new) }
 {
     let leaf: Node<D> = Node {
         level: 0,

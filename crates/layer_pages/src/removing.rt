@@ -17,7 +17,6 @@ use condense::{Kept, remove_with};
 use node_page::Root;
 use page_cache::PageCache;
 use page_file::Fault;
-use reinsert::Waiting;
 use std::alloc::Allocator;
 
 /// Removes the object with that identifier, which the layer has with that box and that tag, and answers the
@@ -32,7 +31,6 @@ pub fn remove<const D: usize, B: BlockDevice, A: Allocator + Copy>(
     cache: &mut PageCache<B, A>,
     layer: Layer,
     object: &ObjectAt<D>,
-    waiting: &mut Waiting<D, A>,
     kept: &mut Kept<D>,
 ) -> Result<Root, Fault>
     requires root { CanBeRoot layer.root }
@@ -57,16 +55,9 @@ pub fn remove<const D: usize, B: BlockDevice, A: Allocator + Copy>(
         → IsLayerAt D layer.fanout.most (pages cache.old) layer.root layer.ids_root l objects
         → IsAtSpot (pages cache.old) layer.ids_root object.now → HasObject objects object.now
         → IfErr result (IsNoDamage cache.new) }
-    ensures other_faults { IfErr result IsChangeFault }
+    ensures other_faults { IfErr result (IsChangeFault cache.new) }
 {
-    let after = remove_with(
-        cache,
-        layer.root,
-        &object.entry,
-        layer.fanout,
-        waiting,
-        kept,
-    )?;
+    let after = remove_with(cache, layer.root, &object.entry, layer.fanout, kept)?;
     id_table::remove::<D, B, A>(cache, layer.ids_root, object.spot, object.entry.reference)?;
     Ok(after)
 }

@@ -18,7 +18,7 @@ use condense::{Kept, remove_with};
 use node_page::{Entry, Root};
 use page_cache::PageCache;
 use page_file::Fault;
-use reinsert::{Waiting, insert_with};
+use reinsert::insert_with;
 use std::alloc::Allocator;
 
 /// Gives the object with that identifier, which the layer has with that box and that tag, the box `new`, and
@@ -35,7 +35,6 @@ pub fn replace<const D: usize, B: BlockDevice, A: Allocator + Copy>(
     layer: Layer,
     object: &ObjectAt<D>,
     new: &BBox<D>,
-    waiting: &mut Waiting<D, A>,
     kept: &mut Kept<D>,
 ) -> Result<Root, Fault>
     requires root { CanBeRoot layer.root }
@@ -61,19 +60,19 @@ pub fn replace<const D: usize, B: BlockDevice, A: Allocator + Copy>(
         → IsLayerAt D layer.fanout.most (pages cache.old) layer.root layer.ids_root l objects
         → IsAtSpot (pages cache.old) layer.ids_root object.now → HasObject objects object.now
         → IfErr result (IsNoDamage cache.new) }
-    ensures other_faults { IfErr result IsChangeFault }
+    ensures other_faults { IfErr result (IsChangeFault cache.new) }
 {
     // a box that was looked at is known to be one
     let _ = new.low();
     let most = layer.fanout;
-    let between = remove_with(cache, layer.root, &object.entry, most, waiting, kept)?;
+    let between = remove_with(cache, layer.root, &object.entry, most, kept)?;
     let ObjectAt { entry, spot } = object;
     let moved = Entry {
         bounds: *new,
         reference: entry.reference,
         tag: entry.tag,
     };
-    let after = insert_with(cache, between, &moved, 0, most, waiting)?;
+    let after = insert_with(cache, between, &moved, 0, most, &mut kept.waiting)?;
     id_table::update(
         cache,
         layer.ids_root,

@@ -1,13 +1,14 @@
 -- A change of layers is a change of their store.
 use Rattle.std.proofs.Common.{◌≡◌, ◌∙◌, ◌^◌, ◌<◌, ◌⊎◌, ℕ, List, Bool, true, false, not, cond, inl, inr, refl}
-use Rattle.std.proofs.Common.{sym, ap, subst}
+use Rattle.std.proofs.Common.{sym, ap, subst, ⊎_elim}
 use Rattle.std.specs.Prelude.{Option, Some, None, is_some, Result, Ok, Err, OnErr, OnOk, IfErr}
 use Rattle.catalog_page.specs.Layout.{Record}
 use Rattle.live_layers.specs.Changes.{ChangeLeaves, GoesOn, IsChangeBy, IsChanged, KeepsInChange, OnRefused}
-use Rattle.live_layers.specs.Faults.{HasRefusalCause, HasUnmadeCause}
+use Rattle.live_layers.specs.Faults.{HasRefusalCause, HasUnmadeCause, IsMet}
 use Rattle.live_layers.specs.Keeping as keeping
 use Rattle.live_layers.specs.Keeping.{IsSound, IsWritten, Leaves, records_in}
 use Rattle.live_layers.specs.Layers.{catalog_in}
+use Rattle.live_layers.specs.Refusals.{IsTriedChange, refusals_in}
 use Rattle.live_layers.specs.Staying.{KeepsPagesAndRecords, LeavesVersion}
 use Rattle.live_layers.specs.Unmade.{is_broken, told}
 use Rattle.live_layers.specs.declared.layers.Layers.{Layers}
@@ -17,6 +18,7 @@ use Rattle.live_layers.proofs.BegunLemmas.{OnlyNow as OnlyNowOfLayers}
 use Rattle.live_layers.proofs.ChangeLemmas.{refused_by}
 use Rattle.live_layers.proofs.KeepLemmas.{kept_catalog, nothing_moved}
 use Rattle.page_cache.specs.Cache.{IsHonest, gate_of, pages}
+use Rattle.page_cache.specs.declared.cache.PageCache.{PageCache}
 use Rattle.page_file.specs.declared.gate.Gate.TheVariants.{Open}
 use Rattle.page_file.specs.declared.header.Version.{Version}
 use Rattle.page_file.specs.Fault.{number_of}
@@ -30,7 +32,7 @@ use Rattle.plain_table.specs.declared.refusal.Refusal.{Refusal}
 use Rattle.plain_table.specs.declared.refusal.Refusal.TheVariants as refusal
 use Rattle.store_law.specs.States.StoreState.{Dead}
 use Rattle.store_law.specs.Stops.{Stops, after_change, after_command, is_end, tables_left, with_now}
-use Rattle.layer_store.specs.Commands.{Changes, TakesReply, TakesStep, Tells, TellsOfEnd}
+use Rattle.layer_store.specs.Commands.{Changes, IsInTurn, IsMetIn, TakesReply, TakesStep, Tells, TellsOfEnd}
 use Rattle.layer_store.specs.Representation.{IsInState, cache_in, device_in}
 use Rattle.layer_store.specs.declared.store.Store.{Store}
 use Rattle.layer_store.proofs.StopLemmas.{OnlyNow, change_leaves, kept_leaves, left_rests}
@@ -55,6 +57,8 @@ failed_changes {m = m} {store = store} {c = c} failed = record {
   spelled = λ t alive was. inr was;
   refused = inr (nothing_moved store.layers);
   ended = dead_tells store 19 failed;
+  met = inl (dead_so store failed);
+  in_turn = inl (dead_so store failed);
   dead = λ dead. (refl, refl);
   versions = record { done = λ honest. tt; undone = λ honest. refl; newest = refl };
   cause = blames_none (m.faults (device_in store)) (Err (refusal.StoreFailed 19)) refl;
@@ -179,6 +183,20 @@ ended_so new (Ok u) failed goes_on = tt
 ended_so new (Err (unmade.Broken f)) failed goes_on = dead_tells new (number_of f) failed
 ended_so new (Err (unmade.Refused r)) failed goes_on = goes_on_tells new r failed goes_on
 
+-- what refused it or ended it was met
+met_so : {D A : Type 0} {m : _} (cache : PageCache D A m) (made : Result (Unit {0}) Unmade)
+    → IfErr made (IsMet cache) → IfErr (told made) (IsMetIn cache)
+met_so cache (Ok u) met = tt
+met_so cache (Err (unmade.Refused r)) met = inl met
+met_so cache (Err (unmade.Broken f)) met = inr (f, refl, met)
+
+-- in its turn
+turn_so : (conditions : Bool → List (Bool × Refusal)) (made : Result (Unit {0}) Unmade)
+    → IsTriedChange conditions made → IsInTurn conditions (told made)
+turn_so conditions (Ok u) turn = turn
+turn_so conditions (Err (unmade.Refused r)) turn = ⊎_elim inl (λ none. inr (inl none)) turn
+turn_so conditions (Err (unmade.Broken f)) turn = inr (inr (refl, turn))
+
 module _ {D A : Type 0} {m : _} (old new : Store D A m) {made : Result (Unit {0}) Unmade}
     {result : Result (Unit {0}) Refusal}
     (going : old.failed ≡ false) (tells : Tells old.failed new.failed made result) where
@@ -213,6 +231,18 @@ module _ {D A : Type 0} {m : _} (old new : Store D A m) {made : Result (Unit {0}
   told_end goes_on =
       subst (λ (r : Result (Unit {0}) Refusal). IfErr r (TellsOfEnd new)) (sym tells.answer)
       (ended_so new made (tells.failed going) goes_on)
+
+  -- and so it is told
+  pub told_met : IfErr made (IsMet (cache_in new)) → IfErr result (IsMetIn (cache_in new))
+  told_met met =
+      subst (λ (r : Result (Unit {0}) Refusal). IfErr r (IsMetIn (cache_in new))) (sym tells.answer)
+      (met_so (cache_in new) made met)
+
+  told_turn : (conditions : Bool → List (Bool × Refusal)) → IsTriedChange conditions made
+      → IsInTurn conditions result
+  told_turn conditions turn =
+      subst (λ (r : Result (Unit {0}) Refusal). IsInTurn conditions r) (sym tells.answer)
+      (turn_so conditions made turn)
 
   -- what the layers keep of a change is what their store does
   pub told_changes : {c : Command} → MayGiveUp c
@@ -261,6 +291,8 @@ module _ {D A : Type 0} {m : _} (old new : Store D A m) {made : Result (Unit {0}
         (refused_so new (KeepsPagesAndRecords old.layers new.layers) made (tells.failed going)
         change.keeps.refused);
     ended = told_end change.keeps.goes_on;
+    met = inr (told_met change.keeps.met);
+    in_turn = inr (told_turn (refusals_in old.layers c) change.in_turn);
     dead = λ dead. absurd (not_both old.failed (is_dead old dead) going);
     versions = version_told tells change.keeps.versions;
     cause = cause_told tells change.keeps.cause;
@@ -275,7 +307,8 @@ pub no_memory_changes : {D A : Type 0} {m : _} (store : Store D A m) {c : Comman
 no_memory_changes store {c = c} may by_change fits now only going =
     told_changes store store going
     (record { answer = refl; failed = λ e. e }) may by_change fits now
-    (refused_by store.layers c refusal.Memory only refl (λ t sound. inr tt)) (λ t sound unchanged was. was)
+    (refused_by store.layers c refusal.Memory only refl (λ t sound. inr tt) (inr (refl, refl)))
+    (λ t sound unchanged was. was)
     (λ t sound unchanged. tt)
 
 -- what a change did that was made is done where it is told so

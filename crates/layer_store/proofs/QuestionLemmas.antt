@@ -1,13 +1,14 @@
 -- A question of layers is a question of their store.
-use Rattle.std.proofs.Common.{◌≡◌, ◌∙◌, ◌<◌, ◌^◌, true, false, refl, sym, subst}
-use Rattle.std.specs.Prelude.{Result, Err, IfErr}
+use Rattle.std.proofs.Common.{◌≡◌, ◌∙◌, ◌<◌, ◌^◌, Bool, List, true, false, inl, inr, refl, sym, subst, ⊎_elim}
+use Rattle.std.specs.Prelude.{Result, Ok, Err, IfErr}
 use Rattle.live_layers.specs.Changes.{IsAnswered, KeepsInQuestion}
 use Rattle.live_layers.specs.Faults.{is_plain}
 use Rattle.live_layers.specs.Image.{MayRemain}
 use Rattle.live_layers.specs.Keeping.{IsSound}
+use Rattle.live_layers.specs.Refusals.{IsTried, refusals_in}
 use Rattle.live_layers.specs.declared.layers.Layers.{Layers}
 use Rattle.live_layers.proofs.KeepLemmas.{nothing_moved}
-use Rattle.live_layers.proofs.QuestionLemmas.{plain_goes_on, plain_is_quiet}
+use Rattle.live_layers.proofs.QuestionLemmas.{plain_goes_on, plain_is_quiet, plain_may}
 use Rattle.live_layers.proofs.StopLemmas.{leaves_kept}
 use Rattle.page_cache.specs.Cache.{IsHonest, device_of}
 use Rattle.page_cache.specs.Laws.{no_call_keeps_the_gate}
@@ -22,17 +23,24 @@ use Rattle.store_law.specs.Sessions.{SessionState}
 use Rattle.store_law.specs.States.{StoreState}
 use Rattle.store_law.specs.States.StoreState.{Alive, Dead}
 use Rattle.store_law.specs.Stops.{Stops, after_command}
-use Rattle.layer_store.specs.Commands.{Answers, OnlyAsks, TakesReply, TakesStep}
+use Rattle.layer_store.specs.Commands.{Answers, IsInTurn, OnlyAsks, TakesReply, TakesStep}
 use Rattle.layer_store.specs.Representation.{IsInState, KeepsStore, Represents, StopsLeave}
 use Rattle.layer_store.specs.Representation.{cache_in, device_in}
 use Rattle.layer_store.specs.declared.store.Store.{Store}
 use Rattle.layer_store.proofs.ChangeLemmas.{kept_spelled}
 use Rattle.layer_store.proofs.StopLemmas.{OnlyNow, kept_leaves}
-use Rattle.layer_store.proofs.StoreLemmas.{alive_so, blames_none, dead_tells, err_so, goes_on_tells}
+use Rattle.layer_store.proofs.StoreLemmas.{alive_so, blames_none, dead_so, dead_tells, err_so}
+use Rattle.layer_store.proofs.StoreLemmas.{goes_on_tells}
 use Rattle.layer_store.proofs.StoreLemmas.{is_alive, is_dead, is_settled, no_fewer_faults, not_both}
 use Rattle.layer_store.proofs.StoreLemmas.{replies_nothing, replies_question, replies_reply}
 use Rattle.layer_store.proofs.StoreLemmas.{represents_so, settled_so, takes_nothing}
 use Rattle.layer_store.proofs.StoreLemmas.{takes_question, takes_reply, what_is_kept}
+
+-- a question ends no store
+turn_asked : {T : Type 0} (conditions : Bool → List (Bool × Refusal)) (result : Result T Refusal)
+    → IsTried conditions result → IsInTurn conditions result
+turn_asked conditions (Ok x) turn = turn
+turn_asked conditions (Err r) turn = ⊎_elim inl (λ none. inr (inl none)) turn
 
 module _ {D A : Type 0} {m : _} where
   -- what a question keeps of its store
@@ -82,6 +90,7 @@ module _ {D A : Type 0} {m : _} where
       stands_on = λ s stands. record { state = stands.state; honest = stands.honest; faults = refl };
       stops = stops_asked store store now (nothing_asked store);
       ended = dead_tells store 19 failed;
+      met = inl (dead_so store failed);
       dead = λ dead. (refl, refl);
       cause = blames_none (m.faults (device_in store)) (Err (refusal.StoreFailed 19)) refl;
     }
@@ -107,6 +116,7 @@ module _ {D A : Type 0} {m : _} where
           };
           stops = stops_asked old new now kept;
           ended = err_so result (λ r. goes_on_tells new r going) keeps.goes_on;
+          met = inr keeps.met;
           dead = λ dead. absurd (not_both old.failed (is_dead old dead) going);
           cause = keeps.cause;
         }
@@ -130,6 +140,8 @@ module _ {D A : Type 0} {m : _} where
       kept = nothing_asked store;
       stops = stops_asked store store now (nothing_asked store);
       ended = dead_tells store 19 failed;
+      met = inl (dead_so store failed);
+      in_turn = inl (dead_so store failed);
       dead = λ dead. (refl, refl);
       cause = blames_none (m.faults (device_in store)) (Err (refusal.StoreFailed 19)) refl;
     }
@@ -139,8 +151,9 @@ module _ {D A : Type 0} {m : _} where
         → (IsHonest (cache_in store) → OnlyNow (cache_in store)) → ((t : Table) → changes t c ≡ false)
         → ((t : Table) (stops : Stops) → after_command t stops c (answer result) ≡ stops)
         → ((t : Table) → IsSound store.layers t → answer result ≡ reply_of t c)
-        → IfErr result (λ r. is_plain r ≡ true) → Answers store store c answer result
-    reply_answers {store = store} result going now unchanged quiet replied plain = record {
+        → IfErr result (λ r. is_plain r ≡ true) → IsTried (refusals_in store.layers c) result
+        → Answers store store c answer result
+    reply_answers {store = store} result going now unchanged quiet replied plain turn = record {
       step = takes_reply store c (answer result) going (λ t. no_change_leaves_the_table t c (unchanged t))
           quiet replied;
       reply = replies_reply store c (answer result) going (λ t. no_change_leaves_the_table t c (unchanged t))
@@ -148,6 +161,8 @@ module _ {D A : Type 0} {m : _} where
       kept = nothing_asked store;
       stops = stops_asked store store now (nothing_asked store);
       ended = err_so result (λ r p. goes_on_tells store r going (plain_goes_on r p)) plain;
+      met = inr (err_so result plain_may plain);
+      in_turn = inr (turn_asked (refusals_in store.layers c) result turn);
       dead = λ dead. absurd (not_both store.failed (is_dead store dead) going);
       cause = blames_none (m.faults (device_in store)) result (err_so result plain_is_quiet plain);
     }
@@ -159,9 +174,10 @@ module _ {D A : Type 0} {m : _} where
         → ((t : Table) (stops : Stops) → after_command t stops c (answer result) ≡ stops)
         → MayGiveUp c → m.faults (device_in old) < 2 ^ 64
         → ((t : Table) → IsSound old.layers t → IsAnswered old.layers mid t c (answer result))
-        → KeepsInQuestion old.layers mid result → Answers old (record old { layers = mid }) c answer result
+        → IsTried (refusals_in old.layers c) result → KeepsInQuestion old.layers mid result
+        → Answers old (record old { layers = mid }) c answer result
     asked_answers {old = old} {mid = mid} {result = result} going now unchanged quiet may fits answered
-        keeps =
+        turn keeps =
         let kept = keeps_asked old mid keeps in
         let new : Store D A m = record old { layers = mid } in
         record {
@@ -178,6 +194,8 @@ module _ {D A : Type 0} {m : _} where
           kept = kept;
           stops = stops_asked old new now kept;
           ended = err_so result (λ r. goes_on_tells new r going) keeps.goes_on;
+          met = inr keeps.met;
+          in_turn = inr (turn_asked (refusals_in old.layers c) result turn);
           dead = λ dead. absurd (not_both old.failed (is_dead old dead) going);
           cause = keeps.cause;
         }

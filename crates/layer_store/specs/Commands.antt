@@ -1,16 +1,21 @@
 -- What each command keeps of the store that it works on: one word for commands that change, and one for those
 -- that ask.
-use Rattle.std.specs.Prelude.{◌≡◌, ◌⊎◌, ◌↔◌, ℕ, Bool, true, false, List, Option, Result, Vec, Err, OnErr, OnOk}
+use Rattle.std.specs.Prelude.{◌≡◌, ◌⊎◌, ◌↔◌, ℕ, Bool, true, false, List, Option, Result, Vec, Ok, Err, OnErr, OnOk}
 use Rattle.std.specs.Prelude.{IfErr}
 use Rattle.live_layers.specs.Creating.{version_by}
-use Rattle.live_layers.specs.Faults.{HasRefusalCause}
+use Rattle.live_layers.specs.Faults.{HasRefusalCause, IsMet, may_refuse}
 use Rattle.live_layers.specs.Image.{IsRefusedOrImageOf, MayRemain}
 use Rattle.live_layers.specs.Keeping.{LooksAtTree}
 use Rattle.live_layers.specs.Questions.{is_admitted}
+use Rattle.live_layers.specs.Refusals.{IsOfNone, Passes, Refuses, refusals_in}
 use Rattle.live_layers.specs.Staying.{KeepsEachTree, KeepsPagesAndRecords, KeepsVersions, LeavesVersion}
 use Rattle.live_layers.specs.Unmade.{is_broken, told}
 use Rattle.live_layers.specs.declared.unmade.Unmade.{Unmade}
+use Rattle.live_layers.specs.declared.unmade.Unmade.TheVariants as unmade
 use Rattle.page_cache.specs.Cache.{IsHonest, gate_of}
+use Rattle.page_cache.specs.declared.cache.PageCache.{PageCache}
+use Rattle.page_file.specs.Fault.{number_of}
+use Rattle.page_file.specs.declared.fault.Fault.{Fault}
 use Rattle.page_file.specs.declared.gate.Gate.TheVariants.{Shut}
 use Rattle.plain_table.specs.Answers.{boxes_answer, done_answer}
 use Rattle.plain_table.specs.Commands.{Command}
@@ -57,6 +62,19 @@ abbrev pub CountsFaults : {D A : Type 0} {m : _} {T : Type 0} → Store D A m �
 CountsFaults {m = m} old new result =
     HasRefusalCause (m.faults (device_in old)) (m.faults (device_in new)) result
 
+-- What refused a command of a store that was alive, sound or not, where this is the cache that it left: one of
+-- the table's own refusals; or a fault that was met, which is want of memory, a device that failed, a damaged page,
+-- or want of a page number where each is live; or such a fault ended the store, which tells its number.
+abbrev pub IsMetIn : {D A : Type 0} {m : _} → PageCache D A m → Refusal → Type 0
+IsMetIn cache r = IsMet cache (unmade.Refused r)
+    ⊎ ((f : Fault) × (r ≡ refusal.StoreFailed (number_of f)) × IsMet cache (unmade.Broken f))
+
+-- What was asked of a store that was alive, sound or not, is refused by the first condition that holds, or by a fault;
+-- and what is done, answered, or ended the store, by none.
+abbrev pub IsInTurn : {T : Type 0} → (Bool → List (Bool × Refusal)) → Result T Refusal → Type 0
+IsInTurn conditions (Ok x) = Passes conditions
+IsInTurn conditions (Err r) = Refuses conditions r ⊎ (IsOfNone r ⊎ ((is_end r ≡ true) × Passes conditions))
+
 -- the refusal is StoreFailed exactly where the store is dead
 abbrev pub TellsOfEnd : {D A : Type 0} {m : _} → Store D A m → Refusal → Type 0
 TellsOfEnd store r = (is_end r ≡ true) ↔ IsInState store Dead
@@ -85,6 +103,10 @@ pub record Changes {D A : Type 0} {m : _} (old new : Store D A m) (c : Command)
   pub refused : OnErr result (IsInState new Dead ⊎ KeepsPagesAndRecords (layers_in old) (layers_in new))
   -- by StoreFailed exactly then
   pub ended : IfErr result (TellsOfEnd new)
+  -- in any store that was alive by a fault that was met, or as the table refuses
+  pub met : IsInState old Dead ⊎ IfErr result (IsMetIn (cache_in new))
+  -- and in its turn: the table's conditions are tried in their order, by the records and by what pages told
+  pub in_turn : IsInState old Dead ⊎ IsInTurn (refusals_in (layers_in old) c) result
   -- a store that had failed stays so
   pub dead : StaysDead old new result
   -- the version of the file stays, but where a layer was made; and that to which it may be raised
@@ -107,6 +129,10 @@ pub record Answers {D A : Type 0} {m : _} {T : Type 0} (old new : Store D A m) (
   pub stops : (s : SessionState) → Represents old s → StopsLeave old new (MayRemain s.stops.now)
   -- refused, it is so by StoreFailed exactly where the store is dead
   pub ended : IfErr result (TellsOfEnd new)
+  -- in any store that was alive by memory, the device, a damaged page, or as the table refuses
+  pub met : IsInState old Dead ⊎ IfErr result (λ r. may_refuse r ≡ true)
+  -- and in its turn: the table's conditions are tried in their order, by the records and by what pages told
+  pub in_turn : IsInState old Dead ⊎ IsInTurn (refusals_in (layers_in old) c) result
   -- a store that had failed stays so
   pub dead : StaysDead old new result
   -- faults of the device are counted
@@ -128,6 +154,8 @@ pub record OnlyAsks {D A : Type 0} {m : _} {T : Type 0} (old new : Store D A m)
   pub stops : (s : SessionState) → Represents old s → StopsLeave old new (MayRemain s.stops.now)
   -- refused, it is so by StoreFailed exactly where the store is dead
   pub ended : IfErr result (TellsOfEnd new)
+  -- in any store that was alive by memory, the device, a damaged page, or as the table refuses
+  pub met : IsInState old Dead ⊎ IfErr result (λ r. may_refuse r ≡ true)
   -- a store that had failed stays so
   pub dead : StaysDead old new result
   -- faults of the device are counted

@@ -4,8 +4,11 @@ ghost use Rattle.std.specs.Prelude.{◌≡◌, ◌∷◌, ℕ, List};
 ghost use Rattle.block_device.specs.Device.{Begins, BeginsOne, Blocks, LeavesOnly};
 ghost use Rattle.live_layers.specs.Image.{CommitsWhatOpens, IsImage, IsImageOfOne, IsRefusedOrImageOf};
 ghost use Rattle.live_layers.specs.Image.{MayRemain};
-ghost use Rattle.live_layers.specs.Image.{OpeningRefuses};
+ghost use Rattle.live_layers.specs.Image.{OpeningRefuses, OpeningRefusesUpTo};
+ghost use Rattle.page_file.specs.Layout.{IsWithin, opened_version};
 ghost use Rattle.page_file.specs.declared.fault.Fault.{Fault};
+ghost use Rattle.page_file.specs.declared.fault.Fault.TheVariants.{WrongVersion};
+ghost use Rattle.page_file.specs.declared.header.Version.{Version};
 ghost use Rattle.plain_table.specs.Table.{Table};
 ghost use Rattle.plain_table.specs.Step.{Answer};
 ghost use Rattle.layer_store.specs.Checked.{LawfulOnceChecked, LawfulReply, standing_of};
@@ -36,6 +39,17 @@ pub fn an_image_is_not_refused()
 #[tactic(auto, using(live_layers::proofs::OneTable::blocks_are_refused_in_one_way))]
 pub fn blocks_are_refused_in_one_way()
     ensures { (blocks : Blocks) (f g : Fault) → OpeningRefuses blocks f → OpeningRefuses blocks g → f ≡ g }
+{}
+
+/// Where no version above `newest` is read, opening refuses an image exactly where its version is above that, and
+/// then as one of a version that is not known; and it refuses blocks in one way.
+pub fn an_image_is_refused_where_its_version_is_above()
+    ensures within { (newest : Version) (blocks : Blocks) (t : Table) (f : Fault) → IsImage blocks t →
+        IsWithin newest (opened_version blocks) → OpeningRefusesUpTo newest blocks f → ⊥ }
+    ensures above { (newest : Version) (blocks : Blocks) (t : Table) → IsImage blocks t →
+        ¬ (IsWithin newest (opened_version blocks)) → OpeningRefusesUpTo newest blocks WrongVersion }
+    ensures one_way { (newest : Version) (blocks : Blocks) (f g : Fault) →
+        OpeningRefusesUpTo newest blocks f → OpeningRefusesUpTo newest blocks g → f ≡ g }
 {}
 
 /// A stop between two calls leaves of a store what the state of its session says, and one at any moment since

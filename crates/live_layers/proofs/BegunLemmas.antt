@@ -1,5 +1,5 @@
 -- Changes behind the gate: begun, and then made or broken off.
-use Rattle.std.proofs.Common.{◌≡◌, ◌∙◌, true, false, None, Some, sym, ap, subst, arith}
+use Rattle.std.proofs.Common.{◌≡◌, ◌∙◌, true, false, None, Some, sym, ap, subst, arith, inl}
 use Rattle.std.specs.Prelude.{◌↔◌, Result, Ok, Err, OnOk, IfErr, IsErrAnd}
 use Rattle.block_device.specs.Device.{Blocks, LeavesOnly}
 use Rattle.catalog_page.specs.Layout.{records_of}
@@ -7,9 +7,10 @@ use Rattle.live_layers.specs.Broken.{before, cause_in, told_by}
 use Rattle.live_layers.specs.declared.broken.Broken.{Broken}
 use Rattle.page_cache.specs.Cache.{IsHonest, IsUnchanged, KeepsMap, blocks_of, device_of, gate_of, next_of}
 use Rattle.page_cache.specs.Cache.{version_of}
+use Rattle.node_page.specs.Faults.{IsChangeFault}
 use Rattle.page_cache.specs.Calls.{ChangesUntil, faults_behind}
 use Rattle.page_cache.specs.declared.cache.PageCache.{PageCache}
-use Rattle.page_file.specs.Fault.{faults_after}
+use Rattle.page_file.specs.Fault.{IsOfDevice, faults_after}
 use Rattle.page_file.specs.Stops.{SameButGate}
 use Rattle.page_file.specs.declared.fault.Fault.{Fault}
 use Rattle.page_file.specs.declared.fault.Fault.TheVariants as fault
@@ -55,6 +56,7 @@ module _ {D A : Type 0} {m : _} {T : Type 0} where
     honest = (λ h. h, λ h. h);
     next = omega arith;
     faults = sym (ap (λ (g : Fault). faults_after g (m.faults (device_of cache))) memory);
+    met = inl (inl memory);
   })
 
   -- it was opened, was open, or was not opened
@@ -67,10 +69,10 @@ module _ {D A : Type 0} {m : _} {T : Type 0} where
       → LeavesOnly m.moment m.left_since m.recovery (device_of old) (device_of new)
       (λ c. SameButGate c (blocks_of old)))
       → (IsHonest old ↔ IsHonest new) → KeepsMap old new → OnOk result (gate_of new ≡ Open)
-      → IfErr result (λ b. b.touched ≡ false)
+      → IfErr result (λ b. b.touched ≡ false) → IfErr result (λ b. IsOfDevice b.cause)
       → m.faults (device_of new) ≡ faults_behind (cause_in result) (m.faults (device_of old))
       → Begins old new result
-  gate_begun old new result now was_open blocks stops honest map opened untouched faults = record {
+  gate_begun old new result now was_open blocks stops honest map opened untouched met faults = record {
     stops = λ ts there rests. gate_opened old new ts there (now there) (λ open'. (was_open open').device)
         (stops there) rests;
     rests = λ ts there rests closed c same. rests (λ open'. closed ((was_open open').gate ∙ open')) c
@@ -86,6 +88,7 @@ module _ {D A : Type 0} {m : _} {T : Type 0} where
     honest = honest;
     next = omega (arith, map.next);
     faults = faults;
+    met = if_err result (λ b device. inl device) met;
   }
 
   -- and pages were changed behind it
@@ -102,13 +105,14 @@ module _ {D A : Type 0} {m : _} {T : Type 0} where
     honest = (λ h. changes.honest.0 (begun.honest.0 h), λ h. begun.honest.1 (changes.honest.1 h));
     next = omega (arith, begun.next, changes.next);
     faults = changes.faults ∙ begun.faults;
+    met = tt;
   }
 
   -- or half changed
   begun_and_broke : {R : Type 0} (old mid new : PageCache D A m) (x : R) (f : Fault)
       (result : Result T Broken) → IsErrAnd result (λ e. e ≡ told_by new f) → Begins old mid (Ok x)
-      → ChangesUntil mid new (Some f) → Begins old new result
-  begun_and_broke old mid new x f result is begun changes =
+      → ChangesUntil mid new (Some f) → IsChangeFault new f → Begins old new result
+  begun_and_broke old mid new x f result is begun changes met =
       handed_on old new (told_by new f) result is (record {
         stops = λ ts honest rests. pages_written old mid new ts (begun.honest.0 honest) begun.opened
             (begun.stops ts honest rests) (changes.gate begun.opened);
@@ -120,6 +124,7 @@ module _ {D A : Type 0} {m : _} {T : Type 0} where
         honest = (λ h. changes.honest.0 (begun.honest.0 h), λ h. begun.honest.1 (changes.honest.1 h));
         next = omega (arith, begun.next, changes.next);
         faults = changes.faults ∙ ap (faults_after f) begun.faults;
+        met = met;
       })
 
   -- what was changed, and then the version of its file
@@ -137,6 +142,7 @@ module _ {D A : Type 0} {m : _} {T : Type 0} where
     honest = (λ h. subst m.honest (sym device) (b.honest.0 h), λ h. b.honest.1 (subst m.honest device h));
     next = omega (arith, b.next, next);
     faults = ap m.faults device ∙ b.faults;
+    met = tt;
   }
 
   -- ---- of layers
@@ -172,9 +178,10 @@ module _ {D A : Type 0} {m : _} {T : Type 0} where
       (result : Result T Broken) → IsErrAnd result (λ e. e ≡ told_by new.cache f) → IsSameBut mid new
       → Begins old.cache mid.cache (Ok x)
       → ((t : Table) → IsSound old t → IsSound mid t) → KeepsPagesAndRecords old mid
-      → ChangesUntil mid.cache new.cache (Some f) → BeginsChange old new made result
-  broke_behind old mid new {x} f result is same begun sound keeps changes = record {
-    begins = begun_and_broke old.cache mid.cache new.cache x f result is begun changes;
+      → ChangesUntil mid.cache new.cache (Some f) → IsChangeFault new.cache f
+      → BeginsChange old new made result
+  broke_behind old mid new {x} f result is same begun sound keeps changes met = record {
+    begins = begun_and_broke old.cache mid.cache new.cache x f result is begun changes met;
     untouched =
         λ t was. the_err result (told_by new.cache f) (λ e. e.touched ≡ false → IsSound new t) is
         (λ quiet. sound_kept mid new t (changes.untouched quiet) same.0 same.1 (λ w. sym same.2 ∙ w)

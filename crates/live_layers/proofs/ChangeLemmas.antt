@@ -1,12 +1,14 @@
 -- What the layers promise of a change that was made, refused or broken off.
 use Rattle.std.proofs.Common.{◌≡◌, ◌∙◌, ℕ, Bool, true, false, cond, List, Option, None, Some, refl, sym, ap}
-use Rattle.std.proofs.Common.{subst, inl, inr, ⊎_elim}
+use Rattle.std.proofs.Common.{◌⊎◌, subst, inl, inr, ⊎_elim}
 use Rattle.std.specs.Prelude.{Result, Ok, Err, OnErr, OnOk, IfErr}
 use Rattle.block_device.specs.Moments.{leaves_then}
 use Rattle.live_layers.specs.Broken.{cause_in}
 use Rattle.live_layers.specs.declared.broken.Broken.{Broken}
 use Rattle.page_cache.specs.Cache.{IsHonest, KeepsGate, device_of, gate_of, touched_of, version_of}
+use Rattle.node_page.specs.Faults.{IsChangeFault}
 use Rattle.page_cache.specs.Calls.{faults_behind}
+use Rattle.page_cache.specs.declared.cache.PageCache.{PageCache}
 use Rattle.page_file.specs.Fault.{IsOfDevice, faults_after}
 use Rattle.page_file.specs.declared.fault.Fault.{Fault}
 use Rattle.page_file.specs.declared.fault.Fault.TheVariants as fault
@@ -23,10 +25,11 @@ use Rattle.live_layers.specs.Begun.{Begins, BeginsChange}
 use Rattle.live_layers.specs.Changes.{ChangeLeaves, GoesOn, IsBegun, IsChange, IsChangeBy, IsChanged}
 use Rattle.live_layers.specs.Changes.{IsFaultOfChange, KeepsInChange, KeepsInQuestion, OnBroken, OnRefused}
 use Rattle.live_layers.specs.Changes.{Rose}
-use Rattle.live_layers.specs.Faults.{HasUnmadeCause, as_refusal, change_of, is_plain}
+use Rattle.live_layers.specs.Faults.{HasUnmadeCause, IsMet, as_refusal, change_of, is_plain}
 use Rattle.live_layers.specs.Image.{IsRefusedOrImageOf}
 use Rattle.live_layers.specs.Inserting.{IsAllowedOr}
 use Rattle.live_layers.specs.Keeping.{ChangesTree, IsSound, IsWritten}
+use Rattle.live_layers.specs.Refusals.{IsOfNone, Refuses, refusals_in}
 use Rattle.live_layers.specs.Staying.{KeepsPagesAndRecords, LeavesVersion}
 use Rattle.live_layers.specs.declared.layers.Layers.{Layers}
 use Rattle.live_layers.specs.declared.unmade.Unmade.{Unmade}
@@ -34,7 +37,7 @@ use Rattle.live_layers.specs.declared.unmade.Unmade.TheVariants as unmade
 use Rattle.live_layers.proofs.AskLemmas.{risen_of, same_count}
 use Rattle.live_layers.proofs.BegunLemmas.{OnlyNow}
 use Rattle.live_layers.proofs.KeepLemmas.{stays_in_turn}
-use Rattle.live_layers.proofs.QuestionLemmas.{fault_goes_on, refuses_unasked}
+use Rattle.live_layers.proofs.QuestionLemmas.{fault_goes_on, fault_may, refuses_unasked}
 use Rattle.live_layers.proofs.ReplaceLemmas.{changes_before}
 use Rattle.live_layers.proofs.Results.{on_ok}
 use Rattle.live_layers.proofs.StopLemmas.{kept_rests, kept_run}
@@ -72,6 +75,7 @@ module _ {D A : Type 0} {m : _} {T : Type 0} (old new : Layers D A m) where
     stays_open = λ open'. keeps.gate.gate ∙ open';
     honest = keeps.gate.honest.0;
     cause = record { made = tt; unmade = keeps.cause.refused };
+    met = inl keeps.met;
     versions = record { done = λ honest. tt; undone = keeps.trees.map.version; newest = keeps.trees.newest };
   }
 
@@ -99,6 +103,7 @@ module _ {D A : Type 0} {m : _} {T : Type 0} (old new : Layers D A m) where
         stays_open = λ open'. keeps.gate.gate ∙ open';
         honest = keeps.gate.honest.0;
         cause = record { made = keeps.cause.ok; unmade = tt };
+        met = tt;
         versions =
             record { done = keeps.trees.map.version; undone = λ honest. tt; newest = keeps.trees.newest };
       }
@@ -118,11 +123,12 @@ module _ {D A : Type 0} {m : _} {T : Type 0} (old new : Layers D A m) where
 pub refused_by : {D A : Type 0} {m : _} (kept : Layers D A m) (c : Command) (r : Refusal) → OnlyNow kept
     → is_plain r ≡ true
     → ((t : Table) → IsSound kept t → IsAllowedOr {T = Unit {0}} (Rose kept kept) (refusal_of t c) (Err r))
-    → IsChangeBy kept kept c (Err (unmade.Refused r))
-refused_by kept c r now plain why =
+    → Refuses (refusals_in kept c) r ⊎ IsOfNone r → IsChangeBy kept kept c (Err (unmade.Refused r))
+refused_by kept c r now plain why in_turn =
     record {
       keeps = refused_keeps kept kept r unasked;
       lawful = λ t sound. refused_change kept kept t c r now unasked sound (why t sound);
+      in_turn = in_turn;
     }
   where
     unasked : KeepsInQuestion {T = Unit {0}} kept kept (Err r)
@@ -148,6 +154,23 @@ begun_cause : (before now : ℕ) (made : Result (Unit {0}) Broken) → now ≡ f
     → HasUnmadeCause before now (change_of made)
 begun_cause before now (Ok u) e = record { made = e; unmade = tt }
 begun_cause before now (Err b) e = broken_cause before now b b.touched e
+
+-- what broke it off was met
+fault_met : {D A : Type 0} {m : _} (cache : PageCache D A m) (f : Fault) → IsChangeFault cache f
+    → IsMet cache (unmade.Refused (as_refusal f))
+fault_met cache f (inl device) = inl (fault_may f (inl device))
+fault_met cache f (inr (inl full)) = inr (ap as_refusal full.0, full.1)
+fault_met cache f (inr (inr damaged)) = inl (fault_may f (inr damaged))
+
+begun_met : {D A : Type 0} {m : _} (cache : PageCache D A m) (made : Result (Unit {0}) Broken)
+    → IfErr made (λ b. IsChangeFault cache b.cause) → IfErr (change_of made) (IsMet cache)
+begun_met cache (Ok u) met = tt
+begun_met cache (Err b) met = by_touch b.touched
+  where
+    by_touch : (touched : Bool)
+        → IsMet cache (cond touched (unmade.Broken b.cause) (unmade.Refused (as_refusal b.cause)))
+    by_touch true = met
+    by_touch false = fault_met cache b.cause met
 
 -- what is known where pages were changed is known of the change
 pub made_so : (P : Type 0) (made : Result (Unit {0}) Broken) (result : Result (Unit {0}) Unmade)
@@ -225,6 +248,7 @@ module _ {D A : Type 0} {m : _} {T : Type 0} (old mid new : Layers D A m) {x : T
     stays_open = λ open'. begun.begins.stays_open (asked.gate.gate ∙ open');
     honest = λ honest. begun.begins.honest.0 (asked.gate.honest.0 honest);
     cause = begun_cause _ _ made counted;
+    met = begun_met new.cache made begun.begins.met;
     versions = begun_version same;
   })
 

@@ -21,7 +21,7 @@ use Rattle.live_layers.specs.Keeping.{Belongs, Finds}
 use Rattle.live_layers.specs.Layers.{Holds, Reading, entry_of, row_of}
 use Rattle.plain_table.proofs.EntryLemmas.{belongs_at, is_entry_at, left_of, less_is, right_of}
 
-is_true : (b : Bool) → T b → IsTrue b
+pub is_true : (b : Bool) → T b → IsTrue b
 is_true true h = refl
 is_true false h = absurd h
 

@@ -21,6 +21,7 @@ pub mod BegunLemmas
 pub mod ChangeLemmas
 pub mod ReplaceLemmas
 pub mod NoteLemmas
+pub mod RefusalLemmas
 pub mod InsertLemmas
 pub mod AddLemmas
 pub mod CreateLemmas
@@ -32,6 +33,8 @@ pub mod DropLemmas
 pub mod FillLemmas
 pub mod RepeatLemmas
 pub mod LoadLemmas
+pub mod TurnLemmas
+pub mod SoundTurns
 pub mod MoveLemmas
 pub mod OnceLemmas
 pub mod CheckLemmas

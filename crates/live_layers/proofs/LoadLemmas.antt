@@ -52,7 +52,7 @@ as_load t name place given good finds = let there = named_there t name place fin
 
 -- ---- boxes
 
-first_of : (wrong bad : Bool) (more : List (Bool × Refusal)) (r : Refusal)
+pub first_of : (wrong bad : Bool) (more : List (Bool × Refusal)) (r : Refusal)
     → first_refusal ((wrong, refusal.WrongDims) ∷ (bad, refusal.BadBox) ∷ []) ≡ Some r
     → first_refusal ((wrong, refusal.WrongDims) ∷ (bad, refusal.BadBox) ∷ more) ≡ Some r
 first_of true bad more r is = is
@@ -149,7 +149,7 @@ ids_listed (entry ∷ entries) = ap (λ (ids : List ℕ). entry.reference ∷ id
 
 -- ---- objects of different identifiers
 
-same_ids : (given : GivenObjects) → map (λ (o : ℕ × Object). o.0) (map given_object given) ≡ ids_of given
+pub same_ids : (given : GivenObjects) → map (λ (o : ℕ × Object). o.0) (map given_object given) ≡ ids_of given
 same_ids [] = refl
 same_ids (o ∷ rest) = ap (λ (ids : List ℕ). o.0 ∷ ids) (same_ids rest)
 

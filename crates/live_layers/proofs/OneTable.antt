@@ -10,14 +10,16 @@ use Rattle.layer_pages.specs.Layers.{IsLayerAt, LayerPages, Objects}
 use Rattle.layer_pages.proofs.ObjectLemmas.{one_order, sorted_rises}
 use Rattle.node_page.specs.Standing.{PageMap}
 use Rattle.node_page.proofs.StandingLemmas.{one_tree_stands}
-use Rattle.page_file.specs.Layout.{opened_version}
+use Rattle.page_file.specs.Layout.{IsWithin, opened_version}
+use Rattle.page_file.specs.Newest.{passes_within, refused_above}
 use Rattle.page_file.specs.Pages.{next_in, pages_in}
 use Rattle.page_file.specs.declared.fault.Fault.{Fault}
+use Rattle.page_file.specs.declared.fault.Fault.TheVariants.{WrongVersion}
 use Rattle.page_file.specs.declared.header.Version.{Version}
 use Rattle.plain_table.specs.Table.{Table}
 use Rattle.tree_node.specs.Trees.{Tree, objects_in}
 use Rattle.tree_node.specs.declared.node.Root.{Root}
-use Rattle.live_layers.specs.Image.{IsImage, OpeningRefuses}
+use Rattle.live_layers.specs.Image.{IsImage, OpeningRefuses, OpeningRefusesUpTo}
 use Rattle.live_layers.specs.Layers.{Holds, LayerStands, LayersStand, Reading, entry_of, root_of, row_of}
 
 -- ---- one table
@@ -102,3 +104,29 @@ blocks_are_refused_in_one_way blocks f g (inl a) (inl b) = let both : Some f ≡
 blocks_are_refused_in_one_way blocks f g (inl a) (inr b) = absurd (some_is_not_none (sym b.0 ∙ a))
 blocks_are_refused_in_one_way blocks f g (inr a) (inl b) = absurd (some_is_not_none (sym a.0 ∙ b))
 blocks_are_refused_in_one_way blocks f g (inr a) (inr b) = a.1 ∙ sym b.1
+
+-- ---- where no version above one is read
+
+-- an image of none above it is not refused
+pub an_image_within_is_not_refused : (newest : Version) (blocks : Blocks) (t : Table) (f : Fault)
+    → IsImage blocks t → IsWithin newest (opened_version blocks) → OpeningRefusesUpTo newest blocks f → ⊥
+an_image_within_is_not_refused newest blocks t f h within (inl e) =
+    some_is_not_none (sym (passes_within newest blocks h.passes within) ∙ e)
+an_image_within_is_not_refused newest blocks t f h within (inr d) =
+    true_is_not_false (sym h.holds.good ∙ d.2 h.records h.spelled)
+
+-- and one of a version above it is, as of a version that is not known
+pub an_image_above_is_refused : (newest : Version) (blocks : Blocks) (t : Table) → IsImage blocks t
+    → ¬ (IsWithin newest (opened_version blocks)) → OpeningRefusesUpTo newest blocks WrongVersion
+an_image_above_is_refused newest blocks t h above = inl (refused_above newest blocks h.passes above)
+
+-- in one way
+pub blocks_are_refused_in_one_way_up_to : (newest : Version) (blocks : Blocks) (f g : Fault)
+    → OpeningRefusesUpTo newest blocks f → OpeningRefusesUpTo newest blocks g → f ≡ g
+blocks_are_refused_in_one_way_up_to newest blocks f g (inl a) (inl b) =
+    let both : Some f ≡ Some g = sym a ∙ b in cc
+blocks_are_refused_in_one_way_up_to newest blocks f g (inl a) (inr b) =
+    absurd (some_is_not_none (sym b.0 ∙ a))
+blocks_are_refused_in_one_way_up_to newest blocks f g (inr a) (inl b) =
+    absurd (some_is_not_none (sym a.0 ∙ b))
+blocks_are_refused_in_one_way_up_to newest blocks f g (inr a) (inr b) = a.1 ∙ sym b.1

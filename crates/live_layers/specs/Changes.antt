@@ -15,9 +15,10 @@ use Rattle.plain_table.specs.declared.refusal.Refusal.{Refusal}
 use Rattle.store_law.specs.Lawful.{IsFault, MayWrite, RefusedBy}
 use Rattle.store_law.specs.Stops.{is_end}
 use Rattle.live_layers.specs.Creating.{version_by}
-use Rattle.live_layers.specs.Faults.{HasRefusalCause, HasUnmadeCause}
+use Rattle.live_layers.specs.Faults.{HasRefusalCause, HasUnmadeCause, IsMet, may_refuse}
 use Rattle.live_layers.specs.Image.{IsRefusedOrImageOf}
 use Rattle.live_layers.specs.Keeping.{IsSound, IsWritten, RestLeavesOneOf, newest_of}
+use Rattle.live_layers.specs.Refusals.{IsTriedChange, refusals_in}
 use Rattle.live_layers.specs.Staying.{KeepsPagesAndRecords, LeavesVersion}
 use Rattle.live_layers.specs.declared.layers.Layers.{Layers}
 use Rattle.live_layers.specs.declared.unmade.Unmade.{Unmade}
@@ -85,7 +86,8 @@ GoesOn result = Unit {0}
 -- What a change keeps of any layers: pages and records, so each tree, where it was refused, which is not as
 -- by a store that failed, and it breaks off half way only where a page was touched; what was written, where
 -- it was not made; an open gate; honesty; the count of the device's faults, which rises by one where its
--- failure ended the change; and the version of the file, but that it is this one where the change was made.
+-- failure ended the change; and the version of the file, but that it is this one where the change was made. It
+-- is not made by nothing but the table's refusals, and faults that were met.
 pub record KeepsInChange {D A : Type 0} {m : _} (old new : Layers D A m) (made : Version)
     (result : Result (Unit {0}) Unmade) : Type 0 where
   pub refused : OnRefused result (KeepsPagesAndRecords old new)
@@ -95,14 +97,16 @@ pub record KeepsInChange {D A : Type 0} {m : _} (old new : Layers D A m) (made :
   pub stays_open : gate_of old.cache ≡ Open → gate_of new.cache ≡ Open
   pub honest : IsHonest old.cache → IsHonest new.cache
   pub cause : HasUnmadeCause (m.faults (device_of old.cache)) (m.faults (device_of new.cache)) result
+  pub met : IfErr result (IsMet new.cache)
   pub versions : LeavesVersion old new made result
 
 -- A change by a command, whichever table the layers are sound with. Only one that makes a layer may raise the
--- version of the file.
+-- version of the file. Its refusals are tried in their order, in layers that are not sound, too.
 pub record IsChangeBy {D A : Type 0} {m : _} (old new : Layers D A m) (c : Command)
     (result : Result (Unit {0}) Unmade) : Type 0 where
   pub keeps : KeepsInChange old new (version_by c (newest_of old) (version_of old.cache)) result
   pub lawful : (t : Table) → IsSound old t → IsChange old new t c result
+  pub in_turn : IsTriedChange (refusals_in old c) result
 
 -- ---- questions
 
@@ -114,12 +118,14 @@ IsAnswered old new t c a =
     IsSound new t × ((a ≡ reply_of t c) ⊎ RefusedBy (IsFault (Rose old new)) a)
 
 -- What a question keeps of any layers: their trees and versions, each table that they are sound with, and the
--- gate; no refusal is that of a store that failed; and the count of the device's faults rises by one with a
--- refusal that says so, and with nothing else.
+-- gate; no refusal is that of a store that failed, or other than the table's and those of faults that reading
+-- pages may meet; and the count of the device's faults rises by one with a refusal that says so, and with nothing
+-- else.
 pub record KeepsInQuestion {D A : Type 0} {m : _} {T : Type 0} (old new : Layers D A m)
     (result : Result T Refusal) : Type 0 where
   pub trees : KeepsPagesAndRecords old new
   pub sound : (t : Table) → IsSound old t → IsSound new t
   pub gate : KeepsGate old.cache new.cache
   pub goes_on : IfErr result (λ r. is_end r ≡ false)
+  pub met : IfErr result (λ r. may_refuse r ≡ true)
   pub cause : HasRefusalCause (m.faults (device_of old.cache)) (m.faults (device_of new.cache)) result

@@ -5,10 +5,11 @@ use Rattle.block_device.specs.Device.{Blocks, Recovery}
 use Rattle.catalog_page.specs.Layout.{Record}
 use Rattle.node_page.specs.Standing.{PageMap}
 use Rattle.page_file.specs.Layout.{opened_version}
-use Rattle.page_file.specs.Opening.{IsRefused, failed_check}
+use Rattle.page_file.specs.Opening.{IsRefused, failed_check, failed_check_up_to}
 use Rattle.page_file.specs.Pages.{IsSoundMap, next_in, pages_in}
 use Rattle.page_file.specs.declared.fault.Fault.{Fault}
 use Rattle.page_file.specs.declared.fault.Fault.TheVariants.{Damaged}
+use Rattle.page_file.specs.declared.header.Version.{Version}
 use Rattle.plain_table.specs.Table.{Table}
 use Rattle.store_law.specs.Stops.{AfterStop}
 use Rattle.store_law.specs.Stops.AfterStop.{Surely, Perhaps}
@@ -63,3 +64,9 @@ HasNoCatalog pages next = (records : List Record) → catalog_in pages ≡ Some 
 abbrev pub OpeningRefuses : Blocks → Fault → Type 0
 OpeningRefuses blocks f = (failed_check blocks ≡ Some f)
     ⊎ ((failed_check blocks ≡ None) × (f ≡ Damaged 2) × HasNoCatalog (pages_in blocks) (next_in blocks))
+
+-- and so it does where no version above `newest` is read
+abbrev pub OpeningRefusesUpTo : Version → Blocks → Fault → Type 0
+OpeningRefusesUpTo newest blocks f = (failed_check_up_to newest blocks ≡ Some f)
+    ⊎ ((failed_check_up_to newest blocks ≡ None) × (f ≡ Damaged 2)
+    × HasNoCatalog (pages_in blocks) (next_in blocks))

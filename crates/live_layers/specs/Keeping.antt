@@ -33,6 +33,10 @@ cache_of kept = kept.cache
 abbrev pub records_in : {D A : Type 0} {m : _} → Layers D A m → List Record
 records_in kept = records_of kept.records
 
+-- how many objects they count in all layers together
+abbrev pub count_in : {D A : Type 0} {m : _} → Layers D A m → ℕ
+count_in kept = kept.object_count
+
 -- the version that the file may be raised to
 abbrev pub newest_of : {D A : Type 0} {m : _} → Layers D A m → Version
 newest_of kept = kept.newest

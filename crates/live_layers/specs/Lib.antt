@@ -5,6 +5,7 @@ pub mod Image
 pub mod Broken
 pub mod Faults
 pub mod Keeping
+pub mod Refusals
 pub mod Changes
 pub mod Rules
 pub mod Unmade

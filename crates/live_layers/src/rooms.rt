@@ -1,4 +1,4 @@
-//! Memory that removals from trees work in, kept from one change to the next.
+//! Memory that insertions into trees and removals from them work in, kept from one change to the next.
 
 ghost use Rattle.std.specs.Prelude.{◌≡◌, IfErr};
 ghost use Rattle.box_math.specs.Bounds.{IsDims};
@@ -11,8 +11,8 @@ use std::alloc::Allocator;
 // Memory for one of these, where it was taken and is not in use.
 pub(crate) type Room<T, A> = Option<Box<T, A>>;
 
-/// The memory that removals from trees work in, by the axes of their boxes. The first one that wants it takes
-/// it, and the next ones work in it; nothing of a change is left in it.
+/// The memory that insertions into trees and removals from them work in, by the axes of their boxes. The first
+/// one that wants it takes it, and the next ones work in it; nothing of a change is left in it.
 #[derive(Drop)]
 pub struct Rooms<A: Allocator> {
     pub(crate) kept_two: Room<Kept<2>, A>,
@@ -29,7 +29,8 @@ impl<A: Allocator> Rooms<A> {
     }
 }
 
-// Takes the room for what a removal keeps, which is made where there is none. A refusal is `Memory`.
+// Takes the room for what a removal keeps and for what waits, which is made where there is none. A refusal is
+// `Memory`.
 pub(crate) fn take_kept<const D: usize, A: Allocator>(
     room: &mut Room<Kept<D>, A>,
     alloc: A,

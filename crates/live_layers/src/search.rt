@@ -14,6 +14,8 @@ pub fn search(records: &[LayerRecord], name: &[u8]) -> Result<usize, usize>
     ensures within { IfOk result (λ place. place < length records.now) }
     ensures found { (d : _) → IfOk result (λ place.
         slice_cmp nat_cmp name.now (slice_index_or records.now place d).name.items ≡ Equal) }
+    ensures ahead { IfOk result (λ place. (k : ℕ) (d : _) → k < place →
+        slice_cmp nat_cmp name.now (slice_index_or records.now k d).name.items ≡ Greater) }
     ensures end { IfErr result (λ place. place ≤ length records.now) }
     ensures behind { IfErr result (λ place. (k : ℕ) (d : _) → k < place →
         slice_cmp nat_cmp name.now (slice_index_or records.now k d).name.items ≡ Greater) }

@@ -10,9 +10,9 @@ use Rattle.page_cache.specs.declared.cache.PageCache.{PageCache}
 abbrev pub IsNoDamage : {D A : Type 0} {m : _} → PageCache D A m → Fault → Type 0
 IsNoDamage cache f = IsOfDevice f ⊎ ((f ≡ fault.NoPages) × IsFull cache)
 
--- and in any pages: memory or the device, no page number left, or a damaged page
-abbrev pub IsChangeFault : Fault → Type 0
-IsChangeFault f = IsOfDevice f ⊎ ((f ≡ fault.NoPages) ⊎ IsDamage f)
+-- and in any pages: memory or the device, each page number is live, or a damaged page
+abbrev pub IsChangeFault : {D A : Type 0} {m : _} → PageCache D A m → Fault → Type 0
+IsChangeFault cache f = IsOfDevice f ⊎ (((f ≡ fault.NoPages) × IsFull cache) ⊎ IsDamage f)
 
 -- a page that is named as damaged has a number that a node can refer to
 abbrev pub NamesInRange : Fault → Type 0

@@ -9,7 +9,8 @@ use Rattle.block_device.specs.declared.device.DeviceError.TheVariants as error
 use Rattle.page_file.specs.Fault.{number_of, fault_of, faults_after, HasCause, IsOfDevice, IsDamage}
 use Rattle.page_file.specs.Layout.{gate_block, header_block, catalog_block, new_header, free_block}
 use Rattle.page_file.specs.Layout.{IsShutGate, IsHeader, kind_of, link_of, opened_version}
-use Rattle.page_file.specs.Opening.{is_sound, gate_checks, header_checks, first_fault, failed_check}
+use Rattle.page_file.specs.Opening.{failed_check, failed_check_up_to, first_fault, gate_checks, header_checks}
+use Rattle.page_file.specs.Opening.{header_checks_up_to, is_sound}
 use Rattle.page_file.specs.Opening.{IsRefused}
 use Rattle.page_file.specs.declared.fault.Fault.TheVariants.{Memory, Device, Damaged, NotClosed, NotAStore}
 use Rattle.page_file.specs.declared.fault.Fault.TheVariants.{WrongVersion, NoPages}
@@ -203,6 +204,17 @@ an_unknown_version_before_bad_numbers : map (λ version. failed_check (gate ∷ 
     (0 ∷ 4 ∷ 255 ∷ []) ≡ replicate 3 (Some WrongVersion)
 unfolding failed_check gate_checks header_checks number_at
 an_unknown_version_before_bad_numbers = refl
+
+a_version_above_the_newest_is_not_read : map (failed_check_up_to Two)
+    ((gate ∷ header 1 3 0 0 ∷ [] ∷ []) ∷ (gate ∷ header 2 3 0 0 ∷ [] ∷ []) ∷ (gate ∷ header 3 3 0 0 ∷ [] ∷ [])
+    ∷ []) ≡ None ∷ None ∷ Some WrongVersion ∷ []
+unfolding failed_check_up_to gate_checks header_checks_up_to number_at
+a_version_above_the_newest_is_not_read = refl
+
+a_newer_version_before_bad_numbers : map (λ version. failed_check_up_to Two (gate ∷ header version 9 9 9 ∷ [] ∷ []))
+    (2 ∷ 3 ∷ []) ≡ Some (Damaged 1) ∷ Some WrongVersion ∷ []
+unfolding failed_check_up_to gate_checks header_checks_up_to number_at
+a_newer_version_before_bad_numbers = refl
 
 next_beyond_the_blocks_is_damage : map (λ next. failed_check (gate ∷ header 1 next 0 0 ∷ [] ∷ [] ∷ []))
     (2 ∷ 3 ∷ 4 ∷ 5 ∷ []) ≡ Some (Damaged 1) ∷ None ∷ None ∷ Some (Damaged 1) ∷ []

@@ -26,6 +26,14 @@ abbrev pub version_number : Version → ℕ
 version_number Two = 2
 version_number Three = 3
 
+-- the numbers of the versions that are read where none above `newest` is
+abbrev pub is_read : Version → ℕ → Bool
+is_read newest number = nat_le 1 number && nat_le number (version_number newest)
+
+-- a version is none above the newest
+abbrev pub IsWithin : Version → Version → Type 0
+IsWithin newest version = newest ≡ Two → version ≡ Two
+
 abbrev pub version_from : ℕ → Version
 version_from number = if number == 3 then Three else Two
 

@@ -19,3 +19,4 @@ pub mod Prefix
 pub mod Frames
 pub mod Aside
 pub mod Laws
+pub mod Newest

@@ -3,8 +3,9 @@ use Rattle.std.specs.Prelude.{ℕ, ◌-◌, Bool, ◌&&◌, ◌||◌, ◌==◌, 
 use Rattle.std.specs.Prelude.{length, Option, Some, None, IsSome, if◌then◌else◌}
 use Rattle.block_device.specs.Device.{Blocks, block_at}
 use Rattle.block_bytes.specs.Numbers.{number_at}
-use Rattle.page_file.specs.Layout.{gate_text, header_text, header_version, is_known, version_from}
+use Rattle.page_file.specs.Layout.{gate_text, header_text, header_version, is_known, is_read, version_from}
 use Rattle.page_file.specs.declared.header.Header.{Header}
+use Rattle.page_file.specs.declared.header.Version.{Version}
 use Rattle.page_file.specs.declared.fault.Fault.{Fault}
 use Rattle.page_file.specs.declared.fault.Fault.TheVariants.{Damaged, NotClosed, NotAStore, WrongVersion}
 
@@ -44,6 +45,14 @@ header_checks blocks block =
     ∷ (not (nat_le (number_at 4 12 block) blocks && is_sound (header_of_block block)), Damaged 1)
     ∷ []
 
+-- and where no version above `newest` is read
+unfoldable pub header_checks_up_to : Version → ℕ → List ℕ → List Check
+header_checks_up_to newest blocks block =
+    (not (number_at 8 0 block == header_text), NotAStore)
+    ∷ (not (is_read newest (header_version block)), WrongVersion)
+    ∷ (not (nat_le (number_at 4 12 block) blocks && is_sound (header_of_block block)), Damaged 1)
+    ∷ []
+
 -- all, in their order
 abbrev pub checks : Blocks → List Check
 checks blocks =
@@ -62,3 +71,11 @@ failed_check blocks = first_fault (checks blocks)
 -- opening refuses these blocks
 abbrev pub IsRefused : Blocks → Type 0
 IsRefused blocks = IsSome (failed_check blocks)
+
+-- what opening answers for them where no version above `newest` is read: a newer one is refused as one that is
+-- not known, in the same place
+unfoldable pub failed_check_up_to : Version → Blocks → Option Fault
+failed_check_up_to newest blocks =
+    first_fault
+    ((nat_lt (length blocks) 3, NotAStore)
+    ∷ (gate_checks (block_at 0 blocks) ++ header_checks_up_to newest (length blocks) (block_at 1 blocks)))

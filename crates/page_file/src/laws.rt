@@ -3,12 +3,14 @@ ghost use Rattle.std.specs.Prelude.{◌≡◌, ◌⊎◌, ◌↔◌, ◌≤◌, 
 ghost use Rattle.block_bytes.specs.Kinds.{free_kind};
 ghost use Rattle.block_device.specs.Device.{Begins, Blocks, IsBlock};
 ghost use Rattle.page_file.specs.declared.file.PageFile.{PageFile};
+ghost use Rattle.page_file.specs.declared.fault.Fault.TheVariants.{WrongVersion};
 ghost use Rattle.page_file.specs.declared.gate.Gate.TheVariants.{Shut, Open};
+ghost use Rattle.page_file.specs.declared.header.Version.{Version};
 ghost use Rattle.page_file.specs.File.{IsHonest, IsLive, IsNewFile, IsPageMap, KeepsGate, KeepsMap};
 ghost use Rattle.page_file.specs.File.{LiesIn, blocks_of};
 ghost use Rattle.page_file.specs.File.{device_of, gate_of, given, next_of, pages, version_of};
-ghost use Rattle.page_file.specs.Layout.{kind_of};
-ghost use Rattle.page_file.specs.Opening.{IsRefused, failed_check};
+ghost use Rattle.page_file.specs.Layout.{IsWithin, kind_of, opened_version};
+ghost use Rattle.page_file.specs.Opening.{IsRefused, failed_check, failed_check_up_to};
 ghost use Rattle.page_file.specs.Stops.{SameButGate, StopSince};
 
 use block_device::BlockDevice;
@@ -105,4 +107,14 @@ pub fn what_begins_with_a_file_is_the_file<D: BlockDevice>()
     ensures file { (file : PageFile D ⟦<D as BlockDevice>⟧) (blocks c : Blocks) → IsPageMap file →
         LiesIn file blocks → Begins blocks c → LiesIn file c }
     ensures new { (blocks c : Blocks) → IsNewFile blocks → Begins blocks c → IsNewFile c }
+{}
+
+/// Of blocks that opening takes where each version is read, it takes those of a version that is none above the
+/// newest that is read, and refuses all others as of a version that is not known.
+#[tactic(auto, using(crate::specs::Newest::passes_within, crate::specs::Newest::refused_above))]
+pub fn no_version_above_the_newest_is_read()
+    ensures within { (newest : Version) (blocks : Blocks) → failed_check blocks ≡ None →
+        IsWithin newest (opened_version blocks) → failed_check_up_to newest blocks ≡ None }
+    ensures above { (newest : Version) (blocks : Blocks) → failed_check blocks ≡ None →
+        ¬ (IsWithin newest (opened_version blocks)) → failed_check_up_to newest blocks ≡ Some WrongVersion }
 {}

@@ -16,11 +16,12 @@ pub const GATE_TEXT: u64 = 0x5253_5441_5247_4154;
 /// The ASCII text RSTARHDR.
 pub const HEADER_TEXT: u64 = 0x5253_5441_5248_4452;
 
-/// Whether files of which the header has this number as the version are read (docs/FORMAT.md, "Versions").
-pub fn is_known(number: u16) -> bool
-    ensures { result ≡ layout.is_known number }
+/// Whether files of which the header has this number as the version are read, where the newest version that
+/// is read is this one (docs/FORMAT.md, "Versions").
+pub fn is_read(newest: Version, number: u16) -> bool
+    ensures { result ≡ layout.is_read newest number }
 {
-    1 <= number && number <= 3
+    1 <= number && number <= version_number(newest)
 }
 
 // The number of a version, as a header is written.

@@ -16,6 +16,12 @@ use Rattle.node_page.proofs.DamageLemmas.{damaged_read}
 pub with_full : (X Y Z : Type 0) → X ⊎ Y → (Y → Z) → X ⊎ (Y × Z)
 with_full X Y Z h full = ⊎_elim (λ (x : X). inl x) (λ (y : Y). inr (y, full y)) h
 
+-- and the second of three
+pub with_full_between : (X Y Z W : Type 0) → X ⊎ (Y ⊎ Z) → (Y → W) → X ⊎ ((Y × W) ⊎ Z)
+with_full_between X Y Z W h full =
+    ⊎_elim (λ (x : X). inl x)
+    (λ (rest : Y ⊎ Z). inr (⊎_elim (λ (y : Y). inl (y, full y)) (λ (z : Z). inr z) rest)) h
+
 -- one case more between two
 pub one_more : (X Y Z : Type 0) → X ⊎ Z → X ⊎ (Y ⊎ Z)
 one_more X Y Z h = ⊎_elim (λ (x : X). inl x) (λ (z : Z). inr (inr z)) h

@@ -520,7 +520,7 @@ there_after {D} Y most top level target at reference called called1 branch row m
 
 -- a node was asked for before it settled
 pub settles_after_asking : {D : ℕ} {B A : Type 0} {m : _} {most top : ℕ} {at : Root}
-    {Asked : List Item → Type 0} {after : List Item → List Item} {waiting waiting' : Room D A}
+    {Asked : List Item → Type 0} {after : List Item → List Item} {waiting waiting' : Room D}
     (old mid new : PageCache B A m) (result : Result (Settled D) Fault) → AsksUntil old mid None
     → SettlesThere most top at Asked after mid new waiting waiting' result
     → SettlesThere most top at Asked after old new waiting waiting' result

@@ -29,5 +29,5 @@ no_room_inserts {D} {B} {A} {m} {most} {from} cache f result is memory = record 
   sound = λ h. no_success result f _ is;
   number = λ h.
       at_error result f NamesInRange is (λ n (damaged : f ≡ fault.Damaged n). absurd (cc));
-  other_faults = at_error result f IsChangeFault is (inl (inl memory));
+  other_faults = at_error result f (IsChangeFault cache) is (inl (inl memory));
 }

@@ -52,7 +52,7 @@ pub record InsertsTo (dims most : ℕ) (m m' : PageMap) (level : ℕ) (t : Tree)
 abbrev pub most_placing_pages : ℕ
 most_placing_pages = 42
 
--- an insertion has 1 placing, and 30 more for each of the 41 levels: 1,231 times 42 pages are fewer
+-- an insertion has 1 placing, and 30 more for each of 40 levels: 1,201 times 42 pages are fewer
 abbrev pub most_new_pages : ℕ
 most_new_pages = 2 ^ 16
 

@@ -3,6 +3,7 @@
 use Rattle.std.specs.Prelude.{◌≡◌, ℕ, ◌+◌, ◌-◌, ◌≤◌, Bool, List, [], ◌∷◌, ◌++◌, length, map}
 use Rattle.std.specs.Prelude.{reverse, ⊤, ◌*◌, Option, Some, None, IsSome}
 use Rattle.std.specs.Option.{option_map}
+use Rattle.arrayvec.specs.ArrayVec.{array_vec_len}
 use Rattle.tree_node.specs.declared.node.Entry.{Entry}
 use Rattle.tree_node.specs.Nodes.{NodeContent, Item, item_of}
 use Rattle.tree_node.specs.Trees.{Row, end, more, Branch, row_items, row_length}
@@ -21,7 +22,6 @@ use Rattle.reinsert.specs.declared.way.Way.{Way}
 use Rattle.reinsert.specs.Children.{occurs_at, Child, boxed}
 use Rattle.reinsert.specs.Called.{free_levels}
 use Rattle.reinsert.specs.Placing.{Outcome, Settles, Places}
-use Rattle.smallvec.specs.SmallVec.{small_vec_len}
 use Rattle.box_math.specs.Bounds.{Bounds}
 use Rattle.page_file.specs.Pages.{SameBut}
 
@@ -46,8 +46,8 @@ abbrev pub Holds : {D : ℕ} → List (Wait D) → List Waiter → Type 0
 Holds waits waiting = map held_of waits ≡ reverse (map held_in waiting)
 
 -- what waits, and as much again as can wait for each level that is not called: no placing adds to it
-abbrev pub measure_of : {D : ℕ} {A : Type 0} → Room D A → ℕ
-measure_of room = small_vec_len room.waits + 30 * free_levels room.called
+abbrev pub measure_of : {D : ℕ} → Room D → ℕ
+measure_of room = array_vec_len room.waits + 30 * free_levels room.called
 
 -- ---- what stands
 

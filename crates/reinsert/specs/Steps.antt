@@ -69,7 +69,7 @@ SettlesNode {D = D} most top page level items old new waits called waits' called
 -- A node of these entries, at most one too many, was in hand for the page, and has settled there, or this was
 -- refused.
 pub record SettlesAt {D : ℕ} {B A : Type 0} {m : _} (most top page level : ℕ) (items : List Item)
-    (old new : PageCache B A m) (waiting waiting' : Room D A) (result : Result (Settled D) Fault) : Type 0
+    (old new : PageCache B A m) (waiting waiting' : Room D) (result : Result (Settled D) Fault) : Type 0
   where
     pub changes : Changes old new result
     pub grows : Grows 1 old new
@@ -80,12 +80,12 @@ pub record SettlesAt {D : ℕ} {B A : Type 0} {m : _} (most top page level : ℕ
         waiting'.waits.items waiting'.called result
     pub sound : IsPageMap old → IsLive old page → OnOk result (IsPageMap new)
     pub faults : IsPageMap old → IsLive old page → IfErr result (IsNoDamage new)
-    pub other_faults : IfErr result IsChangeFault
+    pub other_faults : IfErr result (IsChangeFault new)
 
 -- The node at a page was read, got other entries and settled, or this was refused: by no damage where it has
 -- few enough entries, and those that are asked for.
 pub record SettlesThere {D : ℕ} {B A : Type 0} {m : _} (most top : ℕ) (at : Root) (Asked : List Item → Type 0)
-    (after : List Item → List Item) (old new : PageCache B A m) (waiting waiting' : Room D A)
+    (after : List Item → List Item) (old new : PageCache B A m) (waiting waiting' : Room D)
     (result : Result (Settled D) Fault) : Type 0 where
   pub changes : Changes old new result
   pub grows : Grows 1 old new
@@ -100,13 +100,13 @@ pub record SettlesThere {D : ℕ} {B A : Type 0} {m : _} (most top : ℕ) (at : 
       → Asked items → length items ≤ most → IfErr result (IsNoDamage new)
   pub sound : IsPageMap old → OnOk result (IsPageMap new)
   pub damaged : IsPageMap old → IfErr result (λ f. IsNoDamage new f ⊎ (f ≡ fault.Damaged at.page))
-  pub other_faults : IfErr result IsChangeFault
+  pub other_faults : IfErr result (IsChangeFault new)
 
 -- ---- a tree
 
 -- One entry was placed in the tree at a root, and waits no longer, or this was refused.
 pub record PlacesOne {D : ℕ} {B A : Type 0} {m : _} (most : ℕ) (from : Root) (first : Wait D)
-    (old new : PageCache B A m) (waiting waiting' : Room D A) (result : Result Root Fault) : Type 0 where
+    (old new : PageCache B A m) (waiting waiting' : Room D) (result : Result Root Fault) : Type 0 where
   pub changes : Changes old new result
   pub grows : Grows most_placing_pages old new
   pub measure : measure_of waiting' ≤ measure_of waiting
@@ -122,7 +122,7 @@ pub record PlacesOne {D : ℕ} {B A : Type 0} {m : _} (most : ℕ) (from : Root)
   pub stays : IfOk result (λ after. (after ≡ from) ⊎ (touched_of new ≡ true))
   pub damage : IsPageMap old
       → IfErr result (λ f. (n : ℕ) → f ≡ fault.Damaged n → ComesTo D (given old) from.page n)
-  pub other_faults : IfErr result IsChangeFault
+  pub other_faults : IfErr result (IsChangeFault new)
 
 -- An entry was inserted at a level of the tree at a root, or this was refused.
 pub record Inserts {D : ℕ} {B A : Type 0} {m : _} (most : ℕ) (from : Root) (entry : Entry D) (level : ℕ)
@@ -142,4 +142,4 @@ pub record Inserts {D : ℕ} {B A : Type 0} {m : _} (most : ℕ) (from : Root) (
       → IfErr result (λ f. (n : ℕ) → f ≡ fault.Damaged n → ComesTo D (given old) from.page n)
   pub sound : IsPageMap old → OnOk result (IsPageMap new)
   pub number : IsPageMap old → IfErr result NamesInRange
-  pub other_faults : IfErr result IsChangeFault
+  pub other_faults : IfErr result (IsChangeFault new)

@@ -46,7 +46,7 @@ pub(crate) fn grow<const D: usize, B: BlockDevice, A: Allocator + Copy>(
     ensures touched { OnOk result (touched_of cache.new ≡ true) }
     ensures damaged { IsPageMap cache.old
         → IfErr result (λ f. IsNoDamage cache.new f ⊎ (f ≡ fault.Damaged root.page)) }
-    ensures other_faults { IfErr result IsChangeFault }
+    ensures other_faults { IfErr result (IsChangeFault cache.new) }
 {
     if root.level >= 40 {
         return Err(Fault::Damaged(root.page));

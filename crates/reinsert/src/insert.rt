@@ -7,7 +7,6 @@ ghost use Rattle.page_cache.specs.Cache.{IsUnchanged};
 ghost use Rattle.node_bytes.specs.Layout.{IsOfLevel};
 ghost use Rattle.reinsert.specs.Steps.{Inserts, PlacesOne};
 
-use crate::fits::fits_in_memory;
 use crate::grow::grow;
 use crate::place::place;
 use crate::settled::{Limits, Settled};
@@ -49,23 +48,19 @@ pub fn insert_at<const D: usize, B: BlockDevice, A: Allocator + Copy>(
     requires refers { IsOfLevel level entry.now.reference entry.now.tag }
     ensures { Inserts fanout.most root entry.now level cache.old cache.new result }
 {
-    // always so, and known when this is compiled
-    if !fits_in_memory::<Waiting<D, A>>() {
-        return Err(Fault::Memory);
-    }
-    let mut waiting = Waiting::new(alloc);
+    let mut waiting = Waiting::make(alloc)?;
     insert_with(cache, root, entry, level, fanout, &mut waiting)
 }
 
-/// Inserts an entry as `insert_at` does. The `Waiting` serves again afterwards, also after a refusal; it takes
-/// memory only where it was not made for as high a root (`make_room`), and where more than 32 entries may wait.
+/// Inserts an entry as `insert_at` does. The `Waiting` serves again afterwards, also after a refusal. No
+/// allocator is given: only the cache asks for memory.
 pub fn insert_with<const D: usize, B: BlockDevice, A: Allocator + Copy>(
     cache: &mut PageCache<B, A>,
     root: Root,
     entry: &Entry<D>,
     level: u8,
     fanout: Fanout,
-    waiting: &mut Waiting<D, A>,
+    waiting: &mut Waiting<D>,
 ) -> Result<Root, Fault>
     requires levels { (level ≤ root.level) × (root.level ≤ 40) }
     requires root { (3 ≤ root.page) × (root.page < 2 ^ 31) }
@@ -77,7 +72,7 @@ pub fn insert_with<const D: usize, B: BlockDevice, A: Allocator + Copy>(
     if root.level >= 40 {
         return Err(Fault::Damaged(root.page));
     }
-    waiting.begin(root.level)?;
+    waiting.begin(root.level);
     let first = Wait {
         entry: *entry,
         level,
@@ -95,7 +90,7 @@ fn place_one<const D: usize, B: BlockDevice, A: Allocator + Copy>(
     root: Root,
     first: &Wait<D>,
     fanout: Fanout,
-    waiting: &mut Waiting<D, A>,
+    waiting: &mut Waiting<D>,
 ) -> Result<Root, Fault>
     requires level { root.level ≤ 40 }
     requires root { (3 ≤ root.page) × (root.page < 2 ^ 31) }

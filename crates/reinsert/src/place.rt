@@ -35,7 +35,7 @@ pub(crate) fn place<const D: usize, B: BlockDevice, A: Allocator + Copy>(
     entry: &Entry<D>,
     target: u8,
     limits: Limits,
-    waiting: &mut Waiting<D, A>,
+    waiting: &mut Waiting<D>,
 ) -> Result<Settled<D>, Fault>
     requires levels { (target ≤ at.level) × (at.level ≤ limits.top) × (limits.top ≤ 40) }
     requires refers { IsOfLevel target entry.now.reference entry.now.tag }
@@ -57,7 +57,7 @@ pub(crate) fn place<const D: usize, B: BlockDevice, A: Allocator + Copy>(
     ensures sound { IsPageMap cache.old → OnOk result (IsPageMap cache.new) }
     ensures damage { IsPageMap cache.old
         → IfErr result (λ f. (n : ℕ) → f ≡ fault.Damaged n → ComesTo D (given cache.old) at.page n) }
-    ensures other_faults { IfErr result IsChangeFault }
+    ensures other_faults { IfErr result (IsChangeFault cache.new) }
 {
     if at.level == target {
         return put_here(cache, at, entry, limits, waiting);
@@ -83,7 +83,7 @@ fn put_here<const D: usize, B: BlockDevice, A: Allocator + Copy>(
     at: Root,
     entry: &Entry<D>,
     limits: Limits,
-    waiting: &mut Waiting<D, A>,
+    waiting: &mut Waiting<D>,
 ) -> Result<Settled<D>, Fault>
     requires top { (at.level ≤ limits.top) × (limits.top ≤ 40) }
     requires refers { IsOfLevel at.level entry.now.reference entry.now.tag }
@@ -138,7 +138,7 @@ fn put_above<const D: usize, B: BlockDevice, A: Allocator + Copy>(
     place: usize,
     lower: Settled<D>,
     limits: Limits,
-    waiting: &mut Waiting<D, A>,
+    waiting: &mut Waiting<D>,
 ) -> Result<Settled<D>, Fault>
     requires top { (at.level ≤ limits.top) × (limits.top ≤ 40) }
     requires beside { IfSome lower.beside (λ e. IsOfLevel at.level e.reference e.tag) }
@@ -165,7 +165,7 @@ fn put_anew<const D: usize, B: BlockDevice, A: Allocator + Copy>(
     place: usize,
     lower: Settled<D>,
     limits: Limits,
-    waiting: &mut Waiting<D, A>,
+    waiting: &mut Waiting<D>,
 ) -> Result<Settled<D>, Fault>
     requires top { (at.level ≤ limits.top) × (limits.top ≤ 40) }
     requires beside { IfSome lower.beside (λ e. IsOfLevel at.level e.reference e.tag) }

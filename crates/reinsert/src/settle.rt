@@ -41,7 +41,7 @@ pub(crate) fn settle<const D: usize, B: BlockDevice, A: Allocator + Copy>(
     page: u32,
     node: &Node<D>,
     limits: Limits,
-    waiting: &mut Waiting<D, A>,
+    waiting: &mut Waiting<D>,
 ) -> Result<Settled<D>, Fault>
     requires top { (node.now.level ≤ limits.top) × (limits.top ≤ 40) }
     requires some { 0 < array_vec_len node.now.entries }
@@ -77,7 +77,7 @@ fn write_fitting<const D: usize, B: BlockDevice, A: Allocator + Copy>(
         waits called waits called result }
     ensures sound { IsPageMap cache.old → IsLive cache.old page → OnOk result (IsPageMap cache.new) }
     ensures faults { IsPageMap cache.old → IsLive cache.old page → IfErr result (IsNoDamage cache.new) }
-    ensures other_faults { IfErr result IsChangeFault }
+    ensures other_faults { IfErr result (IsChangeFault cache.new) }
 {
     let bounds = least(node.entries.as_slice());
     write_node(cache, page, node)?;
@@ -93,7 +93,7 @@ fn take_out_far<const D: usize, B: BlockDevice, A: Allocator + Copy>(
     page: u32,
     node: &Node<D>,
     fanout: Fanout,
-    waiting: &mut Waiting<D, A>,
+    waiting: &mut Waiting<D>,
 ) -> Result<Settled<D>, Fault>
     requires level { node.now.level < 41 }
     requires many { array_vec_len node.now.entries ≡ fanout.most + 1 }
@@ -109,7 +109,7 @@ fn take_out_far<const D: usize, B: BlockDevice, A: Allocator + Copy>(
         waiting.old.waits.items waiting.old.called waiting.new.waits.items waiting.new.called result }
     ensures sound { IsPageMap cache.old → IsLive cache.old page → OnOk result (IsPageMap cache.new) }
     ensures faults { IsPageMap cache.old → IsLive cache.old page → IfErr result (IsNoDamage cache.new) }
-    ensures other_faults { IfErr result IsChangeFault }
+    ensures other_faults { IfErr result (IsChangeFault cache.new) }
 {
     let level = node.level;
     let (near, far) = farthest(&node.entries, far_count(fanout));
@@ -132,7 +132,7 @@ fn split_off<const D: usize, B: BlockDevice, A: Allocator + Copy>(
     page: u32,
     node: &Node<D>,
     fanout: Fanout,
-    waiting: &mut Waiting<D, A>,
+    waiting: &mut Waiting<D>,
 ) -> Result<Settled<D>, Fault>
     requires level { node.now.level < 41 }
     requires many { array_vec_len node.now.entries ≡ fanout.most + 1 }
@@ -149,7 +149,7 @@ fn split_off<const D: usize, B: BlockDevice, A: Allocator + Copy>(
         waiting.old.waits.items waiting.old.called waiting.new.waits.items waiting.new.called result }
     ensures sound { IsPageMap cache.old → IsLive cache.old page → OnOk result (IsPageMap cache.new) }
     ensures faults { IsPageMap cache.old → IsLive cache.old page → IfErr result (IsNoDamage cache.new) }
-    ensures other_faults { IfErr result IsChangeFault }
+    ensures other_faults { IfErr result (IsChangeFault cache.new) }
 {
     let level = node.level;
     waiting.call(level);
@@ -193,7 +193,7 @@ fn write_both<const D: usize, B: BlockDevice, A: Allocator + Copy>(
         × SplitsOff D (pages cache.old) (pages cache.new) page n (content_of first.now)
         (content_of second.now)) }
     ensures faults { IsPageMap cache.old → IsLive cache.old page → IfErr result (IsNoDamage cache.new) }
-    ensures other_faults { IfErr result IsChangeFault }
+    ensures other_faults { IfErr result (IsChangeFault cache.new) }
 {
     let number = cache.allocate()?;
     write_node(cache, number, second)?;

@@ -2,16 +2,21 @@
 //! with `--draw LAYER`, `--stats` or `--import LAYER` in place of lines (docs/COMMANDS.md, "The program").
 #![tactic(auto)]
 
-use command_line::{ProgressLine, ProgressReader, greet, imports, serve};
+use command_line::{ProgressLine, ProgressReader, serve};
 use command_shell::{CountedReader, tell_refusal};
-use file_device::open_reader;
-use journaled_file::{end_journaled, open_journaled};
-use layer_store::Refusal;
+use file_device::{OpenError, open_reader};
+use journaled_file::{JournaledFile, OpenedFile, end_journaled, open_journaled};
+use journaled_store::OpeningJudge;
+use layer_store::{Refusal, Version};
+use program_words::{greet, imports, newest_allowed};
 use std::alloc::Global;
 use std::cell::Cell;
 use std::io::{BufWriter, IsTerminal, Stderr, Write};
 use std::process::ExitCode;
 use std::{env, io};
+
+// How many pages are cached where a store is opened to see whether it opens.
+const JUDGED_PAGES: u32 = 8;
 
 // What is said where the last run over a file was cut short after a closing.
 const UNENDED: &[u8] =
@@ -51,26 +56,25 @@ fn run(rt: &HostRuntime) -> io::Result<u8> {
     for word in &owned {
         words.push(word.as_str())?;
     }
-    let mut errors = rt.stderr();
     if rt.stdin().is_terminal() {
-        greet(alloc, words.as_slice(), &mut errors);
+        greet(alloc, words.as_slice(), &mut rt.stderr());
     }
+    serve_files(rt, alloc, words.as_slice())
+}
+
+// Serves as the words ask, over files of the system, which are ended when it has.
+fn serve_files(rt: &HostRuntime, alloc: Global, words: &[&str]) -> io::Result<u8> {
+    let mut errors = rt.stderr();
     let mut output = BufWriter::new(alloc, io::writer(rt))?;
     let mut input = CountedReader::over(ProgressReader::over(
         rt.reader(),
-        progress(rt, alloc, words.as_slice()),
+        progress(rt, alloc, words),
     ));
-    let mut line = ProgressLine::to(progress(rt, alloc, words.as_slice()));
+    let mut line = ProgressLine::to(progress(rt, alloc, words));
     let journal = Cell::new(None);
     let ended = Cell::new(true);
-    let open = |path: &str, create: bool| {
-        let (device, name, unended) = open_journaled(rt, alloc, path, create)?;
-        journal.set(Some(name));
-        if unended {
-            let _ = rt.stderr().write_all(UNENDED);
-        }
-        Ok(device)
-    };
+    let newest = newest_allowed(alloc, words);
+    let open = |path: &str, create: bool| open_file(rt, alloc, path, create, newest, &journal);
     let read = |path: &str| open_reader(rt, path);
     let end = |_path: &str, device| {
         if let Some(name) = journal.take() {
@@ -79,7 +83,7 @@ fn run(rt: &HostRuntime) -> io::Result<u8> {
     };
     let status = serve(
         alloc,
-        words.as_slice(),
+        words,
         open,
         read,
         end,
@@ -88,10 +92,41 @@ fn run(rt: &HostRuntime) -> io::Result<u8> {
         &mut errors,
         &mut line,
     );
-    // A run that has failed has said why. The next opening ends it.
-    if ended.get() || status == 1 {
-        return Ok(status);
+    Ok(status_once_ended(status, ended.get(), &mut errors))
+}
+
+// Opens or makes the file at a path, of this version at most, and its journal, whose path is kept, and says where
+// the last run over it was cut short. Where no version could be told, memory was refused as the words were read.
+fn open_file(
+    rt: &HostRuntime,
+    alloc: Global,
+    path: &str,
+    create: bool,
+    newest: Option<Version>,
+    journal: &Cell<Option<String>>,
+) -> Result<JournaledFile, OpenError> {
+    let Some(newest) = newest else {
+        return Err(OpenError::Memory);
+    };
+    let mut judge = OpeningJudge::of(alloc, JUDGED_PAGES, newest, create);
+    let OpenedFile {
+        device,
+        name,
+        unended,
+    } = open_journaled(rt, alloc, path, create, &mut judge)?;
+    journal.set(name);
+    if unended {
+        let _ = rt.stderr().write_all(UNENDED);
     }
-    let _ = tell_refusal(Refusal::Device, &mut errors);
-    Ok(1)
+    Ok(device)
+}
+
+// The status of a run whose files were ended, or could not be. One that has failed has said why, and the next
+// opening ends it.
+fn status_once_ended(status: u8, ended: bool, errors: &mut Stderr) -> u8 {
+    if ended || status == 1 {
+        return status;
+    }
+    let _ = tell_refusal(Refusal::Device, errors);
+    1
 }

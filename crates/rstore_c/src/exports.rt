@@ -2,5 +2,7 @@
 //! argument of C's, and a slice is a pointer that is not null and then a length.
 
 mod changes;
+mod giving_up;
 mod opening;
+mod outlining;
 mod questions;

@@ -4,7 +4,8 @@ use crate::held::{ByStreams, Device};
 use block_device::{BlockDevice, DeviceError};
 use device_pair::TwoDevices;
 use file_device::{FileDevice, OpenError};
-use journaled_file::{Found, JournalSource, end_session, judge, open_over, pair_up};
+use journaled_file::{Found, JournalSource, Looked, end_session, judge, look, open_over, pair_up};
+use journaled_store::OpeningJudge;
 use layer_store::{Refusal, Store, Version, create_store, open_store};
 use std::alloc::Global;
 use std::rt::{Stdin, Stdout};
@@ -61,7 +62,8 @@ impl From<OpenError> for Unopened {
 }
 
 /// Opens the store in the file and its journal, or with `create` makes one where the file has no blocks.
-/// Whether the last run had closed anything and not ended is told.
+/// Whether the last run had closed anything and not ended is told. Where no store opens over both, nothing is
+/// written into either.
 pub fn open(
     alloc: Global,
     base: Streams,
@@ -75,8 +77,20 @@ pub fn open(
         journal: Some(journal.first),
         anew: Some(journal.anew),
     };
-    let (pair, unended) = pair_up(side(base, FileSide::Base)?, &mut source)?;
-    let device = match open_over(pair, alloc) {
+    let base = side(base, FileSide::Base)?;
+    let mut opening = OpeningJudge::of(alloc, cache, Version::Three, false);
+    let looked = look(base, create, &mut source, &mut opening, alloc);
+    if let Some(refusal) = opening.refusal() {
+        return Err(Unopened::Store(refusal));
+    }
+    let Looked {
+        base,
+        journal,
+        found: _,
+        opens: _,
+    } = looked?;
+    let (pair, unended) = pair_up(base, journal, &mut source)?;
+    let device = match open_over(pair, alloc, false) {
         Ok(device) => device,
         Err((error, _)) => return Err(Unopened::File(error)),
     };
@@ -111,7 +125,7 @@ pub fn open_to_read(
         Ok(_) => return Err(Unopened::Store(Refusal::NotClosed)),
         Err(_) => return Err(Unopened::File(OpenError::Refused)),
     }
-    let device = match open_over(pair, alloc) {
+    let device = match open_over(pair, alloc, false) {
         Ok(device) => device,
         Err((error, _)) => return Err(Unopened::File(error)),
     };
@@ -151,6 +165,18 @@ struct JournalByStreams<'a> {
 
 impl JournalSource<ByStreams> for JournalByStreams<'_> {
     ghost is_honest = { ⊥ };
+
+    fn open_there(&mut self) -> Result<Option<ByStreams>, OpenError> {
+        match self.ask.ask(JournalWish::Open) {
+            Ok(()) => {}
+            Err(error) if error.is_of_system() => return Ok(None),
+            Err(error) => return Err(error),
+        }
+        let Some(streams) = self.journal.take() else {
+            return Err(OpenError::Refused);
+        };
+        Ok(Some(side(streams, FileSide::Journal)?))
+    }
 
     fn open(&mut self, make: bool) -> Result<ByStreams, OpenError> {
         let first = self.journal.take();

@@ -4,7 +4,7 @@ use block_bytes::{write_head, write_i32, write_u8, write_u32, write_u64};
 use block_device::MemoryDevice;
 use box_math::BBox;
 use page_cache::PageCache;
-use page_file::{Fault, PageFile, open_pages};
+use page_file::{Fault, PageFile, Version, open_pages};
 use std::alloc::Global;
 use test_caches::{Cache, cache_of};
 
@@ -61,7 +61,7 @@ fn leaf_of(kind: u8, rows: &[Row]) -> [u8; 4096] {
 /// A cache of eight pages over a file that was closed and opened again, whose pages 3 and so on are these.
 pub fn scene(alloc: Global, pages: &[Page]) -> Result<Cache, Fault> {
     let device = device_of(alloc, pages)?;
-    match open_pages(device) {
+    match open_pages(device, Version::Three) {
         Ok(file) => cache_over(alloc, file),
         Err((fault, _)) => Err(fault),
     }

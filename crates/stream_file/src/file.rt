@@ -23,13 +23,15 @@ pub struct StreamFile<I, O> {
     none: bool,
     // whether a sync has failed
     lost: bool,
+    // whether nothing was written since a sync
+    synced: bool,
 }
 
 impl<I: Read + Drop, O: Write + Drop> StreamFile<I, O> {
     /// The file that the streams serve on a side, whose size is asked for.
     pub fn over(input: I, output: O, side: FileSide) -> io::Result<StreamFile<I, O>>
-        ensures begins { IfOk result
-            (λ file. (file.lost ≡ false) × (file.none ≡ false) × (file.side ≡ side)) }
+        ensures begins { IfOk result (λ file.
+            (file.lost ≡ false) × (file.synced ≡ false) × (file.none ≡ false) × (file.side ≡ side)) }
         ensures asked { IfOk result (λ file. TellsSize side file.size (O.contents output)
             (O.contents file.output) (I.remaining input) (I.remaining file.input)) }
     {
@@ -40,6 +42,7 @@ impl<I: Read + Drop, O: Write + Drop> StreamFile<I, O> {
             size: 0,
             none: false,
             lost: false,
+            synced: false,
         };
         file.size = file.asked_size()?;
         Ok(file)
@@ -58,12 +61,14 @@ impl<I: Read + Drop, O: Write + Drop> StreamFile<I, O> {
             size: 8192,
             none: true,
             lost: false,
+            synced: false,
         }
     }
 
     // Asks for the size.
     fn asked_size(&mut self) -> io::Result<u64>
         ensures lost { self.new.lost ≡ self.old.lost }
+        ensures synced { self.new.synced ≡ self.old.synced }
         ensures none { self.new.none ≡ self.old.none }
         ensures side { self.new.side ≡ self.old.side }
         ensures asked { IfOk result (λ size. TellsSize self.old.side size (O.contents self.old.output)
@@ -92,6 +97,7 @@ impl<I: Read + Drop, O: Write + Drop> StreamFile<I, O> {
     // Asks for 4096 bytes to be written.
     fn put(&mut self, at: u64, from: &[u8; 4096]) -> io::Result<()>
         ensures lost { self.new.lost ≡ self.old.lost }
+        ensures synced { self.new.synced ≡ self.old.synced }
         ensures size { self.new.size ≡ self.old.size }
         ensures asked { OnOk result (Exchanges (request_bytes write_letter self.old.side at ++ from.now)
             (0 ∷ []) (O.contents self.old.output) (O.contents self.new.output) (I.remaining self.old.input)
@@ -106,6 +112,7 @@ impl<I: Read + Drop, O: Write + Drop> StreamFile<I, O> {
     fn write_unless_lost(&mut self, at: u64, from: &[u8; 4096]) -> io::Result<()>
         ensures lost { self.old.lost ≡ true → IsErr result × (self.new ≡ self.old) }
         ensures stays { self.new.lost ≡ self.old.lost }
+        ensures unsynced { self.old.lost ≡ false → self.new.synced ≡ false }
         ensures size { OnOk result (self.new.size ≡ max self.old.size (min (at + 4096) (2 ^ 64 - 1))) }
         ensures asked { OnOk result (Exchanges (request_bytes write_letter self.old.side at ++ from.now)
             (0 ∷ []) (O.contents self.old.output) (O.contents self.new.output) (I.remaining self.old.input)
@@ -114,12 +121,14 @@ impl<I: Read + Drop, O: Write + Drop> StreamFile<I, O> {
         if self.lost {
             return Err(io::Error::from(ErrorKind::BrokenPipe));
         }
+        self.synced = false;
         self.write(at, from)
     }
 
     // Has 4096 bytes written. A write that failed may have made the file longer, so its size is asked for.
     fn write(&mut self, at: u64, from: &[u8; 4096]) -> io::Result<()>
         ensures lost { self.new.lost ≡ self.old.lost }
+        ensures synced { self.new.synced ≡ self.old.synced }
         ensures size { OnOk result (self.new.size ≡ max self.old.size (min (at + 4096) (2 ^ 64 - 1))) }
         ensures asked { OnOk result (Exchanges (request_bytes write_letter self.old.side at ++ from.now)
             (0 ∷ []) (O.contents self.old.output) (O.contents self.new.output) (I.remaining self.old.input)
@@ -159,19 +168,24 @@ impl<I: Read + Drop, O: Write + Drop> StreamFile<I, O> {
         outcome(&mut self.input)
     }
 
-    // A sync that failed may have lost what was written, so each one after it fails.
+    // A sync that failed may have lost what was written, so each one after it fails. Where nothing was written
+    // since one, none is asked for.
     fn sync_unless_lost(&mut self) -> io::Result<()>
         ensures lost { self.old.lost ≡ true → IsErr result }
         ensures loses { IsErr result → self.new.lost ≡ true }
-        ensures asked { OnOk result (Exchanges (request_bytes sync_letter self.old.side 0) (0 ∷ [])
-            (O.contents self.old.output) (O.contents self.new.output) (I.remaining self.old.input)
-            (I.remaining self.new.input)) }
+        ensures asked { self.old.synced ≡ false → OnOk result (Exchanges
+            (request_bytes sync_letter self.old.side 0) (0 ∷ []) (O.contents self.old.output)
+            (O.contents self.new.output) (I.remaining self.old.input) (I.remaining self.new.input)) }
     {
         if self.lost {
             return Err(io::Error::from(ErrorKind::BrokenPipe));
         }
+        if self.synced {
+            return Ok(());
+        }
         let answer = self.ask_sync();
         self.lost = answer.is_err();
+        self.synced = answer.is_ok();
         answer
     }
 }

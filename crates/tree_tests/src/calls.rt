@@ -9,7 +9,7 @@ use condense::{Kept, remove_with};
 use node_page::{Entry, Node, Root, write_node};
 use page_cache::PageCache;
 use page_file::Fault;
-use reinsert::{Waiting, fits_in_memory, insert_with};
+use reinsert::{Waiting, insert_with};
 use std::alloc::{Allocator, Global};
 use tree_node::Fanout;
 
@@ -54,12 +54,8 @@ pub fn insert<B: BlockDevice, A: Allocator + Copy>(
     root: Root,
     object: &Entry<2>,
     fanout: Fanout,
-    waiting: &mut Waiting<2, A>,
+    waiting: &mut Waiting<2>,
 ) -> Result<Root, Fault> {
-    // always so
-    if !fits_in_memory::<Waiting<2, A>>() {
-        return Err(Fault::Memory);
-    }
     let root = checked(root)?;
     cache.begin_change()?;
     insert_with(cache, root, object, 0, fanout, waiting)
@@ -71,16 +67,11 @@ pub fn take_out<B: BlockDevice, A: Allocator + Copy>(
     root: Root,
     object: &Entry<2>,
     fanout: Fanout,
-    waiting: &mut Waiting<2, A>,
     kept: &mut Kept<2>,
 ) -> Result<Root, Fault> {
-    // always so
-    if !fits_in_memory::<Waiting<2, A>>() {
-        return Err(Fault::Memory);
-    }
     let root = checked(root)?;
     cache.begin_change()?;
-    remove_with(cache, root, object, fanout, waiting, kept)
+    remove_with(cache, root, object, fanout, kept)
 }
 
 /// Inserts the objects one after the other.
@@ -89,7 +80,7 @@ pub fn insert_all<B: BlockDevice, A: Allocator + Copy>(
     root: Root,
     objects: &[Entry<2>],
     fanout: Fanout,
-    waiting: &mut Waiting<2, A>,
+    waiting: &mut Waiting<2>,
 ) -> Result<Root, Fault> {
     let mut now = root;
     for object in objects {
@@ -105,11 +96,7 @@ pub fn insert_tree<B: BlockDevice, A: Allocator + Copy>(
     objects: &[Entry<2>],
     fanout: Fanout,
 ) -> Result<Root, Fault> {
-    // always so
-    if !fits_in_memory::<Waiting<2, A>>() {
-        return Err(Fault::Memory);
-    }
-    let mut waiting = Waiting::new(alloc);
+    let mut waiting = Waiting::make(alloc)?;
     let root = add_tree(cache)?;
     insert_all(cache, root, objects, fanout, &mut waiting)
 }

@@ -13,6 +13,8 @@ mod calls;
 #[cfg(test)]
 mod refused;
 #[cfg(test)]
+mod rising;
+#[cfg(test)]
 mod rows;
 #[cfg(test)]
 mod runs;

@@ -5,7 +5,7 @@ use crate::calls::{FOUR, insert_tree};
 use block_device::{BlockDevice, MemoryDevice};
 use node_page::Entry;
 use page_cache::PageCache;
-use page_file::{Fault, PageFile, open_pages};
+use page_file::{Fault, PageFile, Version, open_pages};
 use std::alloc::{Allocator, Global};
 use test_caches::bare;
 
@@ -44,7 +44,7 @@ pub fn open_cache<B: BlockDevice + Drop, A: Allocator + Copy>(
     alloc: A,
     device: B,
 ) -> Result<PageCache<B, A>, Fault> {
-    match open_pages(device) {
+    match open_pages(device, Version::Three) {
         Ok(file) => cache_over(alloc, file),
         Err((fault, _)) => Err(fault),
     }

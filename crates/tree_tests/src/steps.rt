@@ -12,7 +12,7 @@ use node_page::{Entry, Root, leaf_lists, read_node};
 use page_cache::PageCache;
 use page_file::Fault;
 use range_query::window;
-use reinsert::{Waiting, fits_in_memory, insert_at};
+use reinsert::insert_at;
 use std::alloc::Allocator;
 
 /// A call on a tree, or a question. Each that changes the tree opens the gate first, and answers the level of
@@ -130,15 +130,10 @@ fn remove_all<B: BlockDevice, A: Allocator + Copy>(
     root: Root,
     points: Points,
 ) -> Result<Root, Fault> {
-    // always so
-    if !fits_in_memory::<Waiting<2, A>>() {
-        return Err(Fault::Memory);
-    }
-    let mut waiting = Waiting::new(alloc);
     let mut kept = Kept::make(alloc)?;
     let mut now = root;
     for &(id, x, y) in points {
-        now = take_out(cache, now, &point(id, x, y), FOUR, &mut waiting, &mut kept)?;
+        now = take_out(cache, now, &point(id, x, y), FOUR, &mut kept)?;
     }
     Ok(now)
 }

@@ -4,10 +4,12 @@ ghost use Rattle.plain_table.specs.Answers.{done_answer, layers_answer};
 ghost use Rattle.plain_table.specs.Commands.Command.{Check, Layers};
 ghost use Rattle.c_session.specs.Calls.{AsksBy, ClosesBy, CommitsBy, HasListed, TellsBy};
 ghost use Rattle.c_session.specs.Keeping.{as_it_is};
+ghost use Rattle.c_session.specs.Outlining.{nodes_of};
 
 use crate::session::{CLOSED, Session};
 use block_device::BlockDevice;
 use c_rows::{Layer, number_of, tell, write_layers};
+use live_layers::LayerOutline;
 use std::alloc::Allocator;
 
 impl<D: BlockDevice, A: Allocator + Copy> Session<D, A> {
@@ -50,20 +52,22 @@ impl<D: BlockDevice, A: Allocator + Copy> Session<D, A> {
         }
     }
 
-    /// Closes the store, frees the rows that were kept, and hands the device back. Nothing is kept of a store
-    /// that is refused.
+    /// Closes the store, frees the rows that were kept, and hands the device back, also that of a store that
+    /// could not be rolled back. Nothing is kept of a store that is refused.
     pub fn close(&mut self, alloc: A) -> (u32, Option<D>)
         ensures closes { ClosesBy self.old self.new result }
         ensures closed { self.new.store ≡ None }
         ensures boxes { self.new.boxes.items ≡ [] }
         ensures near { self.new.near.items ≡ [] }
         ensures pairs { self.new.pairs.items ≡ [] }
+        ensures outline { nodes_of self.new.outline ≡ 0 }
     {
         self.boxes = Vec::new(alloc);
         self.near = Vec::new(alloc);
         self.pairs = Vec::new(alloc);
+        self.outline = LayerOutline::Two(Vec::new(alloc));
         let Some(store) = self.store.take() else {
-            return (CLOSED, None);
+            return (CLOSED, self.left.take());
         };
         match store.close() {
             Ok(device) => (0, Some(device)),

@@ -13,12 +13,13 @@ use crate::hand::InHand;
 use crate::kept::{Kept, Orphan, Orphans};
 use arrayvec::ArrayVec;
 use page_file::Fault;
+use reinsert::Waiting;
 use std::alloc::Allocator;
 use tree_node::{Entry, Node};
 
 impl<const D: usize> Kept<D> {
-    /// Takes the memory for all that removals keep, at once: a box in which nothing is kept. A refusal is
-    /// `Memory`.
+    /// Takes the memory for all that removals keep and all that waits, at once: a box in which nothing is kept
+    /// and nothing waits. A refusal is `Memory`.
     pub fn make<H: Allocator>(alloc: H) -> Result<Box<Kept<D>, H>, Fault>
         requires { IsDims D }
         ensures { IfErr result (λ f. f ≡ fault.Memory) }
@@ -33,7 +34,12 @@ impl<const D: usize> Kept<D> {
             },
             settled: false,
         };
-        Ok(Box::new(alloc, Kept { orphans, hand })?)
+        let room = Kept {
+            orphans,
+            hand,
+            waiting: Waiting::new(),
+        };
+        Ok(Box::new(alloc, room)?)
     }
 }
 

@@ -7,7 +7,8 @@ ghost use Rattle.device_pair.specs.Pairs.{PairElapses, PairsNoMore};
 ghost use Rattle.journaled_device.specs.Journal.{gate_block};
 ghost use Rattle.journaled_device.specs.Standing.{base_of, journal_of, homes_of, kept_of, shown_of, stage_of};
 ghost use Rattle.journaled_device.specs.Standing.{pair_of};
-ghost use Rattle.journaled_device.specs.Standing.{commits_of, IsHonest, IsSettled, KeepsTo, SameSlots};
+ghost use Rattle.journaled_device.specs.Standing.{commits_of, IsHonest, IsSettled, KeepsTo, SameBlocks};
+ghost use Rattle.journaled_device.specs.Standing.{SameSlots};
 ghost use Rattle.journaled_device.specs.Stages.{IsRecorded, SameBehind};
 ghost use Rattle.journaled_device.specs.declared.stage.Stage.TheVariants.{Filling, Deciding, Copying};
 ghost use Rattle.journaled_device.specs.declared.stage.Stage.TheVariants.{Clearing};
@@ -24,6 +25,7 @@ impl<P: DevicePair, A: Allocator + Copy> JournaledPair<P, A> {
     // Commits what is read, where no commit has begun.
     pub(crate) fn commit_now(&mut self) -> Result<(), DeviceError>
         requires filling { stage_of self.old ≡ Filling }
+        ensures nothing { homes_of self.old ≡ [] → IsHonest self.old → SameBlocks self.old self.new }
         ensures durable { IsHonest self.old →
             OnOk result ((kept : Blocks) → commits_of self.new kept → kept ≡ shown_of self.old) }
         ensures settled { IsHonest self.old → OnOk result (IsSettled self.new) }
@@ -65,6 +67,7 @@ impl<P: DevicePair, A: Allocator + Copy> JournaledPair<P, A> {
     pub(crate) fn commit_appended(&mut self) -> Result<(), DeviceError>
         requires filling { stage_of self.old ≡ Filling }
         requires none { IsHonest self.old → homes_of self.old ≡ [] }
+        ensures nothing { IsHonest self.old → SameBlocks self.old self.new }
         ensures durable { IsHonest self.old →
             OnOk result ((kept : Blocks) → commits_of self.new kept → kept ≡ shown_of self.old) }
         ensures settled { IsHonest self.old → OnOk result (IsSettled self.new) }
@@ -84,6 +87,7 @@ impl<P: DevicePair, A: Allocator + Copy> JournaledPair<P, A> {
     // Goes on with a commit until it is finished, if there is one.
     pub(crate) fn finish(&mut self) -> Result<(), DeviceError>
         ensures done { OnOk result (stage_of self.new ≡ Filling) }
+        ensures still { stage_of self.old ≡ Filling → self.new ≡ self.old }
         ensures durable { IsHonest self.old → ¬ (stage_of self.old ≡ Filling) →
             OnOk result ((kept : Blocks) → commits_of self.new kept → kept ≡ shown_of self.old) }
         ensures settled { IsHonest self.old → ¬ (stage_of self.old ≡ Filling) →

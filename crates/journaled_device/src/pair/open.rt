@@ -7,7 +7,8 @@ ghost use Rattle.block_device.specs.Device.{Blocks, Counts, block_at};
 ghost use Rattle.block_device.specs.Device.{Begins};
 ghost use Rattle.block_device.specs.Device.{BeginsOne};
 ghost use Rattle.journaled_device.specs.Journal.{count_in, gate_says, has_room, home_in, overlaid, recovered};
-ghost use Rattle.journaled_device.specs.Standing.{commits_of, pair_of, shown_of, stage_of, IsHonest, KeepsTo};
+ghost use Rattle.journaled_device.specs.Standing.{commits_of, found_of, pair_of, shown_of, stage_of};
+ghost use Rattle.journaled_device.specs.Standing.{IsHonest, KeepsTo};
 ghost use Rattle.journaled_device.specs.Stages.{CommitsIn, IsStanding};
 ghost use Rattle.journaled_device.specs.Room.{blocks_of};
 ghost use Rattle.journaled_device.specs.Opening.{AreHomes, AreSynced, IsMalformed, LeavesOr};
@@ -183,7 +184,7 @@ pub struct State<A: Allocator> {
     slots: Slots<A>,
 }
 
-// Syncs and reads a base and its journal.
+// Syncs and reads a base and its journal. Nothing is written but a journal where there is none.
 fn read_state<P: DevicePair, A: Allocator + Copy>(
     pair: &mut P,
     alloc: A,
@@ -201,6 +202,9 @@ fn read_state<P: DevicePair, A: Allocator + Copy>(
         kept ≡ recovered (P.base pair.old) (P.journal pair.old)) }
     ensures malformed { P.honest pair.old → IsErrOf result fault.Malformed →
         IsMalformed (P.base pair.old) (P.journal pair.old) }
+    ensures base { P.honest pair.old → P.base pair.new ≡ P.base pair.old }
+    ensures journal { P.honest pair.old → 2 ≤ length (P.journal pair.old) →
+        P.journal pair.new ≡ P.journal pair.old }
     ensures stops { P.honest pair.old →
         PairLeaves P.moment P.left_since pair.old pair.new
         (LeavesOr (P.may_leave pair.old) (recovered (P.base pair.old) (P.journal pair.old))) }
@@ -232,15 +236,23 @@ fn read_state<P: DevicePair, A: Allocator + Copy>(
 
 impl<P: DevicePair, A: Allocator + Copy> JournaledPair<P, A> {
     /// Opens a base and its journal, which may be empty, and finishes a commit that was cut short. It may be
-    /// cut short itself, at any moment.
+    /// cut short itself, at any moment. With `as_found` both stay as they are, but that a journal is made where
+    /// there is none.
     ///
     /// What is then read is what recovery makes of base and journal as they were read, and is the one commit.
-    pub fn open(pair: P, alloc: A) -> Result<JournaledPair<P, A>, (OpenFault, P)>
+    pub fn open(pair: P, alloc: A, as_found: bool) -> Result<JournaledPair<P, A>, (OpenFault, P)>
         ensures shown { IfOk result (λ d. P.honest pair →
             shown_of d ≡ recovered (P.base pair) (P.journal pair)) }
         ensures commits { IfOk result (λ d. P.honest pair → (kept : Blocks) → commits_of d kept →
             kept ≡ recovered (P.base pair) (P.journal pair)) }
-        ensures filling { IfOk result (λ d. stage_of d ≡ Filling) }
+        ensures filling { as_found ≡ false → IfOk result (λ d. stage_of d ≡ Filling) }
+        ensures found { as_found ≡ true → IfOk result (λ d. found_of d ≡ true) }
+        ensures base { as_found ≡ true → IfOk result (λ d. P.honest pair → P.base (pair_of d) ≡ P.base pair) }
+        ensures journal { as_found ≡ true → IfOk result (λ d. P.honest pair → 2 ≤ length (P.journal pair) →
+            P.journal (pair_of d) ≡ P.journal pair) }
+        ensures refused_base { as_found ≡ true → IfErr result (λ e. P.honest pair → P.base e.1 ≡ P.base pair) }
+        ensures refused_journal { as_found ≡ true → IfErr result (λ e. P.honest pair →
+            2 ≤ length (P.journal pair) → P.journal e.1 ≡ P.journal pair) }
 
         // A stop leaves what one before the call might have left, or a commit of blocks that recover to the
         // same.
@@ -266,7 +278,11 @@ impl<P: DevicePair, A: Allocator + Copy> JournaledPair<P, A> {
             slots: state.slots,
             kept,
             stage: state.stage,
+            found: as_found,
         };
+        if as_found {
+            return Ok(device);
+        }
         device.opened()
     }
 
@@ -279,6 +295,7 @@ impl<P: DevicePair, A: Allocator + Copy> JournaledPair<P, A> {
             slots: _,
             kept: _,
             stage: _,
+            found: _,
         } = self;
         pair
     }

@@ -21,9 +21,9 @@ use std::alloc::Allocator;
 /// How many homes an index block holds.
 pub const HOMES: usize = 1024;
 
-// The block that counts the entries.
+/// The block that counts the entries.
 #[tactic(auto, unfolding(crate::specs::Journal::count_block))]
-fn count_page(n: u32) -> [u8; 4096]
+pub fn count_page(n: u32) -> [u8; 4096]
     ensures { result ≡ count_block n }
 {
     let mut page = zero_block();

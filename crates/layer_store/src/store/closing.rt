@@ -17,8 +17,8 @@ ghost use Rattle.plain_table.specs.declared.refusal.Refusal.TheVariants as refus
 ghost use Rattle.store_law.specs.Sessions.{SessionState};
 ghost use Rattle.store_law.specs.States.StoreState.{Alive, Dead};
 ghost use Rattle.store_law.specs.Stops.{tables_left};
-ghost use Rattle.layer_store.specs.Commands.{CountsFaults, IsUnfinished, StaysDead, StaysHonest, TakesReply};
-ghost use Rattle.layer_store.specs.Commands.{TakesStep, TellsOfEnd};
+ghost use Rattle.layer_store.specs.Commands.{CountsFaults, IsMetIn, IsUnfinished, StaysDead, StaysHonest};
+ghost use Rattle.layer_store.specs.Commands.{TakesReply, TakesStep, TellsOfEnd};
 ghost use Rattle.layer_store.specs.Faults.{IsMemoryOrDevice};
 ghost use Rattle.layer_store.specs.Representation.{HasFailed, IsInState, IsSettled, Represents};
 ghost use Rattle.layer_store.specs.Representation.{SpellsRecords, SpellsUnchanged, StopsLeave};
@@ -75,6 +75,9 @@ impl<D: BlockDevice, A: Allocator + Copy> Store<D, A> {
             SpellsUnchanged self.old → SpellsUnchanged self.new }
         ensures versions { KeepsVersions (layers_in self.old) (layers_in self.new) }
         ensures dead { StaysDead self.old self.new result }
+        // On any honest device a fault that was met refused it, or ended the store, which tells its number.
+        ensures met { D.honest (device_in self.old) → IsInState self.old Dead ⊎
+            IfErr result (IsMetIn (cache_in self.new)) }
         ensures cause { CountsFaults self.old self.new result }
     {
         if self.failed {

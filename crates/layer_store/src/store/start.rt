@@ -8,7 +8,7 @@ ghost use Rattle.live_layers.specs.Image.{HasNoCatalog, IsImage, OpeningRefuses}
 ghost use Rattle.live_layers.specs.Staying.{FindsTreesIn};
 ghost use Rattle.page_file.specs.File.{IsHonest, LiesIn, blocks_of, device_of, gate_of, next_of, pages};
 ghost use Rattle.page_file.specs.File.{version_of};
-ghost use Rattle.page_file.specs.Layout.{opened_version};
+ghost use Rattle.page_file.specs.Layout.{IsWithin, opened_version};
 ghost use Rattle.page_file.specs.Opening.{IsRefused};
 ghost use Rattle.page_file.specs.Stops.{AddsOnly, StopSince};
 ghost use Rattle.page_file.specs.declared.fault.Fault.{Fault};
@@ -93,11 +93,12 @@ pub fn create_store<D: BlockDevice, A: Allocator + Copy>(
 /// Opens the store that lies on a device: gate, header and catalog are read and checked (docs/FORMAT.md,
 /// "Opening"), no other page is read (tested), and nothing is written. The store takes its memory from this
 /// allocator and holds at most so many pages in memory (8 to 4096). Layers that are made are such as files of
-/// the newest version may have; those that are there stay as they are.
+/// the newest version may have; those that are there stay as they are. A file of a newer version is refused,
+/// as one of a version that is not known.
 ///
-/// On an honest device an image of a table is opened as a store of that table and of its trees, but for
-/// `Memory` and `Device`; and blocks are opened only where no check refuses them. The file is of the version
-/// that they have.
+/// On an honest device an image of a table, of a version that is read, is opened as a store of that table and
+/// of its trees, but for `Memory` and `Device`; and blocks are opened only where no check refuses them. The
+/// file is of the version that they have.
 ///
 /// Refused by `BadCache`, before any call of the device. On an honest device any other refusal is `Memory`,
 /// `Device`, or that of the first check that fails. The device comes back, with its blocks as they were.
@@ -120,8 +121,9 @@ pub fn open_store<D: BlockDevice, A: Allocator + Copy>(
     ensures trees { IfOk result (λ store. D.honest device → FindsTreesIn (layers_in store) (D.shown device)) }
     ensures opened { IfOk result (λ store. D.honest device → (f : Fault) → OpeningRefuses (D.shown device) f →
         ⊥) }
-    ensures refused { is_cache cache ≡ true →
-        IfErr result (λ e. D.honest device → IsMemoryOrDevice e.0 ⊎ OpeningRefusesAs (D.shown device) e.0) }
+    ensures within { IfOk result (λ store. D.honest device → IsWithin newest (file_version store)) }
+    ensures refused { is_cache cache ≡ true → IfErr result (λ e. D.honest device →
+        IsMemoryOrDevice e.0 ⊎ OpeningRefusesAs newest (D.shown device) e.0) }
 
     // A stop leaves nothing but what one before the call might have left; and once the store is opened
     // nothing but what is read.
@@ -148,7 +150,7 @@ pub fn open_store<D: BlockDevice, A: Allocator + Copy>(
     if !is_cache(cache) {
         return Err((Refusal::BadCache, device));
     }
-    match open_pages(device) {
+    match open_pages(device, newest) {
         Ok(file) => begin(alloc, file, cache, newest),
         Err((fault, device)) => Err((as_refusal(fault), device)),
     }

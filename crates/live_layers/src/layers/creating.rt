@@ -9,6 +9,7 @@ ghost use Rattle.live_layers.specs.Faults.{is_plain};
 ghost use Rattle.live_layers.specs.Changes.{IsChangeBy};
 ghost use Rattle.live_layers.specs.Creating.{BringsTree, MayBeLayer, version_after};
 ghost use Rattle.live_layers.specs.Keeping.{Belongs, IsSound, cache_of, newest_of, records_in};
+ghost use Rattle.live_layers.specs.Refusals.{IsTried, refusals_in};
 ghost use Rattle.page_cache.specs.Cache.{version_of};
 
 mod add_layer;
@@ -43,6 +44,7 @@ impl<B: BlockDevice, A: Allocator + Copy> Layers<B, A> {
         ensures allowed { (t : Table) → IsSound self.now t →
             MatchResult result (λ place. refusal_of t (Create name.now dims fanout) ≡ None)
             (λ r. refusal_of t (Create name.now dims fanout) ≡ Some r) }
+        ensures in_turn { IsTried (refusals_in self.now (Create name.now dims fanout)) result }
         ensures belongs { (t : Table) → IsSound self.now t → IfOk result (λ place. Belongs t name.now place) }
         ensures may_be { IfOk result (λ place. MayBeLayer name.now dims fanout) }
         ensures within { IfOk result (λ place. place ≤ length (records_in self.now)) }

@@ -1,13 +1,13 @@
 //! All that a store holds, as the commands that make it again.
 
-ghost use Rattle.std.specs.Prelude.{◌≡◌, ◌++◌, ℕ, List, IfErr, IfOk, OnOk, map as each};
+ghost use Rattle.std.specs.Prelude.{◌≡◌, ◌⊎◌, ◌++◌, ℕ, List, IfErr, IfOk, OnOk, map as each};
 ghost use Rattle.std.specs.FinMap.{entries};
 ghost use Rattle.box_math.specs.Bounds.{IsDims};
 ghost use Rattle.catalog_page.specs.Layout.{record_of};
 ghost use Rattle.layer_pages.specs.Layers.{IsLayerAt, LayerPages, Objects};
 ghost use Rattle.page_cache.specs.Cache.{IsHonest, pages};
 ghost use Rattle.page_cache.specs.Calls.{Asks};
-ghost use Rattle.page_file.specs.Fault.{IsOfDevice};
+ghost use Rattle.page_file.specs.Fault.{IsDamage, IsOfDevice};
 ghost use Rattle.plain_table.specs.Answers.{dump_answer};
 ghost use Rattle.plain_table.specs.Commands.Command.{Dump};
 ghost use Rattle.plain_table.specs.Listings.{dump_lines};
@@ -18,6 +18,7 @@ ghost use Rattle.live_layers.specs.Changes.{IsAnswered, KeepsInQuestion};
 ghost use Rattle.live_layers.specs.Keeping.{IsSound};
 ghost use Rattle.live_layers.specs.Layers.{LayerStands, LayersStand, Reading, entry_of, row_of};
 ghost use Rattle.live_layers.specs.Listing.{lines_of, lines_of_layers};
+ghost use Rattle.live_layers.specs.Refusals.{IsOfNone};
 
 use crate::faults::as_refusal;
 use crate::layers::Layers;
@@ -40,6 +41,7 @@ impl<B: BlockDevice, A: Allocator + Copy> Layers<B, A> {
     pub fn dump(&mut self) -> Result<Vec<DumpRow, A>, Refusal>
         ensures answered { (t : Table) → IsSound self.old t →
             IsAnswered self.old self.new t Dump (dump_answer result) }
+        ensures of_none { IfErr result IsOfNone }
         ensures keeps { KeepsInQuestion self.old self.new result }
     {
         match dump_layers(self.alloc, &mut self.cache, &self.records) {
@@ -61,6 +63,7 @@ fn dump_layers<B: BlockDevice, A: Allocator + Copy>(
         LayersStand (pages cache.old) hs → IfOk result (λ rows. lines_of rows.items ≡ lines_of_layers hs) }
     ensures stands { IsHonest cache.old → (hs : List Reading) → each row_of hs ≡ each record_of records.now →
         LayersStand (pages cache.old) hs → IfErr result IsOfDevice }
+    ensures other_faults { IfErr result (λ f. IsOfDevice f ⊎ IsDamage f) }
 {
     let mut rows = Vec::new(alloc);
     for record in records {
@@ -83,6 +86,7 @@ fn dump_layer<B: BlockDevice, A: Allocator + Copy>(
         OnOk result (lines_of rows.new.items ≡ lines_of rows.old.items ++ dump_lines (entry_of h)) }
     ensures stands { IsHonest cache.old → (h : Reading) → h.row ≡ record_of layer.now →
         LayerStands (pages cache.old) h → IfErr result IsOfDevice }
+    ensures other_faults { IfErr result (λ f. IsOfDevice f ⊎ IsDamage f) }
 {
     let root = Root {
         page: layer.root,
@@ -113,6 +117,7 @@ fn objects_at<const D: usize, B: BlockDevice, A: Allocator + Copy>(
         IfOk result (λ rows. rows.items ≡ entries objects) }
     ensures stands { IsHonest cache.old → (most ids_root : ℕ) (l : LayerPages) (objects : Objects) →
         IsLayerAt D most (pages cache.old) root ids_root l objects → IfErr result IsOfDevice }
+    ensures other_faults { IfErr result (λ f. IsOfDevice f ⊎ IsDamage f) }
 {
     let all = BBox::new([i32::MIN; D], [i32::MAX; D]);
     window(alloc, cache, root, &all, None)

@@ -13,6 +13,8 @@ mod checking;
 mod insert_box;
 
 use crate::layers::Layers;
+use crate::layers::inserting::insert_box::Label;
+use crate::rooms::Rooms;
 use crate::unmade::Unmade;
 use block_device::BlockDevice;
 use plain_table::RawBox;
@@ -23,7 +25,14 @@ impl<B: BlockDevice, A: Allocator + Copy> Layers<B, A> {
     /// tree, and then into its identifier table.
     ///
     /// Refused, in this order, by BadName, NoLayer, WrongDims, BadBox, Duplicate and TooManyObjects.
-    pub fn insert(&mut self, name: &[u8], id: u64, bounds: RawBox, tag: u32) -> Result<(), Unmade>
+    pub fn insert(
+        &mut self,
+        name: &[u8],
+        id: u64,
+        bounds: RawBox,
+        tag: u32,
+        rooms: &mut Rooms<A>,
+    ) -> Result<(), Unmade>
         ensures change { IsChangeBy self.old self.new (Insert name.now id bounds tag) result }
         ensures tree { (t : Table) → IsSound self.old t → OnOk result (ChangesTree self.old self.new name.now
             (HasGained (layer_at t name.now) id (given_bounds bounds, tag))) }
@@ -32,9 +41,18 @@ impl<B: BlockDevice, A: Allocator + Copy> Layers<B, A> {
             Ok(place) => place,
             Err(refusal) => return Err(Unmade::Refused(refusal)),
         };
+        let label = Label { id, tag };
         match bounds {
-            RawBox::Two(low, high) => self.insert_box::<2>(place, id, low, high, tag),
-            RawBox::Three(low, high) => { self.insert_box::<3>(place, id, low, high, tag) }
+            RawBox::Two(low, high) => self.insert_box::<2>(
+                place,
+                label,
+                low,
+                high,
+                &mut rooms.kept_two,
+            ),
+            RawBox::Three(low, high) => {
+                self.insert_box::<3>(place, label, low, high, &mut rooms.kept_three)
+            }
         }
     }
 }

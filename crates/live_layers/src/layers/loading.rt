@@ -9,6 +9,7 @@ ghost use Rattle.plain_table.specs.Table.{Table, layer_at};
 ghost use Rattle.live_layers.specs.Changes.{IsChange, IsChangeBy, KeepsInChange};
 ghost use Rattle.live_layers.specs.Keeping.{ChangesTree, IsSound, cache_of, records_in};
 ghost use Rattle.live_layers.specs.Loading.{NamesLayer};
+ghost use Rattle.live_layers.specs.Refusals.{IsRecordedAt, IsTriedChange, record_at, refusals_in};
 ghost use Rattle.live_layers.specs.Rules.{HasFilled};
 ghost use Rattle.live_layers.specs.Staying.{KeepsPagesAndRecords};
 
@@ -65,6 +66,9 @@ impl<B: BlockDevice, A: Allocator + Copy> Layers<B, A> {
             (HasFilled (layer_at t name) (map given_object objects.items))) }
         ensures same { (t : Table) (name : List ℕ) → IsSound self.old t → NamesLayer t name place D →
             changes t (Load name objects.items) ≡ false → KeepsPagesAndRecords self.old self.new }
+        ensures in_turn { (name : List ℕ) → IsRecordedAt self.old name place →
+            (record_at (records_in self.old) name).dims ≡ D →
+            IsTriedChange (refusals_in self.old (Load name objects.items)) result }
         ensures keeps { KeepsInChange self.old self.new (version_of (cache_of self.old)) result }
     {
         let given = entries_in::<D, A>(self.alloc, objects.as_slice());

@@ -6,6 +6,7 @@ ghost use Rattle.plain_table.specs.declared.refusal.Refusal.TheVariants as refus
 ghost use Rattle.live_layers.specs.Faults.{is_plain};
 ghost use Rattle.live_layers.specs.Keeping.{Finds, IsSound, records_in};
 ghost use Rattle.live_layers.specs.Questions.{IsNamed, IsUnnamed};
+ghost use Rattle.live_layers.specs.Refusals.{IsRecordedAt, IsUnrecorded};
 
 use crate::layers::Layers;
 use block_device::BlockDevice;
@@ -21,6 +22,8 @@ impl<D: BlockDevice, A: Allocator> Layers<D, A> {
         ensures named { (t : Table) → IsSound self.now t → IfOk result (λ _. IsNamed t name.now) }
         ensures unnamed { (t : Table) → IsSound self.now t → IfErr result (IsUnnamed t name.now) }
         ensures gives_up { IfErr result (λ r. (r ≡ refusal.BadName) ⊎ (r ≡ refusal.NoLayer)) }
+        ensures recorded { IfOk result (IsRecordedAt self.now name.now) }
+        ensures unrecorded { IfErr result (IsUnrecorded self.now name.now) }
         ensures cause { IfErr result (λ refusal. is_plain refusal ≡ true) }
     {
         if !is_layer_name(name) {

@@ -16,6 +16,7 @@ ghost use Rattle.tree_node.specs.Searches.{admitted};
 ghost use Rattle.live_layers.specs.Changes.{IsAnswered, KeepsInQuestion};
 ghost use Rattle.live_layers.specs.Keeping.{IsSound, LooksAtTree, cache_of};
 ghost use Rattle.live_layers.specs.Questions.{LooksAtTrees, is_admitted};
+ghost use Rattle.live_layers.specs.Refusals.{IsTried, refusals_in};
 
 mod boxes;
 mod distances;
@@ -42,6 +43,7 @@ impl<B: BlockDevice, A: Allocator + Copy> Layers<B, A> {
             IsAnswered self.old self.new t (Range name.now query tag) (boxes_answer result) }
         ensures looks { (t : Table) → IsSound self.old t → OnOk result (LooksAtTree self.old self.new name.now
             (admitted (is_admitted (layer_at t name.now).dims query))) }
+        ensures in_turn { IsTried (refusals_in self.old (Range name.now query tag)) result }
         ensures keeps { KeepsInQuestion self.old self.new result }
     {
         let place = self.named(name)?;
@@ -59,6 +61,7 @@ impl<B: BlockDevice, A: Allocator + Copy> Layers<B, A> {
     pub fn get(&mut self, name: &[u8], id: u64) -> Result<(AnyBox, u32), Refusal>
         ensures answered { (t : Table) → IsSound self.old t →
             IsAnswered self.old self.new t (Get name.now id) (object_answer id result) }
+        ensures in_turn { IsTried (refusals_in self.old (Get name.now id)) result }
         ensures keeps { KeepsInQuestion self.old self.new result }
     {
         let place = self.named(name)?;
@@ -78,6 +81,7 @@ impl<B: BlockDevice, A: Allocator + Copy> Layers<B, A> {
     pub fn count(&self, name: &[u8]) -> Result<u64, Refusal>
         ensures answered { (t : Table) → IsSound self.now t →
             count_answer result ≡ reply_of t (Count name.now) }
+        ensures in_turn { IsTried (refusals_in self.now (Count name.now)) result }
         ensures gives_up { IfErr result (λ r. (r ≡ refusal.BadName) ⊎ (r ≡ refusal.NoLayer)) }
         ensures cause { IfErr result (λ refusal. is_plain refusal ≡ true) }
     {
@@ -102,6 +106,7 @@ impl<B: BlockDevice, A: Allocator + Copy> Layers<B, A> {
         ensures looks { (t : Table) → IsSound self.old t → OnOk result (LooksAtTree self.old self.new name.now
             (admitted (is_searched (point_dims point) k (given_point point)
             (nearest_rows (layer_at t name.now) k point)))) }
+        ensures in_turn { IsTried (refusals_in self.old (Nearest name.now k point)) result }
         ensures keeps { KeepsInQuestion self.old self.new result }
     {
         let place = self.named(name)?;
@@ -130,6 +135,7 @@ impl<B: BlockDevice, A: Allocator + Copy> Layers<B, A> {
         ensures looks { (t : Table) → IsSound self.old t →
             OnOk result (LooksAtTrees self.old self.new first.now
             second.now (λ tree other. 2 * admitted_pairs (layer_at t first.now).dims within tree other)) }
+        ensures in_turn { IsTried (refusals_in self.old (Join first.now second.now within)) result }
         ensures keeps { KeepsInQuestion self.old self.new result }
     {
         if !is_layer_name(first) || !is_layer_name(second) {

@@ -1,7 +1,7 @@
 //! The layers closed, and read again from the same device.
 
 ghost use Rattle.std.specs.Prelude.{◌≡◌, ◌⊎◌, ◌↔◌, IfErr, IsOk, OnErr, OnOk};
-ghost use Rattle.page_file.specs.Fault.{HasCause, IsOfDevice};
+ghost use Rattle.page_file.specs.Fault.{HasCause, IsDamage, IsOfDevice};
 ghost use Rattle.page_file.specs.declared.fault.Fault.TheVariants as fault;
 ghost use Rattle.page_file.specs.declared.gate.Gate.TheVariants.{Shut};
 ghost use Rattle.page_file.specs.Pages.{SameBut};
@@ -13,7 +13,7 @@ ghost use Rattle.live_layers.specs.Closings.{ClosingLeaves};
 ghost use Rattle.live_layers.specs.Keeping.{IsSettled, IsSound, IsWritten, SpellsRecords, SpellsUnchanged};
 ghost use Rattle.live_layers.specs.Keeping.{cache_of};
 ghost use Rattle.live_layers.specs.Keeping.{records_in};
-ghost use Rattle.live_layers.specs.Faults.{HasUnmadeCause};
+ghost use Rattle.live_layers.specs.Faults.{HasUnmadeCause, IsMet};
 ghost use Rattle.live_layers.specs.Staying.{KeepsEachTree, KeepsVersions};
 
 use crate::faults::as_refusal;
@@ -53,6 +53,7 @@ impl<B: BlockDevice, A: Allocator + Copy> Layers<B, A> {
         ensures versions { KeepsVersions self.old self.new }
         ensures honest { IsHonest (cache_of self.old) ↔ IsHonest (cache_of self.new) }
         ensures goes_on { GoesOn result }
+        ensures met { IsHonest (cache_of self.old) → IfErr result (IsMet (cache_of self.new)) }
         ensures cause { HasUnmadeCause (B.faults (device_of (cache_of self.old)))
             (B.faults (device_of (cache_of self.new))) result }
     {
@@ -81,6 +82,7 @@ impl<B: BlockDevice, A: Allocator + Copy> Layers<B, A> {
         ensures versions { KeepsVersions self.old self.new }
         ensures faults { (t : Table) → IsSound self.old t → IsWritten self.old → IfErr result IsOfDevice }
         ensures never { IfErr result (λ f. ¬ (f ≡ fault.NoPages)) }
+        ensures met { IsHonest (cache_of self.old) → IfErr result (λ f. IsOfDevice f ⊎ IsDamage f) }
         ensures cause { HasCause (B.faults (device_of (cache_of self.old)))
             (B.faults (device_of (cache_of self.new)))
             result }

@@ -4,8 +4,8 @@ ghost use Rattle.block_device.specs.Device.{Only, LeavesOnly};
 ghost use Rattle.page_file.specs.Fault.{HasCause, IsOfDevice, IsDamage, faults_after};
 ghost use Rattle.page_file.specs.File.{device_of, blocks_of, gate_of, next_of, pages, version_of, IsHonest};
 ghost use Rattle.page_file.specs.File.{IsNewFile, IsPageMap, KeepsGate, KeepsMap, LiesIn};
-ghost use Rattle.page_file.specs.Layout.{catalog_block, opened_version, version_in};
-ghost use Rattle.page_file.specs.Opening.{IsRefused, failed_check};
+ghost use Rattle.page_file.specs.Layout.{IsWithin, catalog_block, opened_version, version_in};
+ghost use Rattle.page_file.specs.Opening.{IsRefused, failed_check_up_to};
 ghost use Rattle.page_file.specs.Stops.{SameButGate};
 ghost use Rattle.page_file.specs.declared.fault.Fault.TheVariants as fault;
 ghost use Rattle.page_file.specs.declared.gate.Gate.TheVariants.{Shut};
@@ -15,16 +15,21 @@ use crate::Fault;
 use crate::creation::{NEW_HEADER, create};
 use crate::file::PageFile;
 use crate::gate::Gate;
+use crate::header::Version;
 use crate::opening::check_opening;
 use block_device::BlockDevice;
 
 /// Opens the file that lies on a device. The device is synced, and then gate and header are read and
-/// checked (docs/FORMAT.md, "Opening"); nothing is written, and no other block is read.
+/// checked (docs/FORMAT.md, "Opening"); nothing is written, and no other block is read. A file of a version
+/// above `newest` is refused as one of a version that is not known.
 ///
 /// On an honest device a refusal is `Memory`, `Device`, or the fault of the first check that fails; where
 /// none fails, the blocks are a file whose gate is shut. The device comes back with a refusal.
-pub fn open_pages<D: BlockDevice>(device: D) -> Result<PageFile<D>, (Fault, D)>
+pub fn open_pages<D: BlockDevice>(device: D, newest: Version) -> Result<PageFile<D>, (Fault, D)>
     ensures shut { IfOk result (λ file. gate_of file ≡ Shut) }
+    ensures passes { IfOk result (λ file. D.honest device →
+        failed_check_up_to newest (D.shown device) ≡ None) }
+    ensures within { IfOk result (λ file. IsWithin newest (version_of file)) }
     ensures lies { IfOk result (λ file. D.honest device → LiesIn file (D.shown device)) }
 
     // That is 3 where the header says 3, and else 2.
@@ -32,7 +37,7 @@ pub fn open_pages<D: BlockDevice>(device: D) -> Result<PageFile<D>, (Fault, D)>
         version_of file ≡ opened_version (D.shown device)) }
 
     ensures refused { IfErr result (λ e. D.honest device →
-        IsOfDevice e.0 ⊎ (failed_check (D.shown device) ≡ Some e.0)) }
+        IsOfDevice e.0 ⊎ (failed_check_up_to newest (D.shown device) ≡ Some e.0)) }
 
     // A stop leaves nothing but what one before the call might have left.
     ensures blocks { IfOk result (λ file. D.honest device → blocks_of file ≡ D.shown device) }
@@ -53,7 +58,7 @@ pub fn open_pages<D: BlockDevice>(device: D) -> Result<PageFile<D>, (Fault, D)>
     ensures cause { IfErr result (λ e. D.faults e.1 ≡ faults_after e.0 (D.faults device)) }
 {
     let mut device = device;
-    match check_opening(&mut device) {
+    match check_opening(&mut device, newest) {
         Ok(header) => Ok(PageFile {
             device,
             header,
@@ -69,7 +74,7 @@ impl<D: BlockDevice> PageFile<D> {
     ///
     /// On an honest device the file is then what it was, and a refusal is `Memory` or `Device`; on another
     /// one a check may fail.
-    #[tactic(auto, using(crate::specs::Laws::a_shut_file_passes))]
+    #[tactic(auto, using(crate::specs::Newest::a_shut_file_is_opened))]
     pub fn check_again(&mut self) -> Result<(), Fault>
         requires { gate_of self.old ≡ Shut }
         ensures gate { KeepsGate self.old self.new }
@@ -79,7 +84,7 @@ impl<D: BlockDevice> PageFile<D> {
         ensures never { IfErr result (λ e. ¬ (e ≡ fault.NoPages)) }
         ensures cause { HasCause (D.faults (device_of self.old)) (D.faults (device_of self.new)) result }
     {
-        self.header = check_opening(&mut self.device)?;
+        self.header = check_opening(&mut self.device, Version::Three)?;
         Ok(())
     }
 }

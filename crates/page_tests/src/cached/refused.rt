@@ -5,7 +5,7 @@ use crate::cached::steps::Step::{Allocate, Edit, Flush, Free, FreePages, Page, P
 use crate::cached::steps::{Answer, Step, repeat, take};
 use block_device::{BlockDevice, MemoryDevice};
 use page_cache::PageCache;
-use page_file::{Fault, open_pages};
+use page_file::{Fault, Version, open_pages};
 use refusing::Refusing;
 use std::alloc::{Allocator, Global};
 use std::test::Fail;
@@ -135,7 +135,7 @@ fn device_of_pages(alloc: Global) -> Result<MemoryDevice, Fault> {
 // with all pages, and is that of a cache again.
 fn is_refused_at_once(alloc: Global, capacity: u32, k: u32) -> Result<bool, Fault> {
     let heap = Refusing::new(alloc);
-    let Ok(file) = open_pages(device_of_pages(alloc)?) else {
+    let Ok(file) = open_pages(device_of_pages(alloc)?, Version::Three) else {
         return Err(Fault::NotAStore);
     };
     heap.refuse_from(k);

@@ -2,7 +2,7 @@
 use crate::cached::steps::{Answer, Steps, play};
 use block_device::BlockDevice;
 use page_cache::PageCache;
-use page_file::{Fault, PageFile, create_pages, open_pages};
+use page_file::{Fault, PageFile, Version, create_pages, open_pages};
 use std::alloc::{Allocator, Global};
 
 /// A cache of so many pages over a new file on a device without blocks.
@@ -26,7 +26,7 @@ pub fn open_cache<D: BlockDevice + Drop, A: Allocator + Copy>(
     alloc: A,
     capacity: u32,
 ) -> Result<PageCache<D, A>, Fault> {
-    match open_pages(device) {
+    match open_pages(device, Version::Three) {
         Ok(file) => cache_over(file, alloc, capacity),
         Err((fault, _)) => Err(fault),
     }

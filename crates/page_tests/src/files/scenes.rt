@@ -2,7 +2,7 @@
 use crate::files::steps::Step::{Allocate, Free, Write};
 use crate::files::steps::{Answer, DONE, Steps, play};
 use block_device::{BlockDevice, MemoryDevice};
-use page_file::{Fault, PageFile, create_pages, open_pages};
+use page_file::{Fault, PageFile, Version, create_pages, open_pages};
 use std::alloc::Global;
 
 /// What is to become of a file once its steps are taken.
@@ -32,7 +32,7 @@ fn played<D: BlockDevice>(file: PageFile<D>, alloc: Global, steps: Steps, end: E
 
 /// Takes the steps on the file on a device.
 pub fn reopened<D: BlockDevice>(device: D, alloc: Global, steps: Steps, end: End) -> (D, Other) {
-    match open_pages(device) {
+    match open_pages(device, Version::Three) {
         Ok(file) => played(file, alloc, steps, end),
         Err((fault, device)) => (device, Some((0, Err(fault)))),
     }

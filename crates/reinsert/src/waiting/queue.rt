@@ -1,7 +1,7 @@
 //! What waits: taken, added to, and begun anew.
 
 ghost use Rattle.std.specs.Prelude.{◌≡◌, ◌+◌, ◌<◌, ◌≤◌, ◌++◌, ◌∷◌, [], All, true, false, map, reverse, set};
-ghost use Rattle.std.specs.Prelude.{IsNone, IfSome, IfErr, OnOk};
+ghost use Rattle.std.specs.Prelude.{IsNone, IfSome, IfErr};
 ghost use Rattle.arrayvec.specs.ArrayVec.{array_vec_len};
 ghost use Rattle.box_math.specs.Bounds.{IsDims};
 ghost use Rattle.page_file.specs.declared.fault.Fault.TheVariants as fault;
@@ -13,43 +13,38 @@ ghost use Rattle.reinsert.specs.Placed.{held_of, held_with, measure_of};
 use crate::waiting::{Wait, Waiting};
 use arrayvec::ArrayVec;
 use page_file::Fault;
-use smallvec::SmallVec;
 use std::alloc::Allocator;
 use tree_node::Entry;
 
-impl<const D: usize, A: Allocator + Copy> Waiting<D, A> {
-    /// Room in which nothing waits, for which no memory is taken.
-    pub fn new(alloc: A) -> Waiting<D, A>
+impl<const D: usize> Waiting<D> {
+    /// Room in which nothing waits.
+    pub fn new() -> Waiting<D>
         requires { IsDims D }
     {
         Waiting {
-            waits: SmallVec::new(alloc),
+            waits: ArrayVec::new(),
             called: [true; 41],
         }
     }
 
-    /// Takes the room for what waits in an insertion into a tree whose root is of that level, so that the
-    /// insertion takes none. Nothing waits then. A refusal is `Memory`.
-    pub fn make_room(&mut self, level: u8) -> Result<(), Fault>
+    /// Takes the memory for all that waits in insertions, at once: a box in which nothing waits. A refusal is
+    /// `Memory`.
+    pub fn make<H: Allocator>(alloc: H) -> Result<Box<Waiting<D>, H>, Fault>
+        requires { IsDims D }
         ensures { IfErr result (λ f. f ≡ fault.Memory) }
     {
-        self.waits.clear();
-        self.waits.reserve(30 * usize::from(level))?;
-        Ok(())
+        Ok(Box::new(alloc, Waiting::new())?)
     }
 
-    // Nothing waits, and of the levels below the root's none is called. A refusal is `Memory`.
-    pub(crate) fn begin(&mut self, top: u8) -> Result<(), Fault>
+    // Nothing waits, and of the levels below the root's none is called.
+    pub(crate) fn begin(&mut self, top: u8)
         requires { top ≤ 40 }
-        ensures waits { OnOk result (self.new.waits.items ≡ []) }
-        ensures called { OnOk result (self.new.called ≡ called_from top) }
-        ensures measure { OnOk result (measure_of self.new ≤ 1230) }
-        ensures refused { IfErr result (λ f. f ≡ fault.Memory) }
+        ensures waits { self.new.waits.items ≡ [] }
+        ensures called { self.new.called ≡ called_from top }
+        ensures measure { measure_of self.new ≤ 1200 }
     {
         self.waits.clear();
-        self.waits.reserve(30 * usize::from(top))?;
         self.called = levels_from(top);
-        Ok(())
     }
 
     // The first that waits.
@@ -95,7 +90,7 @@ impl<const D: usize, A: Allocator + Copy> Waiting<D, A> {
         self.called[usize::from(level)] = true;
         for passed in 0..far.len() {
             let entry = far[far.len() - 1 - passed];
-            self.waits.push_reserved(Wait { entry, level });
+            self.waits.push(Wait { entry, level });
         }
     }
 }

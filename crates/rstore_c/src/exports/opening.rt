@@ -10,9 +10,9 @@ use crate::files::{self, JournalStreams, Streams, Unopened};
 use crate::handle::Handle;
 use crate::held::{Device, Held};
 use c_rows::{Layer, tell};
-use c_session::Session;
+use c_session::{Opening, Session};
 use file_device::OpenError;
-use layer_store::{Refusal, Store};
+use layer_store::{Refusal, Store, Version};
 use std::alloc::Global;
 use std::rt::{Stdin, Stdout};
 
@@ -80,7 +80,7 @@ pub extern "C" fn rstore_c_open(
         files::open(alloc, base, journal, &mut ask, flags == 1, cache)
     };
     match opened {
-        Ok((store, unended)) => hand_out(alloc, store, flags == 2, unended, at, detail),
+        Ok((store, unended)) => { hand_out(alloc, store, cache, flags == 2, unended, at, detail) }
         Err(why) => unopened(why, detail),
     }
 }
@@ -89,12 +89,17 @@ pub extern "C" fn rstore_c_open(
 fn hand_out(
     alloc: Global,
     store: Store<Device>,
+    cache: u32,
     read_only: bool,
     unended: bool,
     at: &mut *mut u8,
     detail: &mut u64,
 ) -> u32 {
-    match Box::new(alloc, held_over(alloc, store, read_only, unended)) {
+    let opening = Opening {
+        cache,
+        newest: Version::Three,
+    };
+    match Box::new(alloc, held_over(alloc, store, opening, read_only, unended)) {
         Ok(held) => {
             *at = Box::into_raw(held) as *mut u8;
             0
@@ -105,17 +110,25 @@ fn hand_out(
 
 // A session over the store, which takes changes where it is not only read. Whether the last run had not ended
 // is its detail.
-fn held_over(alloc: Global, store: Store<Device>, read_only: bool, unended: bool) -> Held
+fn held_over(
+    alloc: Global,
+    store: Store<Device>,
+    opening: Opening,
+    read_only: bool,
+    unended: bool,
+) -> Held
     ensures read_only { result.session.read_only ≡ read_only }
     ensures unended { result.session.detail ≡ (if unended then 1 else 0) }
     ensures store { result.session.store ≡ Some store }
+    ensures left { result.session.left ≡ None }
+    ensures opening { result.session.opening ≡ opening }
 {
-    let session = Session::over(alloc, store, read_only, u64::from(unended));
+    let session = Session::over(alloc, store, opening, read_only, u64::from(unended));
     Held { session }
 }
 
 /// Closes the store, frees what the session has, and ends the run over its files, which may fail where the
-/// closing went well. C then frees the session's block.
+/// closing went well; also of one that could not be rolled back. C then frees the session's block.
 #[unsafe(no_mangle)]
 pub extern "C" fn rstore_c_close(
     alloc: Global,

@@ -14,7 +14,7 @@ use Rattle.tree_node.specs.declared.node.Entry.{Entry}
 use Rattle.node_bytes.specs.Layout.{IsOfLevel}
 use Rattle.node_page.specs.Standing.{node_in}
 use Rattle.node_page.proofs.NodeLemmas.{at_error}
-use Rattle.node_page.specs.Faults.{IsNoDamage}
+use Rattle.node_page.specs.Faults.{IsChangeFault, IsNoDamage}
 use Rattle.bulk_load.specs.Levels.{WaitFor}
 use Rattle.bulk_load.specs.Tiling.{joined}
 use Rattle.bulk_load.proofs.CacheLemmas.{no_memory_changes}
@@ -93,6 +93,12 @@ pub returns-in_err-parent-clause-faults : goal.returns-in_err-parent-clause-faul
 returns-in_err-parent-clause-faults g c =
     λ map. at_error c.from_residual.result c.in_err-parent.field-0.0 (IsNoDamage c.write_parent.new.cache)
     c.from_residual.ensures.1 (c.in_err-parent.ensures.faults (c.runs.invariant.sound map))
+
+pub returns-in_err-parent-clause-other_faults : goal.returns-in_err-parent-clause-other_faults
+returns-in_err-parent-clause-other_faults g c =
+    at_error c.from_residual.result c.in_err-parent.field-0.0 (IsChangeFault c.write_parent.new.cache)
+    c.from_residual.ensures.1
+    c.in_err-parent.ensures.other_faults
 
 pub returns-in_err-push-clause-changes : goal.returns-in_err-push-clause-changes
 returns-in_err-push-clause-changes g c =

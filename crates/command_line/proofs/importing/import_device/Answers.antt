@@ -23,7 +23,7 @@ returns-then-not-options-clause-imported g c =
           let opening = (rw is at c.open_store-opened.ensures.stops) honest in
           let store =
           has_started c.args.options.now.limits.newest v t (rw is at c.open_store-opened.ensures.newest)
-          begins in
+          ((rw is at c.open_store-opened.ensures.within) honest) begins in
           inr (imports_into m _ (m.may_leave device) t _ _ device (device_in v) _ store opening
           ((rw is at (c.import_store.ensures.imported t (m.moment (device_in v)))) begins)))
           (λ e is.
@@ -64,7 +64,7 @@ returns-clause-imported g c =
           let making = (rw is at c.create_store-made.ensures.stops) honest in
           let store =
           has_started c.args.options.now.limits.newest v empty (rw is at c.create_store-made.ensures.newest)
-          begins in
+          (λ two. (rw is at c.create_store-made.ensures.version) honest) begins in
           inr (imports_into m _ (λ b. IsRefused b ⊎ IsImage b empty) empty _ _ device (device_in v) _ store
           making ((rw is at (c.import_store-2.ensures.imported empty (m.moment (device_in v)))) begins)))
           (λ e is.

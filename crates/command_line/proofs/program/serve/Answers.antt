@@ -3,9 +3,9 @@ use Rattle.std.proofs.Common.{◌≡◌, ◌∙◌, ◌⊎◌, ◌≤◌, Bool, 
 use Rattle.std.proofs.Common.{sym, arith}
 use Rattle.std.specs.Prelude.{IfNone, IfSome, false, option_map, true}
 use Rattle.clap.specs.Walk.{texts}
+use Rattle.program_words.specs.Words.{AsksForLines, AsksToBeStrict, AsksToImport, AsksToMake, AsksToRead}
+use Rattle.program_words.specs.Words.{AsksToShow}
 use Rattle.command_line.specs.Serving.{IsMisused}
-use Rattle.command_line.specs.Words.{AsksForLines, AsksToBeStrict, AsksToImport, AsksToMake, AsksToRead}
-use Rattle.command_line.specs.Words.{AsksToShow}
 use Rattle.command_line.proofs.program.serve.Goals as goal
 
 or_answered : {A B X C : Type 0} → (B → X) → A ⊎ B → A ⊎ (X ⊎ C)

@@ -30,7 +30,7 @@ returns-clause-serves g c = λ honest. start c.create_store.result _
     (rw is at c.create_store.ensures.no_fault)
     (rw newest at
     ((rw is at (c.settle_store.ensures.serves empty begun.next made)) begun.represents begun.so.0 begun.so.1
-    stays refl))))
+    stays refl (λ two. (rw is at c.create_store.ensures.version) honest)))))
     (λ e is.
     let so = rw is at c.settle_store.ensures.refused in
     let stops = (rw is at (c.create_store.ensures.refused_stops c.requires.cache)) honest in

@@ -1,6 +1,8 @@
 -- A store that is opened begins with the table of the image, and one that is not leaves the device as it was.
-use Rattle.std.proofs.Common.{◌≡◌, ◌∙◌, ap, inl, inr}
-use Rattle.layer_store.specs.Representation.{newest_in}
+use Rattle.std.proofs.Common.{◌≡◌, ◌∙◌, ap, inl, inr, subst, sym}
+use Rattle.page_file.specs.Layout.{IsWithin}
+use Rattle.page_file.specs.declared.header.Version.{Version}
+use Rattle.layer_store.specs.Representation.{file_version, newest_in}
 use Rattle.command_line.proofs.Starts.{refused_start, start}
 use Rattle.command_line.proofs.strict.settle_opened.Goals as goal
 
@@ -10,9 +12,11 @@ returns-clause-serves g c = λ t honest image. start c.open_store.result _
     let begun = rw is at (c.open_store.ensures.image t honest image) in
     let opening = (rw is at c.open_store.ensures.stops) honest in
     let newest : newest_in v ≡ c.args.limits.newest = rw is at c.open_store.ensures.newest in
+    let within = (rw is at c.open_store.ensures.within) honest in
     inr (rw newest at
     ((rw is at (c.settle_store.ensures.serves t begun.next c.args.device)) begun.represents begun.so.0
-    begun.so.1 opening (rw is at c.open_store.ensures.no_fault))))
+    begun.so.1 opening (rw is at c.open_store.ensures.no_fault)
+    (subst (λ (n : Version). IsWithin n (file_version v)) (sym newest) within))))
     (λ e is.
     let so = rw is at c.settle_store.ensures.refused in
     let stops = (rw is at (c.open_store.ensures.refused_stops c.requires)) honest in

@@ -13,9 +13,9 @@ returns-in-Ok-clause-serves g c = λ t s device.
     let settled = c.run_strictly_and_close-settled in
     let left = settled.result.device in
     let settles = settled.ensures.settles in
-    rw c.in-Ok.is (λ stands alive stops opening faults. let run = settles.run s stands in record {
+    rw c.in-Ok.is (λ stands alive stops opening faults within. let run = settles.run s stands in record {
       opened = opened;
-      store = has_started (newest_in c.in-Ok.store) c.in-Ok.store t refl
+      store = has_started (newest_in c.in-Ok.store) c.in-Ok.store t refl within
           (record { next = s; represents = stands; so = (alive, stops) });
       opening = opening;
       old = s;

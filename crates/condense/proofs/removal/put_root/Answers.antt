@@ -62,7 +62,8 @@ returns-in_err-write_root-clause-number g c = λ h live.
 
 pub returns-in_err-write_root-clause-other_faults : goal.returns-in_err-write_root-clause-other_faults
 returns-in_err-write_root-clause-other_faults g c =
-    at_error c.from_residual.result c.in_err-write_root.field-0.0 IsChangeFault c.from_residual.ensures.1
+    at_error c.from_residual.result c.in_err-write_root.field-0.0 (IsChangeFault c.write_root.new.cache)
+    c.from_residual.ensures.1
     (one_more _ _ _ c.in_err-write_root.ensures.other_faults)
 
 pub returns-in_err-filled-clause-changes : goal.returns-in_err-filled-clause-changes
@@ -142,7 +143,8 @@ returns-clause-changes g c =
 
 pub returns-clause-other_faults : goal.returns-clause-other_faults
 returns-clause-other_faults g c =
-    map_err c.give_way.result (λ f. IsOfDevice f ⊎ IsDamage f) IsChangeFault c.give_way.ensures.other_faults
+    map_err c.give_way.result (λ f. IsOfDevice f ⊎ IsDamage f) (IsChangeFault c.give_way.new.cache)
+    c.give_way.ensures.other_faults
     (λ f is. one_more _ _ _ is)
 
 -- ---- in any pages, of which none was touched

@@ -23,13 +23,7 @@ use Rattle.condense.proofs.BecomeLemmas.{cut_in_hand, in_hand, in_page}
 use Rattle.condense.proofs.FreeLemmas.{stands_there}
 use Rattle.condense.proofs.LeadLemmas.{leads_there, takes_contained}
 use Rattle.condense.proofs.RemoveLemmas.{keeps_all, never_some, refused_so, took_out}
-use Rattle.condense.proofs.RoomLemmas.{no_room_removes}
 use Rattle.condense.proofs.removal.remove_with.Goals as goal
-
-pub returns-in_err-make_room : goal.returns-in_err-make_room
-returns-in_err-make_room g c =
-    no_room_removes c.args.cache.now c.in_err-make_room.field-0.0 c.from_residual.result
-    c.from_residual.ensures.1 c.in_err-make_room.ensures
 
 pub returns-in_err-became : goal.returns-in_err-became
 returns-in_err-became g c =
@@ -37,8 +31,8 @@ returns-in_err-became g c =
     let low = c.take_out.new.cache in
     let root = c.args.root in
     let f = c.in_err-became.field-0.0 in
-    let r = c.from_residual-in_err-became.result in
-    let is = c.from_residual-in_err-became.ensures.1 in
+    let r = c.from_residual.result in
+    let is = c.from_residual.ensures.1 in
     let err = c.in_err-became.ensures in
     record {
       changes = changes_and_refuses old old low f r is (no_call_changes old) err.changes;
@@ -62,7 +56,7 @@ returns-in_err-became g c =
           at_error r f NamesInRange is
           (λ n damaged. comes_in_range g.row.D (given old) root.page n c.requires.root.page
           (err.damage h n damaged));
-      other_faults = at_error r f IsChangeFault is (one_more _ _ _ err.other_faults);
+      other_faults = at_error r f (IsChangeFault low) is (one_more _ _ _ err.other_faults);
     }
 
 pub returns-in_default : goal.returns-in_default

@@ -97,7 +97,7 @@ returns-in_err-add-clause-faults g c = λ sound l objects is spot.
 
 pub returns-in_err-add-clause-other_faults : goal.returns-in_err-add-clause-other_faults
 returns-in_err-add-clause-other_faults g c =
-    at_error c.from_residual-in_err-add.result c.in_err-add.field-0.0 IsChangeFault
+    at_error c.from_residual-in_err-add.result c.in_err-add.field-0.0 (IsChangeFault c.add.new.cache)
     c.from_residual-in_err-add.ensures.1
-    (⊎_elim (λ quiet. ⊎_elim inl (λ full. inr (inl full.0)) quiet) (λ damaged. inr (inr damaged))
+    (⊎_elim (λ quiet. ⊎_elim inl (λ full. inr (inl full)) quiet) (λ damaged. inr (inr damaged))
     c.in_err-add.ensures.other_faults)

@@ -8,7 +8,7 @@ use Rattle.page_cache.specs.Calls.{changes_and_refuses, changes_in_turn}
 use Rattle.tree_node.specs.Nodes.{Item, item_of, items_of}
 use Rattle.bulk_load.specs.Loads.{Loads}
 use Rattle.node_page.proofs.NodeLemmas.{at_error}
-use Rattle.node_page.specs.Faults.{IsNoDamage}
+use Rattle.node_page.specs.Faults.{IsChangeFault, IsNoDamage}
 use Rattle.id_words.specs.Objects.{pairs_in}
 use Rattle.layer_pages.proofs.LoadLemmas.{all_boxes, as_items, layer_loaded, layer_still}
 use Rattle.layer_pages.proofs.LoadLemmas.{listed_again, low_root}
@@ -130,3 +130,13 @@ pub returns-clause-same : goal.returns-clause-same
 returns-clause-same g c =
     IsPermutation-trans c.args.entries.now c.load.new.objects c.put_ids.new.entries c.load.ensures.all
     c.in_ok-put_ids.ensures.same
+
+pub returns-in_err-after-clause-other_faults : goal.returns-in_err-after-clause-other_faults
+returns-in_err-after-clause-other_faults g c =
+    at_error c.from_residual.result c.in_err-after.field-0.0 (IsChangeFault c.load.new.cache) c.from_residual.ensures.1
+    c.in_err-after.ensures.other_faults
+
+pub returns-in_err-put_ids-clause-other_faults : goal.returns-in_err-put_ids-clause-other_faults
+returns-in_err-put_ids-clause-other_faults g c =
+    at_error c.from_residual-in_err-put_ids.result c.in_err-put_ids.field-0.0 (IsChangeFault c.put_ids.new.cache)
+    c.from_residual-in_err-put_ids.ensures.1 c.in_err-put_ids.ensures.other_faults

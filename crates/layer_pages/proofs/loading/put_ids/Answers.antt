@@ -1,5 +1,5 @@
 -- The table is filled, and then the old tree is freed.
-use Rattle.std.proofs.Common.{◌≡◌, ℕ, ◌+◌, List, None, length, ap, subst, inl, arith}
+use Rattle.std.proofs.Common.{◌≡◌, ℕ, ◌+◌, List, None, length, ap, subst, inl, inr, arith, ⊎_elim}
 use Rattle.std.specs.FinMap as map
 use Rattle.std.specs.FinMap.{len-empty}
 use Rattle.std.specs.Ordering.{nat_cmp}
@@ -12,7 +12,7 @@ use Rattle.page_cache.specs.Cache.{Grows, pages}
 use Rattle.page_cache.specs.Calls.{changes_and_refuses, changes_in_turn}
 use Rattle.node_page.proofs.NodeLemmas.{at_error}
 use Rattle.tree_node.specs.declared.node.Root.{Root}
-use Rattle.node_page.specs.Faults.{IsNoDamage}
+use Rattle.node_page.specs.Faults.{IsChangeFault, IsNoDamage}
 use Rattle.node_page.specs.Standing.{PageMap}
 use Rattle.id_table.specs.Changes.{most_filled_pages}
 use Rattle.id_table.specs.Table.{objects_of}
@@ -129,3 +129,15 @@ returns-in_err-free_tree-clause-grows g c = λ sound l most all is same.
     (as_many g.row.D most m c.args.root c.args.ids_root l _ c.fill.new.entries is c.fill.ensures.same)
     (c.fill.ensures.grows_few sound l.ids is.ids_root_is is.ids fresh) in
     omega (arith, filled, c.free_tree.ensures.grows)
+
+pub returns-in_err-fill-clause-other_faults : goal.returns-in_err-fill-clause-other_faults
+returns-in_err-fill-clause-other_faults g c =
+    at_error c.from_residual.result c.in_err-fill.field-0.0 (IsChangeFault c.fill.new.cache) c.from_residual.ensures.1
+    (⊎_elim (λ quiet. ⊎_elim inl (λ full. inr (inl full)) quiet) (λ damaged. inr (inr damaged))
+    c.in_err-fill.ensures.other_faults)
+
+pub returns-in_err-free_tree-clause-other_faults : goal.returns-in_err-free_tree-clause-other_faults
+returns-in_err-free_tree-clause-other_faults g c =
+    at_error c.from_residual-in_err-free_tree.result c.in_err-free_tree.field-0.0 (IsChangeFault c.free_tree.new.cache)
+    c.from_residual-in_err-free_tree.ensures.1
+    (⊎_elim inl (λ damaged. inr (inr damaged)) c.in_err-free_tree.ensures.other_faults)

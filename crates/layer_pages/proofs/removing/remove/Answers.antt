@@ -140,6 +140,6 @@ returns-in_err-remove-clause-faults g c = λ sound l objects is spot there.
 
 pub returns-in_err-remove-clause-other_faults : goal.returns-in_err-remove-clause-other_faults
 returns-in_err-remove-clause-other_faults g c =
-    at_error c.from_residual-in_err-remove.result c.in_err-remove.field-0.0 IsChangeFault
+    at_error c.from_residual-in_err-remove.result c.in_err-remove.field-0.0 (IsChangeFault c.remove.new.cache)
     c.from_residual-in_err-remove.ensures.1
     (one_more _ _ _ c.in_err-remove.ensures.other_faults)

@@ -101,7 +101,7 @@ returns-in_err-after-clause-faults g c = λ sound l objects is spot there.
 
 pub returns-in_err-after-clause-other_faults : goal.returns-in_err-after-clause-other_faults
 returns-in_err-after-clause-other_faults g c =
-    at_error c.from_residual-in_err-after.result c.in_err-after.field-0.0 IsChangeFault
+    at_error c.from_residual-in_err-after.result c.in_err-after.field-0.0 (IsChangeFault c.insert_with.new.cache)
     c.from_residual-in_err-after.ensures.1 c.in_err-after.ensures.inserts.other_faults
 
 pub returns-clause-changes : goal.returns-clause-changes
@@ -237,6 +237,6 @@ returns-in_err-update-clause-faults g c = λ sound l objects is spot there.
 
 pub returns-in_err-update-clause-other_faults : goal.returns-in_err-update-clause-other_faults
 returns-in_err-update-clause-other_faults g c =
-    at_error c.from_residual-in_err-update.result c.in_err-update.field-0.0 IsChangeFault
+    at_error c.from_residual-in_err-update.result c.in_err-update.field-0.0 (IsChangeFault c.update.new.cache)
     c.from_residual-in_err-update.ensures.1
     (one_more _ _ _ c.in_err-update.ensures.other_faults)

@@ -31,7 +31,7 @@ impl<D: BlockDevice, A: Allocator + Copy> Store<D, A> {
         if self.failed {
             return Err(FAILED);
         }
-        let made = self.layers.insert(layer, id, bounds, tag);
+        let made = self.layers.insert(layer, id, bounds, tag, &mut self.rooms);
         tell(&mut self.failed, made)
     }
 

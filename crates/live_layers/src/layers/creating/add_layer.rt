@@ -6,7 +6,7 @@ ghost use Rattle.layer_pages.specs.Changes.{BecomesLayer, IsEmptyLeaf};
 ghost use Rattle.layer_pages.specs.Layers.{CanBeRoot};
 ghost use Rattle.page_cache.specs.Calls.{Changes};
 ghost use Rattle.page_file.specs.Fault.{IsOfDevice};
-ghost use Rattle.node_page.specs.Faults.{IsNoDamage};
+ghost use Rattle.node_page.specs.Faults.{IsChangeFault, IsNoDamage};
 ghost use Rattle.node_page.specs.Parts.{no_page};
 ghost use Rattle.page_cache.specs.Cache.{Grows, IsPageMap, gate_of, next_of, pages, version_of};
 ghost use Rattle.page_file.specs.declared.gate.Gate.TheVariants.{Open};
@@ -107,6 +107,7 @@ fn make_pages<B: BlockDevice, A: Allocator + Copy>(
         IsEmptyLeaf) }
     ensures grows { Grows 2 cache.old cache.new }
     ensures faults { IsPageMap cache.old → IfErr result (IsNoDamage cache.new) }
+    ensures other_faults { IfErr result (IsChangeFault cache.new) }
 {
     if dims == 2 {
         make::<2, B, A>(cache, kind)

@@ -8,6 +8,7 @@ ghost use Rattle.plain_table.specs.Table.{Table, layer_at};
 ghost use Rattle.live_layers.specs.Changes.{IsChange, KeepsInChange};
 ghost use Rattle.live_layers.specs.Keeping.{ChangesTree, IsSound, cache_of, records_in};
 ghost use Rattle.live_layers.specs.Reaching.{Reaches};
+ghost use Rattle.live_layers.specs.Refusals.{IsRecordedAt, IsTriedChange, refusals_in};
 ghost use Rattle.live_layers.specs.Rules.{HasLost};
 
 use crate::faults::change_of;
@@ -38,6 +39,8 @@ impl<B: BlockDevice, A: Allocator + Copy> Layers<B, A> {
         ensures tree { (t : Table) (name : List ℕ) → IsSound self.old t →
             Reaches self.old t name place located.now →
             OnOk result (ChangesTree self.old self.new name (HasLost (layer_at t name) id)) }
+        ensures in_turn { (name : List ℕ) → IsRecordedAt self.old name place →
+            IsTriedChange (refusals_in self.old (Delete name id)) result }
         ensures keeps { KeepsInChange self.old self.new (version_of (cache_of self.old)) result }
     {
         let (spot, known) = match self.object_of::<D>(located, id) {

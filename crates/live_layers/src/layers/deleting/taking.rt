@@ -18,8 +18,6 @@ use crate::rooms::{Room, take_kept};
 use block_device::BlockDevice;
 use condense::Kept;
 use layer_pages::{Layer, ObjectAt, remove};
-use page_file::Fault;
-use reinsert::{Waiting, fits_in_memory};
 use std::alloc::Allocator;
 
 impl<B: BlockDevice, A: Allocator + Copy> Layers<B, A> {
@@ -48,11 +46,6 @@ impl<B: BlockDevice, A: Allocator + Copy> Layers<B, A> {
             IfErr result (λ b. IsOfDevice b.cause) }
         ensures begins { BeginsChange self.old self.new (version_of (cache_of self.old)) result }
     {
-        // always so, and known when this is compiled
-        if !fits_in_memory::<Waiting<D, A>>() {
-            return Err(Broken::from(Fault::Memory));
-        }
-        let mut waiting = Waiting::new(self.alloc);
         let mut kept = take_kept(kept_room, self.alloc)?;
         self.begin()?;
         let located = self.locate(place);
@@ -61,7 +54,7 @@ impl<B: BlockDevice, A: Allocator + Copy> Layers<B, A> {
             ids_root: located.ids_root,
             fanout: located.fanout,
         };
-        let root = match remove(&mut self.cache, layer, object, &mut waiting, &mut kept) {
+        let root = match remove(&mut self.cache, layer, object, &mut kept) {
             Ok(root) => root,
             Err(fault) => return Err(self.broken_by(fault)),
         };

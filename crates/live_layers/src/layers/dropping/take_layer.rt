@@ -1,14 +1,13 @@
 //! The pages and the record of a layer that goes.
 
-ghost use Rattle.std.specs.Prelude.{◌≡◌, ◌<◌, ℕ, List, IfErr, OnOk, false, length};
+ghost use Rattle.std.specs.Prelude.{◌≡◌, ◌<◌, ◌⊎◌, ℕ, List, IfErr, OnOk, false, length};
 ghost use Rattle.std.specs.FinMap as map;
 ghost use Rattle.box_math.specs.Bounds.{IsDims};
 ghost use Rattle.layer_pages.specs.Layers.{CanBeRoot, IsLayerAt, LayerPages, Objects, part_of_layer};
 ghost use Rattle.page_cache.specs.Calls.{Changes};
-ghost use Rattle.page_file.specs.Fault.{IsOfDevice};
+ghost use Rattle.page_file.specs.Fault.{IsDamage, IsOfDevice};
 ghost use Rattle.node_page.specs.Parts.{Moves, no_page};
 ghost use Rattle.page_cache.specs.Cache.{IsPageMap, pages, version_of};
-ghost use Rattle.page_file.specs.Fault.{IsOfDevice};
 ghost use Rattle.plain_table.specs.Table.{Table};
 ghost use Rattle.live_layers.specs.Begun.{BeginsChange};
 ghost use Rattle.live_layers.specs.Dropping.{KeepsOtherTrees};
@@ -66,6 +65,7 @@ fn free_pages<B: BlockDevice, A: Allocator + Copy>(
     ensures faults { IsPageMap cache.old → (l : LayerPages) (most : ℕ) (objects : Objects)
         → IsLayerAt located.now.dims most (pages cache.old) located.now.root located.now.ids_root l objects
         → IfErr result IsOfDevice }
+    ensures other_faults { IfErr result (λ f. IsOfDevice f ⊎ IsDamage f) }
 {
     if located.dims == 2 {
         free::<2, B, A>(cache, located.root, located.ids_root)

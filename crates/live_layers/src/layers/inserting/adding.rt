@@ -14,18 +14,20 @@ ghost use Rattle.live_layers.specs.Rules.{HasGained};
 
 use crate::broken::Broken;
 use crate::layers::Layers;
+use crate::rooms::{Room, take_kept};
 use block_device::BlockDevice;
+use condense::Kept;
 use layer_pages::{Layer, ObjectAt, insert};
-use page_file::Fault;
-use reinsert::{Waiting, fits_in_memory};
 use std::alloc::Allocator;
 
 impl<B: BlockDevice, A: Allocator + Copy> Layers<B, A> {
-    // Adds an object that the layer at a place does not have, at that spot.
+    // Adds an object that the layer at a place does not have, at that spot. The memory of what waits is taken
+    // before the gate is opened.
     pub(crate) fn add_object<const D: usize>(
         &mut self,
         place: usize,
         object: &ObjectAt<D>,
+        kept_room: &mut Room<Kept<D>, A>,
     ) -> Result<(), Broken>
         requires dims { IsDims D }
         requires within { place < length (records_in self.old) }
@@ -47,11 +49,7 @@ impl<B: BlockDevice, A: Allocator + Copy> Layers<B, A> {
             IfErr result (λ b. IsOfDevice b.cause) }
         ensures begins { BeginsChange self.old self.new (version_of (cache_of self.old)) result }
     {
-        // always so, and known when this is compiled
-        if !fits_in_memory::<Waiting<D, A>>() {
-            return Err(Broken::from(Fault::Memory));
-        }
-        let mut waiting = Waiting::new(self.alloc);
+        let mut kept = take_kept(kept_room, self.alloc)?;
         self.begin()?;
         let located = self.locate(place);
         let layer = Layer {
@@ -59,13 +57,14 @@ impl<B: BlockDevice, A: Allocator + Copy> Layers<B, A> {
             ids_root: located.ids_root,
             fanout: located.fanout,
         };
-        let root = match insert(&mut self.cache, layer, object, &mut waiting) {
+        let root = match insert(&mut self.cache, layer, object, &mut kept.waiting) {
             Ok(root) => root,
             Err(fault) => return Err(self.broken_by(fault)),
         };
         let count = self.count_at(place).saturating_add(1);
         self.note(place, root, count);
         self.object_count += 1;
+        *kept_room = Some(kept);
         Ok(())
     }
 }

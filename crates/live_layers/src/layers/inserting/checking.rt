@@ -8,8 +8,9 @@ ghost use Rattle.plain_table.specs.Table.{Table, layer_at, most_objects, object_
 ghost use Rattle.plain_table.specs.declared.boxes.RawBox.{RawBox as GivenBox};
 ghost use Rattle.live_layers.specs.Changes.{KeepsInQuestion, Rose};
 ghost use Rattle.live_layers.specs.Inserting.{IsAllowedOr};
-ghost use Rattle.live_layers.specs.Keeping.{IsSound};
+ghost use Rattle.live_layers.specs.Keeping.{IsSound, count_in};
 ghost use Rattle.live_layers.specs.Located.{IsLocated, IsSpotOf};
+ghost use Rattle.live_layers.specs.Refusals.{IsTried, found_refusals};
 
 use crate::faults::as_refusal;
 use crate::layers::Layers;
@@ -37,6 +38,9 @@ impl<B: BlockDevice, A: Allocator + Copy> Layers<B, A> {
             IsAllowedOr (Rose self.old self.new)
             (first_refusal (object_refusals (layer_at t name) id box (nat_le most_objects (object_count t))))
             result }
+        ensures in_turn { (box : GivenBox) → dims_of box ≡ D →
+            given_bounds box ≡ record { low = low.entry; high = high.entry } →
+            IsTried (found_refusals located.now.dims box (nat_le most_objects (count_in self.old))) result }
         ensures bounds { IfOk result (λ found. found.1 ≡ record { low = low.entry; high = high.entry }) }
         ensures spot { (t : Table) → IsSound self.old t →
             IfOk result (λ found. IsSpotOf D self.new located.now id found.0) }

@@ -11,6 +11,7 @@ ghost use Rattle.live_layers.specs.Changes.{KeepsInQuestion, Rose};
 ghost use Rattle.live_layers.specs.Inserting.{IsAllowedOr};
 ghost use Rattle.live_layers.specs.Keeping.{IsSound};
 ghost use Rattle.live_layers.specs.Located.{IsLocated, IsSpotOf};
+ghost use Rattle.live_layers.specs.Refusals.{IsTried, lost_refusals};
 
 use crate::layers::Layers;
 use crate::located::Located;
@@ -37,6 +38,9 @@ impl<B: BlockDevice, A: Allocator + Copy> Layers<B, A> {
             IsAllowedOr (Rose self.old self.new)
             (first_refusal (box_refusals (layer_at t name).dims box (missing_refusals (layer_at t name) id)))
             result }
+        ensures in_turn { (box : GivenBox) → dims_of box ≡ D →
+            given_bounds box ≡ record { low = low.entry; high = high.entry } →
+            IsTried (λ found. box_refusals located.now.dims box (lost_refusals found)) result }
         ensures axes { IfOk result (λ _. located.now.dims ≡ D) }
         ensures has { (t : Table) (name : List ℕ) → IsSound self.old t →
             IsLocated self.old t name located.now →

@@ -3,7 +3,7 @@
 ghost use Rattle.std.specs.Prelude.{◌≡◌, ◌<◌, ℕ, List, OnOk, false, true, length};
 ghost use Rattle.box_math.specs.Bounds.{IsDims};
 ghost use Rattle.page_cache.specs.Cache.{version_of};
-ghost use Rattle.plain_table.specs.Boxes.{given_bounds};
+ghost use Rattle.plain_table.specs.Boxes.{dims_of, given_bounds};
 ghost use Rattle.plain_table.specs.Commands.Command.{Move};
 ghost use Rattle.plain_table.specs.Step.{changes};
 ghost use Rattle.plain_table.specs.Table.{Table, layer_at};
@@ -11,6 +11,7 @@ ghost use Rattle.plain_table.specs.declared.boxes.RawBox.{RawBox as GivenBox};
 ghost use Rattle.live_layers.specs.Changes.{IsChange, KeepsInChange};
 ghost use Rattle.live_layers.specs.Inserting.{ReachesBox};
 ghost use Rattle.live_layers.specs.Keeping.{ChangesTree, IsSound, cache_of, records_in};
+ghost use Rattle.live_layers.specs.Refusals.{IsRecordedAt, IsTriedChange, refusals_in};
 ghost use Rattle.live_layers.specs.Rules.{HasMoved};
 ghost use Rattle.live_layers.specs.Staying.{KeepsPagesAndRecords};
 
@@ -47,6 +48,9 @@ impl<B: BlockDevice, A: Allocator + Copy> Layers<B, A> {
         ensures same { (t : Table) (name : List ℕ) (box : GivenBox) → IsSound self.old t →
             ReachesBox t name place box D (record { low = low.entry; high = high.entry }) →
             changes t (Move name id box) ≡ false → KeepsPagesAndRecords self.old self.new }
+        ensures in_turn { (name : List ℕ) (box : GivenBox) → IsRecordedAt self.old name place →
+            dims_of box ≡ D → given_bounds box ≡ record { low = low.entry; high = high.entry } →
+            IsTriedChange (refusals_in self.old (Move name id box)) result }
         ensures keeps { KeepsInChange self.old self.new (version_of (cache_of self.old)) result }
     {
         let located = self.locate(place);

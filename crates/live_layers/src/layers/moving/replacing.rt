@@ -19,8 +19,6 @@ use block_device::BlockDevice;
 use box_math::BBox;
 use condense::Kept;
 use layer_pages::{Layer, ObjectAt, replace};
-use page_file::Fault;
-use reinsert::{Waiting, fits_in_memory};
 use std::alloc::Allocator;
 
 impl<B: BlockDevice, A: Allocator + Copy> Layers<B, A> {
@@ -52,11 +50,6 @@ impl<B: BlockDevice, A: Allocator + Copy> Layers<B, A> {
             IfErr result (λ b. IsOfDevice b.cause) }
         ensures begins { BeginsChange self.old self.new (version_of (cache_of self.old)) result }
     {
-        // always so, and known when this is compiled
-        if !fits_in_memory::<Waiting<D, A>>() {
-            return Err(Broken::from(Fault::Memory));
-        }
-        let mut waiting = Waiting::new(self.alloc);
         let mut kept = take_kept(kept_room, self.alloc)?;
         self.begin()?;
         let located = self.locate(place);
@@ -65,14 +58,7 @@ impl<B: BlockDevice, A: Allocator + Copy> Layers<B, A> {
             ids_root: located.ids_root,
             fanout: located.fanout,
         };
-        let root = match replace(
-            &mut self.cache,
-            layer,
-            object,
-            bounds,
-            &mut waiting,
-            &mut kept,
-        ) {
+        let root = match replace(&mut self.cache, layer, object, bounds, &mut kept) {
             Ok(root) => root,
             Err(fault) => return Err(self.broken_by(fault)),
         };

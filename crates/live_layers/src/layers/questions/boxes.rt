@@ -9,6 +9,7 @@ ghost use Rattle.live_layers.specs.Changes.{KeepsInQuestion, Rose};
 ghost use Rattle.live_layers.specs.Keeping.{IsSound};
 ghost use Rattle.live_layers.specs.Located.{IsLocated, IsSpotOf};
 ghost use Rattle.live_layers.specs.Questions.{IsReply, found_answer};
+ghost use Rattle.live_layers.specs.Refusals.{IsTried, lost_refusals};
 
 use crate::faults::as_refusal;
 use crate::layers::Layers;
@@ -33,6 +34,7 @@ impl<B: BlockDevice, A: Allocator + Copy> Layers<B, A> {
             IsLocated self.old t name located.now →
             IsReply (Rose self.old self.new) (first_refusal (missing_refusals (layer_at t name) id))
             (Boxes (object_row (layer_at t name) id ∷ [])) (found_answer id result) }
+        ensures in_turn { IsTried lost_refusals result }
         ensures spot { (t : Table) → IsSound self.old t →
             IfOk result (λ found. IsSpotOf D self.new located.now id found.0) }
         ensures keeps { KeepsInQuestion self.old self.new result }

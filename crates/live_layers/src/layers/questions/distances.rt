@@ -16,6 +16,7 @@ ghost use Rattle.live_layers.specs.Changes.{KeepsInQuestion, Rose};
 ghost use Rattle.live_layers.specs.Keeping.{IsSound, LooksAtTree};
 ghost use Rattle.live_layers.specs.Located.{IsLocated};
 ghost use Rattle.live_layers.specs.Questions.{IsReply};
+ghost use Rattle.live_layers.specs.Refusals.{IsTried};
 
 use crate::faults::as_refusal;
 use crate::layers::Layers;
@@ -43,6 +44,8 @@ impl<B: BlockDevice, A: Allocator + Copy> Layers<B, A> {
             (Distances (take k (by_distance (layer_at t name).dims point.now
             (entries (layer_at t name).objects))))
             (distances_answer result) }
+        ensures in_turn { IsTried (λ _. (not (D == located.now.dims), refusal.WrongDims)
+            ∷ (not (is_count k), refusal.BadCount) ∷ []) result }
         ensures looks { (t : Table) (name : List ℕ) → IsSound self.old t →
             IsLocated self.old t name located.now →
             OnOk result (LooksAtTree self.old self.new name (admitted (is_searched D k point.now

@@ -10,6 +10,7 @@ ghost use Rattle.live_layers.specs.Changes.{KeepsInQuestion, Rose};
 ghost use Rattle.live_layers.specs.Keeping.{IsSound};
 ghost use Rattle.live_layers.specs.Located.{IsLocated};
 ghost use Rattle.live_layers.specs.Questions.{LooksAtTrees};
+ghost use Rattle.live_layers.specs.Refusals.{IsOfNone};
 
 use crate::faults::as_refusal;
 use crate::layers::Layers;
@@ -41,6 +42,7 @@ impl<B: BlockDevice, A: Allocator + Copy> Layers<B, A> {
         ensures fault { (t : Table) (first second : List ℕ) → IsSound self.old t →
             IsLocated self.old t first left.now → IsLocated self.old t second right.now →
             IfErr result (IsFault (Rose self.old self.new)) }
+        ensures of_none { IfErr result IsOfNone }
         ensures keeps { KeepsInQuestion self.old self.new result }
     {
         match join::<D, B, A, A>(self.alloc, &mut self.cache, left.root, right.root, within) {

@@ -14,6 +14,7 @@ ghost use Rattle.live_layers.specs.Changes.{KeepsInQuestion, Rose};
 ghost use Rattle.live_layers.specs.Keeping.{IsSound, LooksAtTree};
 ghost use Rattle.live_layers.specs.Located.{IsLocated};
 ghost use Rattle.live_layers.specs.Questions.{IsReply, is_admitted};
+ghost use Rattle.live_layers.specs.Refusals.{IsOfNone, IsTried};
 
 use crate::faults::as_refusal;
 use crate::layers::Layers;
@@ -44,6 +45,7 @@ impl<B: BlockDevice, A: Allocator + Copy> Layers<B, A> {
             IsLocated self.old t name located.now →
             OnOk result (LooksAtTree self.old self.new name
             (admitted (is_admitted (layer_at t name).dims query))) }
+        ensures in_turn { IsTried (λ _. query_refusals D query) result }
         ensures keeps { KeepsInQuestion self.old self.new result }
     {
         let asked = query.in_axes::<D>()?;
@@ -70,6 +72,7 @@ impl<B: BlockDevice, A: Allocator + Copy> Layers<B, A> {
         ensures fault { (t : Table) (name : List ℕ) → IsSound self.old t →
             IsLocated self.old t name located.now →
             IfErr result (IsFault (Rose self.old self.new)) }
+        ensures of_none { IfErr result IsOfNone }
         ensures keeps { KeepsInQuestion self.old self.new result }
     {
         match range(self.alloc, &mut self.cache, located.root, query, tag) {

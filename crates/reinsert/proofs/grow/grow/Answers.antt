@@ -9,7 +9,7 @@ use Rattle.reinsert.proofs.SettledLemmas.{is_some_from}
 use Rattle.page_cache.specs.Calls.{changes_and_refuses, changes_in_turn}
 use Rattle.node_page.proofs.NodeLemmas.{at_error}
 use Rattle.node_page.specs.Faults.{IsNoDamage, IsChangeFault}
-use Rattle.reinsert.proofs.FaultLemmas.{with_full, one_more}
+use Rattle.reinsert.proofs.FaultLemmas.{one_more, with_full, with_full_between}
 use Rattle.reinsert.proofs.grow.grow.Goals as goal
 
 pub returns-in_err-page-clause-faults : goal.returns-in_err-page-clause-faults
@@ -61,12 +61,14 @@ returns-clause-grown g c = λ h.
 
 pub returns-in_err-page-clause-other_faults : goal.returns-in_err-page-clause-other_faults
 returns-in_err-page-clause-other_faults g c =
-    at_error c.from_residual.result c.in_err-page.field-0.0 IsChangeFault c.from_residual.ensures.1
-    c.in_err-page.ensures.other_faults
+    at_error c.from_residual.result c.in_err-page.field-0.0 (IsChangeFault c.allocate.new.self)
+    c.from_residual.ensures.1
+    (with_full_between _ _ _ _ c.in_err-page.ensures.other_faults
+    (λ is. c.in_err-page.ensures.full (ap Err is)))
 
 pub returns-in_err-write_node-clause-other_faults : goal.returns-in_err-write_node-clause-other_faults
 returns-in_err-write_node-clause-other_faults g c =
-    at_error c.from_residual-in_err-write_node.result c.in_err-write_node.field-0.0 IsChangeFault
+    at_error c.from_residual-in_err-write_node.result c.in_err-write_node.field-0.0 (IsChangeFault c.write_node.new.cache)
     c.from_residual-in_err-write_node.ensures.1 (one_more _ _ _ c.in_err-write_node.ensures.other_faults)
 
 pub returns-clause-touched : goal.returns-clause-touched

@@ -1,9 +1,8 @@
 -- The goals of `insert_at` that are proved by hand.
-use Rattle.std.proofs.Common.{Err, refl}
-use Rattle.page_file.specs.declared.fault.Fault.TheVariants as fault
 use Rattle.reinsert.proofs.RoomLemmas.{no_room_inserts}
 use Rattle.reinsert.proofs.insert.insert_at.Goals as goal
 
-pub returns-then-not-fits_in_memory : goal.returns-then-not-fits_in_memory
-returns-then-not-fits_in_memory g c =
-    no_room_inserts c.args.cache.now fault.Memory (Err fault.Memory) refl refl
+pub returns-in_err-waiting : goal.returns-in_err-waiting
+returns-in_err-waiting g c =
+    no_room_inserts c.args.cache.now c.in_err-waiting.field-0.0 c.from_residual.result c.from_residual.ensures.1
+    c.in_err-waiting.ensures

@@ -18,7 +18,6 @@ use Rattle.reinsert.specs.Placing.{State}
 use Rattle.reinsert.proofs.FromLemmas.{at_begin}
 use Rattle.reinsert.proofs.FaultLemmas.{changes_refused, damaged_at_once, no_answer, no_success}
 use Rattle.reinsert.proofs.FaultLemmas.{none_before}
-use Rattle.reinsert.proofs.RoomLemmas.{no_room_inserts}
 use Rattle.reinsert.proofs.InsertLemmas.{begun, inserted_end, reached_first, reached_more}
 use Rattle.reinsert.proofs.StateLemmas.{first_has_shape, low_root, placings_keep_shape}
 use Rattle.reinsert.proofs.insert.insert_with.Goals as goal
@@ -50,19 +49,14 @@ returns-then-root-ge40-clause-inserts g c = record {
   other_faults = search rules;
 }
 
-pub returns-in_err-begin-clause-inserts : goal.returns-in_err-begin-clause-inserts
-returns-in_err-begin-clause-inserts g c =
-    no_room_inserts c.args.cache.now c.in_err-begin.field-0.0 c.from_residual.result
-    c.from_residual.ensures.1 c.in_err-begin.ensures.refused
-
 pub returns-in_err-now-clause-inserts : goal.returns-in_err-now-clause-inserts
 returns-in_err-now-clause-inserts g c = record {
   changes = changes_refused c.args.cache.now c.place_one.new.cache c.in_err-now.field-0.0
-      c.from_residual-in_err-now.result c.from_residual-in_err-now.ensures.1 c.in_err-now.ensures.changes;
+      c.from_residual.result c.from_residual.ensures.1 c.in_err-now.ensures.changes;
   grows = omega (arith, c.in_err-now.ensures.grows);
-  root = no_answer c.from_residual-in_err-now.result c.in_err-now.field-0.0 _ c.from_residual-in_err-now.ensures.1;
-  inserted = λ h t branch elsewhere can. no_answer c.from_residual-in_err-now.result c.in_err-now.field-0.0 _
-      c.from_residual-in_err-now.ensures.1;
+  root = no_answer c.from_residual.result c.in_err-now.field-0.0 _ c.from_residual.ensures.1;
+  inserted = λ h t branch elsewhere can. no_answer c.from_residual.result c.in_err-now.field-0.0 _
+      c.from_residual.ensures.1;
   faults = λ h t branch elsewhere can shape boxes entry.
       let D = g.row.D in
       let m : PageMap = pages c.args.cache.now in
@@ -71,34 +65,34 @@ returns-in_err-now-clause-inserts g c = record {
       let at = begun D c.args.root.level m c.args.root first t branch elsewhere can in
       let at1 =
       subst (λ (ws : List (Wait D)). IsAt D m c.args.root (ws ++ first ∷ []) (called_from c.args.root.level) elsewhere s)
-      (sym c.in_ok-begin.ensures.waits) at in
+      (sym c.begin.ensures.waits) at in
       let at2 =
       subst (λ (cs : List Bool). IsAt D m c.args.root (c.begin.new.self.waits.items ++ first ∷ []) cs
-      elsewhere s) (sym c.in_ok-begin.ensures.called) at1 in
-      at_error c.from_residual-in_err-now.result c.in_err-now.field-0.0 (IsNoDamage c.place_one.new.cache)
-      c.from_residual-in_err-now.ensures.1
+      elsewhere s) (sym c.begin.ensures.called) at1 in
+      at_error c.from_residual.result c.in_err-now.field-0.0 (IsNoDamage c.place_one.new.cache)
+      c.from_residual.ensures.1
       (c.in_err-now.ensures.faults h s elsewhere at2
       (first_has_shape D c.args.fanout.most c.args.root.level c.args.level t branch can.fits shape boxes entry));
   damage = λ h none.
-      at_error c.from_residual-in_err-now.result c.in_err-now.field-0.0
+      at_error c.from_residual.result c.in_err-now.field-0.0
       (λ f. (n : ℕ) → f ≡ fault.Damaged n → ComesTo g.row.D (given c.args.cache.now) c.args.root.page n)
-      c.from_residual-in_err-now.ensures.1 (c.in_err-now.ensures.damage h);
-  sound = λ h. no_success c.from_residual-in_err-now.result c.in_err-now.field-0.0 _ c.from_residual-in_err-now.ensures.1;
+      c.from_residual.ensures.1 (c.in_err-now.ensures.damage h);
+  sound = λ h. no_success c.from_residual.result c.in_err-now.field-0.0 _ c.from_residual.ensures.1;
   number = λ h.
-      at_error c.from_residual-in_err-now.result c.in_err-now.field-0.0 NamesInRange
-      c.from_residual-in_err-now.ensures.1
+      at_error c.from_residual.result c.in_err-now.field-0.0 NamesInRange
+      c.from_residual.ensures.1
       (λ n damaged. comes_in_range g.row.D (given c.args.cache.now) c.args.root.page n c.requires.root
       (c.in_err-now.ensures.damage h n damaged));
-  other_faults = at_error c.from_residual-in_err-now.result c.in_err-now.field-0.0 IsChangeFault
-      c.from_residual-in_err-now.ensures.1 c.in_err-now.ensures.other_faults;
+  other_faults = at_error c.from_residual.result c.in_err-now.field-0.0 (IsChangeFault c.place_one.new.cache)
+      c.from_residual.ensures.1 c.in_err-now.ensures.other_faults;
 }
 
 pub placing-init : goal.placing-init
 placing-init g c = (
   c.in_ok-now.ensures.changes,
   c.in_ok-now.ensures.root,
-  omega (arith, c.in_ok-now.ensures.measure, c.in_ok-begin.ensures.measure),
-  omega (arith, c.in_ok-now.ensures.measure, c.in_ok-begin.ensures.measure, c.in_ok-now.ensures.grows),
+  omega (arith, c.in_ok-now.ensures.measure, c.begin.ensures.measure),
+  omega (arith, c.in_ok-now.ensures.measure, c.begin.ensures.measure, c.in_ok-now.ensures.grows),
   λ h t branch elsewhere can.
       let D = g.row.D in
       let m : PageMap = pages c.args.cache.now in
@@ -107,10 +101,10 @@ placing-init g c = (
       let at = begun D c.args.root.level m c.args.root first t branch elsewhere can in
       let at1 =
       subst (λ (ws : List (Wait D)). IsAt D m c.args.root (ws ++ first ∷ []) (called_from c.args.root.level) elsewhere s)
-      (sym c.in_ok-begin.ensures.waits) at in
+      (sym c.begin.ensures.waits) at in
       let at2 =
       subst (λ (cs : List Bool). IsAt D m c.args.root (c.begin.new.self.waits.items ++ first ∷ []) cs
-      elsewhere s) (sym c.in_ok-begin.ensures.called) at1 in
+      elsewhere s) (sym c.begin.ensures.called) at1 in
       let step = c.in_ok-now.ensures.placed h s elsewhere at2 in (
         step.0,
         reached_first D c.args.fanout.most elsewhere m (pages c.place_one.new.cache) s c.in_ok-now.now
@@ -178,7 +172,8 @@ returns-in_err-now-2-clause-inserts g c = record {
       c.from_residual-in_err-now-2.ensures.1
       (λ n damaged. comes_in_range g.row.D (given c.placing.cache) c.placing.now.page n
       c.placing.invariant.1.page (c.in_err-now-2.ensures.damage (c.placing.invariant.5 h).0 n damaged));
-  other_faults = at_error c.from_residual-in_err-now-2.result c.in_err-now-2.field-0.0 IsChangeFault
+  other_faults = at_error c.from_residual-in_err-now-2.result c.in_err-now-2.field-0.0
+      (IsChangeFault c.place_one-in-Some.new.cache)
       c.from_residual-in_err-now-2.ensures.1 c.in_err-now-2.ensures.other_faults;
 }
 

@@ -15,8 +15,8 @@ abbrev pub invariant-placing : goal.invariant-placing
 invariant-placing g l =
     ChangesUntil l.fn.cache l.cache None
     × IsRootFrom l.fn.root l.now
-    × (measure_of l.waiting ≤ 1230)
-    × Grows (most_placing_pages * (1231 - measure_of l.waiting)) l.fn.cache l.cache
+    × (measure_of l.waiting ≤ 1200)
+    × Grows (most_placing_pages * (1201 - measure_of l.waiting)) l.fn.cache l.cache
     × (IsPageMap l.fn.cache → (t : Tree) (branch : Branch) (elsewhere : ℕ → ℕ)
     → CanInsert g.row.D (pages l.fn.cache) l.fn.root (item_of l.fn.entry) l.fn.level t branch elsewhere
     → IsPageMap l.cache

@@ -67,7 +67,7 @@ returns-in_err-bounds g c = record {
       at_error c.from_residual.result c.in_err-bounds.field-0.0
       (λ f. (n : ℕ) → f ≡ fault.Damaged n → ComesTo g.row.D (given c.args.cache.now) c.args.root.page n)
       c.from_residual.ensures.1 (c.in_err-bounds.ensures.damage h);
-  other_faults = at_error c.from_residual.result c.in_err-bounds.field-0.0 IsChangeFault
+  other_faults = at_error c.from_residual.result c.in_err-bounds.field-0.0 (IsChangeFault c.place.new.cache)
       c.from_residual.ensures.1 c.in_err-bounds.ensures.other_faults;
 }
 

@@ -71,7 +71,8 @@ returns-in_err-way-clause-changes g t c =
 
 pub returns-in_err-way-clause-other_faults : goal.returns-in_err-way-clause-other_faults
 returns-in_err-way-clause-other_faults g t c =
-    at_error c.from_residual.result c.in_err-way.field-0.0 IsChangeFault c.from_residual.ensures.1
+    at_error c.from_residual.result c.in_err-way.field-0.0 (IsChangeFault c.way_down.new.cache)
+    c.from_residual.ensures.1
     (one_more _ _ _ c.in_err-way.ensures.other_faults)
 
 pub returns-in_err-lower-clause-faults : goal.returns-in_err-lower-clause-faults
@@ -102,7 +103,7 @@ returns-in_err-lower-clause-changes g t c =
 
 pub returns-in_err-lower-clause-other_faults : goal.returns-in_err-lower-clause-other_faults
 returns-in_err-lower-clause-other_faults g t c =
-    at_error c.from_residual-in_err-lower.result c.in_err-lower.field-0.0 IsChangeFault
+    at_error c.from_residual-in_err-lower.result c.in_err-lower.field-0.0 (IsChangeFault c.place.new.cache)
     c.from_residual-in_err-lower.ensures.1 c.in_err-lower.ensures.other_faults
 
 -- ---- the call below

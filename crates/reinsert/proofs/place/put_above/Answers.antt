@@ -116,6 +116,6 @@ returns-in_err-bounds g c = record {
       c.from_residual.ensures.1
       (⊎_elim (λ (device : IsOfDevice f). inl (inl device)) (λ (is : f ≡ fault.Damaged c.args.at.page). inr
       is) (c.in_err-bounds.ensures.named h.honest));
-  other_faults = at_error c.from_residual.result c.in_err-bounds.field-0.0 IsChangeFault
+  other_faults = at_error c.from_residual.result c.in_err-bounds.field-0.0 (IsChangeFault c.enlarge_entry.new.cache)
       c.from_residual.ensures.1 (one_more _ _ _ c.in_err-bounds.ensures.other_faults);
 }

@@ -44,7 +44,8 @@ returns-in_err-read_fitting g c = record {
       (⊎_elim (λ (device : IsOfDevice f). inl (inl device)) (λ (is : f ≡ fault.Damaged c.args.at.page). inr
       is)
       (c.in_err-read_fitting.ensures.damaged h.honest));
-  other_faults = at_error c.from_residual.result c.in_err-read_fitting.field-0.0 IsChangeFault
+  other_faults = at_error c.from_residual.result c.in_err-read_fitting.field-0.0
+      (IsChangeFault c.read_fitting.new.cache)
       c.from_residual.ensures.1 (one_more _ _ _ c.in_err-read_fitting.ensures.other_faults);
 }
 

@@ -110,7 +110,7 @@ returns-in_err-read_fitting g c = record {
       is)
       (c.in_err-read_fitting.ensures.damaged (asked.gate.honest.0 h.honest)));
   other_faults = at_error c.from_residual-in_err-read_fitting.result c.in_err-read_fitting.field-0.0
-      IsChangeFault c.from_residual-in_err-read_fitting.ensures.1
+      (IsChangeFault c.read_fitting.new.cache) c.from_residual-in_err-read_fitting.ensures.1
       (one_more _ _ _ c.in_err-read_fitting.ensures.other_faults);
 }
 
@@ -266,7 +266,7 @@ returns-in_err-bounds g c = record {
       (⊎_elim (λ (device : IsOfDevice f). inl (inl device)) (λ (is : f ≡ fault.Damaged c.args.at.page). inr
       is)
       (c.in_err-bounds.ensures.named h.honest));
-  other_faults = at_error c.from_residual.result c.in_err-bounds.field-0.0 IsChangeFault
+  other_faults = at_error c.from_residual.result c.in_err-bounds.field-0.0 (IsChangeFault c.add_entry.new.cache)
       c.from_residual.ensures.1 (one_more _ _ _ c.in_err-bounds.ensures.other_faults);
 }
 

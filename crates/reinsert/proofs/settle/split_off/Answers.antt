@@ -58,7 +58,8 @@ returns-clause-settled g c = λ h top held branches are can.
 
 pub returns-in_err-number-clause-other_faults : goal.returns-in_err-number-clause-other_faults
 returns-in_err-number-clause-other_faults g c =
-    at_error c.from_residual.result c.in_err-number.field-0.0 IsChangeFault c.from_residual.ensures.1
+    at_error c.from_residual.result c.in_err-number.field-0.0 (IsChangeFault c.write_both.new.cache)
+    c.from_residual.ensures.1
     c.in_err-number.ensures.other_faults
 
 pub returns-clause-sound : goal.returns-clause-sound

@@ -66,5 +66,6 @@ returns-clause-settled g c = λ h top below branches are can. (
 
 pub returns-in_err-write_node-clause-other_faults : goal.returns-in_err-write_node-clause-other_faults
 returns-in_err-write_node-clause-other_faults g c =
-    at_error c.from_residual.result c.in_err-write_node.field-0.0 IsChangeFault c.from_residual.ensures.1
+    at_error c.from_residual.result c.in_err-write_node.field-0.0 (IsChangeFault c.write_node.new.cache)
+    c.from_residual.ensures.1
     (one_more _ _ _ c.in_err-write_node.ensures.other_faults)

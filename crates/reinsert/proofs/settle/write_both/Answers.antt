@@ -7,7 +7,7 @@ use Rattle.node_page.specs.Standing.{PageMap}
 use Rattle.node_page.proofs.NodeLemmas.{at_error}
 use Rattle.node_page.proofs.PartLemmas.{there_not_missing}
 use Rattle.node_page.specs.Faults.{IsNoDamage, IsChangeFault}
-use Rattle.reinsert.proofs.FaultLemmas.{with_full, one_more}
+use Rattle.reinsert.proofs.FaultLemmas.{one_more, with_full, with_full_between}
 use Rattle.reinsert.proofs.SettledLemmas.{is_some_from, splits_off}
 use Rattle.reinsert.proofs.settle.write_both.Goals as goal
 
@@ -92,15 +92,17 @@ returns-clause-written g c = λ h live.
 
 pub returns-in_err-number-clause-other_faults : goal.returns-in_err-number-clause-other_faults
 returns-in_err-number-clause-other_faults g c =
-    at_error c.from_residual.result c.in_err-number.field-0.0 IsChangeFault c.from_residual.ensures.1
-    c.in_err-number.ensures.other_faults
+    at_error c.from_residual.result c.in_err-number.field-0.0 (IsChangeFault c.allocate.new.self)
+    c.from_residual.ensures.1
+    (with_full_between _ _ _ _ c.in_err-number.ensures.other_faults
+    (λ is. c.in_err-number.ensures.full (ap Err is)))
 
 pub returns-in_err-write_node-clause-other_faults : goal.returns-in_err-write_node-clause-other_faults
 returns-in_err-write_node-clause-other_faults g c =
-    at_error c.from_residual-in_err-write_node.result c.in_err-write_node.field-0.0 IsChangeFault
+    at_error c.from_residual-in_err-write_node.result c.in_err-write_node.field-0.0 (IsChangeFault c.write_node.new.cache)
     c.from_residual-in_err-write_node.ensures.1 (one_more _ _ _ c.in_err-write_node.ensures.other_faults)
 
 pub returns-in_err-write_node-2-clause-other_faults : goal.returns-in_err-write_node-2-clause-other_faults
 returns-in_err-write_node-2-clause-other_faults g c =
-    at_error c.from_residual-in_err-write_node-2.result c.in_err-write_node-2.field-0.0 IsChangeFault
+    at_error c.from_residual-in_err-write_node-2.result c.in_err-write_node-2.field-0.0 (IsChangeFault c.write_node-2.new.cache)
     c.from_residual-in_err-write_node-2.ensures.1 (one_more _ _ _ c.in_err-write_node-2.ensures.other_faults)

@@ -1,6 +1,9 @@
 -- A question of the layers is a question of the store.
-use Rattle.std.proofs.Common.{refl, inl, inr}
-use Rattle.live_layers.proofs.Results.{on_ok}
+use Rattle.std.proofs.Common.{false, refl, inl, inr}
+use Rattle.live_layers.specs.Refusals.{refusals_in}
+use Rattle.live_layers.proofs.RefusalLemmas.{fault_of_none, of_none}
+use Rattle.live_layers.proofs.Results.{if_err, on_ok}
+use Rattle.plain_table.specs.Commands.Command.{Check}
 use Rattle.layer_store.specs.Representation.{device_in}
 use Rattle.layer_store.specs.declared.store.Store.{Store}
 use Rattle.layer_store.proofs.QuestionLemmas.{asked_answers, failed_answers, keeps_asked}
@@ -19,7 +22,10 @@ returns-clause-answers g c =
     let asked = c.check.ensures in
     asked_answers c.if-self.false (λ honest b left. d.only_now (device_in c.args.self.now) b honest left)
     (λ t. refl) (λ t stops. refl) tt (d.faults_fit (device_in c.args.self.now))
-    asked.answered asked.keeps
+    asked.answered
+    (of_none (refusals_in c.args.self.now.layers Check) c.check.result (false, refl)
+    (if_err c.check.result (λ r of_fault. fault_of_none of_fault.0 r of_fault.1) asked.refused))
+    asked.keeps
 
 pub returns-clause-sound : goal.returns-clause-sound
 returns-clause-sound g c = λ honest.

@@ -13,4 +13,4 @@ pub returns-clause-answers : goal.returns-clause-answers
 returns-clause-answers g c =
     reply_answers c.count.result c.if-self.false
     (λ honest b left. g.met.D.BlockDevice.only_now (device_in c.args.self.now) b honest left) (λ t. refl)
-    (λ t stops. refl) c.count.ensures.answered c.count.ensures.cause
+    (λ t stops. refl) c.count.ensures.answered c.count.ensures.cause c.count.ensures.in_turn

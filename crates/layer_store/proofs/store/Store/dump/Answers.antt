@@ -1,5 +1,8 @@
 -- A question of the layers is a question of the store.
-use Rattle.std.proofs.Common.{refl}
+use Rattle.std.proofs.Common.{false, refl}
+use Rattle.live_layers.specs.Refusals.{refusals_in}
+use Rattle.live_layers.proofs.RefusalLemmas.{of_none}
+use Rattle.plain_table.specs.Commands.Command.{Dump}
 use Rattle.layer_store.specs.Representation.{device_in}
 use Rattle.layer_store.proofs.QuestionLemmas.{asked_answers, failed_answers}
 use Rattle.layer_store.proofs.store.Store.dump.Goals as goal
@@ -21,5 +24,7 @@ returns g c =
           asked_answers c.if-self.false
           (λ honest b left. d.only_now (device_in c.args.self.now) b honest left) (λ t. refl)
           (λ t stops. refl) tt (d.faults_fit (device_in c.args.self.now))
-          asked.answered asked.keeps;
+          asked.answered
+          (of_none (refusals_in c.args.self.now.layers Dump) c.dump.result (false, refl) asked.of_none)
+          asked.keeps;
     }

@@ -21,5 +21,5 @@ returns g c =
           asked_answers c.if-self.false
           (λ honest b left. d.only_now (device_in c.args.self.now) b honest left) (λ t. refl)
           (λ t stops. refl) tt (d.faults_fit (device_in c.args.self.now))
-          asked.answered asked.keeps;
+          asked.answered asked.in_turn asked.keeps;
     }

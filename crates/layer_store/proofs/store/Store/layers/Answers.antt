@@ -1,5 +1,5 @@
 -- A listing of the layers is an answer of the store.
-use Rattle.std.proofs.Common.{Ok, refl}
+use Rattle.std.proofs.Common.{Ok, false, refl}
 use Rattle.layer_store.specs.Representation.{device_in}
 use Rattle.layer_store.proofs.QuestionLemmas.{failed_answers, reply_answers}
 use Rattle.layer_store.proofs.store.Store.layers.Goals as goal
@@ -13,4 +13,4 @@ pub returns-else-self-clause-answers : goal.returns-else-self-clause-answers
 returns-else-self-clause-answers g c =
     reply_answers (Ok c.layers.result) c.if-self.false
     (λ honest b left. g.met.D.BlockDevice.only_now (device_in c.args.self.now) b honest left) (λ t. refl)
-    (λ t stops. refl) c.layers.ensures.answered tt
+    (λ t stops. refl) c.layers.ensures.answered tt (false, refl)

@@ -16,7 +16,7 @@ returns-clause-answers g c =
     let asked = c.nearest.ensures in
     asked_answers c.if-self.false (λ honest b left. d.only_now (device_in c.args.self.now) b honest left)
     (λ t. refl) (λ t stops. refl) tt (d.faults_fit (device_in c.args.self.now))
-    asked.answered asked.keeps
+    asked.answered asked.in_turn asked.keeps
 
 pub returns-clause-looks : goal.returns-clause-looks
 returns-clause-looks g c = λ t alive. c.nearest.ensures.looks t (is_alive c.args.self.now t alive).1

@@ -19,6 +19,6 @@ returns g c =
     record {
       answers = asked_answers c.if-self.false
           (λ honest b left. d.only_now (device_in c.args.self.now) b honest left) (λ t. refl) (λ t stops. refl)
-          tt (d.faults_fit (device_in c.args.self.now)) asked.answered asked.keeps;
+          tt (d.faults_fit (device_in c.args.self.now)) asked.answered asked.in_turn asked.keeps;
       looks = λ t alive. asked.looks t (is_alive c.args.self.now t alive).1;
     }

@@ -1,9 +1,9 @@
 -- A reopening of the layers is a step of the store, and a closing.
-use Rattle.std.proofs.Common.{inl, refl}
+use Rattle.std.proofs.Common.{inl, inr, refl}
 use Rattle.plain_table.specs.Commands.Command.{Reopen}
 use Rattle.layer_store.specs.Representation.{device_in}
 use Rattle.layer_store.proofs.ChangeLemmas.{cause_told, err_told, not_refused, on_told, refused_goes_on}
-use Rattle.layer_store.proofs.ChangeLemmas.{reply_told, step_told, told_end}
+use Rattle.layer_store.proofs.ChangeLemmas.{reply_told, step_told, told_end, told_met}
 use Rattle.layer_store.proofs.ClosingLemmas.{durable_closed, ends_closed, image_closed, quiet_closed}
 use Rattle.layer_store.proofs.ClosingLemmas.{settled_closed, stops_closed}
 use Rattle.layer_store.proofs.StopLemmas.{reopening_leaves}
@@ -133,3 +133,13 @@ returns-then-self-clause-versions g c = record { version = λ honest. refl; newe
 
 pub returns-clause-versions : goal.returns-clause-versions
 returns-clause-versions g c = c.reopen-closed.ensures.versions
+
+pub returns-then-self-clause-met : goal.returns-then-self-clause-met
+returns-then-self-clause-met g c = λ honest. inl (dead_so c.args.self.now c.if-self.true)
+
+pub returns-clause-met : goal.returns-clause-met
+returns-clause-met g c = λ honest.
+    inr
+    (told_met c.args.self.now
+    (record c.args.self.now { layers = c.reopen-closed.new.self; failed = c.tell.new.failed })
+    c.if-self.false c.tell.ensures (c.reopen-closed.ensures.met honest))

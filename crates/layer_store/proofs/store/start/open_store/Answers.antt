@@ -3,6 +3,7 @@ use Rattle.std.proofs.Common.{◌∙◌, arith, refl, sym, subst, inl, inr, ⊎_
 use Rattle.block_device.specs.Device.{Blocks}
 use Rattle.live_layers.specs.Image.{IsImage}
 use Rattle.page_file.specs.File.{blocks_of, device_of, next_of, pages}
+use Rattle.page_file.specs.Layout.{IsWithin}
 use Rattle.page_file.specs.Pages.{next_in, pages_in}
 use Rattle.page_file.specs.declared.fault.Fault.TheVariants as fault
 use Rattle.layer_store.specs.Representation.{device_in}
@@ -82,7 +83,7 @@ returns-in-Ok-clause-refused g c = λ cache. err_case c.begin.result (λ e is ho
       fault.Damaged 2,
       damaged.0,
       inr (
-        lies.passes,
+        opened.passes honest,
         refl,
         same_catalog (pages c.in-Ok.file) (pages_in blocks) (next_of c.in-Ok.file) (next_in blocks)
             lies.pages_there lies.next damaged.1,
@@ -127,6 +128,12 @@ returns-in-Ok-clause-spelled g c =
     ok_case c.begin.result
     (λ store is honest. at_ok _ c.begin.result store is c.begin.ensures.spelled
     (c.in-Ok.ensures.honest.0 honest))
+
+pub returns-in-Ok-clause-within : goal.returns-in-Ok-clause-within
+returns-in-Ok-clause-within g c = ok_case c.begin.result (λ store is honest.
+    let opened = c.in-Ok.ensures in
+    subst (IsWithin c.args.newest)
+    (sym (at_ok _ c.begin.result store is c.begin.ensures.version (opened.honest.0 honest))) opened.within)
 
 pub returns-in-Ok-clause-version : goal.returns-in-Ok-clause-version
 returns-in-Ok-clause-version g c = ok_case c.begin.result (λ store is honest.

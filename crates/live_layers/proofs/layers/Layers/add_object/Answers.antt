@@ -6,7 +6,6 @@ use Rattle.plain_table.specs.Table.{layer_at}
 use Rattle.layer_pages.specs.Changes.{most_inserted_pages}
 use Rattle.page_file.specs.Fault.{IsOfDevice}
 use Rattle.live_layers.specs.declared.broken.Broken.{Broken}
-use Rattle.page_file.specs.declared.fault.Fault.TheVariants as fault
 use Rattle.live_layers.proofs.CountLemmas.{no_page_wanted}
 use Rattle.live_layers.specs.Rules.{HasGained}
 use Rattle.live_layers.proofs.AddLemmas.{sound_added, stands_at, tree_added}
@@ -16,15 +15,15 @@ use Rattle.live_layers.proofs.Results.{the_err}
 use Rattle.live_layers.proofs.SpotLemmas.{spot_begun}
 use Rattle.live_layers.proofs.layers.Layers.add_object.Goals as goal
 
-pub returns-then-not-fits_in_memory-clause-begins : goal.returns-then-not-fits_in_memory-clause-begins
-returns-then-not-fits_in_memory-clause-begins g c =
-    no_memory c.args.self.now fault.Memory (Err c.from.result) c.from.ensures refl
-    g.met.B.BlockDevice.only_now
+pub returns-in_err-kept-clause-begins : goal.returns-in_err-kept-clause-begins
+returns-in_err-kept-clause-begins g c =
+    no_memory c.args.self.now c.in_err-kept.field-0.0 c.from_residual.result
+    c.from_residual.ensures.1 c.in_err-kept.ensures g.met.B.BlockDevice.only_now
 
 pub returns-in_err-begin-clause-begins : goal.returns-in_err-begin-clause-begins
 returns-in_err-begin-clause-begins g c =
-    not_opened c.args.self.now c.begin.new.self c.in_err-begin.field-0.0 c.from_residual.result
-    c.from_residual.ensures.1 c.in_err-begin.ensures.begins c.begin.ensures.sound
+    not_opened c.args.self.now c.begin.new.self c.in_err-begin.field-0.0 c.from_residual-in_err-begin.result
+    c.from_residual-in_err-begin.ensures.1 c.in_err-begin.ensures.begins c.begin.ensures.sound
     c.begin.ensures.keeps
 
 pub returns-in-Err-clause-begins : goal.returns-in-Err-clause-begins
@@ -32,17 +31,17 @@ returns-in-Err-clause-begins g c =
     broke_behind c.args.self.now c.begin.new.self _ c.in-Err.fault
     (Err c.broken_by.result) c.broken_by.ensures (refl, refl, refl, refl)
     c.in_ok-begin.ensures.begins c.begin.ensures.sound c.begin.ensures.keeps
-    c.in-Err.ensures.changes
+    c.in-Err.ensures.changes c.in-Err.ensures.other_faults
 
-pub returns-then-not-fits_in_memory-clause-faults : goal.returns-then-not-fits_in_memory-clause-faults
-returns-then-not-fits_in_memory-clause-faults g c =
-    λ t name sound finds dims spot. subst (λ (b : Broken). IsOfDevice b.cause) (sym c.from.ensures)
-    (inl refl)
+pub returns-in_err-kept-clause-faults : goal.returns-in_err-kept-clause-faults
+returns-in_err-kept-clause-faults g c =
+    λ t name sound finds dims spot. the_err c.from_residual.result _ _
+    c.from_residual.ensures.1 (inl c.in_err-kept.ensures)
 
 pub returns-in_err-begin-clause-faults : goal.returns-in_err-begin-clause-faults
 returns-in_err-begin-clause-faults g c =
-    λ t name sound finds dims spot. the_err c.from_residual.result _ _
-    c.from_residual.ensures.1 c.in_err-begin.ensures.faults
+    λ t name sound finds dims spot. the_err c.from_residual-in_err-begin.result _ _
+    c.from_residual-in_err-begin.ensures.1 c.in_err-begin.ensures.faults
 
 pub returns-in-Err-clause-faults : goal.returns-in-Err-clause-faults
 returns-in-Err-clause-faults g c = λ t name sound finds dims spot.

@@ -16,7 +16,7 @@ returns-in_err-begin_change-clause-begins g c =
     (gate_begun cache c.begin_change.new.self (Err (before f))
     (λ honest b left. g.met.B.BlockDevice.only_now (device_of cache) b honest left)
     (λ opened. (begun.was_open opened).0) begun.blocks begun.stops begun.honest begun.map tt refl
-    c.in_err-begin_change.ensures.cause.refused)
+    c.in_err-begin_change.ensures.faults c.in_err-begin_change.ensures.cause.refused)
 
 pub returns-in_err-begin_change-clause-sound : goal.returns-in_err-begin_change-clause-sound
 returns-in_err-begin_change-clause-sound g c =
@@ -29,7 +29,7 @@ returns-clause-begins g c =
     gate_begun cache c.begin_change.new.self (Ok tt)
     (λ honest b left. g.met.B.BlockDevice.only_now (device_of cache) b honest left)
     (λ opened. (begun.was_open opened).0) begun.blocks begun.stops begun.honest begun.map
-    c.in_ok-begin_change.ensures.open tt c.in_ok-begin_change.ensures.cause.ok
+    c.in_ok-begin_change.ensures.open tt tt c.in_ok-begin_change.ensures.cause.ok
 
 pub returns-clause-sound : goal.returns-clause-sound
 returns-clause-sound g c =

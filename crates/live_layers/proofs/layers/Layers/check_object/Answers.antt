@@ -14,6 +14,8 @@ use Rattle.live_layers.proofs.InsertLemmas.{bad_box, duplicate, full_so, none_re
 use Rattle.live_layers.proofs.InsertLemmas.{wrong_dims}
 use Rattle.live_layers.proofs.QuestionLemmas.{asks_and_answers, asks_and_fails, asks_and_refuses}
 use Rattle.live_layers.proofs.SpotLemmas.{spot_stays}
+use Rattle.live_layers.proofs.RefusalLemmas.{fault_of_none, object_axes, object_bad, object_fits, object_many}
+use Rattle.live_layers.proofs.RefusalLemmas.{object_there}
 use Rattle.live_layers.proofs.layers.Layers.check_object.Goals as goal
 
 pub returns-then-from-clause-allowed : goal.returns-then-from-clause-allowed
@@ -116,7 +118,7 @@ returns-clause-allowed g c = λ t name box sound located axes given.
 pub returns-in-Err-clause-keeps : goal.returns-in-Err-clause-keeps
 returns-in-Err-clause-keeps g c =
     asks_and_fails c.args.self.now _ c.in-Err.fault c.as_refusal.ensures (refl, refl, refl, refl)
-    c.in-Err.ensures.asks
+    c.in-Err.ensures.asks c.in-Err.ensures.other_faults
 
 pub returns-then-is_some-clause-keeps : goal.returns-then-is_some-clause-keeps
 returns-then-is_some-clause-keeps g c =
@@ -134,3 +136,53 @@ returns-clause-spot g c = λ t sound.
     spot_stays g.row.D c.args.self.now (record c.args.self.now { cache = c.find.new.cache })
     (c.in-Ok.ensures.asks.map.pages_stay sound.map.honest) refl 0 c.args.id c.in-Ok.sought.spot
     c.args.located.now (c.in-Ok.ensures.spot sound.map.honest)
+
+pub returns-then-from-clause-in_turn : goal.returns-then-from-clause-in_turn
+returns-then-from-clause-in_turn g c = λ box axes given.
+    let dims = c.args.located.now.dims in
+    inl (object_axes dims box (nat_le most_objects c.args.self.now.object_count)
+    (tested_other (dims_of box) dims dims refl (λ e. c.if-from.true (c.from.ensures ∙ e ∙ axes))))
+
+pub returns-in_default-clause-in_turn : goal.returns-in_default-clause-in_turn
+returns-in_default-clause-in_turn g c = λ box axes given.
+    let dims = c.args.located.now.dims in
+    let its : dims ≡ g.row.D = sym c.from.ensures ∙ c.if-from.false in
+    let test : is_ordered (dims_of box) (given_bounds box) ≡ is_some c.try_new.result =
+    (λ i. is_ordered (axes i) (given i)) ∙ sym c.try_new.ensures.test in
+    inl (object_bad dims box (nat_le most_objects c.args.self.now.object_count)
+    (tested_same (dims_of box) dims dims refl (its ∙ sym axes)) (test ∙ ap is_some c.in_default.is))
+
+pub returns-in-Err-clause-in_turn : goal.returns-in-Err-clause-in_turn
+returns-in-Err-clause-in_turn g c = λ box axes given.
+    inr (fault_of_none c.in-Err.fault _ c.as_refusal.ensures)
+
+pub returns-then-is_some-clause-in_turn : goal.returns-then-is_some-clause-in_turn
+returns-then-is_some-clause-in_turn g c = λ box axes given.
+    let dims = c.args.located.now.dims in
+    let its : dims ≡ g.row.D = sym c.from.ensures ∙ c.if-from.false in
+    let test : is_ordered (dims_of box) (given_bounds box) ≡ is_some c.try_new.result =
+    (λ i. is_ordered (axes i) (given i)) ∙ sym c.try_new.ensures.test in
+    inl (object_there dims box (nat_le most_objects c.args.self.now.object_count)
+    (tested_same (dims_of box) dims dims refl (its ∙ sym axes)) (test ∙ ap is_some c.in-Some.is))
+
+pub returns-then-self-ge-MOST_OBJECTS-clause-in_turn : goal.returns-then-self-ge-MOST_OBJECTS-clause-in_turn
+returns-then-self-ge-MOST_OBJECTS-clause-in_turn g c = λ box axes given.
+    let count = c.args.self.now.object_count in
+    let dims = c.args.located.now.dims in
+    let its : dims ≡ g.row.D = sym c.from.ensures ∙ c.if-from.false in
+    let test : is_ordered (dims_of box) (given_bounds box) ≡ is_some c.try_new.result =
+    (λ i. is_ordered (axes i) (given i)) ∙ sym c.try_new.ensures.test in
+    inl (object_many dims box (nat_le most_objects count)
+    (tested_same (dims_of box) dims dims refl (its ∙ sym axes)) (test ∙ ap is_some c.in-Some.is)
+    (full_so count most_objects count c.if-self-ge-MOST_OBJECTS.true refl))
+
+pub returns-clause-in_turn : goal.returns-clause-in_turn
+returns-clause-in_turn g c = λ box axes given.
+    let count = c.args.self.now.object_count in
+    let dims = c.args.located.now.dims in
+    let its : dims ≡ g.row.D = sym c.from.ensures ∙ c.if-from.false in
+    let test : is_ordered (dims_of box) (given_bounds box) ≡ is_some c.try_new.result =
+    (λ i. is_ordered (axes i) (given i)) ∙ sym c.try_new.ensures.test in
+    object_fits dims box (nat_le most_objects count)
+    (tested_same (dims_of box) dims dims refl (its ∙ sym axes)) (test ∙ ap is_some c.in-Some.is)
+    (room_so count most_objects count c.if-self-ge-MOST_OBJECTS.false refl)

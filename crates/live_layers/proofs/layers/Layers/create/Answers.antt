@@ -1,10 +1,12 @@
 -- A layer that may be made is made, and what is refused changes nothing.
 use Rattle.std.proofs.Common.{inl, refl}
 use Rattle.plain_table.specs.Commands.Command.{Create}
+use Rattle.live_layers.specs.Refusals.{refusals_in}
 use Rattle.live_layers.proofs.AskLemmas.{not_there}
 use Rattle.live_layers.proofs.ChangeLemmas.{begun_change, begun_keeps_so, made_so, refused_by}
 use Rattle.live_layers.proofs.CreateLemmas.{it_grows}
 use Rattle.live_layers.proofs.QuestionLemmas.{none_asked}
+use Rattle.live_layers.proofs.RefusalLemmas.{begun_in_turn}
 use Rattle.live_layers.proofs.layers.Layers.create.Goals as goal
 
 pub returns-in-Ok-clause-change : goal.returns-in-Ok-clause-change
@@ -25,6 +27,8 @@ returns-in-Ok-clause-change g c =
           (it_grows t name c.args.dims c.args.fanout none (not_there t name c.in-Ok.place belongs))
           g.met.B.BlockDevice.only_now sound none refl
           (added.added t sound belongs) (added.faults t sound);
+      in_turn = begun_in_turn (refusals_in old (Create name c.args.dims c.args.fanout)) made result
+          c.change_of.ensures c.in-Ok.ensures.in_turn;
     }
 
 pub returns-in-Ok-clause-tree : goal.returns-in-Ok-clause-tree
@@ -41,4 +45,4 @@ pub returns-in-Err-clause-change : goal.returns-in-Err-clause-change
 returns-in-Err-clause-change g c =
     refused_by c.args.self.now (Create c.args.name.now c.args.dims c.args.fanout) c.in-Err.refusal
     g.met.B.BlockDevice.only_now c.in-Err.ensures.blames_none
-    (λ t sound. inl (c.in-Err.ensures.allowed t sound))
+    (λ t sound. inl (c.in-Err.ensures.allowed t sound)) c.in-Err.ensures.in_turn

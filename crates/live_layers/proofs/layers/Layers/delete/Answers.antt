@@ -4,6 +4,7 @@ use Rattle.plain_table.specs.Commands.Command.{Delete}
 use Rattle.plain_table.specs.Step.{missing_refusals}
 use Rattle.plain_table.specs.Table.{layer_at}
 use Rattle.live_layers.proofs.ChangeLemmas.{refused_by}
+use Rattle.live_layers.proofs.TurnLemmas.{delete_unrecorded}
 use Rattle.live_layers.proofs.layers.Layers.delete.Goals as goal
 
 pub returns-in-Err-clause-change : goal.returns-in-Err-clause-change
@@ -13,10 +14,12 @@ returns-in-Err-clause-change g c =
     refused_by c.args.self.now (Delete name id) c.in-Err.refusal g.met.B.BlockDevice.only_now
     c.in-Err.ensures.cause
     (λ t sound. inl (c.in-Err.ensures.unnamed t sound (missing_refusals (layer_at t name) id)))
+    (inl (delete_unrecorded c.args.self.now name c.in-Err.refusal c.in-Err.ensures.unrecorded id))
 
 pub returns-then-located-eq2-clause-change : goal.returns-then-located-eq2-clause-change
 returns-then-located-eq2-clause-change g c = record {
   keeps = c.delete_at.ensures.keeps;
+  in_turn = c.delete_at.ensures.in_turn c.args.name.now c.in-Ok.ensures.recorded;
   lawful = λ t sound.
       let name = c.args.name.now in
       let finds = c.in-Ok.ensures.found t sound in
@@ -32,6 +35,7 @@ returns-then-located-eq2-clause-change g c = record {
 pub returns-else-located-eq2-clause-change : goal.returns-else-located-eq2-clause-change
 returns-else-located-eq2-clause-change g c = record {
   keeps = c.delete_at-else-located-eq2.ensures.keeps;
+  in_turn = c.delete_at-else-located-eq2.ensures.in_turn c.args.name.now c.in-Ok.ensures.recorded;
   lawful = λ t sound.
       let name = c.args.name.now in
       let finds = c.in-Ok.ensures.found t sound in

@@ -7,11 +7,14 @@ use Rattle.plain_table.specs.Table.{layer_at}
 use Rattle.plain_table.specs.declared.refusal.Refusal.{Refusal}
 use Rattle.store_law.specs.Lawful.{IsFault}
 use Rattle.live_layers.specs.Changes.{Rose}
+use Rattle.live_layers.specs.Refusals.{lost_refusals, refusals_in}
 use Rattle.live_layers.specs.Rules.{HasLost}
 use Rattle.live_layers.proofs.ChangeLemmas.{begun_change, begun_keeps, begun_tree, refused_change}
 use Rattle.live_layers.proofs.ChangeLemmas.{refused_keeps}
 use Rattle.live_layers.proofs.DeleteLemmas.{as_missing, has_object, it_shrinks, none_answered, not_missing}
+use Rattle.live_layers.proofs.RefusalLemmas.{begun_in_turn, passes_so, refuses_so}
 use Rattle.live_layers.proofs.SpotLemmas.{spot_in}
+use Rattle.live_layers.proofs.TurnLemmas.{delete_there}
 use Rattle.live_layers.proofs.layers.Layers.delete_at.Goals as goal
 
 pub returns-clause-keeps : goal.returns-clause-keeps
@@ -73,3 +76,15 @@ returns-in-Err-clause-change g c = λ t name sound reaches.
     refused_change old new t (Delete name id) r g.met.B.BlockDevice.only_now c.in-Err.ensures.keeps sound
     (subst (λ (o : Option Refusal). (o ≡ Some r) ⊎ IsFault (Rose old new) r)
     (sym (as_missing t name id reaches.named)) why)
+
+pub returns-clause-in_turn : goal.returns-clause-in_turn
+returns-clause-in_turn g c = λ name its.
+    let asked = refusals_in c.args.self.now (Delete name c.args.id) in
+    begun_in_turn asked c.take_object.result c.change_of.result c.change_of.ensures
+    (passes_so lost_refusals asked (delete_there c.args.self.now name c.args.place its c.args.id)
+    c.in-Ok.ensures.in_turn)
+
+pub returns-in-Err-clause-in_turn : goal.returns-in-Err-clause-in_turn
+returns-in-Err-clause-in_turn g c = λ name its.
+    refuses_so lost_refusals (refusals_in c.args.self.now (Delete name c.args.id))
+    (delete_there c.args.self.now name c.args.place its c.args.id) c.in-Err.refusal c.in-Err.ensures.in_turn

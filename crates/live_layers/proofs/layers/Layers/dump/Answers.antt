@@ -12,6 +12,7 @@ use Rattle.live_layers.specs.Listing.{lines_of}
 use Rattle.live_layers.proofs.AskLemmas.{device_refuses, risen_of}
 use Rattle.live_layers.proofs.KeepLemmas.{sound_kept}
 use Rattle.live_layers.proofs.QuestionLemmas.{asks_and_answers, asks_and_fails}
+use Rattle.live_layers.proofs.RefusalLemmas.{fault_of_none}
 use Rattle.live_layers.proofs.layers.Layers.dump.Goals as goal
 
 pub returns-in-Ok-clause-answered : goal.returns-in-Ok-clause-answered
@@ -48,4 +49,7 @@ returns-in-Ok-clause-keeps g c =
 pub returns-in-Err-clause-keeps : goal.returns-in-Err-clause-keeps
 returns-in-Err-clause-keeps g c =
     asks_and_fails c.args.self.now _ c.in-Err.fault c.as_refusal.ensures (refl, refl, refl, refl)
-    c.in-Err.ensures.asks
+    c.in-Err.ensures.asks c.in-Err.ensures.other_faults
+
+pub returns-in-Err-clause-of_none : goal.returns-in-Err-clause-of_none
+returns-in-Err-clause-of_none g c = fault_of_none c.in-Err.fault _ c.as_refusal.ensures

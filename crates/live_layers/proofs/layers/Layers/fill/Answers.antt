@@ -24,7 +24,7 @@ returns-in-Err-clause-begins g c =
     broke_behind c.args.self.now c.begin.new.self _ c.in-Err.fault
     (Err c.broken_by.result) c.broken_by.ensures (refl, refl, refl, refl)
     c.in_ok-begin.ensures.begins c.begin.ensures.sound c.begin.ensures.keeps
-    c.in-Err.ensures.changes
+    c.in-Err.ensures.changes c.in-Err.ensures.other_faults
 
 pub returns-in_err-begin-clause-faults : goal.returns-in_err-begin-clause-faults
 returns-in_err-begin-clause-faults g c =

@@ -1,12 +1,15 @@
 -- The names of the table are those of the records.
-use Rattle.std.proofs.Common.{◌≡◌, ◌<◌, ◌≤◌, ℕ, List, length, get_or, subst}
-use Rattle.std.specs.Prelude.{Result, Ok, Err, IfOk, IfErr}
+use Rattle.std.proofs.Common.{◌≡◌, ◌<◌, ◌≤◌, ℕ, List, length, get_or, map, subst}
+use Rattle.std.specs.Prelude.{Result, Ok, Err, IfOk, IfErr, None, Some}
 use Rattle.std.specs.Cmp.Lexicographic.{slice_cmp}
 use Rattle.std.specs.Ordering.{nat_cmp}
 use Rattle.std.specs.declared.cmp.Ordering.TheVariants.{Less, Equal, Greater}
+use Rattle.catalog_page.specs.Layout.{Record, record_of}
 use Rattle.catalog_page.specs.declared.layer_record.LayerRecord.{LayerRecord}
 use Rattle.page_cache.specs.Cache.{next_of, pages}
+use Rattle.live_layers.specs.Refusals.{record_named}
 use Rattle.live_layers.proofs.FindLemmas.{belongs_there, found_here}
+use Rattle.live_layers.proofs.RefusalLemmas.{recorded_at, unrecorded_at}
 use Rattle.live_layers.proofs.layers.Layers.find.Goals as goal
 
 -- what an answer that is found says, and one that is not
@@ -14,6 +17,11 @@ both_ok : {E : Type 0} {P Q R : ℕ → Type 0} (r : Result ℕ E) → IfOk r P 
     → ((x : ℕ) → P x → Q x → R x) → IfOk r R
 both_ok (Err e) p q f = tt
 both_ok (Ok x) p q f = f x p q
+
+all_ok : {E : Type 0} {P Q R S : ℕ → Type 0} (r : Result ℕ E) → IfOk r P → IfOk r Q → IfOk r R
+    → ((x : ℕ) → P x → Q x → R x → S x) → IfOk r S
+all_ok (Err e) p q s f = tt
+all_ok (Ok x) p q s f = f x p q s
 
 all_err : {T : Type 0} {P Q R S : ℕ → Type 0} (r : Result T ℕ) → IfErr r P → IfErr r Q → IfErr r R
     → ((x : ℕ) → P x → Q x → R x → S x) → IfErr r S
@@ -64,3 +72,29 @@ returns-clause-belongs g c = λ t sound.
     → slice_cmp nat_cmp name (get_or xs k d).name.items ≡ Greater) same above)
     (subst (λ (xs : List LayerRecord). (d : LayerRecord) → i < length xs
     → slice_cmp nat_cmp name (get_or xs i d).name.items ≡ Less) same below))
+
+pub returns-clause-recorded : goal.returns-clause-recorded
+returns-clause-recorded g c =
+    let name = c.args.name.now in
+    let e = c.search.ensures in
+    let given = c.deref.result.now in
+    all_ok c.search.result e.within e.ahead
+    (every_ok (λ (d : LayerRecord) (i : ℕ). slice_cmp nat_cmp name (get_or given i d).name.items ≡ Equal)
+    c.search.result e.found)
+    (λ i lt ahead tie.
+    subst (λ (xs : List LayerRecord). (d : Record)
+    → record_named (map record_of xs) name ≡ Some (get_or (map record_of xs) i d)) c.deref.ensures.0
+    (recorded_at name given i lt ahead tie))
+
+pub returns-clause-unrecorded : goal.returns-clause-unrecorded
+returns-clause-unrecorded g c =
+    let name = c.args.name.now in
+    let e = c.search.ensures in
+    let given = c.deref.result.now in
+    all_err c.search.result e.end e.behind
+    (every_err
+    (λ (d : LayerRecord) (i : ℕ). i < length given
+    → slice_cmp nat_cmp name (get_or given i d).name.items ≡ Less) c.search.result e.before)
+    (λ i le above below.
+    subst (λ (xs : List LayerRecord). record_named (map record_of xs) name ≡ None) c.deref.ensures.0
+    (unrecorded_at name given i le above below))

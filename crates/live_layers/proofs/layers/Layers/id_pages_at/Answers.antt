@@ -44,4 +44,4 @@ returns-in-Ok-clause-keeps g c =
 pub returns-in-Err-clause-keeps : goal.returns-in-Err-clause-keeps
 returns-in-Err-clause-keeps g c =
     asks_and_fails c.args.self.now _ c.in-Err.fault c.as_refusal.ensures (refl, refl, refl, refl)
-    c.in-Err.ensures.asks
+    c.in-Err.ensures.asks c.in-Err.ensures.other_faults

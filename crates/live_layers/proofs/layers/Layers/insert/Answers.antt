@@ -5,6 +5,7 @@ use Rattle.plain_table.specs.Commands.Command.{Insert}
 use Rattle.plain_table.specs.Step.{object_refusals}
 use Rattle.plain_table.specs.Table.{layer_at, most_objects, object_count}
 use Rattle.live_layers.proofs.ChangeLemmas.{refused_by}
+use Rattle.live_layers.proofs.TurnLemmas.{insert_unrecorded}
 use Rattle.live_layers.proofs.layers.Layers.insert.Goals as goal
 
 pub returns-in-Err-clause-change : goal.returns-in-Err-clause-change
@@ -15,6 +16,8 @@ returns-in-Err-clause-change g c =
     (λ t sound. inl
     (c.in-Err.ensures.unnamed t sound
     (object_refusals (layer_at t name) c.args.id c.args.bounds (nat_le most_objects (object_count t)))))
+    (inl (insert_unrecorded c.args.self.now name c.in-Err.refusal c.in-Err.ensures.unrecorded c.args.id
+    c.args.bounds c.args.tag))
 
 pub returns-in-Two-clause-change : goal.returns-in-Two-clause-change
 returns-in-Two-clause-change g c =
@@ -27,6 +30,8 @@ returns-in-Two-clause-change g c =
             axes = ap dims_of c.in-Two.is;
             given = ap given_bounds c.in-Two.is;
           });
+      in_turn = c.insert_box.ensures.in_turn c.args.name.now c.args.bounds c.in-Ok.ensures.recorded
+          (ap dims_of c.in-Two.is) (ap given_bounds c.in-Two.is);
     }
 
 pub returns-in-Two-clause-tree : goal.returns-in-Two-clause-tree
@@ -50,6 +55,8 @@ returns-in-Three-clause-change g c =
             axes = ap dims_of c.in-Three.is;
             given = ap given_bounds c.in-Three.is;
           });
+      in_turn = c.insert_box-in-Three.ensures.in_turn c.args.name.now c.args.bounds c.in-Ok.ensures.recorded
+          (ap dims_of c.in-Three.is) (ap given_bounds c.in-Three.is);
     }
 
 pub returns-in-Three-clause-tree : goal.returns-in-Three-clause-tree

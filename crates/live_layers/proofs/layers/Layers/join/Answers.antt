@@ -1,6 +1,6 @@
 -- The layers of both names are found or not, and then the pairs are those of the table.
-use Rattle.std.proofs.Common.{◌≡◌, ◌∙◌, ℕ, arith, inl, subst, sym}
-use Rattle.std.specs.Prelude.{None, OnOk, ◌*◌}
+use Rattle.std.proofs.Common.{◌≡◌, ◌∙◌, ℕ, ap, arith, inl, subst, sym}
+use Rattle.std.specs.Prelude.{None, OnOk, is_some, ◌*◌}
 use Rattle.plain_table.specs.Answers.{pairs_answer}
 use Rattle.plain_table.specs.Commands.Command.{Join}
 use Rattle.plain_table.specs.Step.{join_rows}
@@ -12,6 +12,11 @@ use Rattle.live_layers.specs.Questions.{LooksAtTrees}
 use Rattle.live_layers.proofs.AskLemmas.{tested_other, tested_same}
 use Rattle.live_layers.proofs.JoinLemmas.{dims_differ, joins, no_first, no_second, pairs_replied}
 use Rattle.live_layers.proofs.ReplyLemmas.{refused, replied}
+use Rattle.live_layers.specs.Keeping.{count_in, records_in}
+use Rattle.live_layers.specs.Refusals.{no_record, record_at, refusals_in}
+use Rattle.live_layers.proofs.RefusalLemmas.{join_bad_first, join_bad_second, join_differs, join_no_first}
+use Rattle.live_layers.proofs.RefusalLemmas.{join_no_second, join_passes, of_none}
+use Rattle.live_layers.proofs.TurnLemmas.{dims_found}
 use Rattle.live_layers.proofs.layers.Layers.join.Goals as goal
 
 pub returns-in_default-clause-answered : goal.returns-in_default-clause-answered
@@ -137,3 +142,76 @@ returns-else-left-eq2-clause-looks g c = λ t sound.
     (LooksAtTrees c.args.self.now c.pairs_in-else-left-eq2.new.self first second
     (λ tree other. 2 * admitted_pairs d c.args.within tree other))) (sym axes)
     (c.pairs_in-else-left-eq2.ensures.looks t first second sound located other)
+
+pub returns-in_default-clause-in_turn : goal.returns-in_default-clause-in_turn
+returns-in_default-clause-in_turn g c =
+    let kept = c.args.self.now in
+    inl (join_no_first (records_in kept) (count_in kept) c.args.first.now c.args.second.now c.args.within
+    (sym c.is_layer_name.ensures ∙ c.if-not-is_layer_name.false)
+    (sym c.is_layer_name-else-not-is_layer_name.ensures ∙ c.if-not-is_layer_name-2.false)
+    (ap is_some c.in_default.ensures.unrecorded))
+
+pub returns-in_default-find-clause-in_turn : goal.returns-in_default-find-clause-in_turn
+returns-in_default-find-clause-in_turn g c =
+    let kept = c.args.self.now in
+    inl (join_no_second (records_in kept) (count_in kept) c.args.first.now c.args.second.now c.args.within
+    (sym c.is_layer_name.ensures ∙ c.if-not-is_layer_name.false)
+    (sym c.is_layer_name-else-not-is_layer_name.ensures ∙ c.if-not-is_layer_name-2.false)
+    (ap is_some (c.in-Ok.ensures.recorded no_record)) (ap is_some c.in_default-find.ensures.unrecorded))
+
+pub returns-then-left-right-clause-in_turn : goal.returns-then-left-right-clause-in_turn
+returns-then-left-right-clause-in_turn g c =
+    let kept = c.args.self.now in
+    let first = c.args.first.now in
+    let second = c.args.second.now in
+    let left = c.locate-left.result in
+    let right = c.locate-right.result in
+    let its = dims_found kept first c.in-Ok.place left (c.in-Ok.ensures.recorded no_record)
+    c.locate-left.ensures.by_record in
+    let other = dims_found kept second c.in-Ok-find.other_place right
+    (c.in-Ok-find.ensures.recorded no_record) c.locate-right.ensures.by_record in
+    inl (join_differs (records_in kept) (count_in kept) first second c.args.within
+    (sym c.is_layer_name.ensures ∙ c.if-not-is_layer_name.false)
+    (sym c.is_layer_name-else-not-is_layer_name.ensures ∙ c.if-not-is_layer_name-2.false)
+    (ap is_some (c.in-Ok.ensures.recorded no_record)) (ap is_some (c.in-Ok-find.ensures.recorded no_record))
+    (tested_other (record_at (records_in kept) first).dims (record_at (records_in kept) second).dims right.dims
+    other
+    (λ (e : right.dims ≡ (record_at (records_in kept) first).dims). c.if-left-right.true (sym its ∙ sym e))))
+
+pub returns-then-left-eq2-clause-in_turn : goal.returns-then-left-eq2-clause-in_turn
+returns-then-left-eq2-clause-in_turn g c =
+    let kept = c.args.self.now in
+    let first = c.args.first.now in
+    let second = c.args.second.now in
+    let left = c.locate-left.result in
+    let right = c.locate-right.result in
+    let its = dims_found kept first c.in-Ok.place left (c.in-Ok.ensures.recorded no_record)
+    c.locate-left.ensures.by_record in
+    let other = dims_found kept second c.in-Ok-find.other_place right
+    (c.in-Ok-find.ensures.recorded no_record) c.locate-right.ensures.by_record in
+    of_none (refusals_in kept (Join first second c.args.within)) c.pairs_in.result
+    (join_passes (records_in kept) (count_in kept) first second c.args.within
+    (sym c.is_layer_name.ensures ∙ c.if-not-is_layer_name.false)
+    (sym c.is_layer_name-else-not-is_layer_name.ensures ∙ c.if-not-is_layer_name-2.false)
+    (ap is_some (c.in-Ok.ensures.recorded no_record)) (ap is_some (c.in-Ok-find.ensures.recorded no_record))
+    (tested_same (record_at (records_in kept) first).dims (record_at (records_in kept) second).dims right.dims
+    other (sym c.if-left-right.false ∙ sym its))) c.pairs_in.ensures.of_none
+
+pub returns-else-left-eq2-clause-in_turn : goal.returns-else-left-eq2-clause-in_turn
+returns-else-left-eq2-clause-in_turn g c =
+    let kept = c.args.self.now in
+    let first = c.args.first.now in
+    let second = c.args.second.now in
+    let left = c.locate-left.result in
+    let right = c.locate-right.result in
+    let its = dims_found kept first c.in-Ok.place left (c.in-Ok.ensures.recorded no_record)
+    c.locate-left.ensures.by_record in
+    let other = dims_found kept second c.in-Ok-find.other_place right
+    (c.in-Ok-find.ensures.recorded no_record) c.locate-right.ensures.by_record in
+    of_none (refusals_in kept (Join first second c.args.within)) c.pairs_in-else-left-eq2.result
+    (join_passes (records_in kept) (count_in kept) first second c.args.within
+    (sym c.is_layer_name.ensures ∙ c.if-not-is_layer_name.false)
+    (sym c.is_layer_name-else-not-is_layer_name.ensures ∙ c.if-not-is_layer_name-2.false)
+    (ap is_some (c.in-Ok.ensures.recorded no_record)) (ap is_some (c.in-Ok-find.ensures.recorded no_record))
+    (tested_same (record_at (records_in kept) first).dims (record_at (records_in kept) second).dims right.dims
+    other (sym c.if-left-right.false ∙ sym its))) c.pairs_in-else-left-eq2.ensures.of_none

@@ -1,6 +1,6 @@
 -- What is not allowed is refused, no objects change nothing, and others fill the layer.
-use Rattle.std.proofs.Common.{◌≡◌, ◌∙◌, ℕ, ◌<◌, List, length, Option, refl, sym, subst, arith}
-use Rattle.std.specs.Prelude.{Err}
+use Rattle.std.proofs.Common.{◌≡◌, ◌∙◌, ℕ, ◌<◌, Bool, List, length, Option, refl, sym, subst, arith}
+use Rattle.std.specs.Prelude.{Err, slice_index_or}
 use Rattle.std.proofs.lemmas.Bool.Decides.{nat_tests}
 use Rattle.id_words.proofs.EntryLemmas.{as_many_listed}
 use Rattle.id_words.specs.Objects.{pairs_in}
@@ -12,11 +12,15 @@ use Rattle.plain_table.specs.declared.refusal.Refusal.{Refusal}
 use Rattle.tree_node.specs.declared.node.Entry.{Entry}
 use Rattle.live_layers.specs.Changes.{Rose}
 use Rattle.live_layers.specs.Inserting.{IsAllowedOr}
+use Rattle.live_layers.specs.Keeping.{count_in, records_in}
+use Rattle.live_layers.specs.Refusals.{ids_refusals, no_record, refusals_in}
 use Rattle.live_layers.proofs.ChangeLemmas.{begun_change, begun_keeps_so, made_so, refused_change}
 use Rattle.live_layers.proofs.ChangeLemmas.{refused_keeps, unbegun_change, unbegun_keeps}
 use Rattle.live_layers.proofs.LoadLemmas.{allowed_anyhow, as_load, had_none, made_of, none_change}
 use Rattle.live_layers.proofs.LoadLemmas.{some_change}
 use Rattle.live_layers.proofs.QuestionLemmas.{none_asked, refuses_unasked}
+use Rattle.live_layers.proofs.RefusalLemmas.{begun_in_turn, passes_so, refuses_so}
+use Rattle.live_layers.proofs.TurnLemmas.{load_there}
 use Rattle.live_layers.proofs.layers.Layers.load_boxes.Goals as goal
 
 none_listed : {D : ℕ} (entries : List (Entry D)) → length entries ≡ 0 → length (pairs_in entries) ≡ 0
@@ -105,3 +109,29 @@ returns-clause-same g c = λ t name given sound reaches unchanged.
     some_listed c.args.entries.now (grind (arith, nat_tests, c.is_empty.ensures, c.if-is_empty.false)) in
     absurd (let no = sym (some_change t name c.args.place given g.row.D (pairs_in c.args.entries.now) reaches
     none some) ∙ unchanged in cc)
+
+pub returns-in-Err-clause-in_turn : goal.returns-in-Err-clause-in_turn
+returns-in-Err-clause-in_turn g c = λ name given its wide ordered pairs.
+    let old = c.args.self.now in
+    let held = (slice_index_or (records_in old) c.args.place no_record).count in
+    refuses_so (λ (found : Bool). ids_refusals held given (count_in old)) (refusals_in old (Load name given))
+    (load_there old name c.args.place its given wide ordered) c.in-Err.refusal
+    (c.in-Err.ensures.in_turn given no_record pairs)
+
+pub returns-then-is_empty-clause-in_turn : goal.returns-then-is_empty-clause-in_turn
+returns-then-is_empty-clause-in_turn g c = λ name given its wide ordered pairs.
+    let old = c.args.self.now in
+    let held = (slice_index_or (records_in old) c.args.place no_record).count in
+    passes_so (λ (found : Bool). ids_refusals held given (count_in old)) (refusals_in old (Load name given))
+    (load_there old name c.args.place its given wide ordered)
+    (c.in_default.ensures.in_turn given no_record pairs)
+
+pub returns-clause-in_turn : goal.returns-clause-in_turn
+returns-clause-in_turn g c = λ name given its wide ordered pairs.
+    let old = c.args.self.now in
+    let held = (slice_index_or (records_in old) c.args.place no_record).count in
+    let asked = refusals_in old (Load name given) in
+    begun_in_turn asked c.fill.result c.change_of.result c.change_of.ensures
+    (passes_so (λ (found : Bool). ids_refusals held given (count_in old)) asked
+    (load_there old name c.args.place its given wide ordered)
+    (c.in_default.ensures.in_turn given no_record pairs))

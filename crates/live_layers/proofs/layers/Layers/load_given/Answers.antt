@@ -10,12 +10,14 @@ use Rattle.plain_table.specs.Table.{Table, layer_at}
 use Rattle.plain_table.specs.declared.refusal.Refusal.{Refusal}
 use Rattle.store_law.specs.Lawful.{IsFault}
 use Rattle.tree_node.specs.declared.node.Entry.{Entry}
-use Rattle.live_layers.specs.Keeping.{ChangesTree}
+use Rattle.live_layers.specs.Keeping.{ChangesTree, records_in}
 use Rattle.live_layers.specs.Loading.{NamesLayer, ReachesObjects, boxes_refusals}
+use Rattle.live_layers.specs.Refusals.{record_at}
 use Rattle.live_layers.specs.Rules.{HasFilled}
 use Rattle.live_layers.proofs.ChangeLemmas.{refused_change, refused_keeps}
 use Rattle.live_layers.proofs.LoadLemmas.{all_reach, allowed_anyhow, box_refused_there}
 use Rattle.live_layers.proofs.QuestionLemmas.{refuses_unasked}
+use Rattle.live_layers.proofs.TurnLemmas.{given_good, given_refused}
 use Rattle.live_layers.proofs.layers.Layers.load_given.Goals as goal
 
 -- the objects of entries that were made of what was given reach the layer
@@ -74,3 +76,20 @@ pub returns-in-Err-clause-keeps : goal.returns-in-Err-clause-keeps
 returns-in-Err-clause-keeps g c =
     let kept = c.args.self.now in
     let r = c.in-Err.refusal in refused_keeps kept kept r (refuses_unasked kept r c.in-Err.ensures.quiet)
+
+pub returns-in-Ok-clause-in_turn : goal.returns-in-Ok-clause-in_turn
+returns-in-Ok-clause-in_turn g c = λ name its axes.
+    let given = c.args.objects.items in
+    let lent = c.as_slice.ensures.value in
+    let good = given_good g.row.D (record_at (records_in c.args.self.now) name).dims given _ axes lent
+    c.in-Ok.ensures.allowed in
+    c.load_boxes.ensures.in_turn name given its good.0 good.1
+    (ap pairs_in c.as_mut_slice.ensures.value ∙ c.in-Ok.ensures.given
+    ∙ ap (λ (os : GivenObjects). map given_object os) lent)
+
+pub returns-in-Err-clause-in_turn : goal.returns-in-Err-clause-in_turn
+returns-in-Err-clause-in_turn g c = λ name its axes.
+    let given = c.args.objects.items in
+    given_refused c.args.self.now name c.args.place its given g.row.D axes c.in-Err.refusal
+    (refused_given given c.as_slice.result.now g.row.D c.in-Err.refusal c.as_slice.ensures.value
+    c.in-Err.ensures.allowed)

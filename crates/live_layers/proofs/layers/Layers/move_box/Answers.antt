@@ -1,5 +1,5 @@
 -- What is not allowed is refused; an object that has the box stays, and one that has another gets it.
-use Rattle.std.proofs.Common.{◌≡◌, ◌∙◌, true, false, not, Option, refl, sym, ap, subst}
+use Rattle.std.proofs.Common.{◌≡◌, ◌∙◌, Bool, true, false, not, Option, refl, sym, ap, subst}
 use Rattle.std.specs.Prelude.{Err, OnOk}
 use Rattle.std.specs.FinMap.{insert as map_insert}
 use Rattle.box_math.specs.Bounds.{Bounds}
@@ -7,20 +7,23 @@ use Rattle.box_math.specs.Objects.{Object, tag_of}
 use Rattle.plain_table.specs.Boxes.{given_bounds}
 use Rattle.plain_table.specs.Commands.Command.{Move}
 use Rattle.plain_table.specs.Laws.{a_change_makes_another_table, no_change_leaves_the_table}
-use Rattle.plain_table.specs.Step.{changes}
+use Rattle.plain_table.specs.Step.{box_refusals, changes}
 use Rattle.plain_table.specs.Table.{layer_at, object_at, with_object}
 use Rattle.plain_table.specs.declared.refusal.Refusal.{Refusal}
 use Rattle.live_layers.specs.Changes.{Rose}
 use Rattle.live_layers.specs.Inserting.{IsAllowedOr}
 use Rattle.live_layers.specs.Keeping.{ChangesTree, IsSound}
+use Rattle.live_layers.specs.Refusals.{lost_refusals, refusals_in}
 use Rattle.live_layers.specs.Rules.{HasMoved}
 use Rattle.live_layers.proofs.ChangeLemmas.{begun_change, begun_keeps, begun_tree, refused_change}
 use Rattle.live_layers.proofs.ChangeLemmas.{refused_keeps, unbegun_change, unbegun_keeps}
 use Rattle.live_layers.proofs.MoveLemmas.{as_move, tested_boxes}
+use Rattle.live_layers.proofs.RefusalLemmas.{begun_in_turn, passes_so, refuses_so}
 use Rattle.live_layers.proofs.ReplyLemmas.{is_named}
 use Rattle.live_layers.proofs.Results.{on_ok}
 use Rattle.live_layers.proofs.SpotLemmas.{spot_in}
 use Rattle.live_layers.proofs.TakeLemmas.{its_object}
+use Rattle.live_layers.proofs.TurnLemmas.{move_there}
 use Rattle.live_layers.proofs.layers.Layers.move_box.Goals as goal
 
 pub returns-in-Err-clause-keeps : goal.returns-in-Err-clause-keeps
@@ -143,3 +146,31 @@ returns-clause-same g c = λ t name box sound reaches still.
     tested_boxes t name id box c.in-Ok.found.1 there none c.in-Ok.found.2
     (c.in-Ok.ensures.gets ∙ sym reaches.given) ∙ ap not (sym c.eq.ensures ∙ c.if-eq.false) in
     let no : true ≡ false = sym moves ∙ still in absurd (cc)
+
+pub returns-in-Err-clause-in_turn : goal.returns-in-Err-clause-in_turn
+returns-in-Err-clause-in_turn g c = λ name box its axes given.
+    let old = c.args.self.now in
+    let there = c.locate-located.result in
+    refuses_so (λ (found : Bool). box_refusals there.dims box (lost_refusals found))
+    (refusals_in old (Move name c.args.id box))
+    (move_there old name c.args.place its there c.locate-located.ensures.by_record c.args.id box)
+    c.in-Err.refusal (c.in-Err.ensures.in_turn box axes given)
+
+pub returns-then-eq-clause-in_turn : goal.returns-then-eq-clause-in_turn
+returns-then-eq-clause-in_turn g c = λ name box its axes given.
+    let old = c.args.self.now in
+    let there = c.locate-located.result in
+    passes_so (λ (found : Bool). box_refusals there.dims box (lost_refusals found))
+    (refusals_in old (Move name c.args.id box))
+    (move_there old name c.args.place its there c.locate-located.ensures.by_record c.args.id box)
+    (c.in-Ok.ensures.in_turn box axes given)
+
+pub returns-clause-in_turn : goal.returns-clause-in_turn
+returns-clause-in_turn g c = λ name box its axes given.
+    let old = c.args.self.now in
+    let there = c.locate-located.result in
+    let asked = refusals_in old (Move name c.args.id box) in
+    begun_in_turn asked c.replace_box.result c.change_of.result c.change_of.ensures
+    (passes_so (λ (found : Bool). box_refusals there.dims box (lost_refusals found)) asked
+    (move_there old name c.args.place its there c.locate-located.ensures.by_record c.args.id box)
+    (c.in-Ok.ensures.in_turn box axes given))

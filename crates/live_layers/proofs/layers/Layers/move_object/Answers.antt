@@ -5,6 +5,7 @@ use Rattle.plain_table.specs.Commands.Command.{Move}
 use Rattle.plain_table.specs.Step.{box_refusals, missing_refusals}
 use Rattle.plain_table.specs.Table.{layer_at}
 use Rattle.live_layers.proofs.ChangeLemmas.{refused_by}
+use Rattle.live_layers.proofs.TurnLemmas.{move_unrecorded}
 use Rattle.live_layers.proofs.layers.Layers.move_object.Goals as goal
 
 pub returns-in-Err-clause-change : goal.returns-in-Err-clause-change
@@ -17,10 +18,13 @@ returns-in-Err-clause-change g c =
     (λ t sound. inl
     (c.in-Err.ensures.unnamed t sound
     (box_refusals (layer_at t name).dims bounds (missing_refusals (layer_at t name) id))))
+    (inl (move_unrecorded c.args.self.now name c.in-Err.refusal c.in-Err.ensures.unrecorded id bounds))
 
 pub returns-in-Two-clause-change : goal.returns-in-Two-clause-change
 returns-in-Two-clause-change g c = record {
   keeps = c.move_box.ensures.keeps;
+  in_turn = c.move_box.ensures.in_turn c.args.name.now c.args.bounds c.in-Ok.ensures.recorded
+      (ap dims_of c.in-Two.is) (ap given_bounds c.in-Two.is);
   lawful = λ t sound. c.move_box.ensures.change t c.args.name.now c.args.bounds sound
       (record {
         good = c.in-Ok.ensures.good;
@@ -33,6 +37,8 @@ returns-in-Two-clause-change g c = record {
 pub returns-in-Three-clause-change : goal.returns-in-Three-clause-change
 returns-in-Three-clause-change g c = record {
   keeps = c.move_box-in-Three.ensures.keeps;
+  in_turn = c.move_box-in-Three.ensures.in_turn c.args.name.now c.args.bounds c.in-Ok.ensures.recorded
+      (ap dims_of c.in-Three.is) (ap given_bounds c.in-Three.is);
   lawful = λ t sound. c.move_box-in-Three.ensures.change t c.args.name.now c.args.bounds sound
       (record {
         good = c.in-Ok.ensures.good;

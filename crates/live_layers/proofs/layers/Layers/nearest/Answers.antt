@@ -14,6 +14,9 @@ use Rattle.tree_node.specs.Searches.{admitted}
 use Rattle.live_layers.specs.Changes.{IsAnswered, Rose}
 use Rattle.live_layers.specs.Keeping.{LooksAtTree}
 use Rattle.live_layers.proofs.ReplyLemmas.{err_distances, refused, replied}
+use Rattle.live_layers.specs.Refusals.{IsTried, refusals_in}
+use Rattle.live_layers.proofs.RefusalLemmas.{of_nearest, the_refusal, tried_so}
+use Rattle.live_layers.proofs.TurnLemmas.{nearest_there, nearest_unrecorded}
 use Rattle.live_layers.proofs.layers.Layers.nearest.Goals as goal
 
 pub returns-in_err-place-clause-answered : goal.returns-in_err-place-clause-answered
@@ -80,3 +83,38 @@ returns-in-Three-clause-looks g c = λ t sound.
     (admitted (is_searched (point_dims p) k (given_point p) (nearest_rows (layer_at t name) k p)))))
     (sym c.in-Three.is)
     (c.nearest_to-in-Three.ensures.looks t name sound located)
+
+pub returns-in_err-place-clause-in_turn : goal.returns-in_err-place-clause-in_turn
+returns-in_err-place-clause-in_turn g c =
+    let old = c.args.self.now in
+    let r = c.in_err-place.field-0.0 in
+    the_refusal (refusals_in old (Nearest c.args.name.now c.args.k c.args.point)) c.from_residual.result r
+    c.from_residual.ensures.1
+    (inl (nearest_unrecorded old c.args.name.now r c.in_err-place.ensures.unrecorded c.args.k c.args.point))
+
+pub returns-in-Two-clause-in_turn : goal.returns-in-Two-clause-in_turn
+returns-in-Two-clause-in_turn g c =
+    let old = c.args.self.now in
+    let name = c.args.name.now in
+    let k = c.args.k in
+    let there = c.locate-located.result in
+    let p = raw.Two c.in-Two.point in
+    subst (λ (point : RawPoint). IsTried (refusals_in old (Nearest name k point)) c.nearest_to.result)
+    (sym c.in-Two.is)
+    (tried_so (of_nearest 2 there.dims k) (refusals_in old (Nearest name k p))
+    (nearest_there old name c.in_ok-place.place c.in_ok-place.ensures.recorded there
+    c.locate-located.ensures.by_record k p) c.nearest_to.result c.nearest_to.ensures.in_turn)
+
+pub returns-in-Three-clause-in_turn : goal.returns-in-Three-clause-in_turn
+returns-in-Three-clause-in_turn g c =
+    let old = c.args.self.now in
+    let name = c.args.name.now in
+    let k = c.args.k in
+    let there = c.locate-located.result in
+    let p = raw.Three c.in-Three.point in
+    subst (λ (point : RawPoint). IsTried (refusals_in old (Nearest name k point))
+    c.nearest_to-in-Three.result) (sym c.in-Three.is)
+    (tried_so (of_nearest 3 there.dims k) (refusals_in old (Nearest name k p))
+    (nearest_there old name c.in_ok-place.place c.in_ok-place.ensures.recorded there
+    c.locate-located.ensures.by_record k p) c.nearest_to-in-Three.result
+    c.nearest_to-in-Three.ensures.in_turn)

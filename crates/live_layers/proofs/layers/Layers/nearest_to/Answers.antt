@@ -1,5 +1,5 @@
 -- What is found in the tree are the objects of the layer that are nearest.
-use Rattle.std.proofs.Common.{◌≡◌, ◌∙◌, ℕ, List, [], ◌∷◌, not, take, refl, sym, ap, inl}
+use Rattle.std.proofs.Common.{◌≡◌, ◌∙◌, ℕ, List, [], ◌∷◌, not, take, refl, sym, ap, inl, inr}
 use Rattle.block_device.specs.Device.{HasRisen}
 use Rattle.std.specs.FinMap.{entries}
 use Rattle.box_math.specs.Nearest.{by_distance}
@@ -14,10 +14,12 @@ use Rattle.plain_table.specs.declared.refusal.Refusal.{Refusal}
 use Rattle.plain_table.specs.declared.refusal.Refusal.TheVariants as refusal
 use Rattle.std.specs.Prelude.{Option, ◌==◌}
 use Rattle.tree_node.specs.Searches.{admitted, counted}
-use Rattle.live_layers.proofs.AskLemmas.{device_refuses, risen_of, tested_same}
+use Rattle.live_layers.proofs.AskLemmas.{device_refuses, risen_of, tested_other, tested_same}
 use Rattle.live_layers.proofs.ReplyLemmas.{good_count, reply_failed}
 use Rattle.live_layers.proofs.LocateLemmas.{stands_with}
 use Rattle.live_layers.proofs.QuestionLemmas.{asks_and_answers, asks_and_fails}
+use Rattle.live_layers.proofs.RefusalLemmas.{count_passes, fault_of_none}
+use Rattle.live_layers.proofs.RefusalLemmas.{not_a_count, point_axes}
 use Rattle.live_layers.proofs.layers.Layers.nearest_to.Goals as goal
 
 pub returns-in-Ok-clause-replied : goal.returns-in-Ok-clause-replied
@@ -88,4 +90,27 @@ returns-in-Ok-clause-keeps g c =
 pub returns-in-Err-clause-keeps : goal.returns-in-Err-clause-keeps
 returns-in-Err-clause-keeps g c =
     asks_and_fails c.args.self.now _ c.in-Err.fault c.as_refusal.ensures (refl, refl, refl, refl)
-    c.in-Err.ensures.asks
+    c.in-Err.ensures.asks c.in-Err.ensures.other_faults
+
+pub returns-then-from-clause-in_turn : goal.returns-then-from-clause-in_turn
+returns-then-from-clause-in_turn g c =
+    inl (point_axes g.row.D c.args.located.now.dims c.args.k
+    (tested_other g.row.D c.args.located.now.dims c.args.located.now.dims refl
+    (λ e. c.if-from.true (c.from.ensures ∙ e))))
+
+pub returns-then-not-is_count-clause-in_turn : goal.returns-then-not-is_count-clause-in_turn
+returns-then-not-is_count-clause-in_turn g c =
+    let axes : c.args.located.now.dims ≡ g.row.D = sym c.from.ensures ∙ c.if-from.false in
+    inl (not_a_count g.row.D c.args.located.now.dims c.args.k
+    (tested_same g.row.D c.args.located.now.dims c.args.located.now.dims refl axes)
+    (sym c.is_count.ensures ∙ c.if-not-is_count.true))
+
+pub returns-in-Ok-clause-in_turn : goal.returns-in-Ok-clause-in_turn
+returns-in-Ok-clause-in_turn g c =
+    let axes : c.args.located.now.dims ≡ g.row.D = sym c.from.ensures ∙ c.if-from.false in
+    count_passes g.row.D c.args.located.now.dims c.args.k
+    (tested_same g.row.D c.args.located.now.dims c.args.located.now.dims refl axes)
+    (sym c.is_count.ensures ∙ c.if-not-is_count.false)
+
+pub returns-in-Err-clause-in_turn : goal.returns-in-Err-clause-in_turn
+returns-in-Err-clause-in_turn g c = inr (fault_of_none c.in-Err.fault _ c.as_refusal.ensures)

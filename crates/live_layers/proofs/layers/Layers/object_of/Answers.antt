@@ -1,5 +1,5 @@
 -- The identifier table has the layer's objects.
-use Rattle.std.proofs.Common.{◌∙◌, ap, refl, sym}
+use Rattle.std.proofs.Common.{◌∙◌, true, false, ap, refl, sym, inl, inr}
 use Rattle.block_device.specs.Device.{HasRisen}
 use Rattle.page_cache.specs.Cache.{device_of}
 use Rattle.std.specs.FinMap as map
@@ -9,6 +9,7 @@ use Rattle.live_layers.proofs.ReplyLemmas.{object_found, object_missing}
 use Rattle.live_layers.proofs.LocateLemmas.{stands_with}
 use Rattle.live_layers.proofs.QuestionLemmas.{asks_and_answers, asks_and_fails, asks_and_refuses}
 use Rattle.live_layers.proofs.SpotLemmas.{spot_stays}
+use Rattle.live_layers.proofs.RefusalLemmas.{fault_of_none}
 use Rattle.live_layers.proofs.layers.Layers.object_of.Goals as goal
 
 pub returns-in-None-clause-replied : goal.returns-in-None-clause-replied
@@ -48,4 +49,13 @@ returns-in-None-clause-keeps g c =
 pub returns-in-Err-clause-keeps : goal.returns-in-Err-clause-keeps
 returns-in-Err-clause-keeps g c =
     asks_and_fails c.args.self.now _ c.in-Err.fault c.as_refusal.ensures (refl, refl, refl, refl)
-    c.in-Err.ensures.asks
+    c.in-Err.ensures.asks c.in-Err.ensures.other_faults
+
+pub returns-in-Some-clause-in_turn : goal.returns-in-Some-clause-in_turn
+returns-in-Some-clause-in_turn g c = (true, refl)
+
+pub returns-in-None-clause-in_turn : goal.returns-in-None-clause-in_turn
+returns-in-None-clause-in_turn g c = inl (false, refl)
+
+pub returns-in-Err-clause-in_turn : goal.returns-in-Err-clause-in_turn
+returns-in-Err-clause-in_turn g c = inr (fault_of_none c.in-Err.fault _ c.as_refusal.ensures)

@@ -10,6 +10,7 @@ use Rattle.live_layers.proofs.AskLemmas.{device_refuses, risen_of}
 use Rattle.live_layers.proofs.JoinLemmas.{pairs_are}
 use Rattle.live_layers.proofs.LocateLemmas.{stands_with}
 use Rattle.live_layers.proofs.QuestionLemmas.{asks_and_answers, asks_and_fails}
+use Rattle.live_layers.proofs.RefusalLemmas.{fault_of_none}
 use Rattle.live_layers.proofs.layers.Layers.pairs_in.Goals as goal
 
 pub returns-in-Ok-clause-pairs : goal.returns-in-Ok-clause-pairs
@@ -65,4 +66,7 @@ returns-in-Ok-clause-keeps g c =
 pub returns-in-Err-clause-keeps : goal.returns-in-Err-clause-keeps
 returns-in-Err-clause-keeps g c =
     asks_and_fails c.args.self.now _ c.in-Err.fault c.as_refusal.ensures (refl, refl, refl, refl)
-    c.in-Err.ensures.asks
+    c.in-Err.ensures.asks c.in-Err.ensures.other_faults
+
+pub returns-in-Err-clause-of_none : goal.returns-in-Err-clause-of_none
+returns-in-Err-clause-of_none g c = fault_of_none c.in-Err.fault _ c.as_refusal.ensures

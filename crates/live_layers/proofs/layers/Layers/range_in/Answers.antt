@@ -1,5 +1,5 @@
 -- The query is refused as the table refuses it, or what is found in the tree is its answer.
-use Rattle.std.proofs.Common.{◌≡◌, ◌∙◌, ℕ, map as each}
+use Rattle.std.proofs.Common.{◌≡◌, ◌∙◌, ℕ, Bool, false, inl, inr, refl, map as each}
 use Rattle.std.specs.FinMap.{entries}
 use Rattle.std.specs.Prelude.{◌&&◌, filter}
 use Rattle.box_math.specs.Objects.{Object, bounds_of, has_tag}
@@ -8,8 +8,10 @@ use Rattle.plain_table.specs.Answers.{row_of}
 use Rattle.plain_table.specs.Step.{first_refusal, query_refusals, range_rows}
 use Rattle.plain_table.specs.Step.Answer.{Boxes}
 use Rattle.plain_table.specs.Table.{layer_at}
+use Rattle.plain_table.specs.declared.refusal.Refusal.TheVariants as refusal
 use Rattle.live_layers.specs.Changes.{Rose}
 use Rattle.live_layers.proofs.ReplyLemmas.{err_boxes, looks_same, reply_failed, rows_replied}
+use Rattle.live_layers.proofs.RefusalLemmas.{the_refusal}
 use Rattle.live_layers.proofs.layers.Layers.range_in.Goals as goal
 
 pub returns-in_err-rows-clause-replied : goal.returns-in_err-rows-clause-replied
@@ -39,3 +41,22 @@ pub returns-clause-looks : goal.returns-clause-looks
 returns-clause-looks g c = λ t name sound located.
     looks_same g.row.D c.args.self.now _ name (layer_at t name) c.args.query c.in_ok-asked.asked
     (located.dims ∙ c.requires) c.in_ok-asked.ensures.1 (c.in_ok-rows.ensures.looks t name sound located)
+
+pub returns-in_err-asked-clause-in_turn : goal.returns-in_err-asked-clause-in_turn
+returns-in_err-asked-clause-in_turn g c =
+    the_refusal (λ (found : Bool). query_refusals g.row.D c.args.query) c.from_residual.result
+    c.in_err-asked.field-0.0 c.from_residual.ensures.1 (inl (false, c.in_err-asked.ensures))
+
+pub returns-in_err-rows-clause-in_turn : goal.returns-in_err-rows-clause-in_turn
+returns-in_err-rows-clause-in_turn g c =
+    the_refusal (λ (found : Bool). query_refusals g.row.D c.args.query) c.from_residual-in_err-rows.result
+    c.in_err-rows.field-0.0 c.from_residual-in_err-rows.ensures.1 (inr c.in_err-rows.ensures.of_none)
+
+pub returns-in_err-shown_rows-clause-in_turn : goal.returns-in_err-shown_rows-clause-in_turn
+returns-in_err-shown_rows-clause-in_turn g c =
+    the_refusal (λ (found : Bool). query_refusals g.row.D c.args.query)
+    c.from_residual-in_err-shown_rows.result refusal.Memory c.from_residual-in_err-shown_rows.ensures.1
+    (inr (refl, refl))
+
+pub returns-clause-in_turn : goal.returns-clause-in_turn
+returns-clause-in_turn g c = (false, c.in_ok-asked.ensures.0)

@@ -1,5 +1,5 @@
 -- The catalog that is read again spells the records that the layers have.
-use Rattle.std.proofs.Common.{◌∙◌, List, map, ap, refl}
+use Rattle.std.proofs.Common.{◌∙◌, List, map, ap, inl, refl}
 use Rattle.catalog_page.specs.Layout.{record_of, records_of}
 use Rattle.catalog_page.specs.declared.layer_record.LayerRecord.{LayerRecord}
 use Rattle.page_cache.specs.Cache.{next_of}
@@ -8,6 +8,7 @@ use Rattle.live_layers.specs.Catalog.{objects_named}
 use Rattle.live_layers.proofs.CatalogGood.{layers_may_be}
 use Rattle.live_layers.proofs.ClosingLemmas.{catalog_before, read_sound, trees_kept, trees_read_again}
 use Rattle.live_layers.proofs.KeepLemmas.{kept_catalog, sound_kept}
+use Rattle.live_layers.proofs.Results.{the_err}
 use Rattle.live_layers.proofs.layers.Layers.read_again.Goals as goal
 
 pub returns-in_err-check_again-clause-sound : goal.returns-in_err-check_again-clause-sound
@@ -112,3 +113,13 @@ returns-clause-versions g c =
           ∙ checked.version honest;
       newest = refl;
     }
+
+pub returns-in_err-check_again-clause-met : goal.returns-in_err-check_again-clause-met
+returns-in_err-check_again-clause-met g c = λ honest.
+    the_err c.from_residual.result c.in_err-check_again.field-0.0 _ c.from_residual.ensures.1
+    (inl (c.in_err-check_again.ensures.faults honest))
+
+pub returns-in_err-records-clause-met : goal.returns-in_err-records-clause-met
+returns-in_err-records-clause-met g c = λ honest.
+    the_err c.from_residual-in_err-records.result c.in_err-records.field-0.0 _
+    c.from_residual-in_err-records.ensures.1 c.in_err-records.ensures.only

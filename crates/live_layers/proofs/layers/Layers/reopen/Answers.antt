@@ -1,5 +1,5 @@
 -- A closing that is finished, or refused, and what is read after it.
-use Rattle.std.proofs.Common.{◌≡◌, ◌∙◌, List, Some, ap, subst, sym}
+use Rattle.std.proofs.Common.{◌≡◌, ◌∙◌, List, Some, ap, inl, inr, subst, sym, ⊎_elim}
 use Rattle.catalog_page.specs.Layout.{Record, records_of}
 use Rattle.page_cache.specs.Cache.{pages}
 use Rattle.page_cache.specs.Laws.{the_gate_is_kept_in_turn}
@@ -7,7 +7,8 @@ use Rattle.live_layers.proofs.ClosingLemmas.{catalog_beside, read_image, rests_o
 use Rattle.live_layers.proofs.ClosingLemmas.{unchanged_keeps_gate}
 use Rattle.live_layers.specs.Layers.{catalog_in}
 use Rattle.live_layers.proofs.KeepLemmas.{kept_catalog, versions_in_turn}
-use Rattle.live_layers.proofs.QuestionLemmas.{fault_goes_on}
+use Rattle.live_layers.proofs.QuestionLemmas.{fault_goes_on, fault_may}
+use Rattle.live_layers.specs.Faults.{may_refuse}
 use Rattle.store_law.specs.Stops.{is_end}
 use Rattle.live_layers.proofs.layers.Layers.reopen.Goals as goal
 
@@ -122,3 +123,11 @@ returns-in-Err-read_again-clause-versions g c =
     let settled = c.in_default.ensures in
     versions_in_turn c.args.self.now c.settle.new.self c.read_again.new.self settled.honest.0
     settled.versions c.in-Err-read_again.ensures.versions
+
+pub returns-in-Err-clause-met : goal.returns-in-Err-clause-met
+returns-in-Err-clause-met g c = λ honest.
+    inl (ap may_refuse c.as_refusal.ensures ∙ fault_may c.in-Err.fault c.in-Err.ensures.other_faults)
+
+pub returns-in-Err-read_again-clause-met : goal.returns-in-Err-read_again-clause-met
+returns-in-Err-read_again-clause-met g c = λ honest.
+    ⊎_elim inl (λ damaged. inr (inr damaged)) (c.in-Err-read_again.ensures.met (c.settle.ensures.honest.0 honest))

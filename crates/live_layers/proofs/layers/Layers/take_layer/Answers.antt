@@ -1,5 +1,5 @@
 -- The pages are free, and the record is out; or the change was refused, or broke off.
-use Rattle.std.proofs.Common.{Err, length, ap, arith, refl, subst, sym}
+use Rattle.std.proofs.Common.{Err, length, ap, arith, inl, inr, refl, subst, sym, ⊎_elim}
 use Rattle.catalog_page.specs.Layout.{records_of}
 use Rattle.plain_table.specs.Table.{layer_at}
 use Rattle.page_file.specs.Fault.{IsOfDevice}
@@ -21,6 +21,7 @@ returns-in-Err-clause-begins g c =
     (Err c.broken_by.result) c.broken_by.ensures
     (refl, refl, refl, refl) c.in_ok-begin.ensures.begins c.begin.ensures.sound c.begin.ensures.keeps
     c.in-Err.ensures.changes
+    (⊎_elim inl (λ damaged. inr (inr damaged)) c.in-Err.ensures.other_faults)
 
 pub returns-in-Err-clause-faults : goal.returns-in-Err-clause-faults
 returns-in-Err-clause-faults g c = λ t name sound finds.

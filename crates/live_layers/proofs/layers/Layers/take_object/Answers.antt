@@ -5,7 +5,6 @@ use Rattle.plain_table.specs.Table.{layer_at}
 use Rattle.condense.specs.Removed.{most_removal_pages}
 use Rattle.page_file.specs.Fault.{IsOfDevice}
 use Rattle.live_layers.specs.declared.broken.Broken.{Broken}
-use Rattle.page_file.specs.declared.fault.Fault.TheVariants as fault
 use Rattle.live_layers.proofs.CountLemmas.{no_page_wanted}
 use Rattle.live_layers.specs.Rules.{HasLost}
 use Rattle.live_layers.proofs.AddLemmas.{stands_at}
@@ -15,11 +14,6 @@ use Rattle.live_layers.proofs.Results.{the_err}
 use Rattle.live_layers.proofs.SpotLemmas.{spot_begun}
 use Rattle.live_layers.proofs.TakeLemmas.{sound_taken, tree_taken}
 use Rattle.live_layers.proofs.layers.Layers.take_object.Goals as goal
-
-pub returns-then-not-fits_in_memory-clause-begins : goal.returns-then-not-fits_in_memory-clause-begins
-returns-then-not-fits_in_memory-clause-begins g c =
-    no_memory c.args.self.now fault.Memory (Err c.from.result) c.from.ensures refl
-    g.met.B.BlockDevice.only_now
 
 pub returns-in_err-kept-clause-begins : goal.returns-in_err-kept-clause-begins
 returns-in_err-kept-clause-begins g c =
@@ -37,7 +31,7 @@ returns-in-Err-clause-begins g c =
     broke_behind c.args.self.now c.begin.new.self _ c.in-Err.fault
     (Err c.broken_by.result) c.broken_by.ensures (refl, refl, refl, refl)
     c.in_ok-begin.ensures.begins c.begin.ensures.sound c.begin.ensures.keeps
-    c.in-Err.ensures.changes
+    c.in-Err.ensures.changes c.in-Err.ensures.other_faults
 
 pub returns-in-Err-clause-faults : goal.returns-in-Err-clause-faults
 returns-in-Err-clause-faults g c = λ t name sound finds dims there spot.
@@ -100,11 +94,6 @@ pub returns-clause-begins : goal.returns-clause-begins
 returns-clause-begins g c =
     made_behind c.args.self.now c.begin.new.self _ c.remove.new.cache c.note.ensures.cache
     c.in_ok-begin.ensures.begins c.begin.ensures.keeps c.in-Ok.ensures.changes c.note.ensures.newest
-
-pub returns-then-not-fits_in_memory-clause-faults : goal.returns-then-not-fits_in_memory-clause-faults
-returns-then-not-fits_in_memory-clause-faults g c =
-    λ t name sound finds dims has spot. subst (λ (b : Broken). IsOfDevice b.cause) (sym c.from.ensures)
-    (inl refl)
 
 pub returns-in_err-kept-clause-faults : goal.returns-in_err-kept-clause-faults
 returns-in_err-kept-clause-faults g c =

@@ -14,7 +14,6 @@ invariant_of-self-clause-room g c =
       arith,
       ap length c.pop.ensures.items,
       length-append c.pop.new.self.items (option_to_list c.pop.result),
-      c.pop.ensures.capacity,
       c.args.self.now.room,
     )
 

@@ -17,8 +17,8 @@ invariant_of-self-clause-room g c =
     omega (arith, free_levels_le c.args.self.now.called c.from.result, c.args.self.now.room)
 
 -- with the far set that a level gives there is room for one entry more
-pub push_reserved-requires : goal.push_reserved-requires
-push_reserved-requires g c =
+pub push-requires : goal.push-requires
+push-requires g c =
     let free = ap free_levels c.loop-passed.invariant.2 in (
       search rules,
       omega (
@@ -27,7 +27,6 @@ push_reserved-requires g c =
         free_levels_fall c.args.self.now.called c.args.level c.requires.first,
         c.args.self.now.room,
         c.loop-passed.invariant.1,
-        c.loop-passed.invariant.3,
         c.requires.few,
         c.len-passed-end.ensures.value,
         c.loop-passed-test.true,
@@ -43,14 +42,12 @@ invariant_of-self-in-loop-passed-clause-room g c =
       free_levels_fall c.args.self.now.called c.args.level c.requires.first,
       c.args.self.now.room,
       c.loop-passed.invariant.1,
-      c.loop-passed.invariant.3,
       c.requires.few,
       c.len-passed-end.ensures.value,
       c.loop-passed-test.true,
-      ap length c.push_reserved.ensures.items,
+      ap length c.push.ensures.items,
       length-append c.loop-passed.self.waits.items
           (record { entry = c.index-deref-len.result; level = c.args.level } ∷ []),
-      c.push_reserved.ensures.capacity,
     )
 
 pub invariant_of-self-in-loop-passed-clause-refers : goal.invariant_of-self-in-loop-passed-clause-refers
@@ -65,7 +62,7 @@ invariant_of-self-in-loop-passed-clause-refers g c =
     let one : IsOfLevel c.args.level e.reference e.tag =
     subst (λ (x : Entry g.row.D). IsOfLevel c.args.level x.reference x.tag) (sym this)
     (c.requires.refers at e (omega (arith, c.loop-passed-test.true, c.len-passed-end.ensures.value))) in
-    subst (λ xs. All P xs) (sym c.push_reserved.ensures.items)
+    subst (λ xs. All P xs) (sym c.push.ensures.items)
     (All-append P c.loop-passed.self.waits.items (record { entry = e; level = c.args.level } ∷ [])
     c.loop-passed.self.refers (All-one P (record { entry = e; level = c.args.level }) one))
 
@@ -104,16 +101,15 @@ loop-passed-preserved g c =
     let this : e ≡ get_or far (length far - 1 - c.loop-passed.passed) e =
     c.index-deref-len.is ∙ ap (λ xs. get_or xs (c.len.result - 1 - c.loop-passed.passed) e) c.deref.ensures.0
     ∙ ap (λ (n : ℕ). get_or far (n - 1 - c.loop-passed.passed) e) c.len.ensures.value in (
-      held_more c.args.self.now.waits.items c.loop-passed.self.waits.items c.push_reserved.new.self.items far
+      held_more c.args.self.now.waits.items c.loop-passed.self.waits.items c.push.new.self.items far
           c.args.level c.loop-passed.passed e
-          c.loop-passed.invariant.0 c.push_reserved.ensures.items
+          c.loop-passed.invariant.0 c.push.ensures.items
           (omega (arith, c.loop-passed-test.true, c.len-passed-end.ensures.value)) this,
       omega (
         arith,
-        ap length c.push_reserved.ensures.items,
+        ap length c.push.ensures.items,
         length-append c.loop-passed.self.waits.items (record { entry = e; level = c.args.level } ∷ []),
         c.loop-passed.invariant.1,
       ),
       c.loop-passed.invariant.2,
-      c.push_reserved.ensures.capacity ∙ c.loop-passed.invariant.3,
     )

@@ -1,0 +1,19 @@
+-- The words by which something is shown are those that `show_rules` says.
+use Rattle.std.proofs.Common.{◌∙◌, ap, ap₂}
+use Rattle.std.proofs.lemmas.Result.{IfOk-weaker}
+use Rattle.clap.specs.Words.{with_rule}
+use Rattle.program_words.proofs.words.with_shows.Goals as goal
+
+pub returns : goal.returns
+returns c =
+    IfOk-weaker c.arg-3.result _ _
+    (λ r h.
+    h.shape c.flag-json.ensures.own
+    ∙ ap₂ with_rule
+    (c.in_ok-arg-2.ensures.shape c.flag-stats.ensures.own
+    ∙ ap₂ with_rule
+    (c.in_ok-arg.ensures.shape c.valued-draw.ensures.own
+    ∙ ap (with_rule _) c.valued-draw.ensures.rule)
+    c.flag-stats.ensures.rule)
+    c.flag-json.ensures.rule)
+    c.arg-3.ensures

@@ -1,0 +1,3 @@
+-- Definitions, which clauses cite.
+pub mod Targets
+pub mod Words

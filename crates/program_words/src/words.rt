@@ -1,0 +1,331 @@
+//! What the words of the command line ask for.
+ghost use Rattle.std.specs.Prelude.{◌≡◌, ◌≤◌, ◌||◌, Bool, IfOk, IfSome, Some, codes, false, is_some};
+ghost use Rattle.std.specs.Prelude.{option_map, true};
+ghost use Rattle.clap.specs.Values.{bool_text};
+ghost use Rattle.clap.specs.Walk.{texts};
+ghost use Rattle.clap.specs.Words.{FailsBy, app_of, fault_of, first_value, found_of, one_text};
+ghost use Rattle.clap.specs.Words.{rule_of};
+ghost use Rattle.page_file.specs.Layout.{version_number};
+ghost use Rattle.program_words.specs.Words.{AskFor, AsksToBeStrict, AsksToImport, AsksToShow, flag_rule};
+ghost use Rattle.program_words.specs.Words.{import_rules, is_cache, number_rule, program, show_rules};
+ghost use Rattle.program_words.specs.Words.{target_in, valued_rule};
+
+use clap::builder::ValueParser;
+use clap::{Arg, ArgAction, ArgMatches, Command, Error, value_parser};
+use page_file::Version;
+use std::alloc::{AllocError, Global};
+
+const ABOUT: &str =
+    "A spatial store: commands on standard input, one a line, and replies on standard output.";
+
+const AFTER_HELP: &str =
+    "Changes are kept in FILE at each `reopen` and at the end of the input. Where the program is killed or \
+the machine stops, what was kept is not lost: the next run brings it back from FILE-journal, which lies \
+beside FILE as long as a run has not ended. FILE without FILE-journal is refused then, where that run had \
+closed something. Where a run with --create is killed before it has closed anything, FILE may be there \
+without bytes, or be refused by NotClosed: remove it and make it anew.\n\n\
+The status is 0 where all lines were answered, also by `fail`, 1 where the store, the input or the output \
+failed, and 2 where the words are refused. With --read-only no byte of FILE is written, each change answers \
+`fail 17 Device`, and the status is 1 where one was asked. With --strict the first line that is refused ends \
+the run: the line and its number are told on standard error, the status is 3, and nothing is closed, so FILE \
+has the table that it had before the run, or that of the last `reopen` in it. docs/COMMANDS.md tells the \
+commands.\n\n\
+With --draw LAYER and with --stats no line is read, and no byte of FILE is written. With --import LAYER \
+standard input holds objects, as CSV or lines of GeoJSON: they are put into the layer, all or none; where \
+their text is refused the status is 3, and FILE is not opened. Coordinates are whole numbers, or decimals \
+where --scale N says by what they are multiplied (100000 for degrees), rounded outward then. FILE is of \
+version 3 once a layer was made in it. With --format 2 it stays below that, for programs that know no other, \
+large layers are slower to change, and a FILE of version 3 is refused. Examples:\n\n  \
+rstore --create map.rst <map.txt\n  \
+rstore --format 2 --create old.rst <map.txt\n  rstore --strict map.rst <changes.txt\n  \
+rstore --draw roads map.rst >roads.svg\n  rstore --stats map.rst\n  \
+rstore --stats --json map.rst >map.json\n  \
+rstore --create --import roads:50 --scale 1000 map.rst <roads.csv\n  \
+rstore --import parks --geojson --columns id,kind --scale 100000 map.rst <parks.geojson";
+
+// How many pages are cached where nothing else is asked for.
+const CACHED_PAGES: u32 = 64;
+
+/// The words of an import, as they were given.
+#[derive(Clone, Copy, Debug, PartialEq, Eq)]
+pub struct ImportWords<'a> {
+    /// The layer, with a fanout or not.
+    pub layer: Option<&'a str>,
+    /// Which columns of CSV are read, or which properties of features.
+    pub columns: Option<&'a str>,
+    /// What coordinates are multiplied by.
+    pub scale: Option<&'a str>,
+    /// How many axes of features are read.
+    pub axes: Option<&'a str>,
+    /// Whether the lines are features of GeoJSON.
+    pub geojson: bool,
+}
+
+impl ImportWords<'_> {
+    /// Whether one of these words was given.
+    pub fn any(&self) -> bool
+        ensures { result ≡ (is_some self.now.layer || (is_some self.now.columns || (is_some self.now.scale
+            || (is_some self.now.axes || self.now.geojson)))) }
+    {
+        self.layer.is_some()
+            || (self.columns.is_some()
+                || (self.scale.is_some() || (self.axes.is_some() || self.geojson)))
+    }
+}
+
+/// What a store is held to that is made or opened.
+#[derive(Clone, Copy, Debug, PartialEq, Eq)]
+pub struct Limits {
+    /// How many pages it caches, 8 to 4096.
+    pub cache: u32,
+    /// The newest version that its file may have. With `Version::Two` a file of version 3 is refused, each
+    /// layer that is made has chains of identifiers, and a file of version 2 stays one; with `Version::Three`
+    /// it has a tree of them, and the file is of version 3 from then on. What is there already stays as it is.
+    pub newest: Version,
+}
+
+/// How the program is to run.
+#[derive(Clone, Copy, Debug, PartialEq, Eq)]
+pub struct Options<'a> {
+    /// What the store is held to.
+    pub limits: Limits,
+    /// Whether the file is to be made.
+    pub create: bool,
+    /// Whether the file is only to be read.
+    pub read_only: bool,
+    /// Whether the first line that is refused ends the run.
+    pub strict: bool,
+    /// The layer whose tree is to be drawn, if one is.
+    pub draw: Option<&'a str>,
+    /// Whether the statistics of the layers are to be told.
+    pub stats: bool,
+    /// Whether they are to be told as JSON.
+    pub json: bool,
+    /// What is to be imported, if anything is.
+    pub import: ImportWords<'a>,
+    /// The file, or none for a store in memory.
+    pub file: Option<&'a str>,
+    pub ghost fit: { is_cache limits.cache ≡ true },
+}
+
+impl Options<'_> {
+    /// Whether something of the file is to be shown, and no line to be read.
+    pub fn show(&self) -> bool
+        ensures { result ≡ (is_some self.now.draw || (self.now.stats || self.now.json)) }
+    {
+        self.draw.is_some() || (self.stats || self.json)
+    }
+}
+
+// The number of pages, which `clap` has held to the range.
+fn cached_pages(asked: Option<u32>) -> u32
+    ensures fits { is_cache result ≡ true }
+    ensures as_asked { IfSome asked (λ pages. is_cache pages ≡ true → result ≡ pages) }
+{
+    match asked {
+        Some(pages) if pages >= 8 && pages <= 4096 => pages,
+        _ => CACHED_PAGES,
+    }
+}
+
+// The newest version that the file may have, whose number `clap` has held to the range.
+fn newest_version(asked: Option<u32>) -> Version
+    ensures { IfSome asked (λ n. 2 ≤ n → n ≤ 3 → version_number result ≡ n) }
+{
+    match asked {
+        Some(2) => Version::Two,
+        _ => Version::Three,
+    }
+}
+
+// A flag of this name.
+fn flag<'a>(alloc: Global, name: &'a str, help: &'a str) -> Arg<'a>
+    ensures rule { rule_of result ≡ flag_rule name.now }
+    ensures own { result.global ≡ false }
+{
+    Arg::new(alloc, name)
+        .long(name)
+        .help(help)
+        .action(ArgAction::SetTrue)
+}
+
+// A word with a number that this parser reads, and with the one that is meant where none is said.
+fn number<'a>(
+    alloc: Global,
+    name: &'a str,
+    help: &'a str,
+    parser: ValueParser<'a>,
+    default: &'a str,
+) -> Arg<'a>
+    ensures rule { rule_of result ≡ number_rule name.now parser.entry default.now }
+    ensures own { result.global ≡ false }
+{
+    Arg::new(alloc, name)
+        .long(name)
+        .value_name("N")
+        .help(help)
+        .value_parser(parser)
+        .default_value(default)
+}
+
+// The words that the program takes, as `clap` reads them.
+fn command<'a>(alloc: Global) -> Result<Command<'a>, AllocError>
+    ensures { IfOk result (λ c. app_of c ≡ program) }
+{
+    let cache = number(
+        alloc,
+        "cache",
+        "How many pages the store caches, 8 to 4096",
+        value_parser!(u32).range(8..=4096),
+        "64",
+    );
+    let format = number(
+        alloc,
+        "format",
+        "The newest version of its format that FILE may have, 2 or 3",
+        value_parser!(u32).range(2..=3),
+        "3",
+    );
+    let create = flag(alloc, "create", "Make FILE, which must be missing or empty");
+    let read_only = flag(alloc, "read-only", "Only read FILE, beside other readers");
+    let strict = flag(
+        alloc,
+        "strict",
+        "End at the first line that is refused, with status 3, and close nothing",
+    );
+    let file = Arg::new(alloc, "file").value_name("FILE").help(
+        "The file of the store; without it the store is in memory and is lost at the end",
+    );
+    let rstore = Command::new(alloc, "rstore")
+        .version("1")
+        .about(ABOUT)
+        .after_help(AFTER_HELP);
+    let limited = rstore.arg(cache)?.arg(format)?;
+    let plain = limited.arg(create)?.arg(read_only)?.arg(strict)?;
+    with_import(alloc, with_shows(alloc, plain)?)?.arg(file)
+}
+
+// The words, with those by which something is shown.
+fn with_shows<'a>(alloc: Global, words: Command<'a>) -> Result<Command<'a>, AllocError>
+    ensures { IfOk result (λ c. app_of c ≡ show_rules (app_of words.entry)) }
+{
+    let draw = valued(
+        alloc,
+        "draw",
+        "LAYER",
+        "Write an SVG picture of the layer's tree, and read no line",
+    );
+    let stats = flag(
+        alloc,
+        "stats",
+        "Tell what one tunes each layer by, and read no line",
+    );
+    let json = flag(alloc, "json", "With --stats, tell it as JSON");
+    words.arg(draw)?.arg(stats)?.arg(json)
+}
+
+// A word with a value.
+fn valued<'a>(alloc: Global, name: &'a str, value: &'a str, help: &'a str) -> Arg<'a>
+    ensures rule { rule_of result ≡ valued_rule name.now }
+    ensures own { result.global ≡ false }
+{
+    Arg::new(alloc, name)
+        .long(name)
+        .value_name(value)
+        .help(help)
+}
+
+// The words, with those of an import.
+fn with_import<'a>(alloc: Global, words: Command<'a>) -> Result<Command<'a>, AllocError>
+    ensures { IfOk result (λ c. app_of c ≡ import_rules (app_of words.entry)) }
+{
+    let layer = valued(
+        alloc,
+        "import",
+        "LAYER[:FANOUT]",
+        "Put the objects of the input into the layer, all or none",
+    );
+    let columns = valued(
+        alloc,
+        "columns",
+        "LIST",
+        "Which columns: id,minx,miny,maxx,maxy[,tag]; of GeoJSON which properties: id,tag",
+    );
+    let scale = valued(
+        alloc,
+        "scale",
+        "N",
+        "What coordinates are multiplied by, 1 to 1000000000; without it they are whole numbers",
+    );
+    let axes = valued(
+        alloc,
+        "axes",
+        "N",
+        "How many axes of GeoJSON are read, 2 or 3",
+    );
+    let geojson = flag(
+        alloc,
+        "geojson",
+        "The input is lines of GeoJSON, and no CSV",
+    );
+    words
+        .arg(layer)?
+        .arg(columns)?
+        .arg(scale)?
+        .arg(axes)?
+        .arg(geojson)
+}
+
+// The words of an import, among those that `clap` found.
+fn import_in<'a>(matches: &ArgMatches<'a>) -> ImportWords<'a>
+    ensures layer { option_map (λ w. w.now) result.layer
+        ≡ first_value (found_of matches.now) (codes "import") }
+    ensures columns { option_map (λ w. w.now) result.columns
+        ≡ first_value (found_of matches.now) (codes "columns") }
+    ensures scale { option_map (λ w. w.now) result.scale
+        ≡ first_value (found_of matches.now) (codes "scale") }
+    ensures axes { option_map (λ w. w.now) result.axes
+        ≡ first_value (found_of matches.now) (codes "axes") }
+    ensures geojson { (flag : Bool) → one_text (found_of matches.now) (codes "geojson")
+        ≡ Some (bool_text flag) → result.geojson ≡ flag }
+{
+    ImportWords {
+        layer: matches.get_str("import"),
+        columns: matches.get_str("columns"),
+        scale: matches.get_str("scale"),
+        axes: matches.get_str("axes"),
+        geojson: matches.get_flag("geojson"),
+    }
+}
+
+/// What the words ask for, the first of which is the program's name; or the text of `clap` that refuses them
+/// or helps.
+pub fn read_words<'a>(alloc: Global, words: &'a [&'a str]) -> Result<Options<'a>, Error>
+    ensures asked { IfOk result
+        (λ o. AskFor (texts words.now) o.limits.cache o.limits.newest o.create o.read_only
+        (option_map (λ f. f.now) o.file)) }
+    ensures strict { IfOk result (λ o. AsksToBeStrict (texts words.now) o.strict) }
+    ensures shown { IfOk result (λ o. AsksToShow (texts words.now)
+        (is_some o.draw || (o.stats || o.json))) }
+    ensures imports { IfOk result (λ o. AsksToImport (texts words.now)
+        (is_some o.import.layer || (is_some o.import.columns || (is_some o.import.scale
+        || (is_some o.import.axes || o.import.geojson))))) }
+    ensures target { IfOk result (λ o. option_map (λ w. w.now) o.import.layer ≡ target_in (texts words.now)) }
+    ensures refused { FailsBy (fault_of program (texts words.now)) result }
+{
+    let matches = command(alloc)?.try_get_matches_from(words)?;
+    Ok(Options {
+        limits: Limits {
+            cache: cached_pages(matches.get_one::<u32>("cache")),
+            newest: newest_version(matches.get_one::<u32>("format")),
+        },
+        create: matches.get_flag("create"),
+        read_only: matches.get_flag("read-only"),
+        strict: matches.get_flag("strict"),
+        draw: matches.get_str("draw"),
+        stats: matches.get_flag("stats"),
+        json: matches.get_flag("json"),
+        import: import_in(&matches),
+        file: matches.get_str("file"),
+    })
+}
