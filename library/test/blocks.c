@@ -18,7 +18,7 @@
 
 enum { MOST = 4000 };
 typedef struct { unsigned char at[MOST][4096]; size_t count; } Image;
-typedef struct { Image now, kept; long left; bool commits; rstore *other; } Disk;
+typedef struct { Image now, kept; long left; bool commits, sync_failed; rstore *other; } Disk;
 static Disk disk;
 
 static bool fails(Disk *d) {
@@ -48,7 +48,12 @@ static int write_one(void *context, uint64_t block, const void *bytes) {
     if (block == d->now.count) d->now.count++;
     return 0;
 }
-static int sync_all(void *context) { return fails(context); }
+static int sync_all(void *context) {
+    Disk *d = context;
+    bool failed = fails(d);
+    d->sync_failed |= failed;
+    return failed;
+}
 static const rstore_blocks functions = { count_of, read_one, write_one, sync_all };
 
 static void copy(Image *to, const Image *from) {
@@ -166,6 +171,23 @@ static void each_call_fails(long most) {
     printf("%ld sessions in which a call of the caller's fails, %ld of them cut short\n", tried, refused);
 }
 
+/* Behind a sync that failed no other is asked for: neither a rollback that has to sync nor a commit goes well, and the
+ * caller puts the blocks back. */
+static void is_given_up(rstore *db, uint64_t before) {
+    uint64_t count;
+    int error = rstore_rollback(db);
+    if (error) {
+        IS(RSTORE_DEVICE, error);
+        IS(RSTORE_NOT_OPEN, rstore_count(db, "a", &count));
+    } else {
+        IS(RSTORE_OK, insert(db, 2000000, 7));
+        IS(RSTORE_DEVICE, rstore_commit(db));
+    }
+    rstore_abandon(db);
+    put_back(&disk);
+    is_closed_file(&disk.now, "copy.rst", before);
+}
+
 /* A session that is rolled back, after changes, or a commit, in which the nth call of a function fails; it goes on, and
  * commits. Whether one did fail. */
 static bool rolled_back(long nth, uint64_t before) {
@@ -173,6 +195,7 @@ static bool rolled_back(long nth, uint64_t before) {
     uint64_t count, added = 0;
     bool commits = nth % 2;
     copy(&disk.now, &first), keep(&disk);
+    disk.sync_failed = false;
     IS(RSTORE_OK, rstore_open_blocks(&functions, &disk, RSTORE_EXISTING, 8, &db));
     disk.left = nth;
     for (unsigned n = 0; n < 90; n++) added += !insert(db, 1000000 + n, n);
@@ -180,6 +203,10 @@ static bool rolled_back(long nth, uint64_t before) {
     int error = commits ? rstore_commit(db) : RSTORE_OK;
     bool failed = disk.left == 0;
     disk.left = 0;
+    if (disk.sync_failed) {
+        is_given_up(db, before);
+        return true;
+    }
     IS(RSTORE_OK, rstore_rollback(db));
     disk.commits = false;
     IS(RSTORE_OK, rstore_check(db));
