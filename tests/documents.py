@@ -19,7 +19,7 @@ import layers  # of tools/
 DOCUMENTS = [os.path.relpath(path, TOP) for path in glob.glob(f"{TOP}/*.md") + glob.glob(f"{TOP}/docs/*.md")]
 MADE = re.compile(r"NAME|sqlite3ext")  # names that no file here has
 ENDINGS = "rt|antt|py|sh|c|h|cpp|txt|md|svg|edit|rattle|out"
-CODE = re.compile(r"\b(?:fn|struct|enum|trait|type|const|ensures|ghost) (\w+)")  # what it defines
+CODE = re.compile(r"\b(?:fn|struct|enum|trait|type|const|ensures\*?|ghost) (\w+)")  # what it defines
 SPEC = re.compile(r"(?m)^\s*(?:(?:pub|abbrev|record|data|mutual) )*(\w+)")  # what definitions define: the first name of a line
 
 
