@@ -151,7 +151,7 @@ doc=usr/share/doc
 put "$v2/rstore" "$work/rstore" usr/bin/rstore 755
 put_gz "$work/rstore.1" "$work/rstore" usr/share/man/man1/rstore.1
 put "$here/completion.bash" "$work/rstore" usr/share/bash-completion/completions/rstore
-for it in COMMANDS.md FORMAT.md STOPS.md PROOFS.md RULES.md britain.svg growth.svg waters.svg; do
+for it in COMMANDS.md FORMAT.md STOPS.md PROOFS.md REGISTER.md RULES.md britain.svg growth.svg waters.svg; do
     put "$top/docs/$it" "$work/rstore" "$doc/rstore/$it"
 done
 sed 's#](docs/#](#g' "$top/README.md" >"$work/rstore/$doc/rstore/README.md"

@@ -1,7 +1,7 @@
 #!/usr/bin/env python3
 """Looks at the documents: docs/layers.svg is what tools/layers.py draws of crates.txt; the tables of
-docs/ARCHITECTURE.md and docs/PERFORMANCE.md have each crate, in the order of crates.txt; and each file that a document
-names is there. It runs no program.
+docs/ARCHITECTURE.md and docs/PERFORMANCE.md have each crate, in the order of crates.txt; each file that a document
+names is there, and each contract that docs/REGISTER.md names. It runs no program.
 
 documents.py [WORDS OF unittest]
 """
@@ -19,6 +19,8 @@ import layers  # of tools/
 DOCUMENTS = [os.path.relpath(path, TOP) for path in glob.glob(f"{TOP}/*.md") + glob.glob(f"{TOP}/docs/*.md")]
 MADE = re.compile(r"NAME|sqlite3ext")  # names that no file here has
 ENDINGS = "rt|antt|py|sh|c|h|cpp|txt|md|svg|edit|rattle|out"
+CODE = re.compile(r"\b(?:fn|struct|enum|trait|type|const|ensures\*?|ghost) (\w+)")  # what it defines
+SPEC = re.compile(r"(?m)^\s*(?:(?:pub|abbrev|record|data|mutual) )*(\w+)")  # what definitions define: the first name of a line
 
 
 def text_of(file):
@@ -34,6 +36,12 @@ def files():
         below[:] = [name for name in below if name not in (".git", "out", "lib", "__pycache__")]
         found += [os.path.relpath(os.path.join(folder, name), TOP) for name in names]
     return found
+
+
+def defined():
+    """What each file of src/ and specs/ defines, by its path: functions, clauses, types, definitions and fields."""
+    paths = [path for path in files() if re.match(r"crates/\w+/(src|specs)/.*\.(rt|antt)$", path)]
+    return {path: set((CODE if path.endswith(".rt") else SPEC).findall(text_of(path))) for path in paths}
 
 
 class Documents(unittest.TestCase):
@@ -63,6 +71,23 @@ class Documents(unittest.TestCase):
                 with self.subTest(document=document, path=path):
                     end = "/" + re.sub(r"^\./", "", path)
                     self.assertTrue(MADE.search(path) or any(name.endswith(end) for name in there))
+
+    def test_the_register(self):
+        """In the second and third column of docs/REGISTER.md each path is there, and each other name is a crate, or
+        defined in a file or crate that stands in its cell."""
+        names_of = defined()
+        rows = [row.strip("| ").split(" | ")[1:] for row in text_of("docs/REGISTER.md").splitlines() if row.startswith("| ")]
+        for cell in [cell for row in rows for cell in row]:
+            names = re.findall(r"`([^`]+)`", cell)
+            places = [name for name in names if os.path.exists(os.path.join(TOP, name))]
+            crates = [name for name in names if os.path.isdir(f"{TOP}/crates/{name}")]
+            within = tuple(places + [f"crates/{crate}/" for crate in crates])
+            known = set().union(*[names_of[path] for path in names_of if path.startswith(within)])
+            for name in set(names) - set(places) - set(crates):
+                with self.subTest(cell=cell, name=name):
+                    self.assertIn(name.split("::")[-1], known)
+        named = set(re.findall(r"crates/\w+/must-fail/\w+\.edit", text_of("docs/REGISTER.md")))
+        self.assertEqual(named, {path for path in files() if path.endswith(".edit")})
 
 
 unittest.main(verbosity=0)
