@@ -1,20 +1,21 @@
 #!/usr/bin/env python3
-"""Pastes what README.md shows, block after block, into a shell and Python, in one folder that is empty at first, and
-compares what each prints with what is shown; then the strict session and the backup of docs/COMMANDS.md, over README's
-file. In the folder `./rstore` is a link to the program, and `examples` one to the examples. A command may end with a
-comment behind two blanks and `#`. A line `...` stands for lines that are left out; in Python a comment that begins with
-`prints` shows what is printed. What reads examples/first.txt is compared with examples/first.out, too. Some commands are
+"""Pastes what README.md shows, block after block, into a shell, the shell of SQLite and Python, in one folder that is
+empty at first, and compares what each prints with what is shown; then the strict session and the backup of
+docs/COMMANDS.md, over README's file. In the folder `./rstore` is a link to the program, `library/lib` one to the library,
+and `examples` one to the examples. A command may end with a comment behind two blanks and `#`. A line `...` stands for
+lines that are left out; in SQL and Python a comment that begins with `prints` shows what is printed. What reads examples/first.txt is compared with examples/first.out, too. Some commands are
 not run: `rt try`, of which the lines are compared, the gate, and what installs packages, which package/test.sh tests. It
 tests the programs that `rt ci` made, by both compilers; where there is none, one is made.
 
 readme.py [WORDS OF unittest]
 
-RSTORE_LIB names the folder of the library (library/lib where it is left out). Where it is not built there, the block in
-Python is left out, and a line says so.
+RSTORE_LIB names the folder of the library (library/lib where it is left out). Blocks that need what isn't built there
+are left out, and a line says so.
 """
 import os
 import re
 import shlex
+import shutil
 import subprocess
 import sys
 
@@ -26,8 +27,13 @@ RT_SAYS = "run=ended status=0 runners=1 proved=no"  # the last line of `rt try`,
 NOT_RUN = r"(sudo apt|pip) install \S+|\.ci/run"
 BACKUP = "    echo dump | ./rstore --read-only map.rst"
 HAS_PYTHON = os.path.exists(os.path.join(LIB, "librstore.so")) and os.path.isdir(os.path.join(LIB, "rstore"))
-if not HAS_PYTHON:
-    print("tests/readme.py: the block in Python is left out: library/build.sh makes the library", file=sys.stderr)
+HAS_SQL = os.path.exists(os.path.join(LIB, "rstore_sqlite.so")) and bool(shutil.which("sqlite3"))
+for has, block, why in (
+    (HAS_PYTHON, "Python", "library/build.sh makes the library"),
+    (HAS_SQL, "SQL", "library/sqlite/build.sh makes the extension, and it wants the shell sqlite3"),
+):
+    if not has:
+        print(f"tests/readme.py: the block in {block} is left out: {why}", file=sys.stderr)
 
 
 def text_of(file):
@@ -64,9 +70,10 @@ def sessions(lines):
     return [("\n".join(command), shown) for command, shown in found]
 
 
-def printed_by(lines):
-    """What the comments of a program that begin with `prints` show."""
-    return [line.split("# prints ", 1)[1] for line in lines if "# prints " in line]
+def printed_by(lines, comment):
+    """What the comments of a program that begin with `prints` show, a line each."""
+    shown = [line.split(comment + " prints ", 1)[1] for line in lines if comment + " prints " in line]
+    return "".join(line + "\n" for line in shown)
 
 
 class Pasted(Runs):
@@ -76,6 +83,8 @@ class Pasted(Runs):
         super().setUp()
         os.symlink(self.program, self.path("rstore"))
         os.symlink(os.path.join(TOP, "examples"), self.path("examples"))
+        os.mkdir(self.path("library"))
+        os.symlink(LIB, self.path("library/lib"))
         self.more = {"RSTORE_LIBRARY": os.path.join(LIB, "librstore.so"), "PYTHONPATH": LIB}
 
     def pasted(self, words, text=None):
@@ -111,11 +120,16 @@ class Pasted(Runs):
     def python(self, lines):
         """A program in Python."""
         if HAS_PYTHON:
-            shown = "".join(line + "\n" for line in printed_by(lines))
-            self.assertEqual(self.pasted([sys.executable, "-"], "\n".join(lines)), (0, shown))
+            self.assertEqual(self.pasted([sys.executable, "-"], "\n".join(lines)), (0, printed_by(lines, "#")))
+
+    def sql(self, lines):
+        """A session for the shell of SQLite."""
+        if HAS_SQL:
+            told = self.pasted(["sqlite3", "-bail", ":memory:"], "\n".join(lines) + "\n")
+            self.assertEqual(told, (0, printed_by(lines, "--")))
 
     def test_the_blocks_of_the_readme_and_those_over_its_file(self):
-        by_language = {"": self.shell, "python": self.python}
+        by_language = {"": self.shell, "sql": self.sql, "python": self.python}
         blocks = fenced(text_of("README.md"))
         self.assertEqual({language for language, _ in blocks}, set(by_language))
         for language, lines in blocks:
