@@ -1,7 +1,8 @@
 #!/usr/bin/env python3
 """Looks at the documents: docs/layers.svg is what tools/layers.py draws of crates.txt; the tables of
-docs/ARCHITECTURE.md and docs/PERFORMANCE.md have each crate, in the order of crates.txt; each file that a document
-names is there, and each contract that docs/REGISTER.md names. It runs no program.
+docs/ARCHITECTURE.md and docs/PERFORMANCE.md have each crate, in the order of crates.txt; the tables of what a reader
+meets are what tools/readers.py counts; each file that a document names is there, and each contract that
+docs/REGISTER.md names. It runs no program.
 
 documents.py [WORDS OF unittest]
 """
@@ -14,7 +15,8 @@ import unittest
 TOP = os.path.dirname(os.path.dirname(os.path.abspath(__file__)))
 sys.path.insert(0, os.path.join(TOP, "tools"))
 sys.dont_write_bytecode = True
-import layers  # of tools/
+import layers  # of tools/, as the next one
+import readers
 
 DOCUMENTS = [os.path.relpath(path, TOP) for path in glob.glob(f"{TOP}/*.md") + glob.glob(f"{TOP}/docs/*.md")]
 MADE = re.compile(r"NAME|sqlite3ext")  # names that no file here has
@@ -49,6 +51,9 @@ class Documents(unittest.TestCase):
 
     def test_the_picture_of_the_layers(self):
         self.assertTrue(layers.picture() == text_of("docs/layers.svg"), "run tools/layers.py")
+
+    def test_the_tables_of_what_a_reader_meets(self):
+        self.assertTrue(readers.tables() == readers.parts()[1], "run tools/readers.py")
 
     def test_the_tables_of_crates(self):
         crates = list(layers.crates())

@@ -31,4 +31,5 @@ def main():
     print(f"| all {len(crates)} | " + " | ".join(map(str, sums)) + " |")
 
 
-main()
+if __name__ == "__main__":
+    main()
