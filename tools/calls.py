@@ -319,8 +319,9 @@ class Source:
             front.append(words[k])
             k -= 1
         function.of_trait = bool(block and block[3])
-        function.public = function.of_trait or front[-1:] == ["pub"] or "pub" in front and "crate" not in front
-        function.private = not function.public
+        seen = "pub" in front  # the words stand from behind
+        function.public = function.of_trait or seen and front[front.index("pub") - 1:][:1] != ["("]
+        function.private = not function.of_trait and not seen
         function.test = any(front[n:n + 4] == ["]", "test", "[", "#"] for n in range(len(front)))
         inside, j = self.angles(i + 2)
         function.generics = {**(block[2] if block else {}), **self.bounds_in(inside)}
