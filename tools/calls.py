@@ -388,7 +388,7 @@ class House:
         self.files = {crate: sources(crate) for crate in self.stands_on}
         self.at = {(crate, file.module): file for crate, files in self.files.items() for file in files}
         self.methods, self.by_name = {}, {}
-        self.guessed, self.unknown = {}, {}  # method names that were resolved by their name, and those that were not
+        self.guessed = {}  # what was called by its name alone, by caller and name
         self.calls = {}
         for file in [file for files in self.files.values() for file in files]:
             for function in file.functions:
@@ -635,14 +635,12 @@ class Body:
             i += 2 if words[i] == "'" else 1
         word = words[i]
         if word == "(":
-            j, parts, kinds = self.end(i), [], []
+            j, kinds = self.end(i), []
             k = i + 1
             while k < j:
-                kind, stop = self.value(k)
-                kinds.append(kind)
+                kinds.append(self.value(k)[0])
                 while k < j and words[k] != ",":
                     k = self.after(k)
-                parts.append(stop)
                 k += 1
             kind = kinds[0] if len(kinds) == 1 and words[j - 1] != "," else Type(self.file, ["()"], kinds)
             return self.behind(kind, j + 1)
@@ -848,7 +846,6 @@ class Body:
     def by_name(self, name):
         """The method that a name alone means."""
         if name in PLAIN:
-            self.house.unknown.setdefault(name, set()).add(self.function)
             return None
         crate = self.function.file.crate
         below = self.house.stands_on[crate]
@@ -860,5 +857,4 @@ class Body:
                 self.house.guessed.setdefault((self.function, name), chosen)
                 self.called.update(chosen)
                 return chosen[0]
-        self.house.unknown.setdefault(name, set()).add(self.function)
         return None

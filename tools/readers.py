@@ -122,6 +122,8 @@ def walked(name):
     order = list(house.files)
     for path in sorted(found, key=lambda path: (order.index(path.split("/")[0]), path)):
         print(path, *sorted(found[path]))
+    for (caller, method), chosen in house.guessed.items():
+        print(f"by its name alone: {caller} calls {method} of", *chosen)
 
 
 def main():
