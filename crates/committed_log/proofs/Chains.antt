@@ -256,5 +256,3 @@ sought_none homes heads i next s is one =
 pub none_without_buckets : (homes before heads : List ℕ) (i : ℕ) → AreChained homes before heads
     → length heads ≡ 0 → ¬ Contains homes i
 none_without_buckets homes before heads i c none one = absurd (omega (arith, c.some_bucket none, one.1))
-
--- ---- what is allocated

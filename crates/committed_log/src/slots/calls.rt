@@ -69,8 +69,7 @@ impl<A: Allocator + Copy> Slots<A> {
     }
 
     /// Its allocator.
-    pub(crate) fn allocator(&self) -> &A
-    {
+    pub(crate) fn allocator(&self) -> &A {
         self.homes.allocator()
     }
 
@@ -119,7 +118,10 @@ impl<A: Allocator + Copy> Slots<A> {
             return Err(DeviceError::Memory);
         }
         let room = len + n;
-        if room <= self.homes.capacity() && room <= self.before.capacity() && !self.heads.is_empty() {
+        if room <= self.homes.capacity()
+            && room <= self.before.capacity()
+            && !self.heads.is_empty()
+        {
             return Ok(());
         }
         let more = n.max(len / 4 + 1);

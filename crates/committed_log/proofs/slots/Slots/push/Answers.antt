@@ -1,9 +1,9 @@
 -- One slot more is chained.
 use Rattle.std.proofs.Common.{◌≡◌, ◌∙◌, ◌++◌, ◌∷◌, [], ℕ, List, ap, arith, length, rules, set, subst, sym}
 use Rattle.std.specs.Prelude.{slice_index}
-use Rattle.std.proofs.lemmas.List.{get_or_read, length_push}
+use Rattle.std.proofs.lemmas.List.{get_or_read}
 use Rattle.committed_log.specs.Buckets.{AreChained, bucket_in}
-use Rattle.committed_log.proofs.Chains.{chained_more, small_more}
+use Rattle.committed_log.proofs.Chains.{chained_more}
 use Rattle.committed_log.proofs.slots.Slots.push.Goals as goal
 
 pub invariant_of-self : goal.invariant_of-self
@@ -26,8 +26,4 @@ invariant_of-self g c =
           (omega (arith, wide, c.bucket-b.ensures.within))
           (omega (arith, c.len-2.ensures, c.push_reserved-2.ensures.len, many))
           (omega (arith, c.len-2.ensures, c.push_reserved-2.ensures.len, c.requires.few)) (sym x)));
-      small = small_more (length s.homes.items) (length c.push_reserved-2.new.self.items) s.homes.cap _
-          s.before.cap _ s.heads.cap
-          (ap length c.push_reserved-2.ensures.items ∙ length_push s.homes.items c.args.i)
-          c.push_reserved-2.ensures.capacity c.push_reserved.ensures.capacity s.small;
     }
