@@ -3,5 +3,12 @@ pub mod Log
 pub mod Found
 pub mod Buckets
 pub mod Room
+pub mod Stops
 -- Lemmas on them, which laws and callers cite.
 pub mod BucketsFact
+pub mod StopsFact
+pub mod Replay
+pub mod Torn
+pub mod Overlay
+pub mod FlagLaws
+pub mod Regions
