@@ -1,2 +1,4 @@
 -- The files of lemmas.
 mod Chains
+mod Stood
+mod Recovering
