@@ -2,3 +2,4 @@
 mod Chains
 mod Stood
 mod Recovering
+mod Taking
