@@ -1,2 +1,5 @@
 -- The files of lemmas.
 mod Chains
+mod Stood
+mod Recovering
+mod Taking

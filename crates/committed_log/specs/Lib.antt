@@ -4,6 +4,8 @@ pub mod Found
 pub mod Buckets
 pub mod Room
 pub mod Stops
+pub mod Committed
+pub mod Region
 -- Lemmas on them, which laws and callers cite.
 pub mod BucketsFact
 pub mod StopsFact

@@ -3,6 +3,9 @@
 #![tactic(auto)]
 
 mod flag;
+pub mod laws;
+mod log;
 mod slots;
 
 pub use flag::{count_page, flag_page, says_committed};
+pub use log::CommittedLog;
