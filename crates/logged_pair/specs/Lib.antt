@@ -5,3 +5,5 @@ pub mod Stages
 pub mod Standing
 -- Lemmas on them, which laws and callers cite.
 pub mod StagesFact
+pub mod Shown
+pub mod Law

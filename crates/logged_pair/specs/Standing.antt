@@ -2,7 +2,7 @@
 use Rattle.std.specs.Prelude.{◌≡◌, ℕ, Bool, List}
 use Rattle.block_device.specs.Device.{BeginsOne, Blocks}
 use Rattle.device_pair.specs.Pairs.{PairElapses, PairLeaves, PairsNoMore}
-use Rattle.committed_log.specs.Committed as log
+use Rattle.committed_log.specs.Committed as regions
 use Rattle.committed_log.specs.Log.{recovered}
 use Rattle.committed_log.specs.declared.slots.Slots.{Slots}
 use Rattle.committed_log.specs.declared.log.CommittedLog.{CommittedLog}
@@ -15,21 +15,21 @@ abbrev pub log_of : {P A : Type 0} {m : _} → LoggedPair P A m → CommittedLog
 log_of d = d.log
 
 abbrev pub pair_of : {P A : Type 0} {m : _} → LoggedPair P A m → P
-pair_of d = log.pair_of d.log
+pair_of d = regions.pair_of d.log
 
 abbrev pub IsHonest : {P A : Type 0} {m : _} → LoggedPair P A m → Type 0
-IsHonest d = log.IsHonest d.log
+IsHonest d = regions.IsHonest d.log
 
 -- the base as it is read through the regions that are committed, and the journal behind them
 abbrev pub base_of : {P A : Type 0} {m : _} → LoggedPair P A m → Blocks
-base_of d = log.seen_of d.log
+base_of d = regions.seen_of d.log
 
 abbrev pub journal_of : {P A : Type 0} {m : _} → LoggedPair P A m → Blocks
-journal_of d = log.behind_of d.log
+journal_of d = regions.behind_of d.log
 
 -- what a stop now may leave of them
 abbrev pub leaves_of : {P A : Type 0} {m : _} → LoggedPair P A m → Blocks → Blocks → Type 0
-leaves_of d a b = log.leaves_of d.log a b
+leaves_of d a b = regions.leaves_of d.log a b
 
 -- whether it is decided, whether the log is begun anew, how many blocks there were at the last commit, the slots,
 -- and their homes
@@ -37,7 +37,7 @@ abbrev pub deciding_of : {P A : Type 0} {m : _} → LoggedPair P A m → Bool
 deciding_of d = d.deciding
 
 abbrev pub clearing_of : {P A : Type 0} {m : _} → LoggedPair P A m → Bool
-clearing_of d = log.clearing_of d.log
+clearing_of d = regions.clearing_of d.log
 
 abbrev pub kept_of : {P A : Type 0} {m : _} → LoggedPair P A m → ℕ
 kept_of d = d.kept
@@ -80,7 +80,7 @@ pub record SameSlots {P A : Type 0} {m : _} (old new : LoggedPair P A m) : Type 
 -- Nothing was written, and no commit has come further.
 pub record IsStill {P A : Type 0} {m : _} (old new : LoggedPair P A m) : Type 0 where
   pub slots : SameSlots old new
-  pub log : log.IsStill (log_of old) (log_of new)
+  pub log : regions.IsStill (log_of old) (log_of new)
 
 -- what a stop now leaves is, once it is recovered, what is read
 abbrev pub IsSettled : {P A : Type 0} {m : _} → LoggedPair P A m → Type 0

@@ -1,15 +1,7 @@
 //! A base and a log of commits, whose sync is atomic.
-ghost use Rattle.committed_log.specs.Committed as log;
+ghost use Rattle.committed_log.specs.Committed as regions;
 ghost use Rattle.logged_pair.specs.Stages.{IsStanding};
 ghost use Rattle.logged_pair.specs.StagesFact.{standing_fact};
-
-mod calls;
-mod commit;
-mod filling;
-mod giving_up;
-mod open;
-mod record;
-mod sync;
 
 use committed_log::{CommittedLog, Slots};
 use device_pair::DevicePair;
@@ -28,10 +20,10 @@ pub struct LoggedPair<P: DevicePair, A: Allocator + Copy = Global> {
     kept: u32,
     // the region is whole and synced, and its flag says that it is committed, or not: it has been asked to
     deciding: bool,
-    ghost standing: { log.IsHonest log → IsStanding deciding (log.clearing_of log) kept slots.homes.items
-        (log.seen_of log) (log.behind_of log)
-        (log.leaves_of log) } by { λ p q i h.
-            standing_fact deciding (log.clearing_of log) kept slots.homes.items (log.seen_of log)
-            (log.behind_of log)
-            (log.leaves_of log) (p h) (q h) i },
+    ghost standing: { regions.IsHonest log → IsStanding deciding (regions.clearing_of log) kept slots.homes.items
+        (regions.seen_of log) (regions.behind_of log)
+        (regions.leaves_of log) } by { λ p q i h.
+            standing_fact deciding (regions.clearing_of log) kept slots.homes.items (regions.seen_of log)
+            (regions.behind_of log)
+            (regions.leaves_of log) (p h) (q h) i },
 }
