@@ -7,3 +7,4 @@ pub mod Standing
 pub mod StagesFact
 pub mod Shown
 pub mod Law
+pub mod CommitLaws
