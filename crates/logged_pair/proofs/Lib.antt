@@ -6,3 +6,4 @@ mod Advanced
 mod Reached
 mod GivingUp
 mod Calling
+mod Indexing

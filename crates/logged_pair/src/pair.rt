@@ -3,6 +3,9 @@ ghost use Rattle.committed_log.specs.Committed as regions;
 ghost use Rattle.logged_pair.specs.Stages.{IsStanding};
 ghost use Rattle.logged_pair.specs.StagesFact.{standing_fact};
 
+mod filling;
+mod record;
+
 use committed_log::{CommittedLog, Slots};
 use device_pair::DevicePair;
 use std::alloc::{Allocator, Global};
