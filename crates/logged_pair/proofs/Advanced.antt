@@ -1,12 +1,14 @@
 -- What stands where a commit comes further, and which commits there are then.
-use Rattle.std.proofs.Common.{◌≡◌, ◌∙◌, ℕ, ◌+◌, ◌<◌, ◌≤◌, Bool, true, false, List, [], length, take, refl, sym, ap}
+use Rattle.std.proofs.Common.{◌≡◌, ◌∙◌, ℕ, ◌+◌, ◌<◌, ◌≤◌, Bool, true, false, List, [], length, take, drop, refl, sym, ap}
 use Rattle.std.proofs.Common.{subst, arith, inl, inr, ⊎_elim}
 use Rattle.std.specs.List.{All}
-use Rattle.std.proofs.lemmas.List.{take_all}
+use Rattle.std.proofs.lemmas.List.{get_or-drop, length-drop, take_all}
 use Rattle.std.proofs.lemmas.List.Elements.{All-weaker}
 use Rattle.block_device.specs.Device.{Blocks, block_at}
 use Rattle.device_pair.specs.Pairs.{PairsNoMore}
-use Rattle.committed_log.specs.Log.{says}
+use Rattle.committed_log.specs.Log.{index_blocks, says, size_of}
+use Rattle.committed_log.specs.Region.{IsRegion}
+use Rattle.logged_pair.specs.Law.{recorded_region, recorded_size}
 use Rattle.logged_pair.specs.Commits.{CommitsNoMore, OrNew}
 use Rattle.logged_pair.specs.Stages.{CommitsIn, IsDeciding, IsFilling, IsRecorded, IsStanding, shown_through}
 use Rattle.logged_pair.proofs.Stood.{Outcomes, filled, filling, settled_never, synced_stop}
@@ -84,6 +86,29 @@ bare_stands deciding clearing kept slots hs base journal ml e settled none s =
     filled deciding clearing kept hs base journal ml e (settled_never clearing (length hs) settled) s.kept_there
     (none_below kept hs none) (omega (arith, s.room, ap length none))
     (filling deciding clearing kept slots base journal ml e s)
+
+-- what stands behind a region that is taken in
+pub taken_next : (slots : List ℕ) (journal b : Blocks) → IsRecorded slots journal
+    → b ≡ drop (size_of journal) journal → (2 ≤ length b) × (says (block_at 0 b) ≡ false)
+taken_next slots journal b r is =
+    let n : ℕ = size_of journal in
+    let size : size_of journal ≡ 2 + length slots + index_blocks (length slots) =
+    recorded_size slots journal r in
+    let none : size_of journal + 0 ≡ 2 + length slots + index_blocks (length slots) = omega (arith, size) in (
+      omega (arith, ap length is, length-drop (size_of journal) journal, size, r.room),
+      ap (λ (c : Blocks). says (block_at 0 c)) is
+          ∙ ap says (get_or-drop (size_of journal) journal 0 [] ∙ ap (λ (k : ℕ). block_at k journal) none)
+          ∙ r.last,
+    )
+
+-- the region behind the others is one that is committed
+pub taken_region : (slots hs : List ℕ) (kept n : ℕ) (journal : Blocks) → hs ≡ slots → kept ≤ n
+    → All (λ h. h < kept) slots → says (block_at 0 journal) ≡ true → IsRecorded slots journal
+    → IsRegion hs n journal
+taken_region slots hs kept n journal same le below said r =
+    subst (λ (l : List ℕ). IsRegion l n journal) (sym same)
+    (recorded_region slots journal r n said
+    (All-weaker (λ h. h < kept) (λ h. h < n) (λ h lt. omega (arith, lt, le)) slots below))
 
 -- ---- the commits then
 

@@ -9,11 +9,11 @@ use Rattle.committed_log.specs.Log.{recovered}
 use Rattle.logged_pair.specs.CommitLaws.{begins}
 use Rattle.logged_pair.specs.Commits.{CommitsNoMore, Either, OrNew}
 use Rattle.logged_pair.specs.Law.{begins_as, begins_take}
-use Rattle.logged_pair.specs.Stages.{CommitsIn, shown_through}
+use Rattle.logged_pair.specs.Stages.{CommitsIn, IsRecorded, shown_through}
 use Rattle.logged_pair.specs.Standing.{KeepsTo, IsHonest, IsStill, base_of, commits_of, deciding_of, homes_of}
 use Rattle.logged_pair.specs.Standing.{journal_of, kept_of, log_of, pair_of, shown_of}
 use Rattle.logged_pair.specs.declared.pair.LoggedPair.{LoggedPair}
-use Rattle.logged_pair.proofs.Stills.{log_behind, log_seen}
+use Rattle.logged_pair.proofs.Stills.{log_behind, log_same, log_seen}
 
 -- one call, after which a stop leaves one of these commits
 pub keeps_call : {P A : Type 0} {m : _} (commits : Blocks → Type 0) (old new : LoggedPair P A m)
@@ -26,6 +26,15 @@ keeps_call {m = m} commits old new few h time more = record {
   stops = pair_call m.moment m.left_since (pair_of old) (pair_of new) _ (m.may_leave (pair_of new)) time
       (λ a b left. let r = begins new a b few h left in (r.0, more r.0 r.1, r.2));
 }
+
+-- one call, after which a stop leaves what it now may
+pub keeps_now : {P A : Type 0} {m : _} (old new : LoggedPair P A m)
+    → length (regions.base_of (log_of new)) ≤ 2 ^ 31 → IsHonest new
+    → PairElapses (m.moment (pair_of old)) (m.moment (pair_of new)) (m.left_since (pair_of old))
+    (m.left_since (pair_of new)) (m.may_leave (pair_of new))
+    → KeepsTo (Either (commits_of old) (commits_of new)) old new
+keeps_now old new few h time =
+    keeps_call (Either (commits_of old) (commits_of new)) old new few h time (λ kept is. inr is)
 
 begins_more : (commits commits' : Blocks → Type 0) → CommitsNoMore commits' commits → (c : Blocks)
     → BeginsOne commits c → BeginsOne commits' c
@@ -92,7 +101,28 @@ keeps_new blocks old new one k =
     keeps_weaker (OrNew (commits_of old) blocks) (Either (commits_of old) (commits_of new)) old new
     (λ kept c. ⊎_elim (λ was. inl was) (λ is. inr (subst (commits_of new) (sym is) one)) c) k
 
+-- a commit that was finished, and one more
+pub keeps_either : {P A : Type 0} {m : _} (old mid new : LoggedPair P A m) → KeepsTo (commits_of old) old mid
+    → KeepsTo (Either (commits_of mid) (commits_of new)) mid new
+    → KeepsTo (Either (commits_of old) (commits_of new)) old new
+keeps_either old mid new x y =
+    keeps_then (Either (commits_of old) (commits_of new)) (Either (commits_of mid) (commits_of new)) old mid new
+    (λ kept c. ⊎_elim (λ was. inl (x.now kept was)) (λ is. inr is) c)
+    (keeps_weaker (commits_of old) (Either (commits_of old) (commits_of new)) old mid (λ kept c. inl c) x) y
+
 -- ---- where nothing moved
+
+pub still_none : {P A : Type 0} {m : _} (d : LoggedPair P A m) → IsStill d d
+still_none d = record {
+  slots = record { deciding = refl; clearing = refl; kept = refl; homes = refl };
+  log = log_same (log_of d) (log_of d) refl refl refl;
+}
+
+pub recorded_still : {P A : Type 0} {m : _} (old new : LoggedPair P A m) → IsStill old new
+    → IsRecorded (homes_of old) (journal_of old) → IsRecorded (homes_of new) (journal_of new)
+recorded_still old new s r =
+    subst (λ (hs : List ℕ). IsRecorded hs (journal_of new)) (sym s.slots.homes)
+    (subst (IsRecorded (homes_of old)) (sym (log_behind (log_of old) (log_of new) s.log)) r)
 
 pub shown_still : {P A : Type 0} {m : _} (old new : LoggedPair P A m) → IsStill old new
     → shown_of new ≡ shown_of old

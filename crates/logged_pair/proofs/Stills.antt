@@ -1,12 +1,14 @@
 -- What stays where a call of the log writes nothing.
-use Rattle.std.proofs.Common.{◌≡◌, ◌∙◌, ◌≤◌, ℕ, Bool, List, length, drop, refl, sym, ap, subst, arith, inl, inr}
+use Rattle.std.proofs.Common.{◌≡◌, ◌∙◌, ◌≤◌, ℕ, Bool, List, length, take, drop, refl, sym, ap, subst, arith, inl, inr}
 use Rattle.std.proofs.Common.{⊎_elim}
 use Rattle.block_device.specs.Device.{Blocks}
 use Rattle.device_pair.specs.Pairs.{PairElapses, PairsNoMore}
 use Rattle.committed_log.specs.Committed as regions
 use Rattle.committed_log.specs.Log.{overlaid}
 use Rattle.committed_log.specs.declared.log.CommittedLog.{CommittedLog}
-use Rattle.logged_pair.specs.Stages.{IsStanding}
+use Rattle.logged_pair.specs.Commits.{CommitsNoMore}
+use Rattle.logged_pair.specs.Stages.{CommitsIn, IsStanding, shown_through}
+use Rattle.logged_pair.proofs.Stood.{commits_same}
 
 pub log_seen : {P A : Type 0} {m : _} (old new : CommittedLog P A m) → regions.IsStill old new
     → regions.seen_of new ≡ regions.seen_of old
@@ -99,3 +101,20 @@ pub log_durable : {P A : Type 0} {m : _} (old new : CommittedLog P A m) → regi
 log_durable old new s durable v j l =
     let is = durable v j (log_leaves old new s v j l) in
     (is.0 ∙ sym (log_seen old new s), is.1 ∙ sym (log_behind old new s))
+
+-- what is read through the slots, and the commits
+pub log_shown : {P A : Type 0} {m : _} (slots : List ℕ) (old new : CommittedLog P A m)
+    → regions.IsStill old new
+    → shown_through slots (regions.behind_of new) (regions.seen_of new)
+    ≡ shown_through slots (regions.behind_of old) (regions.seen_of old)
+log_shown slots old new s =
+    ap (λ (j : Blocks). shown_through slots j (regions.seen_of new)) (log_behind old new s)
+    ∙ ap (shown_through slots (regions.behind_of old)) (log_seen old new s)
+
+pub log_commits : {P A : Type 0} {m : _} (deciding : Bool) (kept : ℕ) (slots : List ℕ)
+    (old new : CommittedLog P A m) → regions.IsStill old new
+    → CommitsNoMore (CommitsIn deciding kept slots (regions.seen_of old) (regions.behind_of old))
+    (CommitsIn deciding kept slots (regions.seen_of new) (regions.behind_of new))
+log_commits deciding kept slots old new s =
+    commits_same deciding kept slots (regions.seen_of old) (regions.seen_of new) (regions.behind_of old)
+    (regions.behind_of new) (ap (take kept) (log_seen old new s)) (log_shown slots old new s)

@@ -44,6 +44,10 @@ pub on_any : (r : Answer) (P : Type 0) → P → OnErr r P
 on_any (Ok u) P p = tt
 on_any (Err e) P p = p
 
+pub on_either : (r : Answer) (P : Type 0) → P → OnOk r P
+on_either (Ok u) P p = p
+on_either (Err e) P p = tt
+
 -- ---- while the region is filled
 
 pub settled_never : (clearing : Bool) (n : ℕ) → clearing ≡ false → clearing ≡ true → n ≡ 0
@@ -69,6 +73,18 @@ pub filling : (deciding clearing : Bool) (kept : ℕ) (slots : List ℕ) (base j
     → (a b : Blocks) → ml a b → IsFilling kept base a b
 filling deciding clearing kept slots base journal ml e s a b left =
     subst (λ (t : Bool). StopIn t kept base journal a b) e (s.stops a b left)
+
+pub deciding_stop : (deciding clearing : Bool) (kept : ℕ) (slots : List ℕ) (base journal : Blocks) (ml : Outcomes)
+    → deciding ≡ true → IsStanding deciding clearing kept slots base journal ml
+    → (a b : Blocks) → ml a b → IsDeciding base journal a b
+deciding_stop deciding clearing kept slots base journal ml e s a b left =
+    subst (λ (t : Bool). StopIn t kept base journal a b) e (s.stops a b left)
+
+pub deciding_reads : (deciding clearing : Bool) (kept : ℕ) (slots : List ℕ) (base journal : Blocks)
+    (ml : Outcomes) → deciding ≡ true → IsStanding deciding clearing kept slots base journal ml
+    → IsRecorded slots journal
+deciding_reads deciding clearing kept slots base journal ml e s =
+    subst (λ (t : Bool). ReadsIn t slots journal) e s.reads
 
 -- the base is synced, and no region behind the others is committed
 pub synced_stop : (kept : ℕ) (base a b : Blocks) → kept ≤ length base → a ≡ base → 0 < length b

@@ -3,8 +3,13 @@ ghost use Rattle.committed_log.specs.Committed as regions;
 ghost use Rattle.logged_pair.specs.Stages.{IsStanding};
 ghost use Rattle.logged_pair.specs.StagesFact.{standing_fact};
 
+mod calls;
+mod commit;
 mod filling;
+mod giving_up;
+mod open;
 mod record;
+mod sync;
 
 use committed_log::{CommittedLog, Slots};
 use device_pair::DevicePair;
