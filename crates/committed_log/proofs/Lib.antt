@@ -1,4 +1,5 @@
 -- The files of lemmas.
+pub mod Through
 mod Chains
 mod Stood
 mod Recovering

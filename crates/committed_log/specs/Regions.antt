@@ -151,7 +151,7 @@ first_none b homes is some = ⊎_elim
 pub index_within : (k n : ℕ) → k < n → k / 1024 < index_blocks n
 index_within k n lt = grind (arith)
 
-slots_same : (n k m : ℕ) (b c : Blocks) → k + m ≤ n
+pub slots_same : (n k m : ℕ) (b c : Blocks) → k + m ≤ n
     → ((j : ℕ) → 0 < j → j < 2 + n + index_blocks n → block_at j c ≡ block_at j b)
     → slot_homes n k m c ≡ slot_homes n k m b
 unfolding home_in

@@ -10,7 +10,7 @@ use std::alloc::Allocator;
 ///
 /// The slots of the blocks of one bucket are chained, the last one first.
 #[derive(Drop)]
-pub(crate) struct Slots<A: Allocator> {
+pub struct Slots<A: Allocator> {
     homes: Vec<u32, A>,
     // for each slot one more than the slot before it in its bucket, or 0
     before: Vec<u32, A>,

@@ -33,6 +33,20 @@ impl<P: DevicePair, A: Allocator + Copy> CommittedLog<P, A> {
         blocks - start as u32
     }
 
+    /// How many blocks the regions have.
+    pub fn region_blocks(&self) -> usize
+        ensures { result ≡ length (homes_of self.now) }
+    {
+        self.slots.len()
+    }
+
+    /// Whether a beginning anew was refused, which `settle` ends.
+    pub fn is_clearing(&self) -> bool
+        ensures { result ≡ clearing_of self.now }
+    {
+        self.clearing
+    }
+
     /// Whether block i has a slot in the regions.
     pub fn has_slot(&self, i: u32) -> bool
         ensures none { result ≡ false → ¬ Contains (homes_of self.now) i }

@@ -58,7 +58,7 @@ fn chain<A: Allocator>(homes: &[u32], before: &mut Vec<u32, A>, heads: &mut Vec<
 
 impl<A: Allocator + Copy> Slots<A> {
     /// No slots. It takes no memory.
-    pub(crate) fn new(alloc: A) -> Slots<A>
+    pub fn new(alloc: A) -> Slots<A>
         ensures { blocks_of result ≡ [] }
     {
         Slots {
@@ -69,26 +69,26 @@ impl<A: Allocator + Copy> Slots<A> {
     }
 
     /// Its allocator.
-    pub(crate) fn allocator(&self) -> &A {
+    pub fn allocator(&self) -> &A {
         self.homes.allocator()
     }
 
     /// How many slots there are.
-    pub(crate) fn len(&self) -> usize
+    pub fn len(&self) -> usize
         ensures { result ≡ length (blocks_of self.now) }
     {
         self.homes.len()
     }
 
     /// The blocks that the slots hold, in order of the slots.
-    pub(crate) fn homes(&self) -> &[u32]
+    pub fn homes(&self) -> &[u32]
         ensures { result.now ≡ blocks_of self.now }
     {
         &self.homes
     }
 
     /// The slot that holds block i: the last one whose home it is.
-    pub(crate) fn slot_of(&self, i: u32) -> Option<usize>
+    pub fn slot_of(&self, i: u32) -> Option<usize>
         ensures found { IfSome result (λ m. IsSlot (blocks_of self.now) i m) }
         ensures none { result ≡ None → ¬ Contains (blocks_of self.now) i }
     {
@@ -107,7 +107,7 @@ impl<A: Allocator + Copy> Slots<A> {
     }
 
     /// Takes the memory for n slots more. Where it is refused, the slots stay.
-    pub(crate) fn reserve(&mut self, n: usize) -> Result<(), DeviceError>
+    pub fn reserve(&mut self, n: usize) -> Result<(), DeviceError>
         requires { n < 2 ^ 33 }
         ensures same { blocks_of self.new ≡ blocks_of self.old }
         ensures room { OnOk result (HasRoomFor n self.new) }
@@ -146,7 +146,7 @@ impl<A: Allocator + Copy> Slots<A> {
     }
 
     /// Adds a slot that holds block i.
-    pub(crate) fn push(&mut self, i: u32)
+    pub fn push(&mut self, i: u32)
         requires { HasRoomFor 1 self.old }
         ensures slots { blocks_of self.new ≡ blocks_of self.old ++ i ∷ [] }
         ensures room { (n : ℕ) → HasRoomFor (n + 1) self.old → HasRoomFor n self.new }
@@ -158,7 +158,7 @@ impl<A: Allocator + Copy> Slots<A> {
     }
 
     /// Gives up all slots and their memory.
-    pub(crate) fn clear(&mut self)
+    pub fn clear(&mut self)
         ensures { blocks_of self.new ≡ [] }
     {
         let alloc = *self.homes.allocator();
