@@ -3,3 +3,6 @@ mod Chains
 mod Stood
 mod Recovering
 mod Taking
+mod Homing
+mod Keeping
+mod Copies

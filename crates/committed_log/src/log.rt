@@ -3,6 +3,7 @@ ghost use Rattle.committed_log.specs.Stops.{IsStanding};
 ghost use Rattle.committed_log.specs.StopsFact.{standing_fact};
 
 mod calls;
+mod home;
 mod taking;
 
 use crate::slots::Slots;
