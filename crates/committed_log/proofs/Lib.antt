@@ -6,3 +6,4 @@ mod Taking
 mod Homing
 mod Keeping
 mod Copies
+mod Opened
