@@ -1,17 +1,58 @@
 -- What one call, and runs in turn, keep to.
-use Rattle.std.proofs.Common.{◌≡◌, ◌∙◌, ◌^◌, ◌≤◌, ℕ, List, length, drop, refl, sym, ap, arith, inl, inr, ⊎_elim}
+use Rattle.std.proofs.Common.{◌≡◌, ◌∙◌, ◌^◌, ◌≤◌, ℕ, List, length, drop, refl, sym, ap, subst}
 use Rattle.block_device.specs.Device.{Blocks}
-use Rattle.device_pair.specs.Pairs.{PairElapses, PairLeaves}
+use Rattle.device_pair.specs.Pairs.{PairElapses, PairLeaves, PairsNoMore}
 use Rattle.device_pair.specs.Runs.{pair_call, pair_then, pair_weaker}
-use Rattle.committed_log.specs.Committed.{base_of, behind_of, homes_of, journal_of, leaves_of, seen_of}
-use Rattle.committed_log.specs.Committed.{IsDurable, IsHonest, IsStill}
+use Rattle.committed_log.specs.Committed.{base_of, behind_of, homes_of, journal_of, leaves_of, pair_of}
+use Rattle.committed_log.specs.Committed.{seen_of, IsHonest, IsStill}
 use Rattle.committed_log.specs.Home.{IsQuiet}
 use Rattle.committed_log.specs.Log.{overlaid, recovered}
 use Rattle.committed_log.specs.Regions.{recovered_unsaid}
 use Rattle.committed_log.specs.declared.log.CommittedLog.{CommittedLog}
 use Rattle.committed_log.proofs.Recovering.{recovery_stands}
 
+-- base, journal and regions are the same, and a stop leaves nothing else
+pub record SameRead {P A : Type 0} {m : _} (old new : CommittedLog P A m) : Type 0 where
+  pub homes : homes_of new ≡ homes_of old
+  pub base : base_of new ≡ base_of old
+  pub journal : journal_of new ≡ journal_of old
+  pub now : PairsNoMore (m.may_leave old.pair) (m.may_leave new.pair)
+
 module _ {P A : Type 0} {m : _} where
+  pub same_still : (old new : CommittedLog P A m) → IsStill old new → SameRead old new
+  same_still old new s = record { homes = s.log.homes; base = s.base; journal = s.journal; now = s.now }
+
+  -- the same pair
+  pub same_pair : (old new : CommittedLog P A m) → pair_of new ≡ pair_of old → homes_of new ≡ homes_of old
+      → SameRead old new
+  same_pair old new pair homes = record {
+    homes = homes;
+    base = ap m.base pair;
+    journal = ap m.journal pair;
+    now = λ a b left. subst (λ (d : P). m.may_leave d a b) pair left;
+  }
+
+  pub seen_same : (old new : CommittedLog P A m) → SameRead old new → seen_of new ≡ seen_of old
+  seen_same old new s =
+      ap (λ (hs : List ℕ). overlaid hs (journal_of new) (base_of new)) s.homes
+      ∙ ap (λ (j : Blocks). overlaid (homes_of old) j (base_of new)) s.journal
+      ∙ ap (overlaid (homes_of old) (journal_of old)) s.base
+
+  pub behind_same : (old new : CommittedLog P A m) → SameRead old new → behind_of new ≡ behind_of old
+  behind_same old new s =
+      ap (λ (hs : List ℕ). drop (length hs) (journal_of new)) s.homes
+      ∙ ap (drop (length (homes_of old))) s.journal
+
+  pub leaves_same : (old new : CommittedLog P A m) → SameRead old new → (v j : Blocks) → leaves_of new v j
+      → leaves_of old v j
+  leaves_same old new s v j l = (
+    l.0,
+    l.1,
+    s.now l.0 l.1 l.2,
+    l.3 ∙ ap (λ (hs : List ℕ). overlaid hs l.1 l.0) s.homes,
+    l.4 ∙ ap (λ (hs : List ℕ). drop (length hs) l.1) s.homes,
+  )
+
   -- what a stop leaves is recovered to what it makes of what is read
   pub law_of : (c : CommittedLog P A m) → length (base_of c) ≤ 2 ^ 31 → IsHonest c → (a b : Blocks)
       → m.may_leave c.pair a b
@@ -45,25 +86,14 @@ module _ {P A : Type 0} {m : _} where
   -- ---- where nothing was written
 
   pub seen_still : (old new : CommittedLog P A m) → IsStill old new → seen_of new ≡ seen_of old
-  seen_still old new s =
-      ap (λ (hs : List ℕ). overlaid hs (journal_of new) (base_of new)) s.log.homes
-      ∙ ap (λ (j : Blocks). overlaid (homes_of old) j (base_of new)) s.journal
-      ∙ ap (overlaid (homes_of old) (journal_of old)) s.base
+  seen_still old new s = seen_same old new (same_still old new s)
 
   pub behind_still : (old new : CommittedLog P A m) → IsStill old new → behind_of new ≡ behind_of old
-  behind_still old new s =
-      ap (λ (hs : List ℕ). drop (length hs) (journal_of new)) s.log.homes
-      ∙ ap (drop (length (homes_of old))) s.journal
+  behind_still old new s = behind_same old new (same_still old new s)
 
   pub leaves_still : (old new : CommittedLog P A m) → IsStill old new → (v j : Blocks) → leaves_of new v j
       → leaves_of old v j
-  leaves_still old new s v j l = (
-    l.0,
-    l.1,
-    s.now l.0 l.1 l.2,
-    l.3 ∙ ap (λ (hs : List ℕ). overlaid hs l.1 l.0) s.log.homes,
-    l.4 ∙ ap (λ (hs : List ℕ). drop (length hs) l.1) s.log.homes,
-  )
+  leaves_still old new s = leaves_same old new (same_still old new s)
 
   pub quiet_on : (old new : CommittedLog P A m) → IsStill old new → IsQuiet old → IsQuiet new
   quiet_on old new s q = record {

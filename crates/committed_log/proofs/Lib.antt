@@ -7,3 +7,6 @@ mod Homing
 mod Keeping
 mod Copies
 mod Opened
+mod Reading
+mod Adding
+mod Making

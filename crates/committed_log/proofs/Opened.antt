@@ -53,8 +53,12 @@ length_homes_of n k (suc m) b = ap suc (length_homes_of n (suc k) m b)
 pub bad_home : (n k limit : ℕ) (b : Blocks) → k < n → limit ≤ home_in n k b
     → ¬ All (λ h. h < limit) (slot_homes n 0 n b)
 bad_home n k limit b lt high all =
-    omega (arith, high, all k 0 (omega (arith, lt, length_homes_of n 0 n b)),
-    home_at n 0 n k k 0 b lt (omega arith))
+    omega (
+      arith,
+      high,
+      all k 0 (omega (arith, lt, length_homes_of n 0 n b)),
+      home_at n 0 n k k 0 b lt (omega arith),
+    )
 
 pub slots_found : (n m : ℕ) (slots : List ℕ) (b : Blocks) → n ≡ count_in b → says (block_at 0 b) ≡ true
     → size_of b ≤ length b → slots ≡ slot_homes n 0 n b → All (λ h. h < m) slots → HasSlots slots m b
@@ -130,23 +134,33 @@ homes_one b x size = ⊎_elim
 homes_short : (b : Blocks) → size_of b ≡ length b → length (homes_in b) ≤ length b
 homes_short b size = ⊎_elim
     (λ (is : is_committed b ≡ true).
-    omega (arith, size, length_homes b, ap length (homes_more b is
-    ∙ ap (λ (l : Blocks). region_homes b ++ homes_in l) (drop_all (size_of b) b (omega (arith, size)))
-    ∙ ap (λ (l : List ℕ). region_homes b ++ l) homes_nil ∙ append-nil (region_homes b))))
+    omega (
+      arith,
+      size,
+      length_homes b,
+      ap length (homes_more b is
+          ∙ ap (λ (l : Blocks). region_homes b ++ homes_in l) (drop_all (size_of b) b (omega (arith, size)))
+          ∙ ap (λ (l : List ℕ). region_homes b ++ l) homes_nil ∙ append-nil (region_homes b)),
+    ))
     (λ (none : is_committed b ≡ false). omega (arith, ap length (homes_end b none)))
     (cases_Bool (is_committed b))
 
 -- recovery makes the same of it
-pub recovered_more : (i : ℕ) (a b c : Blocks) → i ≡ size_of b → i ≡ length b → Torn i b c
-    → recovered a c ≡ recovered a b
-recovered_more i a b c is size torn =
-    torn_cases i b c (λ (d : Blocks). recovered a d ≡ recovered a b) refl (λ x block.
+pub recovered_push : (i : ℕ) (a : Blocks) (x : List ℕ) (b : Blocks) → i ≡ size_of b → i ≡ length b
+    → recovered a (written i x b) ≡ recovered a b
+recovered_push i a x b is size =
     let more : written i x b ≡ b ++ x ∷ [] = sym (push_written i x b (omega (arith, size))) in
     let all : size_of b ≡ length b = sym is ∙ size in
     ap (recovered a) more
     ∙ ap (λ (l : List ℕ). overlaid l (b ++ x ∷ []) a) (homes_one b x all)
     ∙ overlay_first (homes_in b) b (b ++ x ∷ []) a
-    (take-append-le (length (homes_in b)) b (x ∷ []) (homes_short b all))) torn
+    (take-append-le (length (homes_in b)) b (x ∷ []) (homes_short b all))
+
+pub recovered_more : (i : ℕ) (a b c : Blocks) → i ≡ size_of b → i ≡ length b → Torn i b c
+    → recovered a c ≡ recovered a b
+recovered_more i a b c is size torn =
+    torn_cases i b c (λ (d : Blocks). recovered a d ≡ recovered a b) refl
+    (λ x block. recovered_push i a x b is size) torn
 
 -- the flag that was added
 pub flag_added : (i : ℕ) (x : List ℕ) (b c : Blocks) → i ≡ length b → x ≡ flag_block 0
