@@ -4,3 +4,10 @@ mod Chains
 mod Stood
 mod Recovering
 mod Taking
+mod Homing
+mod Keeping
+mod Copies
+mod Opened
+mod Reading
+mod Adding
+mod Making

@@ -1,46 +1,13 @@
 -- What recovery makes of what a stop leaves.
 use Rattle.std.proofs.Common.{◌≡◌, ◌∙◌, ℕ, ◌^◌, ◌<◌, ◌≤◌, Bool, true, false, List, [], length}
-use Rattle.std.proofs.Common.{take, drop, sym, ap, arith, ⊎_elim, length-set}
-use Rattle.std.proofs.lemmas.Bool.{cases_Bool, cases_eq, cases_lt}
-use Rattle.std.proofs.lemmas.List.{get_or-drop, get_or-set_other, get_or-set_same, get_or-take}
-use Rattle.std.proofs.lemmas.List.{length-take-le}
+use Rattle.std.proofs.Common.{take, drop, sym, ap, arith, ⊎_elim}
+use Rattle.std.proofs.lemmas.Bool.{cases_Bool}
+use Rattle.std.proofs.lemmas.List.{get_or-drop, get_or-take}
 use Rattle.block_device.specs.Device.{Blocks, block_at}
-use Rattle.committed_log.specs.Log.{flag_block, homes_in, no_home, overlaid, recovered, says}
-use Rattle.committed_log.specs.Regions.{recovered_unsaid, recovery_through}
-use Rattle.committed_log.specs.Replay.{same_blocks}
+use Rattle.committed_log.specs.Log.{homes_in, no_home, overlaid, recovered, says}
+use Rattle.committed_log.specs.Regions.{flagged_aside, recovered_unsaid, recovery_through}
 use Rattle.committed_log.specs.Stops.{IsClearing, IsKept, IsStanding, ReadsIn, StopIn, flagged}
 use Rattle.committed_log.proofs.Stood.{overlay_left}
-
--- the regions in what a stop leaves, the first flag aside
-clearing_regions : (homes : List ℕ) (base journal a b : Blocks) → length homes ≤ length journal
-    → IsClearing homes base journal a b
-    → flagged (take (length homes) b) ≡ flagged (take (length homes) journal)
-clearing_regions homes base journal a b there stop =
-    let s : ℕ = length homes in
-    let size : length (take s b) ≡ s = length-take-le s b (omega (arith, stop.there)) in
-    let size' : length (take s journal) ≡ s = length-take-le s journal there in
-    let long : length (flagged (take s b)) ≡ s = length-set (take s b) 0 (flag_block 1) ∙ size in
-    let long' : length (flagged (take s journal)) ≡ s = length-set (take s journal) 0 (flag_block 1) ∙ size'
-    in
-    same_blocks (flagged (take s b)) (flagged (take s journal)) (long ∙ sym long') (λ k lt.
-    let less : k < s = omega (arith, lt, long) in
-    ⊎_elim
-    (λ (first : k ≡ 0).
-    ap (λ (n : ℕ). block_at n (flagged (take s b))) first
-    ∙ get_or-set_same (take s b) 0 (flag_block 1) [] (omega (arith, less, first, size))
-    ∙ sym (get_or-set_same (take s journal) 0 (flag_block 1) [] (omega (arith, less, first, size')))
-    ∙ sym (ap (λ (n : ℕ). block_at n (flagged (take s journal))) first))
-    (λ (apart : ¬ (k ≡ 0)).
-    get_or-set_other (take s b) 0 k (flag_block 1) [] apart
-    ∙ get_or-take s b k [] less
-    ∙ stop.same k (above k apart) less
-    ∙ sym (get_or-take s journal k [] less)
-    ∙ sym (get_or-set_other (take s journal) 0 k (flag_block 1) [] apart))
-    (cases_eq k 0))
-  where
-    above : (k : ℕ) → ¬ (k ≡ 0) → 0 < k
-    above k apart =
-        ⊎_elim (λ (gt : 0 < k). gt) (λ (le : k ≤ 0). absurd (apart (omega (arith, le)))) (cases_lt 0 k)
 
 -- while the first flag is cleared: the base has all that the regions have
 cleared_is : (homes : List ℕ) (base journal a b : Blocks) → length base ≤ no_home
@@ -58,7 +25,7 @@ recovery_clearing : (homes : List ℕ) (base journal a b : Blocks) → length ba
 recovery_clearing homes base journal a b few there regions home stop = ⊎_elim
     (λ (said : says (block_at 0 b) ≡ true).
     recovery_through homes b a
-    (ap homes_in (clearing_regions homes base journal a b there stop) ∙ regions)
+    (ap homes_in (flagged_aside (length homes) journal b there (omega (arith, stop.there)) stop.same) ∙ regions)
     (omega (arith, stop.there)) (λ some. said))
     (λ (unsaid : says (block_at 0 b) ≡ false).
     recovered_unsaid a b unsaid ∙ stop.base_is

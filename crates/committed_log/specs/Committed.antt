@@ -42,9 +42,10 @@ abbrev pub leaves_of : {P A : Type 0} {m : _} → CommittedLog P A m → Blocks 
 leaves_of {m = m} c v j = (a : Blocks) × (b : Blocks) × m.may_leave c.pair a b
     × (v ≡ overlaid (homes_of c) b a) × (j ≡ drop (length (homes_of c)) b)
 
--- the same regions
+-- the same regions, with the same room for more
 pub record SameLog {P A : Type 0} {m : _} (old new : CommittedLog P A m) : Type 0 where
   pub homes : homes_of new ≡ homes_of old
+  pub slots : slots_of new ≡ slots_of old
   pub clearing : clearing_of new ≡ clearing_of old
 
 -- Nothing was written.

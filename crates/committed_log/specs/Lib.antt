@@ -6,6 +6,8 @@ pub mod Room
 pub mod Stops
 pub mod Committed
 pub mod Region
+pub mod Home
+pub mod Opening
 -- Lemmas on them, which laws and callers cite.
 pub mod BucketsFact
 pub mod StopsFact

@@ -4,7 +4,7 @@ use Rattle.std.proofs.Common.{◌≡◌, ◌∙◌, ℕ, zero, suc, ◌+◌, ◌
 use Rattle.std.proofs.Common.{if◌then◌else◌, List, [], ◌∷◌, ◌++◌, length, set, take, drop, replicate}
 use Rattle.std.proofs.Common.{refl, sym, ap, subst, arith, ⊎_elim, length-set}
 use Rattle.std.specs.Prelude.{◌/◌, ◌%◌, slice_index}
-use Rattle.std.proofs.lemmas.Bool.{cases_Bool, cases_lt}
+use Rattle.std.proofs.lemmas.Bool.{cases_Bool, cases_eq, cases_lt}
 use Rattle.std.proofs.lemmas.Bool.Decides.{nat_tests}
 use Rattle.std.proofs.lemmas.List.{append_assoc, append-nil, drop-append-le, drop_all, drop-set-lt}
 use Rattle.std.proofs.lemmas.List.{get_or_append_left, get_or-set_other, get_or-set_same, get_or-take}
@@ -18,6 +18,7 @@ use Rattle.committed_log.specs.Log.{count_in, flag_block, home_in, homes_from, h
 use Rattle.committed_log.specs.Log.{is_committed, no_home, overlaid, recovered, region_homes, region_of, says}
 use Rattle.committed_log.specs.Log.{size_of, slot_homes}
 use Rattle.committed_log.specs.Overlay.{overlay_append}
+use Rattle.committed_log.specs.Replay.{same_blocks}
 use Rattle.committed_log.specs.Stops.{flagged}
 
 -- ---- how many blocks a region has
@@ -268,6 +269,36 @@ flagged_same (x ∷ b) e =
     (omega (arith, size, committed_room c is))))))
     ∙ sym (homes_end (x ∷ b) none))
     (cases_Bool (is_committed (x ∷ b)))
+
+-- the first blocks of two logs that are the same, their first flags aside
+pub flagged_aside : (s : ℕ) (b c : Blocks) → s ≤ length b → s ≤ length c
+    → ((k : ℕ) → 0 < k → k < s → block_at k c ≡ block_at k b)
+    → flagged (take s c) ≡ flagged (take s b)
+flagged_aside s b c there there' same =
+    let flag : List ℕ = flag_block 1 in
+    let size : length (take s b) ≡ s = length-take-le s b there in
+    let size' : length (take s c) ≡ s = length-take-le s c there' in
+    let long : length (flagged (take s b)) ≡ s = length-set (take s b) 0 flag ∙ size in
+    let long' : length (flagged (take s c)) ≡ s = length-set (take s c) 0 flag ∙ size' in
+    same_blocks (flagged (take s c)) (flagged (take s b)) (long' ∙ sym long) (λ k lt.
+    let less : k < s = omega (arith, lt, long') in
+    ⊎_elim
+    (λ (first : k ≡ 0).
+    ap (λ (n : ℕ). block_at n (flagged (take s c))) first
+    ∙ get_or-set_same (take s c) 0 flag [] (omega (arith, less, first, size'))
+    ∙ sym (get_or-set_same (take s b) 0 flag [] (omega (arith, less, first, size)))
+    ∙ sym (ap (λ (n : ℕ). block_at n (flagged (take s b))) first))
+    (λ (apart : ¬ (k ≡ 0)).
+    get_or-set_other (take s c) 0 k flag [] apart
+    ∙ get_or-take s c k [] less
+    ∙ same k (above k apart) less
+    ∙ sym (get_or-take s b k [] less)
+    ∙ sym (get_or-set_other (take s b) 0 k flag [] apart))
+    (cases_eq k 0))
+  where
+    above : (k : ℕ) → ¬ (k ≡ 0) → 0 < k
+    above k apart =
+        ⊎_elim (λ (gt : 0 < k). gt) (λ (le : k ≤ 0). absurd (apart (omega (arith, le)))) (cases_lt 0 k)
 
 -- ---- regions that are known, and the rest
 

@@ -25,7 +25,7 @@ replayed_other (e ∷ es) a k none =
     ∙ get_or-set_other a e.home k e.bytes [] (not_first k e.home (homes_of es) none)
 
 -- one of the list, where it is not the first
-later_only : (k i : ℕ) (ns : List ℕ) → ¬ (k ≡ i) → ¬ Contains ns k → ¬ Contains (i ∷ ns) k
+pub later_only : (k i : ℕ) (ns : List ℕ) → ¬ (k ≡ i) → ¬ Contains ns k → ¬ Contains (i ∷ ns) k
 later_only k i ns apart none one = from one.0 one.1 one.2
   where
     from : (place : ℕ) → place < suc (length ns) → get_or (i ∷ ns) place k ≡ k → ⊥

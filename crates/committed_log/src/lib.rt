@@ -8,4 +8,4 @@ mod log;
 mod slots;
 
 pub use flag::{count_page, flag_page, says_committed};
-pub use log::CommittedLog;
+pub use log::{CommittedLog, OpenFault};

@@ -3,10 +3,13 @@ ghost use Rattle.committed_log.specs.Stops.{IsStanding};
 ghost use Rattle.committed_log.specs.StopsFact.{standing_fact};
 
 mod calls;
+mod home;
+mod open;
 mod taking;
 
 use crate::slots::Slots;
 use device_pair::DevicePair;
+pub use open::OpenFault;
 use std::alloc::{Allocator, Global};
 
 /// The committed regions of a log over a base.

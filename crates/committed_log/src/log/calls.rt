@@ -130,6 +130,7 @@ impl<P: DevicePair, A: Allocator + Copy> CommittedLog<P, A> {
             OnOk result (behind_of self.new ≡ written i bytes.now (behind_of self.old)) }
         ensures torn { IsHonest self.old → OnErr result (Torn i (behind_of self.old) (behind_of self.new)) }
         ensures seen { IsHonest self.old → seen_of self.new ≡ seen_of self.old }
+        ensures base { IsHonest self.old → base_of self.new ≡ base_of self.old }
         ensures stops { IsHonest self.old →
             JournalFollows (Torn i) (leaves_of self.old) (leaves_of self.new) }
         ensures time { IsHonest self.old →
