@@ -248,3 +248,11 @@ module _ (clearing : Bool) (homes : List ℕ) (h : ℕ) (base base' journal jour
         let from = follows l.0 l.1 l.2 in
         q.there (overlaid homes l.1 from.0) j (from.0, l.1, from.1, refl, l.4);
   }
+
+-- ---- the blocks behind the regions
+
+pub drop_longer : (homes homes' : List ℕ) (journal journal' : Blocks) → length homes' ≤ length homes
+    → length journal ≤ length journal'
+    → length (drop (length homes) journal) ≤ length (drop (length homes') journal')
+drop_longer homes homes' journal journal' le more =
+    omega (arith, length-drop (length homes) journal, length-drop (length homes') journal', le, more)

@@ -9,3 +9,4 @@ mod slots;
 
 pub use flag::{count_page, flag_page, says_committed};
 pub use log::{CommittedLog, OpenFault};
+pub use slots::Slots;

@@ -1,10 +1,10 @@
 //! The slots copied home, and the log begun anew.
-ghost use Rattle.std.specs.Prelude.{◌≡◌, ◌<◌, ◌↔◌, [], length, true, false, OnErr, OnOk};
+ghost use Rattle.std.specs.Prelude.{◌≡◌, ◌<◌, ◌≤◌, ◌↔◌, [], length, true, false, OnErr, OnOk};
 ghost use Rattle.std.specs.List.{Contains};
 ghost use Rattle.block_device.specs.Device.{Counts, block_at, written};
 ghost use Rattle.device_pair.specs.Pairs.{PairLeaves};
 ghost use Rattle.committed_log.specs.Log.{flag_block, recovered};
-ghost use Rattle.committed_log.specs.Committed.{base_of, clearing_of, homes_of, journal_of};
+ghost use Rattle.committed_log.specs.Committed.{base_of, behind_of, clearing_of, homes_of, journal_of};
 ghost use Rattle.committed_log.specs.Committed.{pair_of, seen_of, IsHonest, SameLog};
 ghost use Rattle.committed_log.specs.Found.{IsSlot};
 ghost use Rattle.committed_log.specs.Home.{IsCopied, IsQuiet};
@@ -29,6 +29,7 @@ impl<P: DevicePair, A: Allocator + Copy> CommittedLog<P, A> {
         ensures seen { IsHonest self.old → seen_of self.new ≡ seen_of self.old }
         ensures done { OnOk result (homes_of self.new ≡ []) }
         ensures settled { OnOk result (clearing_of self.new ≡ false) }
+        ensures room { IsHonest self.old → length (behind_of self.old) ≤ length (behind_of self.new) }
         ensures quiet { IsHonest self.old → IsQuiet self.new }
         ensures stops { IsHonest self.old →
             PairLeaves P.moment P.left_since (pair_of self.old) (pair_of self.new)
@@ -52,6 +53,7 @@ impl<P: DevicePair, A: Allocator + Copy> CommittedLog<P, A> {
         ensures done { clearing_of self.old ≡ true → OnOk result (homes_of self.new ≡ []) }
         ensures settled { OnOk result (clearing_of self.new ≡ false) }
         ensures refused { clearing_of self.old ≡ true → OnErr result (SameLog self.old self.new) }
+        ensures room { IsHonest self.old → length (behind_of self.old) ≤ length (behind_of self.new) }
         ensures quiet { IsHonest self.old → clearing_of self.old ≡ true → IsQuiet self.new }
         ensures stops { IsHonest self.old → clearing_of self.old ≡ true →
             PairLeaves P.moment P.left_since (pair_of self.old) (pair_of self.new)
@@ -74,6 +76,7 @@ impl<P: DevicePair, A: Allocator + Copy> CommittedLog<P, A> {
         requires clearing { clearing_of self.old ≡ true }
         ensures log { SameLog self.old self.new }
         ensures base { IsHonest self.old → base_of self.new ≡ base_of self.old }
+        ensures longer { IsHonest self.old → length (journal_of self.old) ≤ length (journal_of self.new) }
         ensures flag { IsHonest self.old → OnOk result (block_at 0 (journal_of self.new) ≡ flag_block 0) }
         ensures seen { IsHonest self.old → seen_of self.new ≡ seen_of self.old }
         ensures stops { IsHonest self.old →

@@ -1,10 +1,11 @@
 -- All slots are copied home, and the log begins anew.
-use Rattle.std.proofs.Common.{◌≡◌, ◌∙◌, ◌<◌, ap, arith, length, refl, sym}
+use Rattle.std.proofs.Common.{◌≡◌, ◌∙◌, ◌<◌, ◌≤◌, ap, arith, drop, length, refl, sym}
 use Rattle.device_pair.specs.Pairs.{PairLeaves}
 use Rattle.device_pair.specs.Runs.{pair_call, pair_then, pair_weaker}
-use Rattle.committed_log.specs.Committed.{homes_of, seen_of}
+use Rattle.committed_log.specs.Committed.{behind_of, homes_of, seen_of}
 use Rattle.committed_log.specs.Log.{overlaid, recovered}
-use Rattle.committed_log.proofs.Homing.{Quiet, copied_stands, quiet_recovers, quiet_still, seen_equal}
+use Rattle.committed_log.proofs.Homing.{Quiet, copied_stands, drop_longer, quiet_recovers, quiet_still}
+use Rattle.committed_log.proofs.Homing.{seen_equal}
 use Rattle.committed_log.proofs.log.CommittedLog.copy_home.Given as given
 use Rattle.committed_log.proofs.log.CommittedLog.copy_home.Goals as goal
 use Rattle.committed_log.proofs.log.CommittedLog.copy_home.Goals.{After-sync_base}
@@ -92,3 +93,37 @@ returns-clause-stops g c = λ h.
     pair_then p.moment p.left_since d.pair e c.settle.new.self.pair _ (leaves_so g at h)
     (pair_weaker p.moment p.left_since e c.settle.new.self.pair _ _ (λ a b is. is ∙ seen_so g at h)
     (c.settle.ensures.stops (c.sync_base.ensures.honest.0 (c.copy_slots.ensures.honest.0 h)) refl))
+
+pub returns-in_err-copy_slots-clause-room : goal.returns-in_err-copy_slots-clause-room
+returns-in_err-copy_slots-clause-room g c = λ h.
+    let d = c.args.self.now in let m = c.copy_slots.new.self in let p = g.P.DevicePair in
+    drop_longer d.slots.homes.items m.slots.homes.items (p.journal d.pair) (p.journal m.pair)
+    (omega (arith, ap length c.copy_slots.ensures.log.homes))
+    (omega (arith, ap length (c.copy_slots.ensures.journal h)))
+
+-- the journal is as it was
+room_so : (g : given.Over) (c : After-sync_base g) → g.P.DevicePair.honest c.args.self.now.pair
+    → length (behind_of c.args.self.now)
+    ≤ length (drop (length c.copy_slots.new.self.slots.homes.items) (g.P.DevicePair.journal c.sync_base.new.self))
+room_so g c h =
+    let d = c.args.self.now in let m = c.copy_slots.new.self in let p = g.P.DevicePair in
+    let e = c.sync_base.new.self in
+    drop_longer d.slots.homes.items m.slots.homes.items (p.journal d.pair) (p.journal e)
+    (omega (arith, ap length c.copy_slots.ensures.log.homes))
+    (omega (
+      arith,
+      ap length (c.copy_slots.ensures.journal h),
+      ap length (c.sync_base.ensures.journal (c.copy_slots.ensures.honest.0 h)),
+    ))
+
+pub returns-in_err-sync_base-clause-room : goal.returns-in_err-sync_base-clause-room
+returns-in_err-sync_base-clause-room g c = λ h.
+    room_so g (goal.at.returns-in_err-sync_base-clause-room g c).After-sync_base h
+
+pub returns-clause-room : goal.returns-clause-room
+returns-clause-room g c = λ h.
+    omega (
+      arith,
+      room_so g (goal.at.returns-clause-room g c).After-sync_base h,
+      c.settle.ensures.room (c.sync_base.ensures.honest.0 (c.copy_slots.ensures.honest.0 h)),
+    )

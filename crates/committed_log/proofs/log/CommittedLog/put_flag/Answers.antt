@@ -52,3 +52,7 @@ returns-clause-stops g c = λ h.
     (g.met.P.DevicePair.few_blocks d.pair).0
     (true_stands d.clearing d.slots.homes.items (p.base d.pair) (p.journal d.pair) (p.may_leave d.pair)
     c.requires.clearing (d.standing h)))
+
+pub returns-clause-longer : goal.returns-clause-longer
+returns-clause-longer g c = λ h.
+    omega (arith, (aside_so g (goal.at.returns-clause-longer g c).After-write_journal h).as_many)

@@ -1,7 +1,7 @@
 -- The first flag is cleared, and the slots forgotten.
-use Rattle.std.proofs.Common.{◌≡◌, ◌∙◌, true}
+use Rattle.std.proofs.Common.{◌≡◌, ◌∙◌, ap, arith, length, true}
 use Rattle.committed_log.specs.Stops.{IsStanding}
-use Rattle.committed_log.proofs.Homing.{Quiet, anew_quiet, anew_stands, clearing_quiet, true_stands}
+use Rattle.committed_log.proofs.Homing.{Quiet, anew_quiet, anew_stands, clearing_quiet, drop_longer, true_stands}
 use Rattle.committed_log.proofs.Stood.{still_stands}
 use Rattle.committed_log.proofs.log.CommittedLog.settle.Given as given
 use Rattle.committed_log.proofs.log.CommittedLog.settle.Goals as goal
@@ -61,3 +61,32 @@ returns-clause-quiet g c = λ h is.
     (c.sync_journal.ensures.stops h1) (stands_so g at is h1)
     (c.in_ok-sync_journal.ensures.durable h1) (c.in_ok-put_flag.ensures.flag h) in
     record { base = q.base; unsaid = q.unsaid; there = q.there }
+
+pub returns-in_err-put_flag-clause-room : goal.returns-in_err-put_flag-clause-room
+returns-in_err-put_flag-clause-room g c = λ h.
+    let d = c.args.self.now in let m = c.put_flag.new.self in let p = g.P.DevicePair in
+    drop_longer d.slots.homes.items m.slots.homes.items (p.journal d.pair) (p.journal m.pair)
+    (omega (arith, ap length c.put_flag.ensures.log.homes)) (c.put_flag.ensures.longer h)
+
+pub returns-in_err-sync_journal-clause-room : goal.returns-in_err-sync_journal-clause-room
+returns-in_err-sync_journal-clause-room g c = λ h.
+    let d = c.args.self.now in let m = c.put_flag.new.self in let p = g.P.DevicePair in
+    let e = c.sync_journal.new.self in
+    drop_longer d.slots.homes.items m.slots.homes.items (p.journal d.pair) (p.journal e)
+    (omega (arith, ap length c.put_flag.ensures.log.homes))
+    (omega (
+      arith,
+      c.put_flag.ensures.longer h,
+      ap length (c.sync_journal.ensures.journal (c.put_flag.ensures.honest.0 h)),
+    ))
+
+pub returns-clause-room : goal.returns-clause-room
+returns-clause-room g c = λ h.
+    let d = c.args.self.now in let p = g.P.DevicePair in let e = c.sync_journal.new.self in
+    drop_longer d.slots.homes.items c.clear.new.self.homes.items (p.journal d.pair) (p.journal e)
+    (omega (arith, ap length c.clear.ensures))
+    (omega (
+      arith,
+      c.put_flag.ensures.longer h,
+      ap length (c.sync_journal.ensures.journal (c.put_flag.ensures.honest.0 h)),
+    ))
