@@ -50,7 +50,6 @@ module _ (slots : List ℕ) (journal : Blocks) (r : IsRecorded slots journal) wh
     homes = recorded_homes;
     below = below;
     there = omega (arith, recorded_size, r.room);
-    last = ap (λ (k : ℕ). says (block_at k journal)) recorded_size ∙ r.last;
   }
 
   -- and then it is the last one

@@ -8,3 +8,4 @@ pub mod StagesFact
 pub mod Shown
 pub mod Law
 pub mod CommitLaws
+pub mod OpeningLaws

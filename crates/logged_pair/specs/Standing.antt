@@ -77,10 +77,21 @@ pub record SameSlots {P A : Type 0} {m : _} (old new : LoggedPair P A m) : Type 
   pub kept : kept_of new ≡ kept_of old
   pub homes : homes_of new ≡ homes_of old
 
+-- The same regions, of which and of the base nothing was written, nor of the journal behind them.
+pub record LogStays {P A : Type 0} {m : _} (old new : CommittedLog P A m) : Type 0 where
+  pub homes : regions.homes_of new ≡ regions.homes_of old
+  pub clearing : regions.clearing_of new ≡ regions.clearing_of old
+  pub base : regions.base_of new ≡ regions.base_of old
+  pub journal : regions.journal_of new ≡ regions.journal_of old
+  pub now : PairsNoMore (m.may_leave (regions.pair_of old)) (m.may_leave (regions.pair_of new))
+  pub time : PairElapses (m.moment (regions.pair_of old)) (m.moment (regions.pair_of new))
+      (m.left_since (regions.pair_of old)) (m.left_since (regions.pair_of new))
+      (m.may_leave (regions.pair_of new))
+
 -- Nothing was written, and no commit has come further.
 pub record IsStill {P A : Type 0} {m : _} (old new : LoggedPair P A m) : Type 0 where
   pub slots : SameSlots old new
-  pub log : regions.IsStill (log_of old) (log_of new)
+  pub log : LogStays (log_of old) (log_of new)
 
 -- what a stop now leaves is, once it is recovered, what is read
 abbrev pub IsSettled : {P A : Type 0} {m : _} → LoggedPair P A m → Type 0

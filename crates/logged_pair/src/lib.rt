@@ -3,6 +3,7 @@
 //! A commit writes its blocks into a region of the log, behind those of earlier commits, and copies nothing.
 #![tactic(auto)]
 
+pub mod laws;
 mod pair;
 
 pub use pair::LoggedPair;

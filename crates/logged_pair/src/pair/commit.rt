@@ -122,34 +122,35 @@ impl<P: DevicePair, A: Allocator + Copy> LoggedPair<P, A> {
         ensures honest { IsHonest self.old ↔ IsHonest self.new }
         ensures faults { Counts (P.faults (pair_of self.old)) (P.faults (pair_of self.new)) result }
     {
+        self.reserve_region()?;
         self.say_committed()?;
-        self.take_region()
+        self.take_region();
+        Ok(())
     }
 
-    // Takes in the region, which is committed. The memory was taken before the flag was written.
-    fn take_region(&mut self) -> Result<(), DeviceError>
+    // Takes in the region, which is committed, and for which there is memory.
+    fn take_region(&mut self)
         requires deciding { deciding_of self.old ≡ true }
         requires settled { clearing_of self.old ≡ false }
+        requires room { HasRoomFor (length (region_of (homes_of self.old)))
+            (regions.slots_of (log_of self.old)) }
         requires said { IsHonest self.old → says (block_at 0 (journal_of self.old)) ≡ true }
         requires synced { IsHonest self.old → IsDurable (log_of self.old) }
-        ensures done { OnOk result (deciding_of self.new ≡ false) }
-        ensures going_on { OnErr result (deciding_of self.new ≡ true) }
+        ensures done { deciding_of self.new ≡ false }
+        ensures none { homes_of self.new ≡ [] }
         ensures still_settled { clearing_of self.new ≡ false }
-        ensures none { homes_of self.old ≡ [] → homes_of self.new ≡ [] }
         ensures durable { IsHonest self.old →
-            OnOk result ((kept : Blocks) → commits_of self.new kept → kept ≡ shown_of self.old) }
-        ensures settled { IsHonest self.old → OnOk result (IsSettled self.new) }
+            (kept : Blocks) → commits_of self.new kept → kept ≡ shown_of self.old }
+        ensures settled { IsHonest self.old → IsSettled self.new }
         ensures shown { IsHonest self.old → shown_of self.new ≡ shown_of self.old }
         ensures keeps { IsHonest self.old → KeepsTo (commits_of self.old) self.old self.new }
         ensures honest { IsHonest self.old ↔ IsHonest self.new }
-        ensures faults { Counts (P.faults (pair_of self.old)) (P.faults (pair_of self.new)) result }
+        ensures faults { P.faults (pair_of self.new) ≡ P.faults (pair_of self.old) }
     {
-        self.reserve_region()?;
         self.log.take_in(self.slots.homes());
         self.slots.clear();
         self.kept = self.log.base_blocks();
         self.deciding = false;
-        Ok(())
     }
 
     // Has the flag say that the region is committed, and syncs it.
@@ -157,6 +158,7 @@ impl<P: DevicePair, A: Allocator + Copy> LoggedPair<P, A> {
         requires deciding { deciding_of self.old ≡ true }
         requires settled { clearing_of self.old ≡ false }
         ensures slots { SameSlots self.old self.new }
+        ensures index { regions.slots_of (log_of self.new) ≡ regions.slots_of (log_of self.old) }
         ensures said { IsHonest self.old → OnOk result (says (block_at 0 (journal_of self.new)) ≡ true) }
         ensures synced { IsHonest self.old → OnOk result (IsDurable (log_of self.new)) }
         ensures shown { IsHonest self.old → shown_of self.new ≡ shown_of self.old }
@@ -173,6 +175,7 @@ impl<P: DevicePair, A: Allocator + Copy> LoggedPair<P, A> {
         requires deciding { deciding_of self.old ≡ true }
         requires settled { clearing_of self.old ≡ false }
         ensures slots { SameSlots self.old self.new }
+        ensures index { regions.slots_of (log_of self.new) ≡ regions.slots_of (log_of self.old) }
         ensures base { IsHonest self.old → base_of self.new ≡ base_of self.old }
         ensures flag { IsHonest self.old → OnOk result (block_at 0 (journal_of self.new) ≡ flag_block 1) }
         ensures behind { IsHonest self.old → SameBehind (journal_of self.new) (journal_of self.old) }

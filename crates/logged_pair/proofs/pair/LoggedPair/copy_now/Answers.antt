@@ -12,7 +12,7 @@ use Rattle.logged_pair.specs.Stages.{IsFilling}
 use Rattle.logged_pair.proofs.Advanced.{quiet_stands}
 use Rattle.logged_pair.proofs.GivingUp.{bare_shown}
 use Rattle.logged_pair.proofs.Keeping.{keeps_call, keeps_seen}
-use Rattle.logged_pair.proofs.Stills.{log_behind, log_commits, log_leaves, log_seen, log_shown, log_stands}
+use Rattle.logged_pair.proofs.Stills.{log_behind, log_commits, log_leaves, log_seen, log_shown, log_stands, stays_of}
 use Rattle.logged_pair.proofs.Stood.{commits_filling, filling}
 use Rattle.logged_pair.proofs.pair.LoggedPair.copy_now.Given as given
 use Rattle.logged_pair.proofs.pair.LoggedPair.copy_now.Goals as goal
@@ -26,7 +26,7 @@ left_so g c h v j left =
     let d = c.args.self.now in
     filling d.deciding (regions.clearing_of d.log) d.kept d.slots.homes.items (regions.seen_of d.log)
     (regions.behind_of d.log) (regions.leaves_of d.log) c.requires.filling (d.standing h) v j
-    (log_leaves d.log c.sync_base.new.self (c.sync_base.ensures.still h) v j left)
+    (log_leaves d.log c.sync_base.new.self (stays_of (c.sync_base.ensures.still h)) v j left)
 
 pub invariant_of-self : goal.invariant_of-self
 invariant_of-self g c =
@@ -34,20 +34,20 @@ invariant_of-self g c =
     record {
       standing = λ h2.
           let h = c.sync_base.ensures.honest.1 h2 in
-          log_stands d.deciding d.kept d.slots.homes.items d.log e (c.sync_base.ensures.still h) (d.standing h);
+          log_stands d.deciding d.kept d.slots.homes.items d.log e (stays_of (c.sync_base.ensures.still h)) (d.standing h);
     }
 
 pub returns-in_err-sync_base-clause-shown : goal.returns-in_err-sync_base-clause-shown
 returns-in_err-sync_base-clause-shown g c = λ h.
     let d = c.args.self.now in
-    log_shown d.slots.homes.items d.log c.sync_base.new.self (c.sync_base.ensures.still h)
+    log_shown d.slots.homes.items d.log c.sync_base.new.self (stays_of (c.sync_base.ensures.still h))
 
 pub returns-in_err-sync_base-clause-keeps : goal.returns-in_err-sync_base-clause-keeps
 returns-in_err-sync_base-clause-keeps g c = λ h.
     let d = c.args.self.now in let e = c.sync_base.new.self in
     keeps_call (commits_of d) d _ (g.met.P.DevicePair.few_blocks (regions.pair_of e)).0
     (c.sync_base.ensures.honest.0 h) (c.sync_base.ensures.still h).time
-    (log_commits d.deciding d.kept d.slots.homes.items d.log e (c.sync_base.ensures.still h))
+    (log_commits d.deciding d.kept d.slots.homes.items d.log e (stays_of (c.sync_base.ensures.still h)))
 
 pub copy_home-requires-clause-quiet : goal.copy_home-requires-clause-quiet
 copy_home-requires-clause-quiet g c = λ h2.
@@ -56,7 +56,7 @@ copy_home-requires-clause-quiet g c = λ h2.
     let at = (goal.at.copy_home-requires-clause-quiet g c).After-sync_base in
     record {
       base = λ v j left.
-          c.in_ok-sync_base.ensures.durable h v j left ∙ sym (log_seen d.log m (c.sync_base.ensures.still h));
+          c.in_ok-sync_base.ensures.durable h v j left ∙ sym (log_seen d.log m (stays_of (c.sync_base.ensures.still h)));
       unsaid = λ v j left. (left_so g at h v j left).unsaid;
       there = λ v j left. (left_so g at h v j left).there;
     }
@@ -65,7 +65,7 @@ same_so : (g : given.Over) (c : After-copy_home g) → regions.IsHonest c.args.s
     → regions.seen_of c.copy_home.new.self ≡ regions.seen_of c.args.self.now.log
 same_so g c h =
     c.copy_home.ensures.seen (c.sync_base.ensures.honest.0 h)
-    ∙ log_seen c.args.self.now.log c.sync_base.new.self (c.sync_base.ensures.still h)
+    ∙ log_seen c.args.self.now.log c.sync_base.new.self (stays_of (c.sync_base.ensures.still h))
 
 pub invariant_of-self-2 : goal.invariant_of-self-2
 invariant_of-self-2 g c =
@@ -81,7 +81,7 @@ invariant_of-self-2 g c =
           omega (
             arith,
             s.room,
-            ap length (log_behind d.log m (c.sync_base.ensures.still h)),
+            ap length (log_behind d.log m (stays_of (c.sync_base.ensures.still h))),
             c.copy_home.ensures.room h2,
           ) in
           quiet_stands d.deciding (regions.clearing_of e) d.kept d.slots.homes.items (regions.seen_of d.log)
@@ -107,7 +107,7 @@ returns-clause-keeps g c = λ h.
     let after = (goal.at.returns-clause-keeps g c).After-copy_home in
     let at = (goal.at.returns-clause-keeps g c).After-sync_base in
     let h2 = c.sync_base.ensures.honest.0 h in
-    let still = c.sync_base.ensures.still h in
+    let still = stays_of (c.sync_base.ensures.still h) in
     let all : PairLeaves p.moment p.left_since (regions.pair_of d.log) (regions.pair_of e)
     (λ a b. recovered a b ≡ regions.seen_of d.log) =
     pair_then p.moment p.left_since (regions.pair_of d.log) (regions.pair_of m) (regions.pair_of e) _

@@ -7,7 +7,7 @@ use Rattle.committed_log.specs.Found.{IsSlot}
 use Rattle.logged_pair.specs.CommitLaws.{few_seen}
 use Rattle.logged_pair.specs.Shown.{length-shown, shown_other, shown_reads}
 use Rattle.logged_pair.specs.Standing.{base_of, homes_of, journal_of}
-use Rattle.logged_pair.proofs.Stills.{log_stands}
+use Rattle.logged_pair.proofs.Stills.{log_stands, stays_of}
 use Rattle.logged_pair.proofs.Stood.{on_ok}
 use Rattle.logged_pair.proofs.pair.LoggedPair.read.Goals as goal
 
@@ -21,7 +21,7 @@ invariant_of-self g c =
     record {
       standing = λ h2.
           let h = c.read_base.ensures.honest.1 h2 in
-          log_stands d.deciding d.kept d.slots.homes.items d.log e (c.read_base.ensures.still h)
+          log_stands d.deciding d.kept d.slots.homes.items d.log e (stays_of (c.read_base.ensures.still h))
           (d.standing h);
     }
 
@@ -50,5 +50,5 @@ returns-in-None-clause-bytes g c = λ h.
 pub returns-in-None-clause-still : goal.returns-in-None-clause-still
 returns-in-None-clause-still g c = λ h. record {
   slots = record { deciding = refl; clearing = c.read_base.ensures.log.clearing; kept = refl; homes = refl };
-  log = c.read_base.ensures.still h;
+  log = stays_of (c.read_base.ensures.still h);
 }

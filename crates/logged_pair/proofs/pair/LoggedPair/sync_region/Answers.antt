@@ -2,18 +2,19 @@
 use Rattle.std.proofs.Common.{◌≡◌, ◌∙◌, refl, sym}
 use Rattle.block_device.specs.Device.{Blocks}
 use Rattle.committed_log.specs.Committed as regions
-use Rattle.logged_pair.proofs.Stills.{log_behind, log_leaves, log_seen, log_stands, log_then}
+use Rattle.logged_pair.specs.Standing.{LogStays}
+use Rattle.logged_pair.proofs.Stills.{log_behind, log_leaves, log_seen, log_stands, log_then, stays_of}
 use Rattle.logged_pair.proofs.Stood.{on_ok}
 use Rattle.logged_pair.proofs.pair.LoggedPair.sync_region.Given as given
 use Rattle.logged_pair.proofs.pair.LoggedPair.sync_region.Goals as goal
 use Rattle.logged_pair.proofs.pair.LoggedPair.sync_region.Goals.{After-sync_base}
 
 still_so : (g : given.Over) (c : After-sync_base g) → regions.IsHonest c.args.self.now.log
-    → regions.IsStill c.args.self.now.log c.sync_base.new.self
+    → LogStays c.args.self.now.log c.sync_base.new.self
 still_so g c h =
     log_then c.args.self.now.log c.sync_journal.new.self c.sync_base.new.self
     (λ t a b le left. g.met.P.DevicePair.counts_now (regions.pair_of c.args.self.now.log) t a b h le left)
-    (c.sync_journal.ensures.still h) (c.sync_base.ensures.still (c.sync_journal.ensures.honest.0 h))
+    (stays_of (c.sync_journal.ensures.still h)) (stays_of (c.sync_base.ensures.still (c.sync_journal.ensures.honest.0 h)))
 
 pub invariant_of-self : goal.invariant_of-self
 invariant_of-self g c =
@@ -21,7 +22,7 @@ invariant_of-self g c =
     record {
       standing = λ h2.
           let h = c.sync_journal.ensures.honest.1 h2 in
-          log_stands d.deciding d.kept d.slots.homes.items d.log e (c.sync_journal.ensures.still h)
+          log_stands d.deciding d.kept d.slots.homes.items d.log e (stays_of (c.sync_journal.ensures.still h))
           (d.standing h);
     }
 
@@ -38,7 +39,7 @@ invariant_of-self-2 g c =
 pub returns-in_err-sync_journal-clause-still : goal.returns-in_err-sync_journal-clause-still
 returns-in_err-sync_journal-clause-still g c = λ h. record {
   slots = record { deciding = refl; clearing = c.sync_journal.ensures.log.clearing; kept = refl; homes = refl };
-  log = c.sync_journal.ensures.still h;
+  log = stays_of (c.sync_journal.ensures.still h);
 }
 
 pub returns-clause-still : goal.returns-clause-still
@@ -56,12 +57,12 @@ pub returns-clause-synced : goal.returns-clause-synced
 returns-clause-synced g c = λ h.
     let m = c.sync_journal.new.self in let e = c.sync_base.new.self in
     let h2 = c.sync_journal.ensures.honest.0 h in
-    let still = c.sync_base.ensures.still h2 in
+    let still = stays_of (c.sync_base.ensures.still h2) in
     on_ok c.sync_base.result _ _
     (λ (all : (v j : Blocks) → regions.leaves_of e v j → v ≡ regions.seen_of m) v j left. (
       all v j left ∙ sym (log_seen m e still),
       c.in_ok-sync_journal.ensures.durable h v j (log_leaves m e still v j left)
-          ∙ sym (log_behind c.args.self.now.log m (c.sync_journal.ensures.still h))
+          ∙ sym (log_behind c.args.self.now.log m (stays_of (c.sync_journal.ensures.still h)))
           ∙ sym (log_behind m e still),
     ))
     (c.sync_base.ensures.durable h2)
