@@ -10,7 +10,7 @@ use Rattle.committed_log.specs.Log.{index_blocks, says, size_of}
 use Rattle.committed_log.specs.Region.{IsRegion}
 use Rattle.logged_pair.specs.Law.{recorded_region, recorded_size}
 use Rattle.logged_pair.specs.Commits.{CommitsNoMore, OrNew}
-use Rattle.logged_pair.specs.Stages.{CommitsIn, IsDeciding, IsFilling, IsRecorded, IsStanding, shown_through}
+use Rattle.logged_pair.specs.Stages.{CommitsIn, IsFilling, IsRecorded, IsStanding, shown_through}
 use Rattle.logged_pair.proofs.Stood.{Outcomes, filled, filling, settled_never, synced_stop}
 
 none_below : (n : ℕ) (hs : List ℕ) → hs ≡ [] → All (λ h. h < n) hs

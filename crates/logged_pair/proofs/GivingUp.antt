@@ -1,14 +1,11 @@
 -- What was written since the last commit is given up.
-use Rattle.std.proofs.Common.{◌≡◌, ◌∙◌, ◌^◌, ◌≤◌, ◌<◌, ℕ, Bool, true, false, List, [], length, take, refl, sym, ap}
-use Rattle.std.proofs.Common.{subst, arith}
+use Rattle.std.proofs.Common.{◌≡◌, ◌∙◌, ◌^◌, ◌≤◌, ℕ, Bool, false, List, [], length, refl, sym, ap}
+use Rattle.std.proofs.Common.{arith}
 use Rattle.block_device.specs.Device.{Begins, BeginsOne, Blocks}
-use Rattle.device_pair.specs.Pairs.{PairLeaves}
-use Rattle.device_pair.specs.Runs.{pair_weaker}
-use Rattle.committed_log.specs.Log.{no_home, recovered}
 use Rattle.logged_pair.specs.Commits.{CommitsNoMore}
 use Rattle.logged_pair.specs.Shown.{shown_bare}
 use Rattle.logged_pair.specs.Stages.{CommitsIn, shown_through}
-use Rattle.logged_pair.specs.Standing.{KeepsTo, commits_of, pair_of}
+use Rattle.logged_pair.specs.Standing.{KeepsTo, commits_of}
 use Rattle.logged_pair.specs.declared.pair.LoggedPair.{LoggedPair}
 use Rattle.logged_pair.proofs.Keeping.{keeps_then, keeps_weaker, seen_begins}
 use Rattle.logged_pair.proofs.Stood.{commits_filling, filling_all}

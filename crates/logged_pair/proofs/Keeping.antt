@@ -1,7 +1,7 @@
 -- What one call, and runs in turn, keep to.
-use Rattle.std.proofs.Common.{◌≡◌, ◌∙◌, ◌^◌, ◌≤◌, ℕ, Bool, true, false, List, length, take, refl, sym, ap, subst}
+use Rattle.std.proofs.Common.{◌≡◌, ◌∙◌, ◌^◌, ◌≤◌, ℕ, Bool, false, List, length, take, refl, sym, ap, subst}
 use Rattle.std.proofs.Common.{inl, inr, ⊎_elim}
-use Rattle.block_device.specs.Device.{Begins, BeginsOne, Blocks}
+use Rattle.block_device.specs.Device.{BeginsOne, Blocks}
 use Rattle.device_pair.specs.Pairs.{PairElapses, PairLeaves}
 use Rattle.device_pair.specs.Runs.{pair_started, pair_call, pair_then, pair_weaker}
 use Rattle.committed_log.specs.Committed as regions

@@ -1,5 +1,5 @@
 -- What stays where a call of the log writes nothing.
-use Rattle.std.proofs.Common.{◌≡◌, ◌∙◌, ◌≤◌, ℕ, Bool, List, length, take, drop, refl, sym, ap, subst, arith, inl, inr}
+use Rattle.std.proofs.Common.{◌≡◌, ◌∙◌, ◌≤◌, ℕ, Bool, List, length, take, drop, sym, ap, subst, arith, inl, inr}
 use Rattle.std.proofs.Common.{⊎_elim}
 use Rattle.block_device.specs.Device.{Blocks}
 use Rattle.device_pair.specs.Pairs.{PairElapses, PairsNoMore}

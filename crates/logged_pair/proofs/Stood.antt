@@ -9,7 +9,7 @@ use Rattle.block_device.specs.Written.{block_at-written_other, length-written_wi
 use Rattle.block_device.specs.declared.device.DeviceError.{DeviceError}
 use Rattle.device_pair.specs.Pairs.{BaseFollows, JournalFollows}
 use Rattle.committed_log.specs.Found.{IsSlot}
-use Rattle.committed_log.specs.Log.{count_in, index_blocks, no_home, says, slot_homes}
+use Rattle.committed_log.specs.Log.{count_in, index_blocks, says}
 use Rattle.committed_log.specs.Regions.{slots_same}
 use Rattle.committed_log.specs.Torn.{take_torn, torn_before, torn_longer, torn_size}
 use Rattle.logged_pair.specs.Commits.{CommitsNoMore}

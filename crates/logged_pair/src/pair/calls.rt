@@ -1,6 +1,5 @@
 //! Reads, writes and commits of a base and its log.
 ghost use Rattle.std.specs.Prelude.{◌≡◌, ◌≤◌, ◌<◌, ◌+◌, ◌^◌, ◌↔◌, [], false, length, OnOk, OnErr};
-ghost use Rattle.std.specs.List.{Contains};
 ghost use Rattle.block_device.specs.Device.{Blocks, Torn, Counts, block_at, written};
 ghost use Rattle.logged_pair.specs.Commits.{CommitsNoMore, Either, OrNew};
 ghost use Rattle.logged_pair.specs.Standing.{clearing_of, commits_of, deciding_of, homes_of, journal_of};

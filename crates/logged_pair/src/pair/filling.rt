@@ -1,12 +1,11 @@
 //! Blocks written before a commit.
 ghost use Rattle.std.specs.Prelude.{◌≡◌, ◌≤◌, ◌<◌, ◌+◌, ◌^◌, ◌↔◌, ◌⊎◌, ℕ, false, length, OnOk, OnErr};
-ghost use Rattle.std.specs.List.{Contains};
-ghost use Rattle.block_device.specs.Device.{Torn, Counts, block_at, written};
+ghost use Rattle.block_device.specs.Device.{Torn, Counts, written};
 ghost use Rattle.committed_log.specs.Found.{IsSlot};
 ghost use Rattle.committed_log.specs.Room.{HasRoomFor};
 ghost use Rattle.logged_pair.specs.Standing.{base_of, clearing_of, commits_of, deciding_of, homes_of};
 ghost use Rattle.logged_pair.specs.Standing.{journal_of, kept_of, pair_of, shown_of, slots_of, IsHonest};
-ghost use Rattle.logged_pair.specs.Standing.{IsStill, KeepsTo, SameSlots};
+ghost use Rattle.logged_pair.specs.Standing.{KeepsTo, SameSlots};
 
 use crate::pair::LoggedPair;
 use block_device::DeviceError;

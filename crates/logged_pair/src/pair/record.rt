@@ -1,8 +1,7 @@
 //! Count and index of the region, and the first blocks of the next one.
-ghost use Rattle.std.specs.Prelude.{◌≡◌, ◌≤◌, ◌<◌, ◌+◌, ◌*◌, ◌^◌, ◌↔◌, ℕ, false, length, slice_index, OnOk};
+ghost use Rattle.std.specs.Prelude.{◌≡◌, ◌≤◌, ◌<◌, ◌+◌, ◌*◌, ◌↔◌, ℕ, false, length, slice_index, OnOk};
 ghost use Rattle.block_bytes.specs.Numbers.{number_at};
 ghost use Rattle.block_device.specs.Device.{Counts};
-ghost use Rattle.committed_log.specs.Room.{HasRoomFor};
 ghost use Rattle.logged_pair.specs.Index.{HasIndex, HasNext};
 ghost use Rattle.logged_pair.specs.Stages.{IsRecorded};
 ghost use Rattle.logged_pair.specs.Standing.{clearing_of, commits_of, deciding_of, homes_of, journal_of};

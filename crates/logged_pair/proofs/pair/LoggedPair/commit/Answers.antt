@@ -1,5 +1,5 @@
 -- A commit that has begun is finished first.
-use Rattle.std.proofs.Common.{◌∙◌, ⊎_elim, inl, inr}
+use Rattle.std.proofs.Common.{◌∙◌, inl}
 use Rattle.logged_pair.specs.Standing.{commits_of, shown_of}
 use Rattle.logged_pair.proofs.Keeping.{keeps_either, keeps_old, or_both}
 use Rattle.logged_pair.proofs.Reached.{same_shown}

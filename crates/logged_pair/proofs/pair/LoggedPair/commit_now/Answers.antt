@@ -1,13 +1,11 @@
 -- A commit from the record of its region to the end.
-use Rattle.std.proofs.Common.{◌≡◌, ◌∙◌, inl, inr, ⊎_elim, refl}
-use Rattle.block_device.specs.Device.{Blocks}
-use Rattle.logged_pair.specs.Commits.{CommitsNoMore, OrNew}
+use Rattle.std.proofs.Common.{◌≡◌, ◌∙◌, inl}
+use Rattle.logged_pair.specs.Commits.{OrNew}
 use Rattle.logged_pair.specs.Standing.{base_of, commits_of, deciding_of, homes_of, journal_of, kept_of}
 use Rattle.logged_pair.specs.Standing.{shown_of, IsHonest, KeepsTo}
 use Rattle.logged_pair.proofs.Keeping.{keeps_new, keeps_old, keeps_on, keeps_then, keeps_weaker, or_both}
 use Rattle.logged_pair.proofs.Keeping.{or_more}
 use Rattle.logged_pair.proofs.Reached.{reached, same_shown}
-use Rattle.logged_pair.proofs.Stood.{on_either}
 use Rattle.logged_pair.proofs.pair.LoggedPair.commit_now.Given as given
 use Rattle.logged_pair.proofs.pair.LoggedPair.commit_now.Goals as goal
 use Rattle.logged_pair.proofs.pair.LoggedPair.commit_now.Goals.{After-prepare}

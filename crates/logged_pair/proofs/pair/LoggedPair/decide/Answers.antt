@@ -1,5 +1,5 @@
 -- The flag decides, and the region is taken in.
-use Rattle.std.proofs.Common.{◌≡◌, ◌∙◌, ℕ, List, ap, length, subst, sym}
+use Rattle.std.proofs.Common.{◌≡◌, ◌∙◌, ℕ, List, length, subst, sym}
 use Rattle.committed_log.specs.Committed as regions
 use Rattle.committed_log.specs.Log.{region_of}
 use Rattle.committed_log.specs.Room.{HasRoomFor}

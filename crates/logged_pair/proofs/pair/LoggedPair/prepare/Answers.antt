@@ -1,10 +1,9 @@
 -- A region that is recorded, and the base, are synced: its flag may decide then.
 use Rattle.std.proofs.Common.{◌≡◌, ◌∙◌, false, refl, subst, sym}
-use Rattle.block_device.specs.Device.{Blocks}
 use Rattle.committed_log.specs.Committed as regions
 use Rattle.logged_pair.specs.Commits.{OrNew}
 use Rattle.logged_pair.specs.Standing.{base_of, clearing_of, commits_of, deciding_of, homes_of, journal_of}
-use Rattle.logged_pair.specs.Standing.{kept_of, log_of, pair_of, shown_of, IsHonest, IsStill}
+use Rattle.logged_pair.specs.Standing.{pair_of, shown_of, IsHonest, IsStill}
 use Rattle.logged_pair.proofs.Advanced.{commits_prepared, prepared}
 use Rattle.logged_pair.proofs.Calling.{still_then}
 use Rattle.logged_pair.proofs.Keeping.{commits_still, keeps_call, keeps_still, keeps_weaker, or_both, or_more}

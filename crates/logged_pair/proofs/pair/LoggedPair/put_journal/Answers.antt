@@ -1,5 +1,5 @@
 -- A block of the region, while it is filled.
-use Rattle.std.proofs.Common.{◌≡◌, ◌∙◌, ap, arith, inl}
+use Rattle.std.proofs.Common.{◌∙◌, ap, arith, inl}
 use Rattle.std.specs.Prelude.{take}
 use Rattle.block_device.specs.Device.{Torn}
 use Rattle.committed_log.specs.Committed as regions

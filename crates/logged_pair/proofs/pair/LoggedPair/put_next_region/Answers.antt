@@ -1,6 +1,6 @@
 -- Flag and count of the next region are written.
 use Rattle.std.proofs.Common.{◌≡◌, ◌∙◌, ◌+◌, ℕ, List, ap, arith, inr, length, refl, subst, sym}
-use Rattle.block_device.specs.Device.{Blocks, written}
+use Rattle.block_device.specs.Device.{written}
 use Rattle.committed_log.specs.Committed as regions
 use Rattle.logged_pair.specs.CommitLaws.{few_seen}
 use Rattle.logged_pair.specs.Index.{HasIndex, HasNext}

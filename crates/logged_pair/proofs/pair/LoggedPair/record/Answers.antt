@@ -17,8 +17,12 @@ returns-clause-recorded g c = λ h.
     on_ok c.put_journal.result _ _ (λ (w : journal_of e ≡ written 1 c.count_page.result (journal_of m)).
     subst (λ (hs : List ℕ). IsRecorded hs (journal_of e)) (sym c.put_journal.ensures.slots.homes)
     (recorded_now (homes_of m) c.len-count.result (journal_of m) (journal_of e)
-    (omega (arith, c.len-count.ensures, ap length c.put_index.ensures.slots.homes,
-    ap length c.put_next_region.ensures.slots.homes)) (omega arith)
+    (omega (
+      arith,
+      c.len-count.ensures,
+      ap length c.put_index.ensures.slots.homes,
+      ap length c.put_next_region.ensures.slots.homes,
+    )) (omega arith)
     (w ∙ ap (λ b. written 1 b (journal_of m)) c.count_page.ensures)
     (c.in_ok-put_next_region.ensures.index h1) (c.in_ok-put_next_region.ensures.next h1)))
     (c.put_journal.ensures.written h2)

@@ -1,5 +1,5 @@
 -- The flag is written and synced.
-use Rattle.std.proofs.Common.{◌≡◌, ◌∙◌, ap, refl, sym}
+use Rattle.std.proofs.Common.{◌≡◌, ◌∙◌, ap, sym}
 use Rattle.block_device.specs.Device.{Blocks, block_at}
 use Rattle.committed_log.specs.Committed as regions
 use Rattle.committed_log.specs.FlagLaws.{says-one}

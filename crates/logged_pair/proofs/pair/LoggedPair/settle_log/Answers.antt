@@ -1,5 +1,5 @@
 -- A log that is begun anew.
-use Rattle.std.proofs.Common.{◌≡◌, ◌∙◌, ◌≤◌, ℕ, List, [], ap, arith, length, sym, take}
+use Rattle.std.proofs.Common.{◌≡◌, ◌∙◌, ◌≤◌, [], ap, arith, length, sym, take}
 use Rattle.std.proofs.lemmas.List.{nil_from_length}
 use Rattle.committed_log.specs.Committed as regions
 use Rattle.committed_log.specs.Home.{IsQuiet}

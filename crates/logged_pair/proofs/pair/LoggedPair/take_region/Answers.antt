@@ -7,7 +7,7 @@ use Rattle.committed_log.specs.Room.{HasRoomFor}
 use Rattle.logged_pair.specs.CommitLaws.{few_seen, settled_of}
 use Rattle.logged_pair.specs.Shown.{shown_region}
 use Rattle.logged_pair.specs.Stages.{IsRecorded, shown_through}
-use Rattle.logged_pair.specs.Standing.{base_of, clearing_of, commits_of, homes_of, journal_of, pair_of, shown_of}
+use Rattle.logged_pair.specs.Standing.{base_of, clearing_of, homes_of, journal_of, pair_of, shown_of}
 use Rattle.logged_pair.specs.Standing.{IsHonest}
 use Rattle.logged_pair.proofs.Advanced.{commits_taken, open_stands, taken_next, taken_region}
 use Rattle.logged_pair.proofs.GivingUp.{bare_shown}
