@@ -14,7 +14,7 @@ use Rattle.device_pair.specs.Pairs.{JournalFollows}
 use Rattle.committed_log.specs.FlagLaws.{says-none}
 use Rattle.committed_log.specs.Log.{count_in, flag_block, home_in, homes_in, index_blocks, is_committed}
 use Rattle.committed_log.specs.Log.{overlaid, recovered, region_homes, region_of, says, size_of, slot_homes}
-use Rattle.committed_log.specs.Opening.{IsBroken, IsMalformed, IsWhole}
+use Rattle.committed_log.specs.Opening.{AreSynced, IsBroken, IsMalformed, IsWhole}
 use Rattle.committed_log.specs.Overlay.{overlay_first}
 use Rattle.committed_log.specs.Region.{HasSlots}
 use Rattle.committed_log.specs.Regions.{flagged_same, homes_end, homes_more, homes_nil, homes_unsaid}
@@ -172,7 +172,20 @@ pub longer_by : (i : ℕ) (x : List ℕ) (b c : Blocks) → i ≡ length b → c
 longer_by i x b c size w =
     omega (arith, size, ap length w, length-written_behind i x b (omega (arith, size)))
 
--- ---- an empty journal
+-- ---- no regions yet
 
-pub one_block : (old new : Blocks) → length old ≡ 0 → Torn 0 old new → length new ≤ 1
-one_block old new none torn = omega (arith, none, torn_length 0 old new torn)
+-- what stands of a log whose regions are not read yet
+pub opened_stands : (homes : List ℕ) (base journal : Blocks) (ml : Blocks → Blocks → Type 0) → homes ≡ []
+    → 0 < length journal → AreSynced base journal ml → IsStanding false homes base journal ml
+opened_stands homes base journal ml none some synced =
+    subst (λ (l : List ℕ). IsStanding false l base journal ml) (sym none) (record {
+      there = some;
+      regions = homes_nil;
+      homes = λ k d lt. absurd (omega (arith, lt));
+      reads = λ there. absurd (omega (arith, there));
+      stops = λ a b left. record {
+        there = omega (arith, some, ap length (synced a b left).1);
+        regions = refl;
+        homes = λ k d lt. absurd (omega (arith, lt));
+      };
+    })
