@@ -1,17 +1,17 @@
 -- The regions of a log read one after the other, and what a stop leaves meanwhile.
 use Rattle.std.proofs.Common.{◌≡◌, ◌∙◌, ◌⊎◌, ◌↔◌, ◌^◌, ℕ, suc, ◌+◌, ◌<◌, ◌≤◌, Bool, true, false, List, [], ◌∷◌}
-use Rattle.std.proofs.Common.{◌++◌, length, drop, refl, sym, ap, subst, arith, inl, inr, ⊎_elim}
+use Rattle.std.proofs.Common.{◌++◌, length, refl, sym, ap, subst, arith, inl, inr, ⊎_elim}
 use Rattle.std.specs.Prelude.{◌/◌, ◌%◌}
 use Rattle.std.specs.List.{All}
 use Rattle.std.proofs.lemmas.List.{length_push}
 use Rattle.std.proofs.lemmas.List.Elements.{All-push}
-use Rattle.block_device.specs.Device.{Blocks, Torn, block_at, written}
-use Rattle.device_pair.specs.Pairs.{JournalFollows, PairElapses, PairLeaves, PairsNoMore}
+use Rattle.block_device.specs.Device.{Blocks, block_at}
+use Rattle.device_pair.specs.Pairs.{PairLeaves}
 use Rattle.device_pair.specs.Runs.{pair_started, pair_then, pair_weaker}
 use Rattle.device_pair.specs.declared.pair.DevicePair.{Ghosts}
-use Rattle.committed_log.specs.Committed.{base_of, behind_of, clearing_of, homes_of, journal_of, leaves_of}
+use Rattle.committed_log.specs.Committed.{base_of, behind_of, clearing_of, homes_of, journal_of}
 use Rattle.committed_log.specs.Committed.{seen_of, IsDurable, IsHonest, IsStill, SameLog}
-use Rattle.committed_log.specs.Log.{home_in, overlaid, recovered, says, slot_homes}
+use Rattle.committed_log.specs.Log.{home_in, recovered, says, slot_homes}
 use Rattle.committed_log.specs.Opening.{IsBroken, IsMalformed}
 use Rattle.committed_log.specs.Regions.{recovered_unsaid}
 use Rattle.committed_log.specs.Stops.{IsStanding}
@@ -74,15 +74,6 @@ module _ {P A : Type 0} {m : _} where
       (was.0 ∙ sym (seen_same old new s), was.1 ∙ sym (behind_same old new s))
 
   -- ---- what is recovered
-
-  -- a synced log: all that a stop leaves is recovered to the same
-  pub durable_recovers : (c : CommittedLog P A m) → length (base_of c) ≤ 2 ^ 31 → IsHonest c → IsDurable c
-      → (a b : Blocks) → m.may_leave c.pair a b → recovered a b ≡ recovered (seen_of c) (behind_of c)
-  durable_recovers c few h is a b left =
-      let v : Blocks = overlaid (homes_of c) b a in let j : Blocks = drop (length (homes_of c)) b in
-      let now = is v j (a, b, left, refl, refl) in
-      law_of c few h a b left
-      ∙ ap (λ (x : Blocks). recovered x j) now.0 ∙ ap (recovered (seen_of c)) now.1
 
   pub reads_back : (c : CommittedLog P A m) → length (base_of c) ≤ 2 ^ 31 → IsHonest c
       → m.may_leave c.pair (base_of c) (journal_of c)
