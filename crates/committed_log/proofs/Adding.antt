@@ -1,11 +1,11 @@
 -- A flag and a count added behind the last region, and a region taken in while the log is opened.
-use Rattle.std.proofs.Common.{◌≡◌, ◌∙◌, ◌⊎◌, ◌^◌, ℕ, ◌+◌, ◌<◌, ◌≤◌, true, false, List, [], ◌∷◌, ◌++◌, length}
-use Rattle.std.proofs.Common.{take, drop, Ok, Err, OnOk, OnErr, refl, sym, ap, subst, arith, inl, inr}
+use Rattle.std.proofs.Common.{◌≡◌, ◌∙◌, ℕ, ◌+◌, ◌<◌, ◌≤◌, false, List, [], ◌∷◌, length}
+use Rattle.std.proofs.Common.{take, drop, Ok, Err, OnOk, OnErr, sym, ap, subst, arith}
 use Rattle.std.proofs.lemmas.List.{get_or-drop, get_or-take, take-append-le}
 use Rattle.block_device.specs.Device.{Blocks, Torn, block_at, written}
 use Rattle.block_device.specs.Written.{length-written_behind, push_written}
 use Rattle.device_pair.specs.Pairs.{JournalFollows}
-use Rattle.committed_log.specs.Log.{flag_block, homes_in, index_blocks, overlaid, recovered, region_homes}
+use Rattle.committed_log.specs.Log.{homes_in, index_blocks, overlaid, recovered, region_homes}
 use Rattle.committed_log.specs.Log.{region_of, says, size_of}
 use Rattle.committed_log.specs.Overlay.{overlay_append}
 use Rattle.committed_log.specs.Region.{HasSlots, IsRegion}

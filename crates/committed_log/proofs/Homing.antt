@@ -1,5 +1,5 @@
 -- The slots copied home, and the first flag cleared: what stands then, and what a stop leaves.
-use Rattle.std.proofs.Common.{◌≡◌, ◌∙◌, ℕ, ◌^◌, ◌+◌, ◌<◌, ◌≤◌, Bool, true, false, List, [], length, take, drop}
+use Rattle.std.proofs.Common.{◌≡◌, ◌∙◌, ℕ, ◌^◌, ◌<◌, ◌≤◌, Bool, true, false, List, [], length, drop}
 use Rattle.std.proofs.Common.{Ok, Err, OnOk, OnErr, refl, sym, ap, subst, arith, ⊎_elim}
 use Rattle.std.specs.List.{All, Contains}
 use Rattle.std.proofs.lemmas.Bool.{cases_lt}
@@ -9,10 +9,10 @@ use Rattle.block_device.specs.Written.{block_at-written, block_at-written_other,
 use Rattle.block_device.specs.Written.{torn_other}
 use Rattle.device_pair.specs.Pairs.{BaseFollows, JournalFollows, PairsNoMore}
 use Rattle.committed_log.specs.FlagLaws.{says-none}
-use Rattle.committed_log.specs.Log.{flag_block, homes_in, no_home, overlaid, recovered, says}
+use Rattle.committed_log.specs.Log.{flag_block, homes_in, overlaid, recovered, says}
 use Rattle.committed_log.specs.Overlay.{overlay_aside, overlay_home}
 use Rattle.committed_log.specs.Regions.{flagged_aside, homes_nil, recovered_unsaid}
-use Rattle.committed_log.specs.Stops.{IsClearing, IsHome, IsKept, IsStanding, flagged}
+use Rattle.committed_log.specs.Stops.{IsClearing, IsHome, IsKept, IsStanding}
 use Rattle.committed_log.specs.Torn.{torn_size}
 use Rattle.committed_log.proofs.Recovering.{recovery_stands}
 use Rattle.committed_log.proofs.Stood.{Answer, Leaves, first_home, overlay_left, still_stands}
@@ -198,9 +198,6 @@ module _ (homes homes' : List ℕ) (base base' journal journal' : Blocks) (ml ml
               homes = λ k d lt. absurd (omega (arith, lt));
             };
       })
-
-  pub anew_seen : overlaid homes' journal' base' ≡ overlaid homes journal base
-  anew_seen = ap (λ (l : List ℕ). overlaid l journal' base') none ∙ same ∙ sym s.reads.1
 
   pub anew_quiet : ((a b : Blocks) → ml' a b → b ≡ journal) → block_at 0 journal ≡ flag_block 0
       → Quiet homes' (overlaid homes' journal' base') ml'

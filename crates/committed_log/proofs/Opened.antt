@@ -1,28 +1,26 @@
 -- What opening reads of a log, and what it adds to it.
-use Rattle.std.proofs.Common.{◌≡◌, ◌∙◌, ◌⊎◌, ◌↔◌, ◌^◌, ℕ, zero, suc, ◌+◌, ◌*◌, ◌<◌, ◌≤◌, Bool, true, false}
-use Rattle.std.proofs.Common.{List, [], ◌∷◌, ◌++◌, length, take, drop, get_or, Ok, Err, OnOk, min}
-use Rattle.std.proofs.Common.{refl, sym, ap, subst, arith, inl, inr, ⊎_elim}
+use Rattle.std.proofs.Common.{◌≡◌, ◌∙◌, ℕ, zero, suc, ◌+◌, ◌<◌, ◌≤◌, true, false}
+use Rattle.std.proofs.Common.{List, [], ◌∷◌, ◌++◌, length, take, drop, get_or, min}
+use Rattle.std.proofs.Common.{refl, sym, ap, subst, arith, ⊎_elim}
 use Rattle.std.specs.Prelude.{◌/◌, ◌%◌}
 use Rattle.std.specs.List.{All}
-use Rattle.std.proofs.lemmas.Bool.{cases_Bool, cases_lt}
+use Rattle.std.proofs.lemmas.Bool.{cases_Bool}
 use Rattle.std.proofs.lemmas.List.{append-nil, drop_all, get_or_append_left, get_or-take, length-take}
 use Rattle.std.proofs.lemmas.List.{take-append-le}
 use Rattle.block_device.specs.Device.{Blocks, Torn, block_at, written}
-use Rattle.block_device.specs.Written.{block_at-written, length-written_behind, push_written, torn_length}
+use Rattle.block_device.specs.Written.{block_at-written, length-written_behind, push_written}
 use Rattle.block_bytes.specs.Numbers.{number_at}
-use Rattle.device_pair.specs.Pairs.{JournalFollows}
 use Rattle.committed_log.specs.FlagLaws.{says-none}
 use Rattle.committed_log.specs.Log.{count_in, flag_block, home_in, homes_in, index_blocks, is_committed}
 use Rattle.committed_log.specs.Log.{overlaid, recovered, region_homes, region_of, says, size_of, slot_homes}
-use Rattle.committed_log.specs.Opening.{IsBroken, IsMalformed, IsWhole}
+use Rattle.committed_log.specs.Opening.{AreSynced, IsBroken, IsMalformed}
 use Rattle.committed_log.specs.Overlay.{overlay_first}
 use Rattle.committed_log.specs.Region.{HasSlots}
 use Rattle.committed_log.specs.Regions.{flagged_same, homes_end, homes_more, homes_nil, homes_unsaid}
-use Rattle.committed_log.specs.Regions.{homes_whole, is_committed_so, length_homes, recovered_short}
-use Rattle.committed_log.specs.Regions.{recovered_unsaid, short_none}
+use Rattle.committed_log.specs.Regions.{homes_whole, is_committed_so, length_homes}
+use Rattle.committed_log.specs.Regions.{short_none}
 use Rattle.committed_log.specs.Stops.{IsStanding, flagged}
-use Rattle.committed_log.specs.Torn.{torn_before, torn_cases}
-use Rattle.committed_log.proofs.Stood.{Answer}
+use Rattle.committed_log.specs.Torn.{torn_cases}
 
 -- ---- the count and the homes of a region
 
@@ -172,7 +170,20 @@ pub longer_by : (i : ℕ) (x : List ℕ) (b c : Blocks) → i ≡ length b → c
 longer_by i x b c size w =
     omega (arith, size, ap length w, length-written_behind i x b (omega (arith, size)))
 
--- ---- an empty journal
+-- ---- no regions yet
 
-pub one_block : (old new : Blocks) → length old ≡ 0 → Torn 0 old new → length new ≤ 1
-one_block old new none torn = omega (arith, none, torn_length 0 old new torn)
+-- what stands of a log whose regions are not read yet
+pub opened_stands : (homes : List ℕ) (base journal : Blocks) (ml : Blocks → Blocks → Type 0) → homes ≡ []
+    → 0 < length journal → AreSynced base journal ml → IsStanding false homes base journal ml
+opened_stands homes base journal ml none some synced =
+    subst (λ (l : List ℕ). IsStanding false l base journal ml) (sym none) (record {
+      there = some;
+      regions = homes_nil;
+      homes = λ k d lt. absurd (omega (arith, lt));
+      reads = λ there. absurd (omega (arith, there));
+      stops = λ a b left. record {
+        there = omega (arith, some, ap length (synced a b left).1);
+        regions = refl;
+        homes = λ k d lt. absurd (omega (arith, lt));
+      };
+    })

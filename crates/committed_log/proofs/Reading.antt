@@ -1,20 +1,24 @@
 -- The regions of a log read one after the other, and what a stop leaves meanwhile.
-use Rattle.std.proofs.Common.{◌≡◌, ◌∙◌, ◌⊎◌, ◌↔◌, ◌^◌, ℕ, suc, ◌+◌, ◌<◌, ◌≤◌, true, false, List, [], ◌∷◌}
-use Rattle.std.proofs.Common.{◌++◌, length, drop, refl, sym, ap, subst, arith, inl, inr, ⊎_elim}
+use Rattle.std.proofs.Common.{◌≡◌, ◌∙◌, ◌⊎◌, ◌↔◌, ◌^◌, ℕ, suc, ◌+◌, ◌<◌, ◌≤◌, Bool, true, false, List, [], ◌∷◌}
+use Rattle.std.proofs.Common.{◌++◌, length, refl, sym, ap, subst, arith, inl, inr, ⊎_elim}
 use Rattle.std.specs.Prelude.{◌/◌, ◌%◌}
 use Rattle.std.specs.List.{All}
 use Rattle.std.proofs.lemmas.List.{length_push}
 use Rattle.std.proofs.lemmas.List.Elements.{All-push}
-use Rattle.block_device.specs.Device.{Blocks, Torn, block_at, written}
-use Rattle.device_pair.specs.Pairs.{JournalFollows, PairElapses, PairLeaves, PairsNoMore}
+use Rattle.block_device.specs.Device.{Blocks, block_at}
+use Rattle.device_pair.specs.Pairs.{PairLeaves}
 use Rattle.device_pair.specs.Runs.{pair_started, pair_then, pair_weaker}
-use Rattle.committed_log.specs.Committed.{base_of, behind_of, clearing_of, homes_of, journal_of, leaves_of}
+use Rattle.device_pair.specs.declared.pair.DevicePair.{Ghosts}
+use Rattle.committed_log.specs.Committed.{base_of, behind_of, clearing_of, homes_of, journal_of}
 use Rattle.committed_log.specs.Committed.{seen_of, IsDurable, IsHonest, IsStill, SameLog}
-use Rattle.committed_log.specs.Log.{home_in, overlaid, recovered, says, slot_homes}
+use Rattle.committed_log.specs.Log.{home_in, recovered, says, slot_homes}
+use Rattle.committed_log.specs.Opening.{IsBroken, IsMalformed}
+use Rattle.committed_log.specs.Regions.{recovered_unsaid}
+use Rattle.committed_log.specs.Stops.{IsStanding}
 use Rattle.committed_log.specs.declared.log.CommittedLog.{CommittedLog}
 use Rattle.committed_log.proofs.Keeping.{SameRead, behind_same, behind_still, law_of, leaves_call, leaves_same}
 use Rattle.committed_log.proofs.Keeping.{leaves_still, seen_same}
-use Rattle.committed_log.proofs.Opened.{homes_push}
+use Rattle.committed_log.proofs.Opened.{homes_push, malformed_behind}
 
 module _ {P A : Type 0} {m : _} where
   -- ---- calls that write nothing
@@ -70,15 +74,6 @@ module _ {P A : Type 0} {m : _} where
       (was.0 ∙ sym (seen_same old new s), was.1 ∙ sym (behind_same old new s))
 
   -- ---- what is recovered
-
-  -- a synced log: all that a stop leaves is recovered to the same
-  pub durable_recovers : (c : CommittedLog P A m) → length (base_of c) ≤ 2 ^ 31 → IsHonest c → IsDurable c
-      → (a b : Blocks) → m.may_leave c.pair a b → recovered a b ≡ recovered (seen_of c) (behind_of c)
-  durable_recovers c few h is a b left =
-      let v : Blocks = overlaid (homes_of c) b a in let j : Blocks = drop (length (homes_of c)) b in
-      let now = is v j (a, b, left, refl, refl) in
-      law_of c few h a b left
-      ∙ ap (λ (x : Blocks). recovered x j) now.0 ∙ ap (recovered (seen_of c)) now.1
 
   pub reads_back : (c : CommittedLog P A m) → length (base_of c) ≤ 2 ^ 31 → IsHonest c
       → m.may_leave c.pair (base_of c) (journal_of c)
@@ -186,3 +181,96 @@ pub record TakenTo {P A : Type 0} {m : _} (old new : CommittedLog P A m) : Type 
   pub stops : IsHonest old
       → PairLeaves m.moment m.left_since old.pair new.pair
       (λ a b. recovered a b ≡ recovered (base_of old) (journal_of old))
+
+-- where a flag was added, no region is behind the others
+pub journal_on : (old mid new behind behind' : Blocks) → (mid ≡ old) ⊎ (says (block_at 0 behind) ≡ false)
+    → says (block_at 0 behind) ≡ true → (new ≡ mid) ⊎ (says (block_at 0 behind') ≡ false)
+    → (new ≡ old) ⊎ (says (block_at 0 behind') ≡ false)
+journal_on old mid new behind behind' was said is = ⊎_elim
+    (λ (same : mid ≡ old). ⊎_elim (λ (e : new ≡ mid). inl (e ∙ same)) (λ unsaid. inr unsaid) is)
+    (λ (unsaid : says (block_at 0 behind) ≡ false).
+    let never : true ≡ false = sym said ∙ unsaid in absurd (cc))
+    was
+
+pub taken_start : {P A : Type 0} {m : _} (d : CommittedLog P A m) → clearing_of d ≡ false
+    → (IsHonest d → IsDurable d) → TakenTo d d
+taken_start {m = m} d settled durable = record {
+  settled = settled;
+  honest = (λ h. h, λ h. h);
+  durable = durable;
+  base = λ h. refl;
+  seen = λ h. refl;
+  journal = λ h. inl refl;
+  stops = λ h. pair_started m.moment m.left_since d.pair _;
+}
+
+-- the region behind those that were taken in is broken
+pub taken_malformed : {P A : Type 0} {m : _} (old mid : CommittedLog P A m) → TakenTo old mid → IsHonest old
+    → IsBroken (base_of mid) (behind_of mid) → IsMalformed (base_of old) (journal_of old)
+taken_malformed {m = m} old mid c h broken = ⊎_elim
+    (λ (same : journal_of mid ≡ journal_of old).
+    let ml : Blocks → Blocks → Type 0 = m.may_leave mid.pair in
+    let s : IsStanding false (homes_of mid) (base_of mid) (journal_of mid) ml =
+    subst (λ (t : Bool). IsStanding t (homes_of mid) (base_of mid) (journal_of mid) ml) c.settled
+    (mid.standing (c.honest.0 h)) in
+    subst (λ (b : Blocks). IsMalformed b (journal_of old)) (c.base h)
+    (subst (IsMalformed (base_of mid)) same
+    (malformed_behind (homes_of mid) (base_of mid) (journal_of mid) s.regions s.reads broken)))
+    (λ (unsaid : says (block_at 0 (behind_of mid)) ≡ false).
+    let never : true ≡ false = sym broken.0 ∙ unsaid in absurd (cc))
+    (c.journal h)
+
+-- no region is behind them: all is read
+pub taken_end : {P A : Type 0} {m : _} (old mid : CommittedLog P A m) → TakenTo old mid → IsHonest old
+    → says (block_at 0 (behind_of mid)) ≡ false → seen_of mid ≡ recovered (seen_of old) (behind_of old)
+taken_end old mid c h unsaid =
+    sym (recovered_unsaid (seen_of mid) (behind_of mid) unsaid) ∙ c.seen h
+
+module _ {P A : Type 0} {m : Ghosts P} (few : (d : P) → length (m.base d) ≤ 2 ^ 31)
+    (shown : (d : P) → m.honest d → m.may_leave d (m.base d) (m.journal d)) where
+  pub back_of : (c : CommittedLog P A m) → IsHonest c
+      → recovered (base_of c) (journal_of c) ≡ recovered (seen_of c) (behind_of c)
+  back_of c h = reads_back c (few c.pair) h (shown c.pair h)
+
+  -- a call behind them
+  pub taken_stops : (old mid : CommittedLog P A m) (new : P) → TakenTo old mid → IsHonest old
+      → PairLeaves m.moment m.left_since mid.pair new
+      (λ a b. recovered a b ≡ recovered (base_of mid) (journal_of mid))
+      → PairLeaves m.moment m.left_since old.pair new
+      (λ a b. recovered a b ≡ recovered (base_of old) (journal_of old))
+  taken_stops old mid new c h run =
+      back_then m.moment m.left_since old.pair mid.pair new (recovered (base_of old) (journal_of old))
+      (recovered (base_of mid) (journal_of mid))
+      (back_of mid (c.honest.0 h) ∙ c.seen h ∙ sym (back_of old h)) (c.stops h) run
+
+  -- one region more, or none
+  pub taken_more : (old mid new : CommittedLog P A m) → TakenTo old mid → clearing_of new ≡ false
+      → (IsHonest mid ↔ IsHonest new) → (IsHonest mid → IsDurable new)
+      → (IsHonest mid → base_of new ≡ base_of mid)
+      → (IsHonest mid
+      → recovered (seen_of new) (behind_of new) ≡ recovered (seen_of mid) (behind_of mid))
+      → (IsHonest mid
+      → PairLeaves m.moment m.left_since mid.pair new.pair
+      (λ a b. recovered a b ≡ recovered (base_of mid) (journal_of mid)))
+      → (IsHonest old
+      → (journal_of new ≡ journal_of old) ⊎ (says (block_at 0 (behind_of new)) ≡ false))
+      → TakenTo old new
+  taken_more old mid new c settled honest durable base seen stops journal = record {
+    settled = settled;
+    honest = (λ h. honest.0 (c.honest.0 h), λ h. c.honest.1 (honest.1 h));
+    durable = λ h. durable (honest.1 h);
+    base = λ h. base (c.honest.0 h) ∙ c.base h;
+    seen = λ h. seen (c.honest.0 h) ∙ c.seen h;
+    journal = journal;
+    stops = λ h. taken_stops old mid new.pair c h (stops (c.honest.0 h));
+  }
+
+  -- a call that leaves what is read, where no region is behind them
+  pub taken_last : (old mid : CommittedLog P A m) (new : P) → TakenTo old mid → IsHonest old
+      → says (block_at 0 (behind_of mid)) ≡ false
+      → PairLeaves m.moment m.left_since mid.pair new (λ a b. recovered a b ≡ seen_of mid)
+      → PairLeaves m.moment m.left_since old.pair new
+      (λ a b. recovered a b ≡ recovered (base_of old) (journal_of old))
+  taken_last old mid new c h unsaid run =
+      back_then m.moment m.left_since old.pair mid.pair new (recovered (base_of old) (journal_of old))
+      (seen_of mid) (taken_end old mid c h unsaid ∙ sym (back_of old h)) (c.stops h) run

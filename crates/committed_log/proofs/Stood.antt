@@ -1,16 +1,15 @@
 -- What stands through each call, and what is read then.
-use Rattle.std.proofs.Common.{◌≡◌, ◌∙◌, ℕ, ◌+◌, ◌^◌, ◌<◌, ◌≤◌, Bool, true, false, List, length, take, drop}
-use Rattle.std.proofs.Common.{Result, Ok, Err, OnOk, OnErr, refl, sym, ap, subst, arith, inl, inr}
+use Rattle.std.proofs.Common.{◌≡◌, ◌∙◌, ℕ, ◌+◌, ◌<◌, ◌≤◌, Bool, true, false, List, length, take, drop}
+use Rattle.std.proofs.Common.{Result, Ok, Err, OnOk, OnErr, refl, sym, ap, subst, arith, inr}
 use Rattle.std.specs.Prelude.{slice_index}
 use Rattle.std.specs.List.{All, Contains}
-use Rattle.std.proofs.lemmas.List.{get_or-set_same, get_or-take, length-take-le}
-use Rattle.block_device.specs.Device.{Blocks, IsBlock, Torn, block_at, written}
+use Rattle.block_device.specs.Device.{Blocks, IsBlock, Torn, written}
 use Rattle.block_device.specs.declared.device.DeviceError.{DeviceError}
 use Rattle.device_pair.specs.Pairs.{BaseFollows, JournalFollows, PairsNoMore}
-use Rattle.committed_log.specs.Log.{homes_in, no_home, overlaid, recovered, says}
+use Rattle.committed_log.specs.Log.{homes_in, no_home, overlaid, says}
 use Rattle.committed_log.specs.Overlay.{overlay_aside, overlay_first, overlay_torn, overlay_written}
 use Rattle.committed_log.specs.Regions.{first_none}
-use Rattle.committed_log.specs.Stops.{IsClearing, IsHome, IsKept, IsStanding, ReadsIn, StopIn, flagged}
+use Rattle.committed_log.specs.Stops.{IsHome, IsKept, IsStanding, StopIn, flagged}
 use Rattle.committed_log.specs.Torn.{drop_torn, drop_written, take_torn, torn_before, torn_longer}
 
 abbrev Outcomes : Type 1
@@ -57,11 +56,6 @@ pub overlay_left : (clearing : Bool) (homes : List ℕ) (base journal a b x : Bl
 overlay_left false homes base journal a b x regions few stop = overlay_first homes journal b x stop.regions
 overlay_left true homes base journal a b x regions few stop =
     overlay_aside homes journal b x (first_home homes journal regions) few stop.same
-
-pub length_left : (clearing : Bool) (homes : List ℕ) (base journal a b : Blocks)
-    → StopIn clearing homes base journal a b → length homes < length b
-length_left false homes base journal a b stop = stop.there
-length_left true homes base journal a b stop = stop.there
 
 -- ---- a call that writes nothing
 

@@ -7,14 +7,14 @@ use Rattle.std.proofs.lemmas.List.{append_assoc, append-nil, drop-drop, get_or-d
 use Rattle.std.proofs.lemmas.List.{length-append, length-drop, take-append-drop}
 use Rattle.std.proofs.lemmas.List.Elements.{All-append, All-cons, All-replicate}
 use Rattle.block_device.specs.Device.{Blocks, block_at}
-use Rattle.committed_log.specs.Log.{homes_in, index_blocks, no_home, overlaid, region_homes, region_of, says}
+use Rattle.committed_log.specs.Log.{homes_in, index_blocks, no_home, overlaid, region_of, says}
 use Rattle.committed_log.specs.Log.{size_of}
 use Rattle.committed_log.specs.Overlay.{overlay_append}
 use Rattle.committed_log.specs.Region.{IsRegion}
 use Rattle.committed_log.specs.Regions.{committed_says, length_homes, region_behind}
 use Rattle.committed_log.specs.Replay.{length-overlaid}
 use Rattle.committed_log.specs.Room.{blocks_of, HasRoomFor}
-use Rattle.committed_log.specs.Stops.{IsHome, IsKept, IsStanding, flagged}
+use Rattle.committed_log.specs.Stops.{IsHome, IsStanding, flagged}
 use Rattle.committed_log.specs.declared.slots.Slots.{Slots}
 use Rattle.committed_log.proofs.Stood.{Leaves}
 

@@ -1,5 +1,5 @@
 -- The map from a block to its slot: the slots of one bucket are chained, the last one first.
-use Rattle.std.specs.Prelude.{◌≡◌, ◌==◌, ◌<◌, ◌*◌, ◌+◌, ◌≤◌, ◌/◌, ◌%◌, ◌^◌, ℕ, zero, suc, if◌then◌else◌, List}
+use Rattle.std.specs.Prelude.{◌≡◌, ◌==◌, ◌<◌, ◌*◌, ◌/◌, ◌%◌, ◌^◌, ℕ, zero, suc, if◌then◌else◌, List}
 use Rattle.std.specs.Prelude.{length, slice_index}
 
 -- the bucket of a block among so many

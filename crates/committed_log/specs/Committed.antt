@@ -1,6 +1,6 @@
 -- A committed log as its contracts see it: the base as it is read through the regions, and what stands behind
 -- them in the journal.
-use Rattle.std.specs.Prelude.{◌≡◌, ◌⊎◌, ℕ, Bool, List, length, drop}
+use Rattle.std.specs.Prelude.{◌≡◌, ℕ, Bool, List, length, drop}
 use Rattle.block_device.specs.Device.{Blocks}
 use Rattle.device_pair.specs.Pairs.{PairElapses, PairsNoMore}
 use Rattle.committed_log.specs.Log.{overlaid}

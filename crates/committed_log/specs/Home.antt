@@ -1,7 +1,7 @@
 -- What stands before the slots are copied home, and after.
 use Rattle.std.specs.Prelude.{◌≡◌, ◌<◌, ℕ, false, length}
 use Rattle.block_device.specs.Device.{Blocks, block_at}
-use Rattle.committed_log.specs.Committed.{base_of, behind_of, homes_of, journal_of, leaves_of, seen_of}
+use Rattle.committed_log.specs.Committed.{base_of, homes_of, journal_of, leaves_of, seen_of}
 use Rattle.committed_log.specs.Found.{IsSlot}
 use Rattle.committed_log.specs.Log.{says}
 use Rattle.committed_log.specs.declared.log.CommittedLog.{CommittedLog}

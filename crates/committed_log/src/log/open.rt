@@ -101,6 +101,71 @@ fn prepare<P: DevicePair>(pair: &mut P) -> Result<(), DeviceError>
 }
 
 impl<P: DevicePair, A: Allocator + Copy> CommittedLog<P, A> {
+    /// Opens a base and its journal, which may be empty, and copies nothing. Both are synced; nothing is written
+    /// but the flag and the count of the region behind the last one where they are not there.
+    ///
+    /// What is then read through the regions is what recovery makes of base and journal, and no region behind
+    /// them is committed.
+    pub fn open(pair: P, alloc: A) -> Result<CommittedLog<P, A>, (OpenFault, P)>
+        ensures seen { IfOk result (λ c. P.honest pair →
+            seen_of c ≡ recovered (P.base pair) (P.journal pair)) }
+        ensures settled { IfOk result (λ c. clearing_of c ≡ false) }
+        ensures durable { IfOk result (λ c. P.honest pair → IsDurable c) }
+        ensures unsaid { IfOk result (λ c. P.honest pair → says (block_at 0 (behind_of c)) ≡ false) }
+        ensures room { IfOk result (λ c. P.honest pair → 2 ≤ length (behind_of c)) }
+        ensures base { IfOk result (λ c. P.honest pair → base_of c ≡ P.base pair) }
+        ensures refused_base { IfErr result (λ e. P.honest pair → P.base e.1 ≡ P.base pair) }
+
+        // A stop leaves what one before the call might have left, or what recovers to the same.
+        ensures stops { IfOk result (λ c. P.honest pair →
+            PairLeaves P.moment P.left_since pair (pair_of c)
+            (LeavesOr (P.may_leave pair) (recovered (P.base pair) (P.journal pair)))) }
+        ensures refused_stops { IfErr result (λ e. P.honest pair →
+            PairLeaves P.moment P.left_since pair e.1
+            (LeavesOr (P.may_leave pair) (recovered (P.base pair) (P.journal pair)))) }
+        ensures malformed { IfErr result (λ e. P.honest pair → e.0 ≡ fault.Malformed →
+            IsMalformed (P.base pair) (P.journal pair)) }
+        ensures honest { IfOk result (λ c. P.honest pair ↔ IsHonest c) }
+        ensures refused_honest { IfErr result (λ e. P.honest pair ↔ P.honest e.1) }
+    {
+        let mut pair = pair;
+        if let Err(fault) = prepare(&mut pair) {
+            return Err((OpenFault::Device(fault), pair));
+        }
+        let mut log = CommittedLog {
+            pair,
+            slots: Slots::new(alloc),
+            clearing: false,
+        };
+        match log.read_regions() {
+            Ok(()) => Ok(log),
+            Err(fault) => Err((fault, log.into_pair())),
+        }
+    }
+
+    // Takes in the regions that are committed, and has a flag and a count stand behind them.
+    fn read_regions(&mut self) -> Result<(), OpenFault>
+        requires settled { clearing_of self.old ≡ false }
+        requires durable { IsHonest self.old → IsDurable self.old }
+        ensures seen { IsHonest self.old →
+            OnOk result (seen_of self.new ≡ recovered (seen_of self.old) (behind_of self.old)) }
+        ensures settled { clearing_of self.new ≡ false }
+        ensures durable { IsHonest self.old → OnOk result (IsDurable self.new) }
+        ensures unsaid { IsHonest self.old → OnOk result (says (block_at 0 (behind_of self.new)) ≡ false) }
+        ensures room { IsHonest self.old → OnOk result (2 ≤ length (behind_of self.new)) }
+        ensures base { IsHonest self.old → base_of self.new ≡ base_of self.old }
+        ensures stops { IsHonest self.old →
+            PairLeaves P.moment P.left_since (pair_of self.old) (pair_of self.new)
+            (λ a b. recovered a b ≡ recovered (base_of self.old) (journal_of self.old)) }
+        ensures malformed { IsHonest self.old → IsErrOf result fault.Malformed →
+            IsMalformed (base_of self.old) (journal_of self.old) }
+        ensures honest { IsHonest self.old ↔ IsHonest self.new }
+    {
+        'regions: while self.read_region()? {}
+        self.add_count()?;
+        Ok(())
+    }
+
     // Has a count stand behind the flag behind the regions, where nothing stands there.
     fn add_count(&mut self) -> Result<(), DeviceError>
         requires settled { clearing_of self.old ≡ false }
@@ -125,6 +190,39 @@ impl<P: DevicePair, A: Allocator + Copy> CommittedLog<P, A> {
         }
         self.write_behind(1, &zero_block())?;
         self.sync_journal()
+    }
+
+    // Takes in the region behind the others where it is committed. Tells whether it was.
+    fn read_region(&mut self) -> Result<bool, OpenFault>
+        requires settled { clearing_of self.old ≡ false }
+        requires durable { IsHonest self.old → IsDurable self.old }
+        ensures seen { IsHonest self.old → recovered (seen_of self.new) (behind_of self.new)
+            ≡ recovered (seen_of self.old) (behind_of self.old) }
+        ensures more { IfOk result (λ t. t ≡ true →
+            length (homes_of self.old) < length (homes_of self.new)) }
+        ensures said { IsHonest self.old → IfOk result (λ t. t ≡ true →
+            says (block_at 0 (behind_of self.old)) ≡ true) }
+        ensures unsaid { IsHonest self.old → IfOk result (λ t. t ≡ false →
+            says (block_at 0 (behind_of self.new)) ≡ false) }
+        ensures settled { clearing_of self.new ≡ false }
+        ensures durable { IsHonest self.old → OnOk result (IsDurable self.new) }
+        ensures base { IsHonest self.old → base_of self.new ≡ base_of self.old }
+
+        // Where the journal is not as it was, a flag was added to it, and no region is behind the others.
+        ensures journal { IsHonest self.old → OnOk result ((journal_of self.new ≡ journal_of self.old)
+            ⊎ (says (block_at 0 (behind_of self.new)) ≡ false)) }
+        ensures stops { IsHonest self.old →
+            PairLeaves P.moment P.left_since (pair_of self.old) (pair_of self.new)
+            (λ a b. recovered a b ≡ recovered (base_of self.old) (journal_of self.old)) }
+        ensures malformed { IsHonest self.old → IsErrOf result fault.Malformed →
+            IsBroken (base_of self.old) (behind_of self.old) }
+        ensures honest { IsHonest self.old ↔ IsHonest self.new }
+    {
+        let Some(homes) = self.find_region()? else {
+            return Ok(false);
+        };
+        self.take_region(&homes)?;
+        Ok(true)
     }
 
     // Takes in the region behind the others, whose slots have these homes, and has a flag stand behind it.

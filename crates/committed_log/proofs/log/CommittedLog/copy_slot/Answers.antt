@@ -1,10 +1,9 @@
 -- The newest slot of a block, copied home.
-use Rattle.std.proofs.Common.{◌≡◌, ◌∙◌, ◌<◌, ap, arith, length, sym}
+use Rattle.std.proofs.Common.{◌≡◌, ◌∙◌, ap, arith}
 use Rattle.std.specs.Prelude.{slice_index}
 use Rattle.block_device.specs.Device.{written}
-use Rattle.committed_log.specs.Committed.{base_of, homes_of}
-use Rattle.committed_log.specs.Found.{IsSlot}
-use Rattle.committed_log.proofs.Copies.{copied_none, copied_now}
+use Rattle.committed_log.specs.Committed.{base_of}
+use Rattle.committed_log.proofs.Copies.{copied_now}
 use Rattle.committed_log.proofs.Keeping.{leaves_then, quiet_on, seen_still, still_leaves}
 use Rattle.committed_log.proofs.Stood.{on_ok}
 use Rattle.committed_log.proofs.log.CommittedLog.copy_slot.Goals as goal

@@ -1,5 +1,5 @@
 -- The first flag, written.
-use Rattle.std.proofs.Common.{◌≡◌, ◌∙◌, Bool, arith, subst, sym, true}
+use Rattle.std.proofs.Common.{◌∙◌, Bool, arith, subst, sym, true}
 use Rattle.device_pair.specs.Runs.{pair_call}
 use Rattle.committed_log.specs.Stops.{IsStanding}
 use Rattle.committed_log.proofs.Homing.{SameAside, aside_answer, clearing_quiet, flag_seen, flag_stands}

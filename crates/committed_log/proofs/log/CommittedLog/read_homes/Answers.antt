@@ -1,9 +1,9 @@
 -- The home of one slot more is read.
-use Rattle.std.proofs.Common.{◌≡◌, ◌∙◌, ◌+◌, ◌<◌, ◌≤◌, ◌++◌, ◌∷◌, [], ℕ, List, ap, arith, length, subst, sym}
+use Rattle.std.proofs.Common.{◌≡◌, ◌∙◌, ◌+◌, ◌<◌, ◌≤◌, ℕ, List, ap, arith, subst, sym}
 use Rattle.std.specs.Prelude.{◌/◌}
 use Rattle.std.specs.List.{All}
 use Rattle.block_device.specs.Device.{block_at}
-use Rattle.committed_log.specs.Committed.{behind_of, seen_of, IsHonest, IsStill}
+use Rattle.committed_log.specs.Committed.{behind_of, IsHonest, IsStill}
 use Rattle.committed_log.specs.Log.{home_in, slot_homes}
 use Rattle.committed_log.proofs.Keeping.{behind_still}
 use Rattle.committed_log.proofs.Opened.{bad_home}

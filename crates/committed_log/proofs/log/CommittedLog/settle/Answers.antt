@@ -1,7 +1,7 @@
 -- The first flag is cleared, and the slots forgotten.
 use Rattle.std.proofs.Common.{◌≡◌, ◌∙◌, ap, arith, length, true}
 use Rattle.committed_log.specs.Stops.{IsStanding}
-use Rattle.committed_log.proofs.Homing.{Quiet, anew_quiet, anew_stands, clearing_quiet, drop_longer, true_stands}
+use Rattle.committed_log.proofs.Homing.{anew_quiet, anew_stands, clearing_quiet, drop_longer, true_stands}
 use Rattle.committed_log.proofs.Stood.{still_stands}
 use Rattle.committed_log.proofs.log.CommittedLog.settle.Given as given
 use Rattle.committed_log.proofs.log.CommittedLog.settle.Goals as goal

@@ -1,5 +1,5 @@
 -- The region behind the others is taken in.
-use Rattle.std.proofs.Common.{◌≡◌, ◌∙◌, ◌+◌, ◌++◌, ◌<◌, ℕ, List, ap, arith, drop, length, replicate, subst, sym}
+use Rattle.std.proofs.Common.{◌≡◌, ◌∙◌, ◌+◌, ◌++◌, ℕ, List, ap, arith, drop, length, replicate, subst, sym}
 use Rattle.block_device.specs.Device.{Blocks}
 use Rattle.committed_log.specs.Committed.{base_of, clearing_of, homes_of, journal_of, pair_of}
 use Rattle.committed_log.specs.Log.{no_home, overlaid, region_of}

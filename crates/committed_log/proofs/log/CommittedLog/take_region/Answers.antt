@@ -1,11 +1,11 @@
 -- The region behind the others is taken in, with a flag behind it.
-use Rattle.std.proofs.Common.{◌≡◌, ◌∙◌, ◌⊎◌, ◌+◌, ◌<◌, ℕ, ap, arith, false, inl, inr, length}
+use Rattle.std.proofs.Common.{◌≡◌, ◌∙◌, ℕ, ap, arith, false, inl, inr, length}
 use Rattle.std.proofs.Common.{⊎_elim, refl, subst, sym, take}
 use Rattle.std.proofs.lemmas.List.{length-append}
 use Rattle.block_device.specs.Device.{Blocks, block_at}
 use Rattle.device_pair.specs.Pairs.{PairLeaves}
 use Rattle.device_pair.specs.Runs.{pair_started}
-use Rattle.committed_log.specs.Committed.{base_of, behind_of, homes_of, journal_of, pair_of, seen_of, slots_of}
+use Rattle.committed_log.specs.Committed.{base_of, behind_of, homes_of, journal_of, seen_of, slots_of}
 use Rattle.committed_log.specs.Committed.{IsHonest}
 use Rattle.committed_log.specs.Log.{overlaid, recovered, region_of, says, size_of}
 use Rattle.committed_log.specs.Region.{HasSlots, IsRegion}

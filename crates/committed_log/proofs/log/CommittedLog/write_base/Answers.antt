@@ -1,9 +1,8 @@
 -- A block of the base that has no slot.
-use Rattle.std.proofs.Common.{◌≡◌, ◌<◌, arith, inl, length, refl}
+use Rattle.std.proofs.Common.{◌≡◌, arith, inl, refl}
 use Rattle.std.specs.List.{Contains}
 use Rattle.block_device.specs.Device.{Torn, written}
 use Rattle.committed_log.specs.Committed.{base_of, homes_of, journal_of}
-use Rattle.committed_log.specs.Log.{no_home}
 use Rattle.committed_log.specs.Replay.{length-overlaid}
 use Rattle.committed_log.proofs.Stood.{base_leaves, base_stands, base_torn, base_written, on_err, on_ok}
 use Rattle.committed_log.proofs.Stood.{torn_of}

@@ -1,10 +1,10 @@
 -- Both devices are synced, and an empty journal gets its flag.
-use Rattle.std.proofs.Common.{◌≡◌, ◌∙◌, ap, arith, false, inl, inr, sym}
-use Rattle.block_device.specs.Device.{Blocks, block_at}
+use Rattle.std.proofs.Common.{◌≡◌, ◌∙◌, arith, false, inl, inr, sym}
+use Rattle.block_device.specs.Device.{block_at}
 use Rattle.device_pair.specs.Pairs.{PairLeaves}
 use Rattle.device_pair.specs.Runs.{pair_then, pair_weaker}
 use Rattle.committed_log.specs.Log.{recovered, says}
-use Rattle.committed_log.specs.Opening.{AreSynced, LeavesOr}
+use Rattle.committed_log.specs.Opening.{LeavesOr}
 use Rattle.committed_log.specs.Regions.{recovered_short}
 use Rattle.committed_log.proofs.Making.{recovered_as}
 use Rattle.committed_log.proofs.Stood.{on_ok}
