@@ -1,0 +1,13 @@
+-- The files of lemmas.
+pub mod Through
+mod Chains
+mod Stood
+mod Recovering
+mod Taking
+mod Homing
+mod Keeping
+mod Copies
+mod Opened
+mod Reading
+mod Adding
+mod Making

@@ -1,0 +1,65 @@
+-- What recovery makes of what a stop leaves.
+use Rattle.std.proofs.Common.{◌≡◌, ◌∙◌, ℕ, ◌^◌, ◌≤◌, Bool, true, false, List, [], length}
+use Rattle.std.proofs.Common.{take, drop, sym, ap, arith, ⊎_elim}
+use Rattle.std.proofs.lemmas.Bool.{cases_Bool}
+use Rattle.std.proofs.lemmas.List.{get_or-drop, get_or-take}
+use Rattle.block_device.specs.Device.{Blocks, block_at}
+use Rattle.committed_log.specs.Log.{homes_in, no_home, overlaid, recovered, says}
+use Rattle.committed_log.specs.Regions.{flagged_aside, recovered_unsaid, recovery_through}
+use Rattle.committed_log.specs.Stops.{IsClearing, IsKept, IsStanding, ReadsIn, StopIn, flagged}
+use Rattle.committed_log.proofs.Stood.{overlay_left}
+
+-- while the first flag is cleared: the base has all that the regions have
+cleared_is : (homes : List ℕ) (base journal a b : Blocks) → length base ≤ no_home
+    → length homes ≤ length journal → homes_in (flagged (take (length homes) journal)) ≡ homes
+    → overlaid homes journal base ≡ base → IsClearing homes base journal a b
+    → overlaid homes b a ≡ base
+cleared_is homes base journal a b few there regions home stop =
+    ap (overlaid homes b) stop.base_is
+    ∙ overlay_left true homes base journal a b base regions few stop ∙ home
+
+recovery_clearing : (homes : List ℕ) (base journal a b : Blocks) → length base ≤ no_home
+    → length homes ≤ length journal → homes_in (flagged (take (length homes) journal)) ≡ homes
+    → overlaid homes journal base ≡ base → IsClearing homes base journal a b
+    → recovered a b ≡ recovered (overlaid homes b a) (drop (length homes) b)
+recovery_clearing homes base journal a b few there regions home stop = ⊎_elim
+    (λ (said : says (block_at 0 b) ≡ true).
+    recovery_through homes b a
+    (ap homes_in (flagged_aside (length homes) journal b there (omega (arith, stop.there)) stop.same) ∙ regions)
+    (omega (arith, stop.there)) (λ some. said))
+    (λ (unsaid : says (block_at 0 b) ≡ false).
+    recovered_unsaid a b unsaid ∙ stop.base_is
+    ∙ sym (recovered_unsaid (overlaid homes b a) (drop (length homes) b)
+    (ap says (get_or-drop (length homes) b 0 [] ∙ ap (λ (n : ℕ). block_at n b) (omega arith)) ∙ stop.unsaid)
+    ∙ cleared_is homes base journal a b few there regions home stop))
+    (cases_Bool (says (block_at 0 b)))
+
+recovery_kept : (homes : List ℕ) (base journal a b : Blocks)
+    → homes_in (flagged (take (length homes) journal)) ≡ homes
+    → ReadsIn false homes base journal → IsKept homes journal a b
+    → recovered a b ≡ recovered (overlaid homes b a) (drop (length homes) b)
+recovery_kept homes base journal a b regions reads stop =
+    recovery_through homes b a (ap (λ (l : Blocks). homes_in (flagged l)) stop.regions ∙ regions)
+    (omega (arith, stop.there)) (λ some.
+    ap says (sym (get_or-take (length homes) b 0 [] some) ∙ ap (block_at 0) stop.regions
+    ∙ get_or-take (length homes) journal 0 [] some)
+    ∙ reads some)
+
+-- The law of recovery.
+pub recovery_left : (clearing : Bool) (homes : List ℕ) (base journal a b : Blocks)
+    → length base ≤ no_home → length homes ≤ length journal
+    → homes_in (flagged (take (length homes) journal)) ≡ homes → ReadsIn clearing homes base journal
+    → StopIn clearing homes base journal a b
+    → recovered a b ≡ recovered (overlaid homes b a) (drop (length homes) b)
+recovery_left false homes base journal a b few there regions reads stop =
+    recovery_kept homes base journal a b regions reads stop
+recovery_left true homes base journal a b few there regions reads stop =
+    recovery_clearing homes base journal a b few there regions reads.1 stop
+
+pub recovery_stands : (clearing : Bool) (homes : List ℕ) (base journal a b : Blocks)
+    (ml : Blocks → Blocks → Type 0) → length base ≤ 2 ^ 31
+    → IsStanding clearing homes base journal ml → ml a b
+    → recovered a b ≡ recovered (overlaid homes b a) (drop (length homes) b)
+recovery_stands clearing homes base journal a b ml few s left =
+    recovery_left clearing homes base journal a b (omega (arith, few)) (omega (arith, s.there)) s.regions
+    s.reads (s.stops a b left)

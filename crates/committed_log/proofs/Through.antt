@@ -1,0 +1,14 @@
+-- Recovery of what a stop leaves goes through the regions of a log.
+use Rattle.std.proofs.Common.{◌≡◌, ◌^◌, ◌≤◌, length, drop}
+use Rattle.block_device.specs.Device.{Blocks}
+use Rattle.committed_log.specs.Committed.{base_of, clearing_of, homes_of, journal_of, pair_of, IsHonest}
+use Rattle.committed_log.specs.Log.{overlaid, recovered}
+use Rattle.committed_log.specs.declared.log.CommittedLog.{CommittedLog}
+use Rattle.committed_log.proofs.Recovering.{recovery_stands}
+
+pub recovery_of : {P A : Type 0} {m : _} (c : CommittedLog P A m) (a b : Blocks) → length (base_of c) ≤ 2 ^ 31
+    → IsHonest c → m.may_leave (pair_of c) a b
+    → recovered a b ≡ recovered (overlaid (homes_of c) b a) (drop (length (homes_of c)) b)
+recovery_of {m = m} c a b few h left =
+    recovery_stands (clearing_of c) (homes_of c) (base_of c) (journal_of c) a b (m.may_leave (pair_of c)) few
+    (c.standing h) left

@@ -1,0 +1,41 @@
+-- The newest slot of a block, copied home.
+use Rattle.std.proofs.Common.{◌≡◌, ◌∙◌, ap, arith}
+use Rattle.std.specs.Prelude.{slice_index}
+use Rattle.block_device.specs.Device.{written}
+use Rattle.committed_log.specs.Committed.{base_of}
+use Rattle.committed_log.proofs.Copies.{copied_now}
+use Rattle.committed_log.proofs.Keeping.{leaves_then, quiet_on, seen_still, still_leaves}
+use Rattle.committed_log.proofs.Stood.{on_ok}
+use Rattle.committed_log.proofs.log.CommittedLog.copy_slot.Goals as goal
+
+pub returns-in_err-read_slot-clause-quiet : goal.returns-in_err-read_slot-clause-quiet
+returns-in_err-read_slot-clause-quiet g c = λ h.
+    quiet_on c.args.self.now c.read_slot.new.self (c.read_slot.ensures.still h) (c.requires.quiet h)
+
+pub put_home-requires-clause-quiet : goal.put_home-requires-clause-quiet
+put_home-requires-clause-quiet g c = λ h1.
+    let h = c.read_slot.ensures.honest.1 h1 in
+    quiet_on c.args.self.now c.read_slot.new.self (c.read_slot.ensures.still h) (c.requires.quiet h)
+
+pub returns-clause-copied : goal.returns-clause-copied
+returns-clause-copied g c = λ h.
+    let d = c.args.self.now in
+    let home = slice_index c.homes.result.now c.args.k in
+    let h1 = c.read_slot.ensures.honest.0 h in
+    on_ok c.put_home.result _ _
+    (λ (w : base_of c.put_home.new.self ≡ written home c.read_slot.new.into (base_of c.read_slot.new.self)).
+    copied_now c.args.k home c.read_slot.new.into d c.put_home.new.self
+    (c.is_newest.ensures.newest c.if-not-is_newest.false)
+    (omega (arith, c.if-home-base_blocks.false, c.base_blocks.ensures.is))
+    (c.in_ok-read_slot.ensures.bytes h)
+    (w ∙ ap (written home c.read_slot.new.into) (c.read_slot.ensures.still h).base))
+    (c.put_home.ensures.written h1)
+
+pub returns-clause-stops : goal.returns-clause-stops
+returns-clause-stops g c = λ h.
+    let d = c.args.self.now in let m = c.read_slot.new.self in
+    let h1 = c.read_slot.ensures.honest.0 h in
+    let still = c.read_slot.ensures.still h in
+    leaves_then d m c.put_home.new.self (seen_still d m still)
+    (still_leaves d m (g.met.P.DevicePair.few_blocks m.pair).0 h1 still (c.requires.quiet h))
+    (c.put_home.ensures.stops h1)

@@ -1,0 +1,20 @@
+-- What stands before the slots are copied home, and after.
+use Rattle.std.specs.Prelude.{◌≡◌, ◌<◌, ℕ, false, length}
+use Rattle.block_device.specs.Device.{Blocks, block_at}
+use Rattle.committed_log.specs.Committed.{base_of, homes_of, journal_of, leaves_of, seen_of}
+use Rattle.committed_log.specs.Found.{IsSlot}
+use Rattle.committed_log.specs.Log.{says}
+use Rattle.committed_log.specs.declared.log.CommittedLog.{CommittedLog}
+
+-- The base is synced, as it is read through the regions, and no region behind them is committed.
+pub record IsQuiet {P A : Type 0} {m : _} (c : CommittedLog P A m) : Type 0 where
+  pub base : (v j : Blocks) → leaves_of c v j → v ≡ seen_of c
+  pub unsaid : (v j : Blocks) → leaves_of c v j → says (block_at 0 j) ≡ false
+  pub there : (v j : Blocks) → leaves_of c v j → 0 < length j
+
+-- Block k of the regions is at home where it is the newest slot of its block; all other blocks stay.
+pub record IsCopied {P A : Type 0} {m : _} (k : ℕ) (old new : CommittedLog P A m) : Type 0 where
+  pub home : (i : ℕ) → i < length (base_of old) → IsSlot (homes_of old) i k
+      → block_at i (base_of new) ≡ block_at k (journal_of old)
+  pub others : (i : ℕ) → ¬ IsSlot (homes_of old) i k → block_at i (base_of new) ≡ block_at i (base_of old)
+  pub as_many : length (base_of new) ≡ length (base_of old)

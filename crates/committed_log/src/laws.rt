@@ -1,0 +1,17 @@
+//! The law of recovery through the regions, as the contract of a function that does nothing.
+ghost use Rattle.std.specs.Prelude.{◌≡◌, drop, length};
+ghost use Rattle.block_device.specs.Device.{Blocks};
+ghost use Rattle.committed_log.specs.Committed.{homes_of, pair_of, IsHonest};
+ghost use Rattle.committed_log.specs.Log.{overlaid, recovered};
+ghost use Rattle.committed_log.specs.declared.log.CommittedLog.{CommittedLog};
+
+use device_pair::DevicePair;
+use std::alloc::Allocator;
+
+/// Whatever a stop leaves of base and journal, recovery makes of it what it makes of the base as it is read
+/// through the regions and of the blocks behind them.
+pub fn recovery_goes_through_the_regions<P: DevicePair, A: Allocator + Copy>()
+    ensures { (c : CommittedLog P A ⟦<P as DevicePair>⟧) (a b : Blocks) → IsHonest c →
+        P.may_leave (pair_of c) a b →
+        recovered a b ≡ recovered (overlaid (homes_of c) b a) (drop (length (homes_of c)) b) }
+{}

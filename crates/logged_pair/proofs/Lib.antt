@@ -1,0 +1,9 @@
+-- The files of lemmas.
+mod Stood
+mod Stills
+mod Keeping
+mod Advanced
+mod Reached
+mod GivingUp
+mod Calling
+mod Indexing

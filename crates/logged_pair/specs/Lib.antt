@@ -1,0 +1,11 @@
+-- Definitions, which clauses and ghost fields cite.
+pub mod Commits
+pub mod Index
+pub mod Stages
+pub mod Standing
+-- Lemmas on them, which laws and callers cite.
+pub mod StagesFact
+pub mod Shown
+pub mod Law
+pub mod CommitLaws
+pub mod OpeningLaws

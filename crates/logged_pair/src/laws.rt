@@ -1,0 +1,51 @@
+//! The laws of a commit and of recovery, each the contract of a function that does nothing.
+ghost use Rattle.std.specs.Prelude.{◌≡◌, ◌≤◌, ℕ};
+ghost use Rattle.block_device.specs.Device.{BeginsOne, Blocks};
+ghost use Rattle.device_pair.specs.Pairs.{PairLeaves, PairsNoMore};
+ghost use Rattle.committed_log.specs.Log.{recovered};
+ghost use Rattle.committed_log.specs.Opening.{LeavesOr};
+ghost use Rattle.logged_pair.specs.Standing.{commits_of, left_since_of, may_leave_of, pair_of, shown_of};
+ghost use Rattle.logged_pair.specs.Standing.{IsHonest};
+ghost use Rattle.logged_pair.specs.declared.pair.LoggedPair.{LoggedPair};
+
+use device_pair::DevicePair;
+use std::alloc::Allocator;
+
+/// Whatever a stop of both devices leaves at one moment, recovery makes of it blocks that begin with a
+/// commit.
+pub fn recovery_gives_a_commit<P: DevicePair, A: Allocator + Copy>()
+    ensures { (d : LoggedPair P A ⟦<P as DevicePair>⟧) (a b : Blocks) → IsHonest d →
+        P.may_leave (pair_of d) a b → BeginsOne (commits_of d) (recovered a b) }
+{}
+
+/// What is read, recovered from both devices as they are read, is one of the outcomes of a stop now.
+pub fn what_is_read_is_an_outcome<P: DevicePair, A: Allocator + Copy>()
+    ensures { (d : LoggedPair P A ⟦<P as DevicePair>⟧) → IsHonest d →
+        may_leave_of d (recovered (P.base (pair_of d)) (P.journal (pair_of d))) }
+{}
+
+/// Whatever a stop of both has left since a moment is found, once it is recovered, since that moment and since
+/// each earlier one.
+pub fn stops_of_the_pair_are_found<P: DevicePair, A: Allocator + Copy>()
+    ensures { (d : LoggedPair P A ⟦<P as DevicePair>⟧) (t u : ℕ) (a b : Blocks) → IsHonest d →
+        t ≤ u → P.left_since (pair_of d) u a b → left_since_of d t (recovered a b) }
+{}
+
+/// Over a pair that a stop of a logged pair has left, opening is such that a stop within it, or after it, leaves
+/// one of its commits again.
+pub fn a_stop_within_opening_leaves_a_commit<P: DevicePair, A: Allocator + Copy>()
+    ensures { (d : LoggedPair P A ⟦<P as DevicePair>⟧) (pair opened : P) → IsHonest d →
+        P.honest pair → PairsNoMore (P.may_leave (pair_of d)) (P.may_leave pair) →
+        PairLeaves P.moment P.left_since pair opened
+        (LeavesOr (P.may_leave pair) (recovered (P.base pair) (P.journal pair))) →
+        PairLeaves P.moment P.left_since pair opened
+        (λ a b. BeginsOne (commits_of d) (recovered a b)) }
+{}
+
+/// A logged pair that was given up, and whose devices are then opened, shows blocks that begin with one of its
+/// commits.
+pub fn what_is_given_up_is_a_commit_again<P: DevicePair, A: Allocator + Copy>()
+    ensures { (d opened : LoggedPair P A ⟦<P as DevicePair>⟧) → IsHonest d →
+        shown_of opened ≡ recovered (P.base (pair_of d)) (P.journal (pair_of d)) →
+        BeginsOne (commits_of d) (shown_of opened) }
+{}
