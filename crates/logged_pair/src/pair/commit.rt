@@ -125,7 +125,7 @@ impl<P: DevicePair, A: Allocator + Copy> LoggedPair<P, A> {
         ensures honest { IsHonest self.old ↔ IsHonest self.new }
         ensures faults { Counts (P.faults (pair_of self.old)) (P.faults (pair_of self.new)) result }
     {
-        self.reserve_region()?;
+        self.reserve_region()?; // so that nothing is refused once it is committed
         self.say_committed()?;
         self.take_region();
         Ok(())
