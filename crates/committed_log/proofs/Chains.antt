@@ -2,13 +2,11 @@
 use Rattle.std.proofs.Common.{◌≡◌, ◌∙◌, ◌^◌, ℕ, suc, zero, ◌+◌, ◌<◌, ◌≤◌, Bool, if◌then◌else◌, List, [], ◌∷◌}
 use Rattle.std.proofs.Common.{◌++◌, length, replicate, set, take, refl, sym, ap, subst, arith, ⊎_elim}
 use Rattle.std.specs.Prelude.{slice_index}
-use Rattle.std.specs.List.{Contains}
 use Rattle.std.proofs.lemmas.Bool.{cases_lt, cases_eq, eq-eqb, ne_eqb}
-use Rattle.std.proofs.lemmas.List.{get_or_append_left, get_or_default, get_or_push, get_or-replicate}
+use Rattle.std.proofs.lemmas.List.{get_or_append_left, get_or_push, get_or-replicate}
 use Rattle.std.proofs.lemmas.List.{get_or-set_same, get_or-set_other, length-set, length_push, length-take-le}
-use Rattle.std.proofs.lemmas.List.{take_all, take_more}
+use Rattle.std.proofs.lemmas.List.{take_more}
 use Rattle.committed_log.specs.Buckets.{AreChained, bucket_in, last_among}
-use Rattle.committed_log.specs.Found.{IsSlot}
 
 -- below a number more, and not there
 below : (j k : ℕ) → j < suc k → ¬ (j ≡ k) → j < k
@@ -178,11 +176,6 @@ chained_step homes before heads i b k n x c at i_is is lt n_is few x_is =
     (chained_more (take k homes) before heads i b n x c is lt (omega (arith, n_is, size))
     (omega (arith, n_is, at, few)) x_is)
 
-pub chained_all : (homes before heads : List ℕ) (k : ℕ) → length homes ≤ k
-    → AreChained (take k homes) before heads → AreChained homes before heads
-chained_all homes before heads k le c =
-    subst (λ (hs : List ℕ). AreChained hs before heads) (take_all k homes le) c
-
 -- ---- a search down a chain
 
 -- No slot from number `next` on holds block i, and the slot before is in its bucket, if there is one.
@@ -238,21 +231,3 @@ pub before_less : (homes before heads : List ℕ) (slot next : ℕ) → AreChain
 before_less homes before heads slot next c there next_is =
     let f : ℕ → ℕ = bucket_in (length heads) in
     omega (arith, next_is ∙ c.before_are slot there, among_within f (f (slice_index homes slot)) homes slot)
-
-pub sought_found : (homes heads : List ℕ) (i slot next : ℕ) → IsSought homes heads i next → next ≡ slot + 1
-    → slice_index homes slot ≡ i → IsSlot homes i slot
-sought_found homes heads i slot next s is e = record {
-  there = omega (arith, is, s.within);
-  home = e;
-  last = λ k gt less. s.none k (omega (arith, is, gt)) less;
-}
-
-pub sought_none : (homes heads : List ℕ) (i next : ℕ) → IsSought homes heads i next → next ≡ 0
-    → ¬ Contains homes i
-sought_none homes heads i next s is one =
-    s.none one.0 (omega (arith, is)) (omega (arith, one.1))
-    (get_or_default homes one.0 0 i (omega (arith, one.1)) ∙ one.2)
-
-pub none_without_buckets : (homes before heads : List ℕ) (i : ℕ) → AreChained homes before heads
-    → length heads ≡ 0 → ¬ Contains homes i
-none_without_buckets homes before heads i c none one = absurd (omega (arith, c.some_bucket none, one.1))

@@ -1,13 +1,12 @@
 -- The newest slot of each block copied home, one after the other.
 use Rattle.std.proofs.Common.{◌≡◌, ◌∙◌, ◌⊎◌, ◌↔◌, ℕ, zero, suc, ◌+◌, ◌<◌, ◌≤◌, List, [], ◌∷◌, length, get_or}
-use Rattle.std.proofs.Common.{refl, sym, ap, subst, arith, inl, inr, ⊎_elim}
+use Rattle.std.proofs.Common.{sym, ap, subst, arith, inl, inr, ⊎_elim}
 use Rattle.std.specs.List.{Contains}
 use Rattle.std.proofs.lemmas.Bool.{cases_eq, cases_lt}
 use Rattle.std.proofs.lemmas.List.{get_or_default}
 use Rattle.block_device.specs.Device.{Blocks, block_at, written}
 use Rattle.block_device.specs.Written.{block_at-written, block_at-written_other, length-written_within}
 use Rattle.device_pair.specs.Pairs.{PairLeaves}
-use Rattle.device_pair.specs.Runs.{pair_started}
 use Rattle.committed_log.specs.Committed.{base_of, homes_of, journal_of, seen_of}
 use Rattle.committed_log.specs.Committed.{IsHonest, SameLog}
 use Rattle.committed_log.specs.Found.{IsSlot}
@@ -70,10 +69,6 @@ pub record HomeTo (k : ℕ) (homes : List ℕ) (journal old new : Blocks) : Type
   pub others : (i : ℕ) → ((m : ℕ) → m < k → ¬ IsSlot homes i m) → block_at i new ≡ block_at i old
   pub as_many : length new ≡ length old
 
-home_start : (homes : List ℕ) (journal a : Blocks) → HomeTo 0 homes journal a a
-home_start homes journal a =
-    record { home = λ i m lt less. absurd (omega (arith, less)); others = λ i none. refl; as_many = refl }
-
 home_step : (k : ℕ) (homes : List ℕ) (journal old mid new : Blocks) → HomeTo k homes journal old mid
     → ((i : ℕ) → i < length mid → IsSlot homes i k → block_at i new ≡ block_at k journal)
     → ((i : ℕ) → ¬ IsSlot homes i k → block_at i new ≡ block_at i mid) → length new ≡ length mid
@@ -127,19 +122,6 @@ pub record CopiedTo {P A : Type 0} {m : _} (k : ℕ) (old new : CommittedLog P A
   pub stops : IsHonest old
       → PairLeaves m.moment m.left_since old.pair new.pair (λ a b. recovered a b ≡ seen_of old)
 
-pub copies_start : {P A : Type 0} {m : _} (d : CommittedLog P A m) → (IsHonest d → IsQuiet d)
-    → CopiedTo 0 d d
-copies_start {m = m} d quiet = record {
-  log = record { homes = refl; slots = refl; clearing = refl };
-  honest = (λ h. h, λ h. h);
-  faults = refl;
-  journal = λ h. refl;
-  home = λ h. home_start (homes_of d) (journal_of d) (base_of d);
-  seen = λ h. refl;
-  quiet = quiet;
-  stops = λ h. pair_started m.moment m.left_since d.pair _;
-}
-
 pub copies_step : {P A : Type 0} {m : _} (k : ℕ) (old mid new : CommittedLog P A m) → CopiedTo k old mid
     → SameLog mid new → (IsHonest mid ↔ IsHonest new) → m.faults new.pair ≡ m.faults mid.pair
     → (IsHonest mid → journal_of new ≡ journal_of mid) → (IsHonest mid → IsCopied k mid new)
@@ -186,15 +168,4 @@ copied_now k h bytes old new slot lt is w = record {
       ∙ block_at-written_other h i bytes (base_of old) (omega (arith, lt))
       (λ e. none (subst (λ (n : ℕ). IsSlot (homes_of old) n k) (sym e) slot));
   as_many = ap length w ∙ length-written_within h bytes (base_of old) lt;
-}
-
--- where it is the newest slot of no block of the base
-pub copied_none : {P A : Type 0} {m : _} (k h : ℕ) (old : CommittedLog P A m)
-    → ((i : ℕ) → IsSlot (homes_of old) i k → i ≡ h)
-    → (h < length (base_of old) → ¬ IsSlot (homes_of old) h k) → IsCopied k old old
-copied_none k h old only none = record {
-  home = λ i lt slot. absurd (none
-      (omega (arith, lt, only i slot)) (subst (λ (n : ℕ). IsSlot (homes_of old) n k) (only i slot) slot));
-  others = λ i apart. refl;
-  as_many = refl;
 }

@@ -5,7 +5,7 @@ use Rattle.std.specs.List.{All, Contains}
 use Rattle.std.proofs.lemmas.Bool.{cases_lt}
 use Rattle.std.proofs.lemmas.List.{get_or-drop, get_or-take, length-drop}
 use Rattle.block_device.specs.Device.{Blocks, Torn, block_at, written}
-use Rattle.block_device.specs.Written.{block_at-written, block_at-written_other, length-written_within}
+use Rattle.block_device.specs.Written.{block_at-written_other, length-written_within}
 use Rattle.block_device.specs.Written.{torn_other}
 use Rattle.device_pair.specs.Pairs.{BaseFollows, JournalFollows, PairsNoMore}
 use Rattle.committed_log.specs.FlagLaws.{says-none}
@@ -170,13 +170,6 @@ module _ (homes : List ℕ) (base base' journal journal' : Blocks) (ml ml' : Out
               unsaid = ap says (then.same (length homes) s.reads.0) ∙ was.unsaid;
             };
       })
-
--- the flag that was written is there
-pub flag_there : (r : Answer) (bytes : List ℕ) (journal journal' : Blocks) → bytes ≡ flag_block 0
-    → OnOk r (journal' ≡ written 0 bytes journal) → OnOk r (block_at 0 journal' ≡ flag_block 0)
-flag_there (Ok u) bytes journal journal' is w =
-    ap (block_at 0) w ∙ block_at-written 0 bytes journal (omega arith) ∙ is
-flag_there (Err e) bytes journal journal' is w = w
 
 -- ---- the log begun anew
 

@@ -67,9 +67,6 @@ slots_found n m slots b count said room are below = record {
   below = below;
 }
 
-pub broken_room : (a b : Blocks) → says (block_at 0 b) ≡ true → length b < size_of b → IsBroken a b
-broken_room a b said short = (said, λ w. absurd (omega (arith, short, w.room)))
-
 pub broken_homes : (n m : ℕ) (a b : Blocks) → n ≡ count_in b → m ≡ length a → says (block_at 0 b) ≡ true
     → ¬ All (λ h. h < m) (slot_homes n 0 n b) → IsBroken a b
 broken_homes n m a b count size said bad = (

@@ -7,7 +7,7 @@ use Rattle.std.proofs.lemmas.List.{length_push}
 use Rattle.std.proofs.lemmas.List.Elements.{All-push}
 use Rattle.block_device.specs.Device.{Blocks, block_at}
 use Rattle.device_pair.specs.Pairs.{PairLeaves}
-use Rattle.device_pair.specs.Runs.{pair_started, pair_then, pair_weaker}
+use Rattle.device_pair.specs.Runs.{pair_then, pair_weaker}
 use Rattle.device_pair.specs.declared.pair.DevicePair.{Ghosts}
 use Rattle.committed_log.specs.Committed.{base_of, behind_of, clearing_of, homes_of, journal_of}
 use Rattle.committed_log.specs.Committed.{seen_of, IsDurable, IsHonest, IsStill, SameLog}
@@ -191,18 +191,6 @@ journal_on old mid new behind behind' was said is = ⊎_elim
     (λ (unsaid : says (block_at 0 behind) ≡ false).
     let never : true ≡ false = sym said ∙ unsaid in absurd (cc))
     was
-
-pub taken_start : {P A : Type 0} {m : _} (d : CommittedLog P A m) → clearing_of d ≡ false
-    → (IsHonest d → IsDurable d) → TakenTo d d
-taken_start {m = m} d settled durable = record {
-  settled = settled;
-  honest = (λ h. h, λ h. h);
-  durable = durable;
-  base = λ h. refl;
-  seen = λ h. refl;
-  journal = λ h. inl refl;
-  stops = λ h. pair_started m.moment m.left_since d.pair _;
-}
 
 -- the region behind those that were taken in is broken
 pub taken_malformed : {P A : Type 0} {m : _} (old mid : CommittedLog P A m) → TakenTo old mid → IsHonest old

@@ -83,11 +83,6 @@ base_durable clearing homes base journal ml ml' few is more s v j l =
     ∙ overlay_left clearing homes base journal l.0 l.1 base s.regions few
     (s.stops l.0 l.1 (more l.0 l.1 l.2))
 
-pub journal_durable : (homes : List ℕ) (journal : Blocks) (ml : Outcomes)
-    → ((a b : Blocks) → ml a b → b ≡ journal)
-    → (v j : Blocks) → Leaves homes ml v j → j ≡ drop (length homes) journal
-journal_durable homes journal ml is v j l = l.4 ∙ ap (drop (length homes)) (is l.0 l.1 l.2)
-
 -- ---- a write of the base, where no first flag is being cleared
 
 module _ (clearing : Bool) (homes : List ℕ) (i : ℕ) (base base' journal journal' : Blocks)

@@ -58,12 +58,6 @@ take_torn n i old new le there torn =
     ∙ torn_before k i old new (omega (arith, lt, size', le)) (omega (arith, lt, size', there)) torn
     ∙ sym (get_or-take n old k [] (omega (arith, lt, size'))))
 
--- a write of a block that is there is a `set`
-pub written_set : (i : ℕ) (b : List ℕ) (bs : Blocks) → i < length bs → written i b bs ≡ set bs i b
-written_set i b [] lt = absurd (omega arith)
-written_set zero b (x ∷ bs) lt = refl
-written_set (suc i) b (x ∷ bs) lt = ap (λ (l : Blocks). x ∷ l) (written_set i b bs (omega arith))
-
 -- a block set beside one that is written
 pub set_written : (i h : ℕ) (b y : List ℕ) (bs : Blocks) → ¬ (h ≡ i) → h < length bs
     → set (written i b bs) h y ≡ written i b (set bs h y)
@@ -88,10 +82,3 @@ pub drop_torn : (s i at : ℕ) (old new : Blocks) → at ≡ s + i → s ≤ len
 drop_torn s i at old new is le torn =
     torn_cases at old new (λ c. Torn i (drop s old) (drop s c)) (inl refl)
     (λ b block. inr (b, block, drop_written s i at b old is le)) torn
-
--- a block that was written is there
-pub within_written : (i : ℕ) (b : List ℕ) (bs : Blocks) → i ≤ length bs → i < length (written i b bs)
-within_written zero b [] le = omega arith
-within_written (suc i) b [] le = absurd (omega arith)
-within_written zero b (x ∷ bs) le = omega arith
-within_written (suc i) b (x ∷ bs) le = omega (arith, within_written i b bs (omega arith))

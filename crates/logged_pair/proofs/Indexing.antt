@@ -10,7 +10,8 @@ use Rattle.block_bytes.specs.Laws.{length-put, number_at-put, number_at-put_othe
 use Rattle.committed_log.specs.FlagLaws.{count-read, says-none}
 use Rattle.committed_log.specs.Log.{count_block, count_in, flag_block, home_in, index_blocks, says, slot_homes}
 use Rattle.committed_log.specs.Regions.{index_within}
-use Rattle.committed_log.specs.Torn.{within_written, written_before, written_longer}
+use Rattle.committed_log.specs.Torn.{written_before, written_longer}
+use Rattle.logged_pair.specs.Shown.{within_written}
 use Rattle.logged_pair.specs.Index.{HasIndex, HasNext, IsIndexed}
 use Rattle.logged_pair.specs.Stages.{IsRecorded}
 use Rattle.logged_pair.specs.Standing.{IsHonest, KeepsTo, SameSlots, commits_of, homes_of, journal_of, pair_of}

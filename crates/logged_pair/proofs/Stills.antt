@@ -110,12 +110,6 @@ log_same {m = m} old new pair homes clearing = record {
       });
 }
 
-pub log_durable : {P A : Type 0} {m : _} (old new : CommittedLog P A m) → LogStays old new
-    → regions.IsDurable old → regions.IsDurable new
-log_durable old new s durable v j l =
-    let is = durable v j (log_leaves old new s v j l) in
-    (is.0 ∙ sym (log_seen old new s), is.1 ∙ sym (log_behind old new s))
-
 -- what is read through the slots, and the commits
 pub log_shown : {P A : Type 0} {m : _} (slots : List ℕ) (old new : CommittedLog P A m)
     → LogStays old new

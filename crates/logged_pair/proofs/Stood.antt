@@ -2,8 +2,9 @@
 use Rattle.std.proofs.Common.{◌≡◌, ◌∙◌, ◌⊎◌, ℕ, ◌+◌, ◌^◌, ◌<◌, ◌≤◌, Bool, true, false, List, [], ◌∷◌, ◌++◌, length}
 use Rattle.std.proofs.Common.{take, Result, Ok, Err, OnOk, OnErr, refl, sym, ap, subst, arith, inl, inr, ⊎_elim}
 use Rattle.std.specs.List.{All}
-use Rattle.std.proofs.lemmas.List.{length_push, length-take-le}
+use Rattle.std.proofs.lemmas.List.{length_push, length-take-le, take_all}
 use Rattle.std.proofs.lemmas.List.Elements.{All-push}
+use Rattle.block_bytes.specs.Numbers.{number_at}
 use Rattle.block_device.specs.Device.{Begins, Blocks, IsBlock, Torn, block_at, written}
 use Rattle.block_device.specs.Written.{block_at-written_other, length-written_within, torn_other}
 use Rattle.block_device.specs.declared.device.DeviceError.{DeviceError}
@@ -221,7 +222,7 @@ pub filling_all : (deciding : Bool) (n : ℕ) (slots : List ℕ) (base journal c
     → n ≡ length base → CommitsIn deciding n slots base journal c → c ≡ base
 filling_all deciding n slots base journal c e n_is is =
     let t : c ≡ take n base = subst (λ (x : Bool). CommitsIn x n slots base journal c) e is in
-    t ∙ Rattle.std.proofs.lemmas.List.take_all n base (omega (arith, n_is))
+    t ∙ take_all n base (omega (arith, n_is))
 
 -- ---- the flag, written
 
@@ -243,7 +244,7 @@ unfolding count_in
 recorded_same slots b journal same r =
     let n : ℕ = length slots in
     record {
-      count = ap (Rattle.block_bytes.specs.Numbers.number_at 4 8) (same.same 1 (omega arith)) ∙ r.count;
+      count = ap (number_at 4 8) (same.same 1 (omega arith)) ∙ r.count;
       index = slots_same n 0 n journal b (omega arith) (λ j gt lt. same.same j gt) ∙ r.index;
       room = omega (arith, r.room, same.as_many);
       last = ap says (same.same (2 + n + index_blocks n) (omega arith)) ∙ r.last;

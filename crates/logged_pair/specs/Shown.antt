@@ -8,13 +8,21 @@ use Rattle.std.proofs.lemmas.List.{get_or-drop, get_or-set_same, get_or-set_othe
 use Rattle.std.proofs.lemmas.List.Elements.{All-cons}
 use Rattle.block_device.specs.Device.{Blocks, Torn, block_at, written}
 use Rattle.block_device.specs.Written.{block_at-written, block_at-written_other, length-written_within}
+use Rattle.block_device.specs.Written.{set_written}
 use Rattle.committed_log.specs.Found.{IsSlot}
 use Rattle.committed_log.specs.Log.{entries_from, index_blocks, no_home, overlaid, region_of, replayed}
 use Rattle.committed_log.specs.Overlay.{overlay_append, overlay_reads, overlay_written}
 use Rattle.committed_log.specs.Replay.{length-overlaid, overlaid_other, same_blocks}
 use Rattle.committed_log.specs.Stops.{IsHome}
-use Rattle.committed_log.specs.Torn.{torn_cases, written_set}
+use Rattle.committed_log.specs.Torn.{torn_cases}
 use Rattle.logged_pair.specs.Stages.{SameBehind, open_homes, shown_through}
+
+-- a block that was written is there
+pub within_written : (i : ℕ) (x : List ℕ) (bs : Blocks) → i ≤ length bs → i < length (written i x bs)
+within_written zero x [] le = omega arith
+within_written (suc i) x [] le = absurd (omega arith)
+within_written zero x (b ∷ bs) le = omega arith
+within_written (suc i) x (b ∷ bs) le = omega (arith, within_written i x bs (omega arith))
 
 -- ---- the blocks that it depends on
 
@@ -182,7 +190,7 @@ shown_more slots i x b a few there lt =
     (get_or-drop (length (open_homes slots)) c 0 [] ∙ ap (λ (n : ℕ). block_at n c) place
     ∙ block_at-written at x b there)
     ∙ ap (λ (s : Blocks). set s i x) (shown_elsewhere at slots x b a few (inr (omega arith)) there)
-    ∙ sym (written_set i x old (omega (arith, lt, length-shown slots b a)))
+    ∙ set_written i x old (omega (arith, lt, length-shown slots b a))
 
 -- the slot of a block, written again
 pub shown_again : (i m : ℕ) (slots : List ℕ) (x : List ℕ) (b a : Blocks) → IsSlot slots i m

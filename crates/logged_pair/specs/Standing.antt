@@ -77,7 +77,7 @@ pub record SameSlots {P A : Type 0} {m : _} (old new : LoggedPair P A m) : Type 
   pub kept : kept_of new ≡ kept_of old
   pub homes : homes_of new ≡ homes_of old
 
--- The same regions, of which and of the base nothing was written, nor of the journal behind them.
+-- The regions, the base and the journal are as they were, and nothing was written.
 pub record LogStays {P A : Type 0} {m : _} (old new : CommittedLog P A m) : Type 0 where
   pub homes : regions.homes_of new ≡ regions.homes_of old
   pub clearing : regions.clearing_of new ≡ regions.clearing_of old

@@ -95,6 +95,7 @@ impl<P: DevicePair, A: Allocator + Copy> LoggedPair<P, A> {
         ensures durable { IsHonest self.old →
             OnOk result ((kept : Blocks) → commits_of self.new kept → kept ≡ shown_of self.old) }
         ensures settled { IsHonest self.old → OnOk result (IsSettled self.new) }
+        ensures emptied { OnOk result (homes_of self.new ≡ []) }
         ensures shown { IsHonest self.old → shown_of self.new ≡ shown_of self.old }
         ensures commits { IsHonest self.old →
             CommitsNoMore (OrNew (commits_of self.old) (shown_of self.old)) (commits_of self.new) }

@@ -25,6 +25,7 @@ impl<P: DevicePair, A: Allocator + Copy> LoggedPair<P, A> {
         ensures durable { IsHonest self.old →
             OnOk result ((kept : Blocks) → commits_of self.new kept → kept ≡ shown_of self.old) }
         ensures settled { IsHonest self.old → OnOk result (IsSettled self.new) }
+        ensures emptied { OnOk result (homes_of self.new ≡ []) }
         ensures shown { IsHonest self.old → shown_of self.new ≡ shown_of self.old }
         ensures commits { IsHonest self.old →
             CommitsNoMore (OrNew (commits_of self.old) (shown_of self.old)) (commits_of self.new) }
@@ -49,6 +50,7 @@ impl<P: DevicePair, A: Allocator + Copy> LoggedPair<P, A> {
         ensures durable { IsHonest self.old →
             OnOk result ((kept : Blocks) → commits_of self.new kept → kept ≡ shown_of self.old) }
         ensures settled { IsHonest self.old → OnOk result (IsSettled self.new) }
+        ensures emptied { OnOk result (homes_of self.new ≡ []) }
         ensures shown { IsHonest self.old → shown_of self.new ≡ shown_of self.old }
         ensures commits { IsHonest self.old →
             CommitsNoMore (OrNew (commits_of self.old) (shown_of self.old)) (commits_of self.new) }
@@ -112,6 +114,7 @@ impl<P: DevicePair, A: Allocator + Copy> LoggedPair<P, A> {
         requires settled { clearing_of self.old ≡ false }
         ensures done { OnOk result (deciding_of self.new ≡ false) }
         ensures going_on { OnErr result (deciding_of self.new ≡ true) }
+        ensures emptied { OnOk result (homes_of self.new ≡ []) }
         ensures still_settled { clearing_of self.new ≡ false }
         ensures none { homes_of self.old ≡ [] → homes_of self.new ≡ [] }
         ensures durable { IsHonest self.old →
@@ -122,7 +125,7 @@ impl<P: DevicePair, A: Allocator + Copy> LoggedPair<P, A> {
         ensures honest { IsHonest self.old ↔ IsHonest self.new }
         ensures faults { Counts (P.faults (pair_of self.old)) (P.faults (pair_of self.new)) result }
     {
-        self.reserve_region()?;
+        self.reserve_region()?; // so that nothing is refused once it is committed
         self.say_committed()?;
         self.take_region();
         Ok(())

@@ -1,9 +1,9 @@
 //! What was written since the last commit, given up.
-ghost use Rattle.std.specs.Prelude.{◌≡◌, ◌↔◌, false, length, OnErr, OnOk};
+ghost use Rattle.std.specs.Prelude.{◌≡◌, ◌↔◌, [], false, length, OnErr, OnOk};
 ghost use Rattle.block_device.specs.Device.{BeginsOne, Blocks, Counts};
 ghost use Rattle.logged_pair.specs.Commits.{CommitsNoMore};
-ghost use Rattle.logged_pair.specs.Standing.{base_of, clearing_of, commits_of, deciding_of, kept_of};
-ghost use Rattle.logged_pair.specs.Standing.{pair_of, shown_of, IsHonest, KeepsTo};
+ghost use Rattle.logged_pair.specs.Standing.{base_of, clearing_of, commits_of, deciding_of, homes_of};
+ghost use Rattle.logged_pair.specs.Standing.{kept_of, pair_of, shown_of, IsHonest, KeepsTo};
 
 use crate::pair::LoggedPair;
 use block_device::DeviceError;
@@ -19,6 +19,7 @@ impl<P: DevicePair, A: Allocator + Copy> LoggedPair<P, A> {
             OnOk result (BeginsOne (commits_of self.old) (shown_of self.new)) }
         ensures one { IsHonest self.old →
             OnOk result ((k : Blocks) → commits_of self.new k → k ≡ shown_of self.new) }
+        ensures emptied { OnOk result (homes_of self.new ≡ []) }
         ensures shown { IsHonest self.old → OnErr result (shown_of self.new ≡ shown_of self.old) }
         ensures no_more { IsHonest self.old →
             OnErr result (CommitsNoMore (commits_of self.old) (commits_of self.new)) }
@@ -59,6 +60,7 @@ impl<P: DevicePair, A: Allocator + Copy> LoggedPair<P, A> {
         requires filling { deciding_of self.old ≡ false }
         requires settled { clearing_of self.old ≡ false }
         requires kept { kept_of self.old ≡ length (base_of self.old) }
+        ensures none { homes_of self.new ≡ [] }
         ensures begins { IsHonest self.old → BeginsOne (commits_of self.old) (shown_of self.new) }
         ensures one { IsHonest self.old → (k : Blocks) → commits_of self.new k → k ≡ shown_of self.new }
         ensures keeps { IsHonest self.old → KeepsTo (commits_of self.old) self.old self.new }

@@ -1,10 +1,10 @@
 //! A sync, which commits what opening takes.
-ghost use Rattle.std.specs.Prelude.{◌≡◌, ◌<◌, ◌↔◌, None, IfOk, OnOk, false, is_none, length, true};
+ghost use Rattle.std.specs.Prelude.{◌≡◌, ◌<◌, ◌↔◌, [], None, IfOk, OnOk, false, is_none, length, true};
 ghost use Rattle.block_device.specs.Device.{Blocks, Counts, block_at};
 ghost use Rattle.page_file.specs.Opening.{failed_check};
 ghost use Rattle.logged_pair.specs.Standing.{IsStill};
 ghost use Rattle.logged_pair.specs.Commits.{OrOpened};
-ghost use Rattle.logged_pair.specs.Standing.{commits_of, pair_of, shown_of, IsHonest, IsSettled};
+ghost use Rattle.logged_pair.specs.Standing.{commits_of, homes_of, pair_of, shown_of, IsHonest, IsSettled};
 ghost use Rattle.logged_pair.specs.Standing.{KeepsTo};
 
 use crate::pair::LoggedPair;
@@ -59,6 +59,8 @@ impl<P: DevicePair, A: Allocator + Copy> LoggedPair<P, A> {
             OnOk result ((kept : Blocks) → commits_of self.new kept → kept ≡ shown_of self.old) }
         ensures settled { IsHonest self.old → failed_check (shown_of self.old) ≡ None →
             OnOk result (IsSettled self.new) }
+        ensures emptied { IsHonest self.old → failed_check (shown_of self.old) ≡ None →
+            OnOk result (homes_of self.new ≡ []) }
         ensures keeps { IsHonest self.old →
             KeepsTo (OrOpened (commits_of self.old) (shown_of self.old)) self.old self.new }
         ensures honest { IsHonest self.old ↔ IsHonest self.new }

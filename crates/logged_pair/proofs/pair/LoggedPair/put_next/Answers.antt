@@ -3,9 +3,8 @@ use Rattle.std.proofs.Common.{◌≡◌, ◌∙◌, ◌≤◌, ◌+◌, ◌++◌
 use Rattle.std.proofs.Common.{sym}
 use Rattle.block_device.specs.Device.{Blocks, written}
 use Rattle.committed_log.specs.Committed as regions
-use Rattle.committed_log.specs.Torn.{within_written}
 use Rattle.logged_pair.specs.CommitLaws.{few_seen}
-use Rattle.logged_pair.specs.Shown.{shown_more}
+use Rattle.logged_pair.specs.Shown.{shown_more, within_written}
 use Rattle.logged_pair.specs.Stages.{IsStanding, shown_through}
 use Rattle.logged_pair.specs.Standing.{base_of, clearing_of, homes_of, journal_of}
 use Rattle.logged_pair.proofs.Stood.{elsewhere_is, on_any, slot_put}

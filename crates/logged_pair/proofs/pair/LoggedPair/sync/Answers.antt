@@ -62,3 +62,12 @@ returns-then-not-branch-clause-settled g c =
 
 pub returns-clause-settled : goal.returns-clause-settled
 returns-clause-settled g c = λ h taken. c.commit.ensures.settled (c.is_taken.ensures.honest.0 h)
+
+pub returns-then-not-branch-clause-emptied : goal.returns-then-not-branch-clause-emptied
+returns-then-not-branch-clause-emptied g c =
+    λ h taken. absurd
+    (not_none (failed_check (shown_of c.args.self.now))
+    (c.in_ok-is_taken.ensures.is h ∙ c.if-not-branch.true) taken)
+
+pub returns-clause-emptied : goal.returns-clause-emptied
+returns-clause-emptied g c = λ h taken. c.commit.ensures.emptied
