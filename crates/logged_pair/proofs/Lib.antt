@@ -5,5 +5,6 @@ mod Keeping
 mod Advanced
 mod Reached
 mod GivingUp
+mod Snapped
 mod Calling
 mod Indexing

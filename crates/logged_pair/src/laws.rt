@@ -1,11 +1,12 @@
 //! The laws of a commit and of recovery, each the contract of a function that does nothing.
-ghost use Rattle.std.specs.Prelude.{◌≡◌, ◌≤◌, ℕ};
+ghost use Rattle.std.specs.Prelude.{◌≡◌, ◌≤◌, ℕ, false, take};
 ghost use Rattle.block_device.specs.Device.{BeginsOne, Blocks};
 ghost use Rattle.device_pair.specs.Pairs.{PairLeaves, PairsNoMore};
 ghost use Rattle.committed_log.specs.Log.{recovered};
 ghost use Rattle.committed_log.specs.Opening.{LeavesOr};
-ghost use Rattle.logged_pair.specs.Standing.{commits_of, left_since_of, may_leave_of, pair_of, shown_of};
-ghost use Rattle.logged_pair.specs.Standing.{IsHonest};
+ghost use Rattle.logged_pair.specs.Snapshots.{end_of, seen_by, snapshot, HasSnapshot};
+ghost use Rattle.logged_pair.specs.Standing.{base_of, clearing_of, commits_of, kept_of, left_since_of, log_of};
+ghost use Rattle.logged_pair.specs.Standing.{may_leave_of, pair_of, shown_of, IsHonest};
 ghost use Rattle.logged_pair.specs.declared.pair.LoggedPair.{LoggedPair};
 
 use device_pair::DevicePair;
@@ -48,4 +49,19 @@ pub fn what_is_given_up_is_a_commit_again<P: DevicePair, A: Allocator + Copy>()
     ensures { (d opened : LoggedPair P A ⟦<P as DevicePair>⟧) → IsHonest d →
         shown_of opened ≡ recovered (P.base (pair_of d)) (P.journal (pair_of d)) →
         BeginsOne (commits_of d) (shown_of opened) }
+{}
+
+/// Whatever a stop now may leave of both devices shows a reader's snapshot as they show it as they are read: so a
+/// reader sees it whose reads give what a stop at their moments may leave.
+pub fn what_a_reader_reads_stays<P: DevicePair, A: Allocator + Copy>()
+    ensures { (d : LoggedPair P A ⟦<P as DevicePair>⟧) (p n : ℕ) (a b : Blocks) → HasSnapshot p n d →
+        P.may_leave (pair_of d) a b → snapshot p n a b ≡ seen_by p n (log_of d) }
+{}
+
+/// Who has read all regions of the log has a snapshot of the last commit, or of its first blocks.
+pub fn the_last_commit_is_a_snapshot<P: DevicePair, A: Allocator + Copy>()
+    ensures there { (d : LoggedPair P A ⟦<P as DevicePair>⟧) (n : ℕ) → IsHonest d →
+        clearing_of d ≡ false → n ≤ kept_of d → HasSnapshot (end_of d) n d }
+    ensures shown { (d : LoggedPair P A ⟦<P as DevicePair>⟧) (n : ℕ) → IsHonest d →
+        clearing_of d ≡ false → seen_by (end_of d) n (log_of d) ≡ take n (base_of d) }
 {}

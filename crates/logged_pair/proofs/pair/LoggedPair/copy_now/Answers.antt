@@ -14,6 +14,8 @@ use Rattle.logged_pair.proofs.GivingUp.{bare_shown}
 use Rattle.logged_pair.proofs.Keeping.{keeps_call, keeps_seen}
 use Rattle.logged_pair.proofs.Stills.{log_behind, log_commits, log_leaves, log_seen, log_shown, log_stands, stays_of}
 use Rattle.logged_pair.proofs.Stood.{commits_filling, filling}
+use Rattle.logged_pair.specs.Snapshots.{SnapshotsStay}
+use Rattle.logged_pair.proofs.Snapped.{last_shows, snaps_still}
 use Rattle.logged_pair.proofs.pair.LoggedPair.copy_now.Given as given
 use Rattle.logged_pair.proofs.pair.LoggedPair.copy_now.Goals as goal
 use Rattle.logged_pair.proofs.pair.LoggedPair.copy_now.Goals.{After-copy_home, After-sync_base}
@@ -121,3 +123,25 @@ returns-clause-keeps g c = λ h.
     (commits_filling d.deciding d.deciding d.kept d.slots.homes.items d.slots.homes.items
     (regions.seen_of d.log) (regions.seen_of e) (regions.behind_of d.log) (regions.behind_of e)
     c.requires.filling c.requires.filling (ap (take d.kept) (same_so g after h))) all
+
+-- the sync before the copies
+synced_snaps : (g : given.Over) (c : After-sync_base g) → regions.IsHonest c.args.self.now.log
+    → SnapshotsStay c.args.self.now.kept c.args.self.now.kept c.args.self.now.log c.sync_base.new.self
+synced_snaps g c h =
+    let d = c.args.self.now in
+    snaps_still d.kept d.kept d.log c.sync_base.new.self (omega arith) (stays_of (c.sync_base.ensures.still h))
+
+pub returns-in_err-sync_base-clause-last : goal.returns-in_err-sync_base-clause-last
+returns-in_err-sync_base-clause-last g c = λ h p n s all.
+    (synced_snaps g (goal.at.returns-in_err-sync_base-clause-last g c).After-sync_base h).stops p n s
+
+pub returns-clause-last : goal.returns-clause-last
+returns-clause-last g c = λ h p n s all.
+    let q = g.P.DevicePair in
+    let d = c.args.self.now in let m = c.sync_base.new.self in let e = c.copy_home.new.self in
+    let still = stays_of (c.sync_base.ensures.still h) in
+    pair_then q.moment q.left_since (regions.pair_of d.log) (regions.pair_of m) (regions.pair_of e) _
+    ((synced_snaps g (goal.at.returns-clause-last g c).After-sync_base h).stops p n s)
+    (pair_weaker q.moment q.left_since (regions.pair_of m) (regions.pair_of e) _ _
+    (last_shows p n d.log m all still h c.requires.settled)
+    (c.copy_home.ensures.last (c.sync_base.ensures.honest.0 h)))

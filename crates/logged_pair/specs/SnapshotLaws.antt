@@ -1,0 +1,57 @@
+-- The last commit is a snapshot.
+use Rattle.std.proofs.Common.{◌≡◌, ◌∙◌, ℕ, ◌^◌, ◌<◌, ◌≤◌, Bool, true, false, List, [], length, take, refl, sym}
+use Rattle.std.proofs.Common.{ap, arith}
+use Rattle.std.proofs.lemmas.List.{get_or-take, length-take-le}
+use Rattle.block_device.specs.Device.{Blocks, block_at}
+use Rattle.committed_log.specs.Committed as regions
+use Rattle.committed_log.specs.Log.{recovered}
+use Rattle.committed_log.specs.Regions.{recovery_first}
+use Rattle.committed_log.specs.Replay.{same_blocks}
+use Rattle.committed_log.specs.declared.log.CommittedLog.{CommittedLog}
+use Rattle.committed_log.proofs.Through.{first_of, regions_of}
+use Rattle.logged_pair.specs.Snapshots.{IsSnapshot, seen_by}
+use Rattle.logged_pair.specs.Stages.{IsStanding, StopIn}
+
+pub first_same : (n : ℕ) (a d : Blocks) → n ≤ length a → n ≤ length d
+    → ((k : ℕ) → k < n → block_at k d ≡ block_at k a) → take n d ≡ take n a
+first_same n a d le le' same =
+    let size : length (take n a) ≡ n = length-take-le n a le in
+    let size' : length (take n d) ≡ n = length-take-le n d le' in
+    same_blocks (take n d) (take n a) (size' ∙ sym size) (λ k lt.
+    let less : k < n = omega (arith, lt, size') in
+    get_or-take n d k [] less ∙ same k less ∙ sym (get_or-take n a k [] less))
+
+-- what was there at the last commit stays, whatever a stop leaves behind it
+first_stays : (deciding : Bool) (kept n : ℕ) (base journal v j : Blocks) → n ≤ kept → kept ≤ length base
+    → StopIn deciding kept base journal v j → take n v ≡ take n base
+first_stays false kept n base journal v j few le stop =
+    let size : length (take kept base) ≡ kept = length-take-le kept base le in
+    first_same n base v (omega (arith, few, le)) (omega (arith, few, size, stop.begins.no_shorter)) (λ k lt.
+    stop.begins.same k (omega (arith, lt, few, size))
+    ∙ get_or-take kept base k [] (omega (arith, lt, few)))
+first_stays true kept n base journal v j few le stop = ap (take n) stop.base_is
+
+module _ {P A : Type 0} {m : _} where
+  -- who has read all regions sees the base as it is read through them
+  pub last_seen : (p n : ℕ) (c : CommittedLog P A m) → p ≡ length (regions.homes_of c)
+      → regions.IsHonest c → regions.clearing_of c ≡ false → seen_by p n c ≡ take n (regions.seen_of c)
+  last_seen p n c all h settled =
+      ap (λ (q : ℕ). seen_by q n c) all
+      ∙ ap (take n) (recovery_first (regions.homes_of c) (regions.journal_of c) (regions.base_of c)
+      (regions_of c h settled))
+
+  pub last_there : (deciding clearing : Bool) (kept n : ℕ) (slots : List ℕ) (c : CommittedLog P A m)
+      → length (regions.base_of c) ≤ 2 ^ 31 → regions.IsHonest c → regions.clearing_of c ≡ false → n ≤ kept
+      → IsStanding deciding clearing kept slots (regions.seen_of c) (regions.behind_of c) (regions.leaves_of c)
+      → IsSnapshot (length (regions.homes_of c)) n kept c
+  last_there deciding clearing kept n slots c few h settled le s = record {
+    settled = settled;
+    there = omega arith;
+    ends = ap length (regions_of c h settled);
+    few = le;
+    stays = λ a b left.
+        ap (take n) (first_of c a b few h left)
+        ∙ first_stays deciding kept n (regions.seen_of c) (regions.behind_of c) _ _ le s.kept_there
+        (s.stops _ _ (a, b, left, refl, refl))
+        ∙ sym (last_seen (length (regions.homes_of c)) n c refl h settled);
+  }
