@@ -127,7 +127,7 @@ pub record CopiedTo {P A : Type 0} {m : _} (k : ℕ) (old new : CommittedLog P A
   pub stops : IsHonest old
       → PairLeaves m.moment m.left_since old.pair new.pair (λ a b. recovered a b ≡ seen_of old)
   pub last : IsHonest old
-      → PairLeaves m.moment m.left_since old.pair new.pair (FirstShow (length (homes_of old)) (seen_of old))
+      → PairLeaves m.moment m.left_since old.pair new.pair (FirstShow (homes_of old) (seen_of old))
 
 pub copies_start : {P A : Type 0} {m : _} (d : CommittedLog P A m) → (IsHonest d → IsQuiet d)
     → CopiedTo 0 d d
@@ -150,7 +150,7 @@ pub copies_step : {P A : Type 0} {m : _} (k : ℕ) (old mid new : CommittedLog P
     → (IsHonest mid
     → PairLeaves m.moment m.left_since mid.pair new.pair (λ a b. recovered a b ≡ seen_of mid))
     → (IsHonest mid
-    → PairLeaves m.moment m.left_since mid.pair new.pair (FirstShow (length (homes_of mid)) (seen_of mid)))
+    → PairLeaves m.moment m.left_since mid.pair new.pair (FirstShow (homes_of mid) (seen_of mid)))
     → CopiedTo (k + 1) old new
 copies_step k old mid new c log honest faults journal copied seen quiet stops last = record {
   log = record {

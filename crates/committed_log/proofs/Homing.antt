@@ -40,10 +40,11 @@ quiet_recovers clearing homes base journal seen ml few s q a b left =
 -- also by who has read the regions alone
 pub quiet_first : (clearing : Bool) (homes : List ℕ) (base journal seen : Blocks) (ml : Outcomes)
     → length base ≤ 2 ^ 31 → IsStanding clearing homes base journal ml → Quiet homes seen ml
-    → (a b : Blocks) → ml a b → FirstShow (length homes) seen a b
+    → (a b : Blocks) → ml a b → FirstShow homes seen a b
 quiet_first clearing homes base journal seen ml few s q a b left =
-    first_stands clearing homes base journal a b ml few s left
-    ∙ q.base (overlaid homes b a) (drop (length homes) b) (a, b, left, refl, refl)
+    let is : overlaid homes b a ≡ seen =
+    q.base (overlaid homes b a) (drop (length homes) b) (a, b, left, refl, refl) in
+    (first_stands clearing homes base journal a b ml few s left ∙ is, is)
 
 pub quiet_still : (homes : List ℕ) (seen : Blocks) (ml ml' : Outcomes) → PairsNoMore ml ml'
     → Quiet homes seen ml → Quiet homes seen ml'

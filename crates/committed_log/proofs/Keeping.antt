@@ -18,6 +18,11 @@ pub record SameRead {P A : Type 0} {m : _} (old new : CommittedLog P A m) : Type
   pub journal : journal_of new ≡ journal_of old
   pub now : PairsNoMore (m.may_leave old.pair) (m.may_leave new.pair)
 
+pub first_shows : (homes homes' : List ℕ) (seen seen' : Blocks) → homes ≡ homes' → seen ≡ seen' → (a b : Blocks)
+    → FirstShow homes seen a b → FirstShow homes' seen' a b
+first_shows homes homes' seen seen' e is a b x =
+    subst (λ (l : List ℕ). FirstShow l seen' a b) e (x.0 ∙ is, x.1 ∙ is)
+
 module _ {P A : Type 0} {m : _} where
   pub same_still : (old new : CommittedLog P A m) → IsStill old new → SameRead old new
   same_still old new s = record { homes = s.log.homes; base = s.base; journal = s.journal; now = s.now }
@@ -85,13 +90,13 @@ module _ {P A : Type 0} {m : _} where
 
   -- the same as who has read all of the regions sees it
   pub last_then : (old mid new : CommittedLog P A m) → seen_of mid ≡ seen_of old → homes_of mid ≡ homes_of old
-      → PairLeaves m.moment m.left_since old.pair mid.pair (FirstShow (length (homes_of old)) (seen_of old))
-      → PairLeaves m.moment m.left_since mid.pair new.pair (FirstShow (length (homes_of mid)) (seen_of mid))
-      → PairLeaves m.moment m.left_since old.pair new.pair (FirstShow (length (homes_of old)) (seen_of old))
+      → PairLeaves m.moment m.left_since old.pair mid.pair (FirstShow (homes_of old) (seen_of old))
+      → PairLeaves m.moment m.left_since mid.pair new.pair (FirstShow (homes_of mid) (seen_of mid))
+      → PairLeaves m.moment m.left_since old.pair new.pair (FirstShow (homes_of old) (seen_of old))
   last_then old mid new seen homes x y =
       pair_then m.moment m.left_since old.pair mid.pair new.pair _ x
-      (pair_weaker m.moment m.left_since mid.pair new.pair (FirstShow (length (homes_of mid)) (seen_of mid)) _
-      (λ a b e. ap (λ (hs : List ℕ). recovered a (take (length hs) b)) (sym homes) ∙ e ∙ seen) y)
+      (pair_weaker m.moment m.left_since mid.pair new.pair (FirstShow (homes_of mid) (seen_of mid)) _
+      (first_shows (homes_of mid) (homes_of old) (seen_of mid) (seen_of old) homes seen) y)
 
   -- ---- where nothing was written
 
@@ -122,10 +127,14 @@ module _ {P A : Type 0} {m : _} where
 
   pub still_last : (old new : CommittedLog P A m) → length (base_of new) ≤ 2 ^ 31 → IsHonest new
       → IsStill old new → IsQuiet old
-      → PairLeaves m.moment m.left_since old.pair new.pair (FirstShow (length (homes_of old)) (seen_of old))
+      → PairLeaves m.moment m.left_since old.pair new.pair (FirstShow (homes_of old) (seen_of old))
   still_last old new few h s q =
       pair_call m.moment m.left_since old.pair new.pair _ (m.may_leave new.pair) s.time (λ a b left.
-      ap (λ (hs : List ℕ). recovered a (take (length hs) b)) (sym s.log.homes)
-      ∙ first_stands new.clearing (homes_of new) (base_of new) (journal_of new) a b (m.may_leave new.pair) few
-      (new.standing h) left
-      ∙ q.base _ _ (leaves_still old new s _ _ (a, b, left, refl, refl)))
+      let is : overlaid (homes_of new) b a ≡ seen_of old =
+      q.base _ _ (leaves_still old new s _ _ (a, b, left, refl, refl)) in
+      first_shows (homes_of new) (homes_of old) (seen_of old) (seen_of old) s.log.homes refl a b (
+        first_stands new.clearing (homes_of new) (base_of new) (journal_of new) a b (m.may_leave new.pair) few
+            (new.standing h) left
+            ∙ is,
+        is,
+      ))

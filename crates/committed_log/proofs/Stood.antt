@@ -57,13 +57,11 @@ overlay_left false homes base journal a b x regions few stop = overlay_first hom
 overlay_left true homes base journal a b x regions few stop =
     overlay_aside homes journal b x (first_home homes journal regions) few stop.same
 
--- the regions are there
-pub kept_there : (clearing : Bool) (homes : List ℕ) (base journal : Blocks) (ml : Outcomes) → clearing ≡ false
-    → IsStanding clearing homes base journal ml → (a b : Blocks) → ml a b → length homes ≤ length b
-kept_there clearing homes base journal ml settled s a b left =
-    let was : IsKept homes journal a b =
-    (subst (λ (t : Bool). IsStanding t homes base journal ml) settled s).stops a b left in
-    omega (arith, was.there)
+-- while no flag is cleared
+pub kept_stop : (clearing : Bool) (homes : List ℕ) (base journal : Blocks) (ml : Outcomes) → clearing ≡ false
+    → IsStanding clearing homes base journal ml → (a b : Blocks) → ml a b → IsKept homes journal a b
+kept_stop clearing homes base journal ml settled s a b left =
+    subst (λ (t : Bool). StopIn t homes base journal a b) settled (s.stops a b left)
 
 -- ---- a call that writes nothing
 

@@ -2,9 +2,11 @@
 use Rattle.std.proofs.Common.{◌≡◌, ◌^◌, ◌≤◌, false, length, drop, take}
 use Rattle.block_device.specs.Device.{Blocks}
 use Rattle.committed_log.specs.Committed.{base_of, clearing_of, homes_of, journal_of, pair_of, IsHonest}
+use Rattle.committed_log.specs.Committed.{KeepsFirst}
 use Rattle.committed_log.specs.Log.{homes_in, overlaid, recovered}
 use Rattle.committed_log.specs.declared.log.CommittedLog.{CommittedLog}
 use Rattle.committed_log.proofs.Recovering.{first_stands, homes_read, recovery_stands}
+use Rattle.committed_log.proofs.Stood.{kept_stop}
 
 pub recovery_of : {P A : Type 0} {m : _} (c : CommittedLog P A m) (a b : Blocks) → length (base_of c) ≤ 2 ^ 31
     → IsHonest c → m.may_leave (pair_of c) a b
@@ -27,3 +29,10 @@ pub regions_of : {P A : Type 0} {m : _} (c : CommittedLog P A m) → IsHonest c 
 regions_of {m = m} c h settled =
     homes_read (clearing_of c) (homes_of c) (base_of c) (journal_of c) (m.may_leave (pair_of c)) settled
     (c.standing h)
+
+-- and in what a stop leaves of it
+pub kept_of : {P A : Type 0} {m : _} (c : CommittedLog P A m) (a b : Blocks) → IsHonest c → clearing_of c ≡ false
+    → m.may_leave (pair_of c) a b → KeepsFirst (length (homes_of c)) (journal_of c) b
+kept_of {m = m} c a b h settled left =
+    (kept_stop (clearing_of c) (homes_of c) (base_of c) (journal_of c) (m.may_leave (pair_of c)) settled
+    (c.standing h) a b left).regions

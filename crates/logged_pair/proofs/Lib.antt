@@ -5,6 +5,6 @@ mod Keeping
 mod Advanced
 mod Reached
 mod GivingUp
-mod Snapped
+pub mod Snapped
 mod Calling
 mod Indexing

@@ -13,9 +13,11 @@ use Rattle.committed_log.specs.Log.{entries_from, homes_in, overlaid, recovered,
 use Rattle.committed_log.specs.Replay.{length-overlaid}
 use Rattle.committed_log.specs.Torn.{torn_before, torn_longer}
 use Rattle.committed_log.specs.declared.log.CommittedLog.{CommittedLog}
+use Rattle.committed_log.proofs.Through.{regions_of}
 use Rattle.logged_pair.specs.Shown.{set_here}
-use Rattle.logged_pair.specs.SnapshotLaws.{first_same, last_seen, last_there}
-use Rattle.logged_pair.specs.Snapshots.{IsSnapshot, KeepsSnapshots, SnapshotsStay, seen_by, snapshot}
+use Rattle.logged_pair.specs.SnapshotLaws.{first_same, index_seen, last_seen, last_there}
+use Rattle.logged_pair.specs.Snapshots.{IsSnapshot, KeepsSnapshots, ShowsLastOf, ShowsSame, SnapshotsStay}
+use Rattle.logged_pair.specs.Snapshots.{seen_by, snapshot}
 use Rattle.logged_pair.specs.Stages.{IsFilling, IsStanding, shown_through}
 use Rattle.logged_pair.specs.Standing.{IsStill, LogStays, kept_of, log_of}
 use Rattle.logged_pair.specs.declared.pair.LoggedPair.{LoggedPair}
@@ -77,12 +79,23 @@ filled_there deciding clearing kept slots base journal ml e s v j left =
     omega (arith, was.begins.no_shorter, length-take-le kept base s.kept_there)
 
 module _ {P A : Type 0} {m : _} where
+  -- what shows the same as what shows the same
+  same_on : (p n : ℕ) (old mid : CommittedLog P A m) (a b : Blocks)
+      → ShowsSame p n old (regions.base_of mid) (regions.journal_of mid) → ShowsSame p n mid a b
+      → ShowsSame p n old a b
+  same_on p n old mid a b x y = record { log = y.log ∙ x.log; blocks = y.blocks ∙ x.blocks }
+
+  same_back : (p n : ℕ) (old new : CommittedLog P A m) (a b : Blocks)
+      → ShowsSame p n old (regions.base_of new) (regions.journal_of new) → ShowsSame p n old a b
+      → ShowsSame p n new a b
+  same_back p n old new a b x y = record { log = y.log ∙ sym x.log; blocks = y.blocks ∙ sym x.blocks }
+
   -- ---- no call, and calls in turn
 
   pub snaps_none : (kept : ℕ) (c : CommittedLog P A m) → SnapshotsStay kept kept c c
   snaps_none kept c = record {
     there = λ p n s. s;
-    shown = λ p n s. refl;
+    shown = λ p n s. record { log = refl; blocks = refl };
     stops = λ p n s. pair_started m.moment m.left_since (regions.pair_of c) _;
   }
 
@@ -91,12 +104,14 @@ module _ {P A : Type 0} {m : _} where
       → SnapshotsStay kept kept'' old new
   snaps_then kept kept' kept'' old mid new x y = record {
     there = λ p n s. y.there p n (x.there p n s);
-    shown = λ p n s. y.shown p n (x.there p n s) ∙ x.shown p n s;
+    shown = λ p n s.
+        same_on p n old mid (regions.base_of new) (regions.journal_of new) (x.shown p n s)
+        (y.shown p n (x.there p n s));
     stops = λ p n s.
         pair_then m.moment m.left_since (regions.pair_of old) (regions.pair_of mid) (regions.pair_of new) _
         (x.stops p n s)
         (pair_weaker m.moment m.left_since (regions.pair_of mid) (regions.pair_of new) _ _
-        (λ a b e. e ∙ x.shown p n s) (y.stops p n (x.there p n s)));
+        (λ a b e. same_on p n old mid a b (x.shown p n s) e) (y.stops p n (x.there p n s)));
   }
 
   pub snapshots_then : (old mid new : LoggedPair P A m) → KeepsSnapshots old mid → KeepsSnapshots mid new
@@ -123,7 +138,8 @@ module _ {P A : Type 0} {m : _} where
       (m.left_since (regions.pair_of old)) (m.left_since (regions.pair_of new))
       (m.may_leave (regions.pair_of new))
       → ((p n : ℕ) → IsSnapshot p n kept old → IsSnapshot p n kept' new)
-      → ((p n : ℕ) → IsSnapshot p n kept old → seen_by p n new ≡ seen_by p n old)
+      → ((p n : ℕ) → IsSnapshot p n kept old
+      → ShowsSame p n old (regions.base_of new) (regions.journal_of new))
       → SnapshotsStay kept kept' old new
   snaps_call kept kept' old new time there shown = record {
     there = there;
@@ -131,7 +147,7 @@ module _ {P A : Type 0} {m : _} where
     stops = λ p n s.
         pair_call m.moment m.left_since (regions.pair_of old) (regions.pair_of new) _
         (m.may_leave (regions.pair_of new)) time
-        (λ a b left. (there p n s).stays a b left ∙ shown p n s);
+        (λ a b left. same_on p n old new a b (shown p n s) ((there p n s).stays a b left));
   }
 
   -- nothing was written
@@ -144,14 +160,16 @@ module _ {P A : Type 0} {m : _} where
         there = omega (arith, s.there, ap length still.homes);
         ends = ap (λ (b : Blocks). length (homes_in (take p b))) still.journal ∙ s.ends;
         few = omega (arith, s.few, le);
-        stays = λ a b left. s.stays a b (still.now a b left) ∙ sym (shown p n);
+        stays = λ a b left. same_back p n old new a b (shown p n) (s.stays a b (still.now a b left));
       })
       (λ p n s. shown p n)
     where
-      shown : (p n : ℕ) → seen_by p n new ≡ seen_by p n old
-      shown p n =
-          ap (λ (x : Blocks). snapshot p n x (regions.journal_of new)) still.base
-          ∙ ap (snapshot p n (regions.base_of old)) still.journal
+      shown : (p n : ℕ) → ShowsSame p n old (regions.base_of new) (regions.journal_of new)
+      shown p n = record {
+        log = ap (take p) still.journal;
+        blocks = ap (λ (x : Blocks). snapshot p n x (regions.journal_of new)) still.base
+            ∙ ap (snapshot p n (regions.base_of old)) still.journal;
+      }
 
   pub snapshots_still : (old new : LoggedPair P A m) → IsStill old new → KeepsSnapshots old new
   snapshots_still old new s =
@@ -167,17 +185,20 @@ module _ {P A : Type 0} {m : _} where
       there = omega (arith, s.there, more);
       ends = ap (λ (x : P). length (homes_in (take p (m.journal x)))) pair ∙ s.ends;
       few = omega (arith, s.few, le);
-      stays = λ a b left. s.stays a b (subst (λ (x : P). m.may_leave x a b) pair left) ∙ sym (shown p n);
+      stays = λ a b left.
+          same_back p n old new a b (shown p n) (s.stays a b (subst (λ (x : P). m.may_leave x a b) pair left));
     };
     shown = λ p n s. shown p n;
     stops = λ p n s.
-        subst (λ (x : P). PairLeaves m.moment m.left_since (regions.pair_of old) x
-        (λ a b. snapshot p n a b ≡ seen_by p n old)) (sym pair)
+        subst (λ (x : P). PairLeaves m.moment m.left_since (regions.pair_of old) x (ShowsSame p n old)) (sym pair)
         (pair_started m.moment m.left_since (regions.pair_of old) _);
   }
     where
-      shown : (p n : ℕ) → seen_by p n new ≡ seen_by p n old
-      shown p n = ap (λ (x : P). snapshot p n (m.base x) (m.journal x)) pair
+      shown : (p n : ℕ) → ShowsSame p n old (regions.base_of new) (regions.journal_of new)
+      shown p n = record {
+        log = ap (λ (x : P). take p (m.journal x)) pair;
+        blocks = ap (λ (x : P). snapshot p n (m.base x) (m.journal x)) pair;
+      }
 
   -- the journal was written behind the regions
   pub snaps_journal : (kept : ℕ) (old new : CommittedLog P A m)
@@ -197,24 +218,30 @@ module _ {P A : Type 0} {m : _} where
         there = omega (arith, s.there, ap length homes);
         ends =
             ap (λ (b : Blocks). length (homes_in b))
-            (first_less p end (regions.journal_of old) (regions.journal_of new) s.there first)
+            (first_less p (length (regions.homes_of old)) (regions.journal_of old) (regions.journal_of new) s.there
+            first)
             ∙ s.ends;
         few = s.few;
         stays = λ a b left.
             let from = follows a b left in
-            sees_first p end n a from.0 b s.there from.2
-            ∙ s.stays a from.0 from.1 ∙ sym (shown p n s);
+            same_back p n old new a b (shown p n s) (behind p n s a from.0 b from.2 (s.stays a from.0 from.1));
       })
       shown
     where
-      end : ℕ
-      end = length (regions.homes_of old)
+      behind : (p n : ℕ) → IsSnapshot p n kept old → (a b c : Blocks)
+          → KeepsFirst (length (regions.homes_of old)) b c → ShowsSame p n old a b → ShowsSame p n old a c
+      behind p n s a b c keeps same = record {
+        log = first_less p (length (regions.homes_of old)) b c s.there keeps ∙ same.log;
+        blocks = sees_first p (length (regions.homes_of old)) n a b c s.there keeps ∙ same.blocks;
+      }
 
-      shown : (p n : ℕ) → IsSnapshot p n kept old → seen_by p n new ≡ seen_by p n old
+      shown : (p n : ℕ) → IsSnapshot p n kept old
+          → ShowsSame p n old (regions.base_of new) (regions.journal_of new)
       shown p n s =
-          ap (λ (x : Blocks). snapshot p n x (regions.journal_of new)) base
-          ∙ sees_first p (length (regions.homes_of old)) n (regions.base_of old) (regions.journal_of old)
-          (regions.journal_of new) s.there first
+          behind p n s (regions.base_of new) (regions.journal_of old) (regions.journal_of new) first (record {
+            log = refl;
+            blocks = ap (λ (x : Blocks). snapshot p n x (regions.journal_of old)) base;
+          })
 
   -- a block of the base was written behind those of the last commit
   pub snaps_base : (kept i : ℕ) (old new : CommittedLog P A m) → kept ≤ i
@@ -237,17 +264,24 @@ module _ {P A : Type 0} {m : _} where
         few = s.few;
         stays = λ a b left.
             let from = follows a b left in
-            sees_base p n i from.0 a b (omega (arith, s.few, le))
-            (omega (arith, s.few, rooms from.0 b from.1)) from.2
-            ∙ s.stays from.0 b from.1 ∙ sym (shown p n s);
+            let was = s.stays from.0 b from.1 in
+            same_back p n old new a b (shown p n s) (record {
+              log = was.log;
+              blocks = sees_base p n i from.0 a b (omega (arith, s.few, le))
+                  (omega (arith, s.few, rooms from.0 b from.1)) from.2
+                  ∙ was.blocks;
+            });
       })
       shown
     where
-      shown : (p n : ℕ) → IsSnapshot p n kept old → seen_by p n new ≡ seen_by p n old
-      shown p n s =
-          sees_base p n i (regions.base_of old) (regions.base_of new) (regions.journal_of new)
-          (omega (arith, s.few, le)) (omega (arith, s.few, room)) torn
-          ∙ ap (snapshot p n (regions.base_of old)) journal
+      shown : (p n : ℕ) → IsSnapshot p n kept old
+          → ShowsSame p n old (regions.base_of new) (regions.journal_of new)
+      shown p n s = record {
+        log = ap (take p) journal;
+        blocks = sees_base p n i (regions.base_of old) (regions.base_of new) (regions.journal_of new)
+            (omega (arith, s.few, le)) (omega (arith, s.few, room)) torn
+            ∙ ap (snapshot p n (regions.base_of old)) journal;
+      }
 
   -- ---- the last commit
 
@@ -271,9 +305,24 @@ module _ {P A : Type 0} {m : _} where
   -- who has read all regions sees it, where recovery of them alone makes the base as it was read
   pub last_shows : (p n : ℕ) (old mid : CommittedLog P A m) → p ≡ length (regions.homes_of old)
       → LogStays old mid → regions.IsHonest old → regions.clearing_of old ≡ false → (a b : Blocks)
-      → FirstShow (length (regions.homes_of mid)) (regions.seen_of mid) a b
-      → snapshot p n a b ≡ seen_by p n old
+      → FirstShow (regions.homes_of mid) (regions.seen_of mid) a b → ShowsLastOf p n old a b
   last_shows p n old mid all still h settled a b is =
-      ap (λ (q : ℕ). snapshot q n a b) (all ∙ sym (ap length still.homes))
-      ∙ ap (take n) (is ∙ log_seen old mid still)
-      ∙ sym (last_seen p n old all h settled)
+      let seen : seen_by p n old ≡ take n (regions.seen_of old) = last_seen p n old all h settled in (
+        ap (λ (q : ℕ). snapshot q n a b) (all ∙ sym (ap length still.homes))
+            ∙ ap (take n) (is.0 ∙ log_seen old mid still)
+            ∙ sym seen,
+        ap (λ (hs : List ℕ). take n (overlaid hs b a)) (sym still.homes)
+            ∙ ap (take n) (is.1 ∙ log_seen old mid still)
+            ∙ sym seen,
+      )
+
+  -- and where a snapshot of the same stays
+  pub last_same : (p n kept : ℕ) (c : CommittedLog P A m) → p ≡ length (regions.homes_of c)
+      → regions.IsHonest c → regions.clearing_of c ≡ false → IsSnapshot p n kept c → (a b : Blocks)
+      → ShowsSame p n c a b → ShowsLastOf p n c a b
+  last_same p n kept c all h settled s a b same = (
+    same.blocks,
+    ap (λ (hs : List ℕ). take n (overlaid hs b a))
+        (sym (ap (λ (q : ℕ). homes_in (take q (regions.journal_of c))) all ∙ regions_of c h settled))
+        ∙ index_seen p n c a b s.ends same,
+  )

@@ -1,15 +1,16 @@
 -- The last commit is a snapshot.
 use Rattle.std.proofs.Common.{◌≡◌, ◌∙◌, ℕ, ◌^◌, ◌<◌, ◌≤◌, Bool, true, false, List, [], length, take, refl, sym}
 use Rattle.std.proofs.Common.{ap, arith}
-use Rattle.std.proofs.lemmas.List.{get_or-take, length-take-le}
+use Rattle.std.proofs.lemmas.List.{get_or-take, length-take-le, take-take}
 use Rattle.block_device.specs.Device.{Blocks, block_at}
 use Rattle.committed_log.specs.Committed as regions
-use Rattle.committed_log.specs.Log.{recovered}
+use Rattle.committed_log.specs.Log.{homes_in, overlaid, recovered}
+use Rattle.committed_log.specs.Overlay.{overlay_first}
 use Rattle.committed_log.specs.Regions.{recovery_first}
-use Rattle.committed_log.specs.Replay.{same_blocks}
+use Rattle.committed_log.specs.Replay.{length-overlaid, same_blocks}
 use Rattle.committed_log.specs.declared.log.CommittedLog.{CommittedLog}
-use Rattle.committed_log.proofs.Through.{first_of, regions_of}
-use Rattle.logged_pair.specs.Snapshots.{IsSnapshot, seen_by}
+use Rattle.committed_log.proofs.Through.{first_of, kept_of, regions_of}
+use Rattle.logged_pair.specs.Snapshots.{IsSnapshot, ShowsSame, seen_by}
 use Rattle.logged_pair.specs.Stages.{IsStanding, StopIn}
 
 pub first_same : (n : ℕ) (a d : Blocks) → n ≤ length a → n ≤ length d
@@ -31,6 +32,13 @@ first_stays false kept n base journal v j few le stop =
     ∙ get_or-take kept base k [] (omega (arith, lt, few)))
 first_stays true kept n base journal v j few le stop = ap (take n) stop.base_is
 
+-- the index of the first p blocks of the log, as recovery of them alone reads it
+pub index_read : (p : ℕ) (a b j : Blocks) → length (homes_in j) ≡ p → take p b ≡ j
+    → overlaid (homes_in j) b a ≡ recovered a (take p b)
+index_read p a b j ends is =
+    sym (overlay_first (homes_in j) b (take p b) a (take-take (length (homes_in j)) p b (omega (arith, ends))))
+    ∙ ap (λ (l : List ℕ). overlaid l (take p b) a) (ap homes_in (sym is))
+
 module _ {P A : Type 0} {m : _} where
   -- who has read all regions sees the base as it is read through them
   pub last_seen : (p n : ℕ) (c : CommittedLog P A m) → p ≡ length (regions.homes_of c)
@@ -49,9 +57,31 @@ module _ {P A : Type 0} {m : _} where
     there = omega arith;
     ends = ap length (regions_of c h settled);
     few = le;
-    stays = λ a b left.
-        ap (take n) (first_of c a b few h left)
-        ∙ first_stays deciding kept n (regions.seen_of c) (regions.behind_of c) _ _ le s.kept_there
-        (s.stops _ _ (a, b, left, refl, refl))
-        ∙ sym (last_seen (length (regions.homes_of c)) n c refl h settled);
+    stays = λ a b left. record {
+      log = kept_of c a b h settled left;
+      blocks = ap (take n) (first_of c a b few h left)
+          ∙ first_stays deciding kept n (regions.seen_of c) (regions.behind_of c) _ _ le s.kept_there
+          (s.stops _ _ (a, b, left, refl, refl))
+          ∙ sym (last_seen (length (regions.homes_of c)) n c refl h settled);
+    };
   }
+
+  -- who has read the index of the log before sees the same
+  pub index_seen : (p n : ℕ) (c : CommittedLog P A m) (a b : Blocks)
+      → length (homes_in (take p (regions.journal_of c))) ≡ p → ShowsSame p n c a b
+      → take n (overlaid (homes_in (take p (regions.journal_of c))) b a) ≡ seen_by p n c
+  index_seen p n c a b ends same =
+      ap (take n) (index_read p a b (take p (regions.journal_of c)) ends same.log) ∙ same.blocks
+
+  -- and sees n blocks
+  pub length-seen : (p n : ℕ) (c : CommittedLog P A m) → n ≤ length (regions.seen_of c)
+      → length (seen_by p n c) ≡ n
+  length-seen p n c le =
+      let j : Blocks = regions.journal_of c in let a : Blocks = regions.base_of c in
+      length-take-le n (recovered a (take p j))
+      (omega (
+        arith,
+        le,
+        length-overlaid (homes_in (take p j)) (take p j) a,
+        length-overlaid (regions.homes_of c) j a,
+      ))

@@ -1,8 +1,8 @@
 //! The laws of a commit and of recovery, each the contract of a function that does nothing.
-ghost use Rattle.std.specs.Prelude.{◌≡◌, ◌≤◌, ℕ, false, take};
+ghost use Rattle.std.specs.Prelude.{◌≡◌, ◌≤◌, ℕ, false, length, take};
 ghost use Rattle.block_device.specs.Device.{BeginsOne, Blocks};
 ghost use Rattle.device_pair.specs.Pairs.{PairLeaves, PairsNoMore};
-ghost use Rattle.committed_log.specs.Log.{recovered};
+ghost use Rattle.committed_log.specs.Log.{homes_in, overlaid, recovered};
 ghost use Rattle.committed_log.specs.Opening.{LeavesOr};
 ghost use Rattle.logged_pair.specs.Snapshots.{end_of, seen_by, snapshot, HasSnapshot};
 ghost use Rattle.logged_pair.specs.Standing.{base_of, clearing_of, commits_of, kept_of, left_since_of, log_of};
@@ -51,11 +51,19 @@ pub fn what_is_given_up_is_a_commit_again<P: DevicePair, A: Allocator + Copy>()
         BeginsOne (commits_of d) (shown_of opened) }
 {}
 
-/// Whatever a stop now may leave of both devices shows a reader's snapshot as they show it as they are read: so a
+/// Whatever a stop now may leave of both devices shows a reader's snapshot as they show it as they are read: the log
+/// up to its block, and through it the base, whether the index of the log is read now or was read before. So a
 /// reader sees it whose reads give what a stop at their moments may leave.
 pub fn what_a_reader_reads_stays<P: DevicePair, A: Allocator + Copy>()
-    ensures { (d : LoggedPair P A ⟦<P as DevicePair>⟧) (p n : ℕ) (a b : Blocks) → HasSnapshot p n d →
+    ensures log { (d : LoggedPair P A ⟦<P as DevicePair>⟧) (p n : ℕ) (a b : Blocks) → HasSnapshot p n d →
+        P.may_leave (pair_of d) a b → take p b ≡ take p (P.journal (pair_of d)) }
+    ensures now { (d : LoggedPair P A ⟦<P as DevicePair>⟧) (p n : ℕ) (a b : Blocks) → HasSnapshot p n d →
         P.may_leave (pair_of d) a b → snapshot p n a b ≡ seen_by p n (log_of d) }
+    ensures index { (d : LoggedPair P A ⟦<P as DevicePair>⟧) (p n : ℕ) (a b : Blocks) → HasSnapshot p n d →
+        P.may_leave (pair_of d) a b →
+        take n (overlaid (homes_in (take p (P.journal (pair_of d)))) b a) ≡ seen_by p n (log_of d) }
+    ensures blocks { (d : LoggedPair P A ⟦<P as DevicePair>⟧) (p n : ℕ) → IsHonest d → HasSnapshot p n d →
+        length (seen_by p n (log_of d)) ≡ n }
 {}
 
 /// Who has read all regions of the log has a snapshot of the last commit, or of its first blocks.

@@ -37,7 +37,7 @@ impl<P: DevicePair, A: Allocator + Copy> CommittedLog<P, A> {
             (λ a b. recovered a b ≡ seen_of self.old) }
         ensures last { IsHonest self.old →
             PairLeaves P.moment P.left_since (pair_of self.old) (pair_of self.new)
-            (FirstShow (length (homes_of self.old)) (seen_of self.old)) }
+            (FirstShow (homes_of self.old) (seen_of self.old)) }
         ensures honest { IsHonest self.old ↔ IsHonest self.new }
         ensures faults { Counts (P.faults (pair_of self.old)) (P.faults (pair_of self.new)) result }
     {
@@ -64,7 +64,7 @@ impl<P: DevicePair, A: Allocator + Copy> CommittedLog<P, A> {
             (λ a b. recovered a b ≡ seen_of self.old) }
         ensures last { IsHonest self.old → clearing_of self.old ≡ true →
             PairLeaves P.moment P.left_since (pair_of self.old) (pair_of self.new)
-            (FirstShow (length (homes_of self.old)) (seen_of self.old)) }
+            (FirstShow (homes_of self.old) (seen_of self.old)) }
         ensures honest { IsHonest self.old ↔ IsHonest self.new }
         ensures faults { Counts (P.faults (pair_of self.old)) (P.faults (pair_of self.new)) result }
     {
@@ -91,7 +91,7 @@ impl<P: DevicePair, A: Allocator + Copy> CommittedLog<P, A> {
             (λ a b. recovered a b ≡ seen_of self.old) }
         ensures last { IsHonest self.old →
             PairLeaves P.moment P.left_since (pair_of self.old) (pair_of self.new)
-            (FirstShow (length (homes_of self.old)) (seen_of self.old)) }
+            (FirstShow (homes_of self.old) (seen_of self.old)) }
         ensures honest { IsHonest self.old ↔ IsHonest self.new }
         ensures faults { Counts (P.faults (pair_of self.old)) (P.faults (pair_of self.new)) result }
     {
@@ -115,7 +115,7 @@ impl<P: DevicePair, A: Allocator + Copy> CommittedLog<P, A> {
             (λ a b. recovered a b ≡ seen_of self.old) }
         ensures last { IsHonest self.old →
             PairLeaves P.moment P.left_since (pair_of self.old) (pair_of self.new)
-            (FirstShow (length (homes_of self.old)) (seen_of self.old)) }
+            (FirstShow (homes_of self.old) (seen_of self.old)) }
         ensures honest { IsHonest self.old ↔ IsHonest self.new }
         ensures faults { Counts (P.faults (pair_of self.old)) (P.faults (pair_of self.new)) result }
     {
@@ -140,7 +140,7 @@ impl<P: DevicePair, A: Allocator + Copy> CommittedLog<P, A> {
             (λ a b. recovered a b ≡ seen_of self.old) }
         ensures last { IsHonest self.old →
             PairLeaves P.moment P.left_since (pair_of self.old) (pair_of self.new)
-            (FirstShow (length (homes_of self.old)) (seen_of self.old)) }
+            (FirstShow (homes_of self.old) (seen_of self.old)) }
         ensures honest { IsHonest self.old ↔ IsHonest self.new }
         ensures faults { Counts (P.faults (pair_of self.old)) (P.faults (pair_of self.new)) result }
     {
@@ -183,7 +183,7 @@ impl<P: DevicePair, A: Allocator + Copy> CommittedLog<P, A> {
             (λ a b. recovered a b ≡ seen_of self.old) }
         ensures last { IsHonest self.old →
             PairLeaves P.moment P.left_since (pair_of self.old) (pair_of self.new)
-            (FirstShow (length (homes_of self.old)) (seen_of self.old)) }
+            (FirstShow (homes_of self.old) (seen_of self.old)) }
         ensures honest { IsHonest self.old ↔ IsHonest self.new }
         ensures faults { Counts (P.faults (pair_of self.old)) (P.faults (pair_of self.new)) result }
     {

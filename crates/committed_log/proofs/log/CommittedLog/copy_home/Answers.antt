@@ -1,5 +1,5 @@
 -- All slots are copied home, and the log begins anew.
-use Rattle.std.proofs.Common.{◌≡◌, ◌∙◌, ◌<◌, ◌≤◌, ℕ, List, ap, arith, drop, length, refl, sym, take}
+use Rattle.std.proofs.Common.{◌≡◌, ◌∙◌, ◌<◌, ◌≤◌, ap, arith, drop, length, refl, sym}
 use Rattle.device_pair.specs.Pairs.{PairLeaves}
 use Rattle.device_pair.specs.Runs.{pair_call, pair_then, pair_weaker}
 use Rattle.committed_log.specs.Committed.{behind_of, homes_of, seen_of}
@@ -7,6 +7,7 @@ use Rattle.committed_log.specs.Home.{FirstShow}
 use Rattle.committed_log.specs.Log.{overlaid, recovered}
 use Rattle.committed_log.proofs.Homing.{Quiet, copied_stands, drop_longer, quiet_first, quiet_recovers}
 use Rattle.committed_log.proofs.Homing.{quiet_still, seen_equal}
+use Rattle.committed_log.proofs.Keeping.{first_shows}
 use Rattle.committed_log.proofs.log.CommittedLog.copy_home.Given as given
 use Rattle.committed_log.proofs.log.CommittedLog.copy_home.Goals as goal
 use Rattle.committed_log.proofs.log.CommittedLog.copy_home.Goals.{After-sync_base}
@@ -43,18 +44,18 @@ leaves_so g c h =
 
 last_so : (g : given.Over) (c : After-sync_base g) → g.P.DevicePair.honest c.args.self.now.pair
     → PairLeaves g.P.DevicePair.moment g.P.DevicePair.left_since c.args.self.now.pair c.sync_base.new.self
-    (FirstShow (length (homes_of c.args.self.now)) (seen_of c.args.self.now))
+    (FirstShow (homes_of c.args.self.now) (seen_of c.args.self.now))
 last_so g c h =
     let d = c.args.self.now in let m = c.copy_slots.new.self in let p = g.P.DevicePair in
     let e = c.sync_base.new.self in
     let h1 = c.copy_slots.ensures.honest.0 h in
     pair_then p.moment p.left_since d.pair m.pair e _ (c.copy_slots.ensures.last h)
     (pair_call p.moment p.left_since m.pair e _ (p.may_leave e) (c.sync_base.ensures.time h1) (λ a b left.
-    ap (λ (hs : List ℕ). recovered a (take (length hs) b)) (sym c.copy_slots.ensures.log.homes)
-    ∙ quiet_first m.clearing m.slots.homes.items (p.base m.pair) (p.journal m.pair) (seen_of m)
+    first_shows (homes_of m) (homes_of d) (seen_of m) (seen_of d) c.copy_slots.ensures.log.homes
+    (c.copy_slots.ensures.seen h) a b
+    (quiet_first m.clearing m.slots.homes.items (p.base m.pair) (p.journal m.pair) (seen_of m)
     (p.may_leave m.pair) (g.met.P.DevicePair.few_blocks m.pair).0 (m.standing h1) (quiet_so g c h) a b
-    (c.sync_base.ensures.stops h1 a b left)
-    ∙ c.copy_slots.ensures.seen h))
+    (c.sync_base.ensures.stops h1 a b left))))
 
 pub returns-in_err-sync_base-clause-last : goal.returns-in_err-sync_base-clause-last
 returns-in_err-sync_base-clause-last g c = λ h.
@@ -66,8 +67,8 @@ returns-clause-last g c = λ h.
     let at = (goal.at.returns-clause-last g c).After-sync_base in
     pair_then p.moment p.left_since d.pair e c.settle.new.self.pair _ (last_so g at h)
     (pair_weaker p.moment p.left_since e c.settle.new.self.pair _ _
-    (λ a b is. ap (λ (hs : List ℕ). recovered a (take (length hs) b)) (sym c.copy_slots.ensures.log.homes)
-    ∙ is ∙ seen_so g at h)
+    (first_shows (homes_of c.copy_slots.new.self) (homes_of d) _ (seen_of d) c.copy_slots.ensures.log.homes
+    (seen_so g at h))
     (c.settle.ensures.last (c.sync_base.ensures.honest.0 (c.copy_slots.ensures.honest.0 h)) refl))
 
 pub invariant_of-self-2 : goal.invariant_of-self-2

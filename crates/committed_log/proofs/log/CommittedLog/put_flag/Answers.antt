@@ -1,11 +1,12 @@
 -- The first flag, written.
-use Rattle.std.proofs.Common.{◌≡◌, ◌∙◌, Bool, arith, subst, sym, true}
+use Rattle.std.proofs.Common.{◌≡◌, ◌∙◌, Bool, arith, refl, subst, sym, true}
 use Rattle.device_pair.specs.Runs.{pair_call}
 use Rattle.committed_log.specs.Committed.{seen_of}
 use Rattle.committed_log.specs.Log.{overlaid}
 use Rattle.committed_log.specs.Stops.{IsStanding}
 use Rattle.committed_log.proofs.Homing.{SameAside, aside_answer, clearing_quiet, flag_seen, flag_stands}
 use Rattle.committed_log.proofs.Homing.{quiet_first, quiet_recovers, true_stands}
+use Rattle.committed_log.proofs.Keeping.{first_shows}
 use Rattle.committed_log.proofs.log.CommittedLog.put_flag.Given as given
 use Rattle.committed_log.proofs.log.CommittedLog.put_flag.Goals as goal
 use Rattle.committed_log.proofs.log.CommittedLog.put_flag.Goals.{After-write_journal}
@@ -69,10 +70,10 @@ returns-clause-last g c = λ h.
     let at = (goal.at.returns-clause-last g c).After-write_journal in
     let few = (g.met.P.DevicePair.few_blocks e).0 in
     pair_call p.moment p.left_since d.pair e _ (p.may_leave e) (c.write_journal.ensures.time h) (λ a b left.
-    quiet_first true d.slots.homes.items (p.base e) (p.journal e) _ (p.may_leave e) few (stands_so g at h)
+    first_shows d.slots.homes.items d.slots.homes.items _ (seen_of d) refl (seen_so g at h) a b
+    (quiet_first true d.slots.homes.items (p.base e) (p.journal e) _ (p.may_leave e) few (stands_so g at h)
     (clearing_quiet d.slots.homes.items (p.base e) (p.journal e) (p.may_leave e) few (stands_so g at h))
-    a b left
-    ∙ seen_so g at h)
+    a b left))
 
 pub returns-clause-longer : goal.returns-clause-longer
 returns-clause-longer g c = λ h.

@@ -3,9 +3,8 @@ use Rattle.std.proofs.Common.{◌≡◌, ◌+◌, ℕ, ap, arith, inl, length, r
 use Rattle.block_device.specs.Device.{Torn, written}
 use Rattle.committed_log.specs.Committed.{homes_of}
 use Rattle.committed_log.specs.Torn.{take_torn}
-use Rattle.committed_log.proofs.Stood.{kept_there}
 use Rattle.committed_log.proofs.Stood.{behind_leaves, behind_seen, behind_stands, behind_torn, behind_written}
-use Rattle.committed_log.proofs.Stood.{on_err, on_ok, torn_of}
+use Rattle.committed_log.proofs.Stood.{kept_stop, on_err, on_ok, torn_of}
 use Rattle.committed_log.proofs.log.CommittedLog.write_behind.Given as given
 use Rattle.committed_log.proofs.log.CommittedLog.write_behind.Goals as goal
 use Rattle.committed_log.proofs.log.CommittedLog.write_behind.Goals.{After-write_journal}
@@ -95,7 +94,10 @@ returns-clause-region_stops g c = λ h a b left.
       from.0,
       from.1,
       take_torn (length (homes_of d)) (c.len.result + c.args.i) from.0 b (omega (arith, c.len.ensures))
-          (kept_there d.clearing d.slots.homes.items (p.base d.pair) (p.journal d.pair) (p.may_leave d.pair)
-          c.requires.settled (d.standing h) a from.0 from.1)
+          (omega (
+            arith,
+            (kept_stop d.clearing d.slots.homes.items (p.base d.pair) (p.journal d.pair) (p.may_leave d.pair)
+                c.requires.settled (d.standing h) a from.0 from.1).there,
+          ))
           from.2,
     )

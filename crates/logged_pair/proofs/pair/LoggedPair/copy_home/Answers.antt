@@ -1,10 +1,12 @@
 -- A commit that has begun is finished first.
-use Rattle.std.proofs.Common.{◌≡◌, ◌∙◌, ap, sym}
+use Rattle.std.proofs.Common.{◌≡◌, ◌∙◌, ap, subst, sym}
 use Rattle.logged_pair.specs.Standing.{commits_of}
 use Rattle.logged_pair.proofs.Keeping.{keeps_on}
-use Rattle.device_pair.specs.Runs.{pair_then, pair_weaker}
-use Rattle.logged_pair.specs.Snapshots.{end_of}
-use Rattle.logged_pair.specs.Standing.{pair_of}
+use Rattle.logged_pair.proofs.Snapped.{last_same}
+use Rattle.device_pair.specs.Pairs.{PairLeaves}
+use Rattle.device_pair.specs.Runs.{pair_weaker}
+use Rattle.logged_pair.specs.Snapshots.{ShowsLastOf, end_of}
+use Rattle.logged_pair.specs.Standing.{kept_of, log_of, pair_of}
 use Rattle.logged_pair.proofs.pair.LoggedPair.copy_home.Goals as goal
 
 pub returns-clause-shown : goal.returns-clause-shown
@@ -19,16 +21,17 @@ returns-clause-keeps g c = λ h.
 
 pub returns-in_err-finish-clause-last : goal.returns-in_err-finish-clause-last
 returns-in_err-finish-clause-last g c = λ h fills p n s all.
-    (c.finish.ensures.snapshots h).stops p n s
+    let q = g.P.DevicePair in
+    let d = c.args.self.now in
+    pair_weaker q.moment q.left_since (pair_of d) (pair_of c.finish.new.self) _ _
+    (last_same p n (kept_of d) (log_of d) all h s.settled s) ((c.finish.ensures.snapshots h).stops p n s)
 
 pub returns-clause-last : goal.returns-clause-last
 returns-clause-last g c = λ h fills p n s all.
     let q = g.P.DevicePair in
-    let d = c.args.self.now in let f = c.finish.new.self in
-    let kept = c.finish.ensures.snapshots h in
-    let same : f ≡ d = c.finish.ensures.still fills s.settled in
-    pair_then q.moment q.left_since (pair_of d) (pair_of f) (pair_of c.copy_now.new.self) _ (kept.stops p n s)
-    (pair_weaker q.moment q.left_since (pair_of f) (pair_of c.copy_now.new.self) _ _
-    (λ a b e. e ∙ kept.shown p n s)
-    (c.copy_now.ensures.last (c.finish.ensures.honest.0 h) p n (kept.there p n s)
-    (all ∙ ap (λ (x : _). end_of x) (sym same))))
+    let same : c.finish.new.self ≡ c.args.self.now = c.finish.ensures.still fills s.settled in
+    subst (λ (x : _). PairLeaves q.moment q.left_since (pair_of x) (pair_of c.copy_now.new.self)
+    (ShowsLastOf p n (log_of x))) same
+    (c.copy_now.ensures.last (c.finish.ensures.honest.0 h) p n
+    ((c.finish.ensures.snapshots h).there p n s)
+    (all ∙ ap (λ (x : _). end_of x) (sym same)))

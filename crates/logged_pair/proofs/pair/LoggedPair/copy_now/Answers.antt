@@ -1,5 +1,5 @@
 -- The base is synced, and the log copied home.
-use Rattle.std.proofs.Common.{◌≡◌, ◌∙◌, ◌≤◌, ap, arith, length, sym, take}
+use Rattle.std.proofs.Common.{◌≡◌, ◌∙◌, ℕ, ◌≤◌, ap, arith, length, sym, take}
 use Rattle.block_device.specs.Device.{Blocks}
 use Rattle.device_pair.specs.Pairs.{PairLeaves}
 use Rattle.device_pair.specs.Runs.{pair_call, pair_then, pair_weaker}
@@ -14,8 +14,8 @@ use Rattle.logged_pair.proofs.GivingUp.{bare_shown}
 use Rattle.logged_pair.proofs.Keeping.{keeps_call, keeps_seen}
 use Rattle.logged_pair.proofs.Stills.{log_behind, log_commits, log_leaves, log_seen, log_shown, log_stands, stays_of}
 use Rattle.logged_pair.proofs.Stood.{commits_filling, filling}
-use Rattle.logged_pair.specs.Snapshots.{SnapshotsStay}
-use Rattle.logged_pair.proofs.Snapped.{last_shows, snaps_still}
+use Rattle.logged_pair.specs.Snapshots.{IsSnapshot, ShowsLastOf}
+use Rattle.logged_pair.proofs.Snapped.{last_same, last_shows, snaps_still}
 use Rattle.logged_pair.proofs.pair.LoggedPair.copy_now.Given as given
 use Rattle.logged_pair.proofs.pair.LoggedPair.copy_now.Goals as goal
 use Rattle.logged_pair.proofs.pair.LoggedPair.copy_now.Goals.{After-copy_home, After-sync_base}
@@ -125,15 +125,20 @@ returns-clause-keeps g c = λ h.
     c.requires.filling c.requires.filling (ap (take d.kept) (same_so g after h))) all
 
 -- the sync before the copies
-synced_snaps : (g : given.Over) (c : After-sync_base g) → regions.IsHonest c.args.self.now.log
-    → SnapshotsStay c.args.self.now.kept c.args.self.now.kept c.args.self.now.log c.sync_base.new.self
-synced_snaps g c h =
-    let d = c.args.self.now in
-    snaps_still d.kept d.kept d.log c.sync_base.new.self (omega arith) (stays_of (c.sync_base.ensures.still h))
+synced_last : (g : given.Over) (c : After-sync_base g) → regions.IsHonest c.args.self.now.log → (p n : ℕ)
+    → IsSnapshot p n c.args.self.now.kept c.args.self.now.log
+    → p ≡ length (regions.homes_of c.args.self.now.log)
+    → PairLeaves g.P.DevicePair.moment g.P.DevicePair.left_since (regions.pair_of c.args.self.now.log)
+    (regions.pair_of c.sync_base.new.self) (ShowsLastOf p n c.args.self.now.log)
+synced_last g c h p n s all =
+    let q = g.P.DevicePair in let d = c.args.self.now in let m = c.sync_base.new.self in
+    let stay = snaps_still d.kept d.kept d.log m (omega arith) (stays_of (c.sync_base.ensures.still h)) in
+    pair_weaker q.moment q.left_since (regions.pair_of d.log) (regions.pair_of m) _ _
+    (last_same p n d.kept d.log all h c.requires.settled s) (stay.stops p n s)
 
 pub returns-in_err-sync_base-clause-last : goal.returns-in_err-sync_base-clause-last
 returns-in_err-sync_base-clause-last g c = λ h p n s all.
-    (synced_snaps g (goal.at.returns-in_err-sync_base-clause-last g c).After-sync_base h).stops p n s
+    synced_last g (goal.at.returns-in_err-sync_base-clause-last g c).After-sync_base h p n s all
 
 pub returns-clause-last : goal.returns-clause-last
 returns-clause-last g c = λ h p n s all.
@@ -141,7 +146,7 @@ returns-clause-last g c = λ h p n s all.
     let d = c.args.self.now in let m = c.sync_base.new.self in let e = c.copy_home.new.self in
     let still = stays_of (c.sync_base.ensures.still h) in
     pair_then q.moment q.left_since (regions.pair_of d.log) (regions.pair_of m) (regions.pair_of e) _
-    ((synced_snaps g (goal.at.returns-clause-last g c).After-sync_base h).stops p n s)
+    (synced_last g (goal.at.returns-clause-last g c).After-sync_base h p n s all)
     (pair_weaker q.moment q.left_since (regions.pair_of m) (regions.pair_of e) _ _
     (last_shows p n d.log m all still h c.requires.settled)
     (c.copy_home.ensures.last (c.sync_base.ensures.honest.0 h)))
