@@ -3,6 +3,7 @@ use Rattle.std.proofs.Common.{◌≡◌, ◌∙◌, ℕ, ◌^◌, ◌<◌, ◌�
 use Rattle.std.proofs.Common.{ap, arith}
 use Rattle.std.proofs.lemmas.List.{get_or-take, length-take-le, take-take}
 use Rattle.block_device.specs.Device.{Blocks, block_at}
+use Rattle.committed_log.specs.Appending.{Appended, IsAppended}
 use Rattle.committed_log.specs.Committed as regions
 use Rattle.committed_log.specs.Log.{homes_in, overlaid, recovered}
 use Rattle.committed_log.specs.Overlay.{overlay_first}
@@ -10,7 +11,7 @@ use Rattle.committed_log.specs.Regions.{recovery_first}
 use Rattle.committed_log.specs.Replay.{length-overlaid, same_blocks}
 use Rattle.committed_log.specs.declared.log.CommittedLog.{CommittedLog}
 use Rattle.committed_log.proofs.Through.{first_of, kept_of, regions_of}
-use Rattle.logged_pair.specs.Snapshots.{IsSnapshot, ShowsSame, seen_by}
+use Rattle.logged_pair.specs.Snapshots.{IsSnapshot, ShowsSame, seen_by, snapshot}
 use Rattle.logged_pair.specs.Stages.{IsStanding, StopIn}
 
 pub first_same : (n : ℕ) (a d : Blocks) → n ≤ length a → n ≤ length d
@@ -38,6 +39,18 @@ pub index_read : (p : ℕ) (a b j : Blocks) → length (homes_in j) ≡ p → ta
 index_read p a b j ends is =
     sym (overlay_first (homes_in j) b (take p b) a (take-take (length (homes_in j)) p b (omega (arith, ends))))
     ∙ ap (λ (l : List ℕ). overlaid l (take p b) a) (ap homes_in (sym is))
+
+-- blocks that were appended behind those that a reader has read are not seen
+pub appended_log : (p : ℕ) (base journal a b : Blocks) → p ≤ length journal → IsAppended base journal a b
+    → take p b ≡ take p journal
+appended_log p base journal a b le is =
+    sym (take-take p (length journal) b le) ∙ ap (take p) is.begins
+
+pub appended_seen : (p n : ℕ) (base journal a b : Blocks) → p ≤ length journal → IsAppended base journal a b
+    → snapshot p n a b ≡ snapshot p n base journal
+appended_seen p n base journal a b le is =
+    ap (λ (x : Blocks). snapshot p n x b) is.base_is
+    ∙ ap (λ (x : Blocks). take n (recovered base x)) (appended_log p base journal a b le is)
 
 module _ {P A : Type 0} {m : _} where
   -- who has read all regions sees the base as it is read through them
@@ -85,3 +98,25 @@ module _ {P A : Type 0} {m : _} where
         length-overlaid (homes_in (take p j)) (take p j) a,
         length-overlaid (regions.homes_of c) j a,
       ))
+
+  -- a reader of before, once blocks were appended
+  pub appended_there : (p n kept : ℕ) (base journal : Blocks) (c : CommittedLog P A m)
+      → Appended base journal (regions.base_of c) (regions.journal_of c) (m.may_leave (regions.pair_of c))
+      → regions.clearing_of c ≡ false → p ≤ length (regions.homes_of c) → p ≤ length journal
+      → length (homes_in (take p journal)) ≡ p → n ≤ kept
+      → IsSnapshot p n kept c × (seen_by p n c ≡ snapshot p n base journal)
+  appended_there p n kept base journal c is settled there le ends few =
+      let log : take p (regions.journal_of c) ≡ take p journal = appended_log p base journal _ _ le is.now in
+      let seen : seen_by p n c ≡ snapshot p n base journal = appended_seen p n base journal _ _ le is.now in (
+        record {
+          settled = settled;
+          there = there;
+          ends = ap (λ (b : Blocks). length (homes_in b)) log ∙ ends;
+          few = few;
+          stays = λ a b left. record {
+            log = appended_log p base journal a b le (is.left a b left) ∙ sym log;
+            blocks = appended_seen p n base journal a b le (is.left a b left) ∙ sym seen;
+          };
+        },
+        seen,
+      )

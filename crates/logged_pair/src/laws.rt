@@ -2,6 +2,7 @@
 ghost use Rattle.std.specs.Prelude.{◌≡◌, ◌≤◌, ℕ, false, length, take};
 ghost use Rattle.block_device.specs.Device.{BeginsOne, Blocks};
 ghost use Rattle.device_pair.specs.Pairs.{PairLeaves, PairsNoMore};
+ghost use Rattle.committed_log.specs.Appending.{IsAppended};
 ghost use Rattle.committed_log.specs.Log.{homes_in, overlaid, recovered};
 ghost use Rattle.committed_log.specs.Opening.{LeavesOr};
 ghost use Rattle.logged_pair.specs.Snapshots.{end_of, seen_by, snapshot, HasSnapshot};
@@ -72,4 +73,13 @@ pub fn the_last_commit_is_a_snapshot<P: DevicePair, A: Allocator + Copy>()
         clearing_of d ≡ false → n ≤ kept_of d → HasSnapshot (end_of d) n d }
     ensures shown { (d : LoggedPair P A ⟦<P as DevicePair>⟧) (n : ℕ) → IsHonest d →
         clearing_of d ≡ false → seen_by (end_of d) n (log_of d) ≡ take n (base_of d) }
+{}
+
+/// What opening leaves of both devices, at each moment since they were synced, shows who has read the log before
+/// what it saw.
+pub fn what_is_appended_is_not_seen()
+    ensures log { (p : ℕ) (base journal a b : Blocks) → p ≤ length journal → IsAppended base journal a b →
+        take p b ≡ take p journal }
+    ensures blocks { (p n : ℕ) (base journal a b : Blocks) → p ≤ length journal →
+        IsAppended base journal a b → snapshot p n a b ≡ snapshot p n base journal }
 {}

@@ -3,6 +3,7 @@ ghost use Rattle.std.specs.Prelude.{◌≡◌, ◌≤◌, ◌<◌, ◌+◌, ◌^
 ghost use Rattle.std.specs.List.{Contains};
 ghost use Rattle.block_device.specs.Device.{Blocks, Torn, Counts, block_at, written};
 ghost use Rattle.device_pair.specs.Pairs.{BaseFollows, JournalFollows, PairElapses, PairsNoMore};
+ghost use Rattle.committed_log.specs.Appending.{AppendsOnly};
 ghost use Rattle.committed_log.specs.Committed.{base_of, behind_of, clearing_of, homes_of, journal_of};
 ghost use Rattle.committed_log.specs.Committed.{leaves_of, pair_of, seen_of, IsHonest, IsStill, KeepsFirst};
 ghost use Rattle.committed_log.specs.Committed.{SameLog};
@@ -147,6 +148,9 @@ impl<P: DevicePair, A: Allocator + Copy> CommittedLog<P, A> {
         ensures region_stops { IsHonest self.old →
             JournalFollows (KeepsFirst (length (homes_of self.old))) (P.may_leave (pair_of self.old))
             (P.may_leave (pair_of self.new)) }
+
+        // Behind the last block it only appends.
+        ensures appends { IsHonest self.old → i ≡ length (behind_of self.old) → AppendsOnly self.old self.new }
         ensures time { IsHonest self.old →
             PairElapses (P.moment (pair_of self.old)) (P.moment (pair_of self.new))
             (P.left_since (pair_of self.old))

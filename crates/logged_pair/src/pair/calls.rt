@@ -72,8 +72,9 @@ impl<P: DevicePair, A: Allocator + Copy> LoggedPair<P, A> {
         self.write_now(i, bytes)
     }
 
-    /// Whether the log has grown long, and no block of it nor of a commit in progress is open: whoever knows that
-    /// no reader is there copies it home then, before the first write of a commit.
+    /// Whether the log has grown long, where no commit is being decided and nothing was written since the last one
+    /// but blocks that were appended. A caller that knows that no reader is there copies it home then, before the
+    /// first write of the next commit.
     pub fn is_long(&self) -> bool
         ensures none { result ≡ true → homes_of self.now ≡ [] }
         ensures filling { result ≡ true → deciding_of self.now ≡ false }

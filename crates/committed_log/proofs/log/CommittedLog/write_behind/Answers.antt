@@ -1,10 +1,12 @@
 -- A block of the journal behind the regions.
 use Rattle.std.proofs.Common.{◌≡◌, ◌+◌, ℕ, ap, arith, inl, length, refl}
+use Rattle.std.proofs.lemmas.List.{length-drop}
 use Rattle.block_device.specs.Device.{Torn, written}
 use Rattle.committed_log.specs.Committed.{homes_of}
 use Rattle.committed_log.specs.Torn.{take_torn}
 use Rattle.committed_log.proofs.Stood.{behind_leaves, behind_seen, behind_stands, behind_torn, behind_written}
 use Rattle.committed_log.proofs.Stood.{kept_stop, on_err, on_ok, torn_of}
+use Rattle.committed_log.proofs.Appending.{appends_journal, appends_none}
 use Rattle.committed_log.proofs.log.CommittedLog.write_behind.Given as given
 use Rattle.committed_log.proofs.log.CommittedLog.write_behind.Goals as goal
 use Rattle.committed_log.proofs.log.CommittedLog.write_behind.Goals.{After-write_journal}
@@ -101,3 +103,15 @@ returns-clause-region_stops g c = λ h a b left.
           ))
           from.2,
     )
+
+pub returns-then-at-journal_blocks-clause-appends : goal.returns-then-at-journal_blocks-clause-appends
+returns-then-at-journal_blocks-clause-appends g c = λ h last.
+    appends_none c.args.self.now
+
+pub returns-clause-appends : goal.returns-clause-appends
+returns-clause-appends g c = λ h last.
+    let d = c.args.self.now in let p = g.P.DevicePair in
+    let at = (goal.at.returns-clause-appends g c).After-write_journal in
+    appends_journal (c.len.result + c.args.i) d _ (c.write_journal.ensures.base h)
+    (omega (arith, c.len.ensures, last, length-drop (length (homes_of d)) (p.journal d.pair)))
+    (torn_so g at h) (c.write_journal.ensures.stops h) (c.write_journal.ensures.time h)
