@@ -1,5 +1,5 @@
 -- What one call, and runs in turn, keep to.
-use Rattle.std.proofs.Common.{◌≡◌, ◌∙◌, ◌^◌, ◌≤◌, ℕ, List, length, drop, take, refl, sym, ap, subst}
+use Rattle.std.proofs.Common.{◌≡◌, ◌∙◌, ◌^◌, ◌≤◌, ℕ, List, length, drop, refl, sym, ap, subst}
 use Rattle.block_device.specs.Device.{Blocks}
 use Rattle.device_pair.specs.Pairs.{PairElapses, PairLeaves, PairsNoMore}
 use Rattle.device_pair.specs.Runs.{pair_call, pair_then, pair_weaker}

@@ -27,6 +27,10 @@ pub on_err : (r : Answer) (P Q : Type 0) → (P → Q) → OnErr r P → OnErr r
 on_err (Ok u) P Q f p = p
 on_err (Err e) P Q f p = f p
 
+pub on_any : (r : Answer) (P : Type 0) → P → OnErr r P
+on_any (Ok u) P p = tt
+on_any (Err e) P p = p
+
 -- a write that answered, Ok or not, has torn its block at most
 pub torn_of : (r : Answer) (i : ℕ) (bytes : List ℕ) (old new : Blocks) → IsBlock bytes
     → OnOk r (new ≡ written i bytes old) → OnErr r (Torn i old new) → Torn i old new

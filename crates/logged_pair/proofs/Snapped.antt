@@ -326,3 +326,19 @@ module _ {P A : Type 0} {m : _} where
         (sym (ap (λ (q : ℕ). homes_in (take q (regions.journal_of c))) all ∙ regions_of c h settled))
         ∙ index_seen p n c a b s.ends same,
   )
+
+  -- and goes on to see it, where the regions and what is read through them are the same
+  pub last_stays : (deciding clearing : Bool) (kept : ℕ) (slots : List ℕ) (old new : CommittedLog P A m)
+      → length (regions.base_of new) ≤ 2 ^ 31 → regions.IsHonest old → regions.IsHonest new
+      → regions.homes_of new ≡ regions.homes_of old → regions.seen_of new ≡ regions.seen_of old
+      → IsStanding deciding clearing kept slots (regions.seen_of new) (regions.behind_of new)
+      (regions.leaves_of new)
+      → regions.clearing_of new ≡ false → (p n : ℕ) → IsSnapshot p n kept old
+      → p ≡ length (regions.homes_of old)
+      → IsSnapshot p n kept new × (seen_by p n new ≡ seen_by p n old)
+  last_stays deciding clearing kept slots old new few h h' homes seen stands settled p n s all =
+      let end : p ≡ length (regions.homes_of new) = all ∙ sym (ap length homes) in (
+        subst (λ (q : ℕ). IsSnapshot q n kept new) (sym end)
+            (last_there deciding clearing kept n slots new few h' settled s.few stands),
+        last_seen p n new end h' settled ∙ ap (take n) seen ∙ sym (last_seen p n old all h s.settled),
+      )

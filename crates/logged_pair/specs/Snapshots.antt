@@ -64,3 +64,8 @@ ShowsLastOf p n c a b = (snapshot p n a b ≡ seen_by p n c)
 abbrev pub KeepsLast : {P A : Type 0} {m : _} → LoggedPair P A m → LoggedPair P A m → Type 0
 KeepsLast {m = m} old new = (p n : ℕ) → HasSnapshot p n old → p ≡ end_of old
     → PairLeaves m.moment m.left_since (pair_of old) (pair_of new) (ShowsLastOf p n (log_of old))
+
+-- Where the log was not begun anew after all, who has read all regions goes on to see the last commit.
+abbrev pub LastStays : {P A : Type 0} {m : _} → LoggedPair P A m → LoggedPair P A m → Type 0
+LastStays old new = regions.clearing_of (log_of new) ≡ false → (p n : ℕ) → HasSnapshot p n old → p ≡ end_of old
+    → HasSnapshot p n new × (seen_by p n (log_of new) ≡ seen_by p n (log_of old))

@@ -38,6 +38,7 @@ impl<P: DevicePair, A: Allocator + Copy> CommittedLog<P, A> {
         ensures last { IsHonest self.old →
             PairLeaves P.moment P.left_since (pair_of self.old) (pair_of self.new)
             (FirstShow (homes_of self.old) (seen_of self.old)) }
+        ensures refused { OnErr result (homes_of self.new ≡ homes_of self.old) }
         ensures honest { IsHonest self.old ↔ IsHonest self.new }
         ensures faults { Counts (P.faults (pair_of self.old)) (P.faults (pair_of self.new)) result }
     {

@@ -2,7 +2,7 @@
 ghost use Rattle.std.specs.Prelude.{◌≡◌, ◌≤◌, ◌<◌, ◌+◌, ◌^◌, ◌↔◌, [], false, true, length, OnOk, OnErr};
 ghost use Rattle.block_device.specs.Device.{Blocks, Torn, Counts, block_at, written};
 ghost use Rattle.logged_pair.specs.Commits.{CommitsNoMore, Either, OrNew};
-ghost use Rattle.logged_pair.specs.Snapshots.{KeepsLast, KeepsSnapshots, ShowsLast};
+ghost use Rattle.logged_pair.specs.Snapshots.{KeepsLast, KeepsSnapshots, LastStays, ShowsLast};
 ghost use Rattle.logged_pair.specs.Standing.{clearing_of, commits_of, deciding_of, homes_of, journal_of};
 ghost use Rattle.logged_pair.specs.Standing.{log_of, pair_of, shown_of, IsHonest, IsSettled, IsStill};
 ghost use Rattle.logged_pair.specs.Standing.{KeepsTo};
@@ -117,6 +117,8 @@ impl<P: DevicePair, A: Allocator + Copy> LoggedPair<P, A> {
 
         // Who has read all regions that there were sees the same at each moment, though not who has read fewer.
         ensures last { IsHonest self.old → deciding_of self.old ≡ false → KeepsLast self.old self.new }
+        ensures last_stays { IsHonest self.old → deciding_of self.old ≡ false →
+            OnErr result (LastStays self.old self.new) }
         ensures honest { IsHonest self.old ↔ IsHonest self.new }
         ensures faults { Counts (P.faults (pair_of self.old)) (P.faults (pair_of self.new)) result }
     {
@@ -135,6 +137,7 @@ impl<P: DevicePair, A: Allocator + Copy> LoggedPair<P, A> {
         ensures shown { IsHonest self.old → shown_of self.new ≡ shown_of self.old }
         ensures keeps { IsHonest self.old → KeepsTo (commits_of self.old) self.old self.new }
         ensures last { IsHonest self.old → KeepsLast self.old self.new }
+        ensures last_stays { IsHonest self.old → OnErr result (LastStays self.old self.new) }
         ensures honest { IsHonest self.old ↔ IsHonest self.new }
         ensures faults { Counts (P.faults (pair_of self.old)) (P.faults (pair_of self.new)) result }
     {

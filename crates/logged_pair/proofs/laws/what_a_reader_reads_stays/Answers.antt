@@ -1,7 +1,7 @@
 -- It is what a snapshot is.
-use Rattle.std.proofs.Common.{◌≤◌, arith, length}
+use Rattle.std.proofs.Common.{arith}
 use Rattle.logged_pair.specs.SnapshotLaws.{index_seen, length-seen}
-use Rattle.logged_pair.specs.Standing.{base_of, log_of}
+use Rattle.logged_pair.specs.Standing.{log_of}
 use Rattle.logged_pair.proofs.laws.what_a_reader_reads_stays.Goals as goal
 
 pub returns-clause-log : goal.returns-clause-log

@@ -2,12 +2,13 @@
 use Rattle.std.proofs.Common.{◌≡◌, ◌∙◌, ◌<◌, ◌≤◌, ap, arith, drop, length, refl, sym}
 use Rattle.device_pair.specs.Pairs.{PairLeaves}
 use Rattle.device_pair.specs.Runs.{pair_call, pair_then, pair_weaker}
-use Rattle.committed_log.specs.Committed.{behind_of, homes_of, seen_of}
+use Rattle.committed_log.specs.Committed.{behind_of, homes_of, seen_of, SameLog}
 use Rattle.committed_log.specs.Home.{FirstShow}
 use Rattle.committed_log.specs.Log.{overlaid, recovered}
 use Rattle.committed_log.proofs.Homing.{Quiet, copied_stands, drop_longer, quiet_first, quiet_recovers}
 use Rattle.committed_log.proofs.Homing.{quiet_still, seen_equal}
 use Rattle.committed_log.proofs.Keeping.{first_shows}
+use Rattle.committed_log.proofs.Stood.{on_any, on_err}
 use Rattle.committed_log.proofs.log.CommittedLog.copy_home.Given as given
 use Rattle.committed_log.proofs.log.CommittedLog.copy_home.Goals as goal
 use Rattle.committed_log.proofs.log.CommittedLog.copy_home.Goals.{After-sync_base}
@@ -158,3 +159,17 @@ returns-clause-room g c = λ h.
       room_so g (goal.at.returns-clause-room g c).After-sync_base h,
       c.settle.ensures.room (c.sync_base.ensures.honest.0 (c.copy_slots.ensures.honest.0 h)),
     )
+
+pub returns-in_err-copy_slots-clause-refused : goal.returns-in_err-copy_slots-clause-refused
+returns-in_err-copy_slots-clause-refused g c =
+    on_any c.from_residual.result _ c.copy_slots.ensures.log.homes
+
+pub returns-in_err-sync_base-clause-refused : goal.returns-in_err-sync_base-clause-refused
+returns-in_err-sync_base-clause-refused g c =
+    on_any c.from_residual-in_err-sync_base.result _ c.copy_slots.ensures.log.homes
+
+pub returns-clause-refused : goal.returns-clause-refused
+returns-clause-refused g c =
+    on_err c.settle.result _ _
+    (λ (same : SameLog _ c.settle.new.self). same.homes ∙ c.copy_slots.ensures.log.homes)
+    (c.settle.ensures.refused refl)
