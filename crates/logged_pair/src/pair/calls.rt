@@ -1,5 +1,5 @@
 //! Reads, writes and commits of a base and its log.
-ghost use Rattle.std.specs.Prelude.{◌≡◌, ◌≤◌, ◌<◌, ◌+◌, ◌^◌, ◌↔◌, [], false, true, length, OnOk, OnErr};
+ghost use Rattle.std.specs.Prelude.{◌≡◌, ◌≤◌, ◌<◌, ◌+◌, ◌^◌, ◌↔◌, ◌⊎◌, [], false, true, length, OnOk, OnErr};
 ghost use Rattle.block_device.specs.Device.{Blocks, Torn, Counts, block_at, written};
 ghost use Rattle.logged_pair.specs.Commits.{CommitsNoMore, Either, OrNew};
 ghost use Rattle.logged_pair.specs.Snapshots.{KeepsLast, KeepsSnapshots, LastStays, ShowsLast};
@@ -79,8 +79,13 @@ impl<P: DevicePair, A: Allocator + Copy> LoggedPair<P, A> {
         ensures none { result ≡ true → homes_of self.now ≡ [] }
         ensures filling { result ≡ true → deciding_of self.now ≡ false }
         ensures long { result ≡ true → LONG_LOG ≤ length (regions.homes_of (log_of self.now)) }
+        ensures not { result ≡ false → (deciding_of self.now ≡ true) ⊎
+            ((0 < length (homes_of self.now)) ⊎ (length (regions.homes_of (log_of self.now)) < LONG_LOG)) }
     {
-        if self.deciding || self.slots.len() > 0 {
+        if self.deciding {
+            return false;
+        }
+        if self.slots.len() > 0 {
             return false;
         }
         self.log.region_blocks() >= LONG_LOG
