@@ -134,7 +134,7 @@ impl<P: DevicePair, A: Allocator + Copy> CommittedLog<P, A> {
             PairLeaves P.moment P.left_since pair e.1
             (LeavesOr (P.may_leave pair) (recovered (P.base pair) (P.journal pair)))) }
 
-        // And what who has read the journal as it was sees the same of.
+        // And what shows the same to who has read the journal as it was.
         ensures appends { IfOk result (λ c. P.honest pair →
             Appended (P.base pair) (P.journal pair) (base_of c) (journal_of c) (P.may_leave (pair_of c))) }
         ensures append_stops { IfOk result (λ c. P.honest pair →
