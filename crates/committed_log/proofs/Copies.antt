@@ -10,12 +10,12 @@ use Rattle.device_pair.specs.Pairs.{PairLeaves}
 use Rattle.committed_log.specs.Committed.{base_of, homes_of, journal_of, seen_of}
 use Rattle.committed_log.specs.Committed.{IsHonest, SameLog}
 use Rattle.committed_log.specs.Found.{IsSlot}
-use Rattle.committed_log.specs.Home.{IsCopied, IsQuiet}
+use Rattle.committed_log.specs.Home.{FirstShow, IsCopied, IsQuiet}
 use Rattle.committed_log.specs.Log.{overlaid, recovered}
 use Rattle.committed_log.specs.Overlay.{overlay_reads}
 use Rattle.committed_log.specs.Replay.{later_only, length-overlaid, overlaid_other, same_blocks}
 use Rattle.committed_log.specs.declared.log.CommittedLog.{CommittedLog}
-use Rattle.committed_log.proofs.Keeping.{leaves_then}
+use Rattle.committed_log.proofs.Keeping.{last_then, leaves_then}
 
 -- ---- the newest slot of a block
 
@@ -121,6 +121,8 @@ pub record CopiedTo {P A : Type 0} {m : _} (k : ℕ) (old new : CommittedLog P A
   pub quiet : IsHonest old → IsQuiet new
   pub stops : IsHonest old
       → PairLeaves m.moment m.left_since old.pair new.pair (λ a b. recovered a b ≡ seen_of old)
+  pub last : IsHonest old
+      → PairLeaves m.moment m.left_since old.pair new.pair (FirstShow (homes_of old) (seen_of old))
 
 pub copies_step : {P A : Type 0} {m : _} (k : ℕ) (old mid new : CommittedLog P A m) → CopiedTo k old mid
     → SameLog mid new → (IsHonest mid ↔ IsHonest new) → m.faults new.pair ≡ m.faults mid.pair
@@ -128,8 +130,10 @@ pub copies_step : {P A : Type 0} {m : _} (k : ℕ) (old mid new : CommittedLog P
     → (IsHonest mid → seen_of new ≡ seen_of mid) → (IsHonest mid → IsQuiet new)
     → (IsHonest mid
     → PairLeaves m.moment m.left_since mid.pair new.pair (λ a b. recovered a b ≡ seen_of mid))
+    → (IsHonest mid
+    → PairLeaves m.moment m.left_since mid.pair new.pair (FirstShow (homes_of mid) (seen_of mid)))
     → CopiedTo (k + 1) old new
-copies_step k old mid new c log honest faults journal copied seen quiet stops = record {
+copies_step k old mid new c log honest faults journal copied seen quiet stops last = record {
   log = record {
     homes = log.homes ∙ c.log.homes;
     slots = log.slots ∙ c.log.slots;
@@ -148,6 +152,7 @@ copies_step k old mid new c log honest faults journal copied seen quiet stops = 
   seen = λ h. seen (c.honest.0 h) ∙ c.seen h;
   quiet = λ h. quiet (c.honest.0 h);
   stops = λ h. leaves_then old mid new (c.seen h) (c.stops h) (stops (c.honest.0 h));
+  last = λ h. last_then old mid new (c.seen h) c.log.homes (c.last h) (last (c.honest.0 h));
 }
 
 pub copies_end : {P A : Type 0} {m : _} (k : ℕ) (old new : CommittedLog P A m) → length (homes_of old) ≤ k

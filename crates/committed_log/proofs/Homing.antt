@@ -9,12 +9,13 @@ use Rattle.block_device.specs.Written.{block_at-written_other, length-written_wi
 use Rattle.block_device.specs.Written.{torn_other}
 use Rattle.device_pair.specs.Pairs.{BaseFollows, JournalFollows, PairsNoMore}
 use Rattle.committed_log.specs.FlagLaws.{says-none}
+use Rattle.committed_log.specs.Home.{FirstShow}
 use Rattle.committed_log.specs.Log.{flag_block, homes_in, overlaid, recovered, says}
 use Rattle.committed_log.specs.Overlay.{overlay_aside, overlay_home}
 use Rattle.committed_log.specs.Regions.{flagged_aside, homes_nil, recovered_unsaid}
 use Rattle.committed_log.specs.Stops.{IsClearing, IsHome, IsKept, IsStanding}
 use Rattle.committed_log.specs.Torn.{torn_size}
-use Rattle.committed_log.proofs.Recovering.{recovery_stands}
+use Rattle.committed_log.proofs.Recovering.{first_stands, recovery_stands}
 use Rattle.committed_log.proofs.Stood.{Answer, Leaves, first_home, overlay_left, still_stands}
 
 abbrev Outcomes : Type 1
@@ -35,6 +36,15 @@ quiet_recovers clearing homes base journal seen ml few s q a b left =
     recovery_stands clearing homes base journal a b ml few s left
     ∙ recovered_unsaid v j (q.unsaid v j (a, b, left, refl, refl))
     ∙ q.base v j (a, b, left, refl, refl)
+
+-- also by who has read the regions alone
+pub quiet_first : (clearing : Bool) (homes : List ℕ) (base journal seen : Blocks) (ml : Outcomes)
+    → length base ≤ 2 ^ 31 → IsStanding clearing homes base journal ml → Quiet homes seen ml
+    → (a b : Blocks) → ml a b → FirstShow homes seen a b
+quiet_first clearing homes base journal seen ml few s q a b left =
+    let is : overlaid homes b a ≡ seen =
+    q.base (overlaid homes b a) (drop (length homes) b) (a, b, left, refl, refl) in
+    (first_stands clearing homes base journal a b ml few s left ∙ is, is)
 
 pub quiet_still : (homes : List ℕ) (seen : Blocks) (ml ml' : Outcomes) → PairsNoMore ml ml'
     → Quiet homes seen ml → Quiet homes seen ml'

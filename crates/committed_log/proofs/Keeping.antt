@@ -5,11 +5,11 @@ use Rattle.device_pair.specs.Pairs.{PairElapses, PairLeaves, PairsNoMore}
 use Rattle.device_pair.specs.Runs.{pair_call, pair_then, pair_weaker}
 use Rattle.committed_log.specs.Committed.{base_of, behind_of, homes_of, journal_of, leaves_of, pair_of}
 use Rattle.committed_log.specs.Committed.{seen_of, IsHonest, IsStill}
-use Rattle.committed_log.specs.Home.{IsQuiet}
+use Rattle.committed_log.specs.Home.{FirstShow, IsQuiet}
 use Rattle.committed_log.specs.Log.{overlaid, recovered}
 use Rattle.committed_log.specs.Regions.{recovered_unsaid}
 use Rattle.committed_log.specs.declared.log.CommittedLog.{CommittedLog}
-use Rattle.committed_log.proofs.Recovering.{recovery_stands}
+use Rattle.committed_log.proofs.Recovering.{first_stands, recovery_stands}
 
 -- base, journal and regions are the same, and a stop leaves nothing else
 pub record SameRead {P A : Type 0} {m : _} (old new : CommittedLog P A m) : Type 0 where
@@ -17,6 +17,11 @@ pub record SameRead {P A : Type 0} {m : _} (old new : CommittedLog P A m) : Type
   pub base : base_of new ≡ base_of old
   pub journal : journal_of new ≡ journal_of old
   pub now : PairsNoMore (m.may_leave old.pair) (m.may_leave new.pair)
+
+pub first_shows : (homes homes' : List ℕ) (seen seen' : Blocks) → homes ≡ homes' → seen ≡ seen' → (a b : Blocks)
+    → FirstShow homes seen a b → FirstShow homes' seen' a b
+first_shows homes homes' seen seen' e is a b x =
+    subst (λ (l : List ℕ). FirstShow l seen' a b) e (x.0 ∙ is, x.1 ∙ is)
 
 module _ {P A : Type 0} {m : _} where
   pub same_still : (old new : CommittedLog P A m) → IsStill old new → SameRead old new
@@ -83,6 +88,16 @@ module _ {P A : Type 0} {m : _} where
       (pair_weaker m.moment m.left_since mid.pair new.pair (λ a b. recovered a b ≡ seen_of mid)
       (λ a b. recovered a b ≡ seen_of old) (λ a b e. e ∙ seen) y)
 
+  -- the same as who has read all of the regions sees it
+  pub last_then : (old mid new : CommittedLog P A m) → seen_of mid ≡ seen_of old → homes_of mid ≡ homes_of old
+      → PairLeaves m.moment m.left_since old.pair mid.pair (FirstShow (homes_of old) (seen_of old))
+      → PairLeaves m.moment m.left_since mid.pair new.pair (FirstShow (homes_of mid) (seen_of mid))
+      → PairLeaves m.moment m.left_since old.pair new.pair (FirstShow (homes_of old) (seen_of old))
+  last_then old mid new seen homes x y =
+      pair_then m.moment m.left_since old.pair mid.pair new.pair _ x
+      (pair_weaker m.moment m.left_since mid.pair new.pair (FirstShow (homes_of mid) (seen_of mid)) _
+      (first_shows (homes_of mid) (homes_of old) (seen_of mid) (seen_of old) homes seen) y)
+
   -- ---- where nothing was written
 
   pub seen_still : (old new : CommittedLog P A m) → IsStill old new → seen_of new ≡ seen_of old
@@ -109,3 +124,17 @@ module _ {P A : Type 0} {m : _} where
       leaves_call old.pair new (seen_of old) few h s.time (λ v j l.
       let was : leaves_of old v j = leaves_still old new s v j l in
       recovered_unsaid v j (q.unsaid v j was) ∙ q.base v j was)
+
+  pub still_last : (old new : CommittedLog P A m) → length (base_of new) ≤ 2 ^ 31 → IsHonest new
+      → IsStill old new → IsQuiet old
+      → PairLeaves m.moment m.left_since old.pair new.pair (FirstShow (homes_of old) (seen_of old))
+  still_last old new few h s q =
+      pair_call m.moment m.left_since old.pair new.pair _ (m.may_leave new.pair) s.time (λ a b left.
+      let is : overlaid (homes_of new) b a ≡ seen_of old =
+      q.base _ _ (leaves_still old new s _ _ (a, b, left, refl, refl)) in
+      first_shows (homes_of new) (homes_of old) (seen_of old) (seen_of old) s.log.homes refl a b (
+        first_stands new.clearing (homes_of new) (base_of new) (journal_of new) a b (m.may_leave new.pair) few
+            (new.standing h) left
+            ∙ is,
+        is,
+      ))

@@ -10,4 +10,5 @@ mod Copies
 mod Opened
 mod Reading
 mod Adding
+mod Appending
 mod Making

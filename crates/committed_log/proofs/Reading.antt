@@ -9,6 +9,7 @@ use Rattle.block_device.specs.Device.{Blocks, block_at}
 use Rattle.device_pair.specs.Pairs.{PairLeaves}
 use Rattle.device_pair.specs.Runs.{pair_then, pair_weaker}
 use Rattle.device_pair.specs.declared.pair.DevicePair.{Ghosts}
+use Rattle.committed_log.specs.Appending.{AppendsOnly}
 use Rattle.committed_log.specs.Committed.{base_of, behind_of, clearing_of, homes_of, journal_of}
 use Rattle.committed_log.specs.Committed.{seen_of, IsDurable, IsHonest, IsStill, SameLog}
 use Rattle.committed_log.specs.Log.{home_in, recovered, says, slot_homes}
@@ -16,6 +17,7 @@ use Rattle.committed_log.specs.Opening.{IsBroken, IsMalformed}
 use Rattle.committed_log.specs.Regions.{recovered_unsaid}
 use Rattle.committed_log.specs.Stops.{IsStanding}
 use Rattle.committed_log.specs.declared.log.CommittedLog.{CommittedLog}
+use Rattle.committed_log.proofs.Appending.{appends_none, appends_then}
 use Rattle.committed_log.proofs.Keeping.{SameRead, behind_same, behind_still, law_of, leaves_call, leaves_same}
 use Rattle.committed_log.proofs.Keeping.{leaves_still, seen_same}
 use Rattle.committed_log.proofs.Opened.{homes_push, malformed_behind}
@@ -181,6 +183,7 @@ pub record TakenTo {P A : Type 0} {m : _} (old new : CommittedLog P A m) : Type 
   pub stops : IsHonest old
       → PairLeaves m.moment m.left_since old.pair new.pair
       (λ a b. recovered a b ≡ recovered (base_of old) (journal_of old))
+  pub appends : IsHonest old → AppendsOnly old new
 
 -- where a flag was added, no region is behind the others
 pub journal_on : (old mid new behind behind' : Blocks) → (mid ≡ old) ⊎ (says (block_at 0 behind) ≡ false)
@@ -242,8 +245,9 @@ module _ {P A : Type 0} {m : Ghosts P} (few : (d : P) → length (m.base d) ≤ 
       (λ a b. recovered a b ≡ recovered (base_of mid) (journal_of mid)))
       → (IsHonest old
       → (journal_of new ≡ journal_of old) ⊎ (says (block_at 0 (behind_of new)) ≡ false))
+      → (IsHonest mid → AppendsOnly mid new)
       → TakenTo old new
-  taken_more old mid new c settled honest durable base seen stops journal = record {
+  taken_more old mid new c settled honest durable base seen stops journal appends = record {
     settled = settled;
     honest = (λ h. honest.0 (c.honest.0 h), λ h. c.honest.1 (honest.1 h));
     durable = λ h. durable (honest.1 h);
@@ -251,6 +255,7 @@ module _ {P A : Type 0} {m : Ghosts P} (few : (d : P) → length (m.base d) ≤ 
     seen = λ h. seen (c.honest.0 h) ∙ c.seen h;
     journal = journal;
     stops = λ h. taken_stops old mid new.pair c h (stops (c.honest.0 h));
+    appends = λ h. appends_then old mid new (c.appends h) (appends (c.honest.0 h));
   }
 
   -- a call that leaves what is read, where no region is behind them

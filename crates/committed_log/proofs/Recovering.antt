@@ -1,11 +1,12 @@
 -- What recovery makes of what a stop leaves.
-use Rattle.std.proofs.Common.{◌≡◌, ◌∙◌, ℕ, ◌^◌, ◌≤◌, Bool, true, false, List, [], length}
-use Rattle.std.proofs.Common.{take, drop, sym, ap, arith, ⊎_elim}
+use Rattle.std.proofs.Common.{◌≡◌, ◌∙◌, ℕ, ◌^◌, ◌<◌, ◌≤◌, Bool, true, false, List, [], length}
+use Rattle.std.proofs.Common.{take, drop, sym, ap, arith, subst, ⊎_elim}
 use Rattle.std.proofs.lemmas.Bool.{cases_Bool}
 use Rattle.std.proofs.lemmas.List.{get_or-drop, get_or-take}
 use Rattle.block_device.specs.Device.{Blocks, block_at}
 use Rattle.committed_log.specs.Log.{homes_in, no_home, overlaid, recovered, says}
-use Rattle.committed_log.specs.Regions.{flagged_aside, recovered_unsaid, recovery_through}
+use Rattle.committed_log.specs.Regions.{flagged_aside, homes_first, recovered_unsaid, recovery_first}
+use Rattle.committed_log.specs.Regions.{recovery_through}
 use Rattle.committed_log.specs.Stops.{IsClearing, IsKept, IsStanding, ReadsIn, StopIn, flagged}
 use Rattle.committed_log.proofs.Stood.{overlay_left}
 
@@ -34,16 +35,18 @@ recovery_clearing homes base journal a b few there regions home stop = ⊎_elim
     ∙ cleared_is homes base journal a b few there regions home stop))
     (cases_Bool (says (block_at 0 b)))
 
+-- the first flag stands among the blocks of the first region
+first_flag : (s : ℕ) (b c : Blocks) → 0 < s → take s c ≡ take s b → says (block_at 0 c) ≡ says (block_at 0 b)
+first_flag s b c some same =
+    ap says (sym (get_or-take s c 0 [] some) ∙ ap (block_at 0) same ∙ get_or-take s b 0 [] some)
+
 recovery_kept : (homes : List ℕ) (base journal a b : Blocks)
     → homes_in (flagged (take (length homes) journal)) ≡ homes
     → ReadsIn false homes base journal → IsKept homes journal a b
     → recovered a b ≡ recovered (overlaid homes b a) (drop (length homes) b)
 recovery_kept homes base journal a b regions reads stop =
     recovery_through homes b a (ap (λ (l : Blocks). homes_in (flagged l)) stop.regions ∙ regions)
-    (omega (arith, stop.there)) (λ some.
-    ap says (sym (get_or-take (length homes) b 0 [] some) ∙ ap (block_at 0) stop.regions
-    ∙ get_or-take (length homes) journal 0 [] some)
-    ∙ reads some)
+    (omega (arith, stop.there)) (λ some. first_flag (length homes) journal b some stop.regions ∙ reads some)
 
 -- The law of recovery.
 pub recovery_left : (clearing : Bool) (homes : List ℕ) (base journal a b : Blocks)
@@ -63,3 +66,54 @@ pub recovery_stands : (clearing : Bool) (homes : List ℕ) (base journal a b : B
 recovery_stands clearing homes base journal a b ml few s left =
     recovery_left clearing homes base journal a b (omega (arith, few)) (omega (arith, s.there)) s.regions
     s.reads (s.stops a b left)
+
+-- ---- recovery of the regions alone, as who has read no further makes it
+
+kept_homes : (homes : List ℕ) (base journal a b : Blocks)
+    → homes_in (flagged (take (length homes) journal)) ≡ homes
+    → ReadsIn false homes base journal → IsKept homes journal a b
+    → homes_in (take (length homes) b) ≡ homes
+kept_homes homes base journal a b regions reads stop =
+    homes_first homes b (ap (λ (l : Blocks). homes_in (flagged l)) stop.regions ∙ regions)
+    (λ some. first_flag (length homes) journal b some stop.regions ∙ reads some)
+
+first_clearing : (homes : List ℕ) (base journal a b : Blocks) → length base ≤ no_home
+    → length homes ≤ length journal → homes_in (flagged (take (length homes) journal)) ≡ homes
+    → ReadsIn true homes base journal → IsClearing homes base journal a b
+    → recovered a (take (length homes) b) ≡ overlaid homes b a
+first_clearing homes base journal a b few there regions reads stop = ⊎_elim
+    (λ (said : says (block_at 0 b) ≡ true).
+    recovery_first homes b a
+    (homes_first homes b
+    (ap homes_in (flagged_aside (length homes) journal b there (omega (arith, stop.there)) stop.same) ∙ regions)
+    (λ some. said)))
+    (λ (unsaid : says (block_at 0 b) ≡ false).
+    recovered_unsaid a (take (length homes) b)
+    (ap says (get_or-take (length homes) b 0 [] reads.0) ∙ unsaid)
+    ∙ stop.base_is ∙ sym (cleared_is homes base journal a b few there regions reads.1 stop))
+    (cases_Bool (says (block_at 0 b)))
+
+first_left : (clearing : Bool) (homes : List ℕ) (base journal a b : Blocks)
+    → length base ≤ no_home → length homes ≤ length journal
+    → homes_in (flagged (take (length homes) journal)) ≡ homes → ReadsIn clearing homes base journal
+    → StopIn clearing homes base journal a b
+    → recovered a (take (length homes) b) ≡ overlaid homes b a
+first_left false homes base journal a b few there regions reads stop =
+    recovery_first homes b a (kept_homes homes base journal a b regions reads stop)
+first_left true homes base journal a b few there regions reads stop =
+    first_clearing homes base journal a b few there regions reads stop
+
+pub first_stands : (clearing : Bool) (homes : List ℕ) (base journal a b : Blocks)
+    (ml : Blocks → Blocks → Type 0) → length base ≤ 2 ^ 31
+    → IsStanding clearing homes base journal ml → ml a b
+    → recovered a (take (length homes) b) ≡ overlaid homes b a
+first_stands clearing homes base journal a b ml few s left =
+    first_left clearing homes base journal a b (omega (arith, few)) (omega (arith, s.there)) s.regions s.reads
+    (s.stops a b left)
+
+-- the regions as they are read, where no flag is cleared
+pub homes_read : (clearing : Bool) (homes : List ℕ) (base journal : Blocks) (ml : Blocks → Blocks → Type 0)
+    → clearing ≡ false → IsStanding clearing homes base journal ml
+    → homes_in (take (length homes) journal) ≡ homes
+homes_read clearing homes base journal ml settled s =
+    homes_first homes journal s.regions (subst (λ (t : Bool). ReadsIn t homes base journal) settled s.reads)

@@ -27,6 +27,10 @@ pub on_err : (r : Answer) (P Q : Type 0) → (P → Q) → OnErr r P → OnErr r
 on_err (Ok u) P Q f p = p
 on_err (Err e) P Q f p = f p
 
+pub on_any : (r : Answer) (P : Type 0) → P → OnErr r P
+on_any (Ok u) P p = tt
+on_any (Err e) P p = p
+
 -- a write that answered, Ok or not, has torn its block at most
 pub torn_of : (r : Answer) (i : ℕ) (bytes : List ℕ) (old new : Blocks) → IsBlock bytes
     → OnOk r (new ≡ written i bytes old) → OnErr r (Torn i old new) → Torn i old new
@@ -56,6 +60,12 @@ pub overlay_left : (clearing : Bool) (homes : List ℕ) (base journal a b x : Bl
 overlay_left false homes base journal a b x regions few stop = overlay_first homes journal b x stop.regions
 overlay_left true homes base journal a b x regions few stop =
     overlay_aside homes journal b x (first_home homes journal regions) few stop.same
+
+-- while no flag is cleared
+pub kept_stop : (clearing : Bool) (homes : List ℕ) (base journal : Blocks) (ml : Outcomes) → clearing ≡ false
+    → IsStanding clearing homes base journal ml → (a b : Blocks) → ml a b → IsKept homes journal a b
+kept_stop clearing homes base journal ml settled s a b left =
+    subst (λ (t : Bool). StopIn t homes base journal a b) settled (s.stops a b left)
 
 -- ---- a call that writes nothing
 

@@ -1,6 +1,6 @@
 -- A committed log as its contracts see it: the base as it is read through the regions, and what stands behind
 -- them in the journal.
-use Rattle.std.specs.Prelude.{◌≡◌, ℕ, Bool, List, length, drop}
+use Rattle.std.specs.Prelude.{◌≡◌, ℕ, Bool, List, length, drop, take}
 use Rattle.block_device.specs.Device.{Blocks}
 use Rattle.device_pair.specs.Pairs.{PairElapses, PairsNoMore}
 use Rattle.committed_log.specs.Log.{overlaid}
@@ -60,3 +60,7 @@ pub record IsStill {P A : Type 0} {m : _} (old new : CommittedLog P A m) : Type 
 -- a stop leaves what is read, and nothing else
 abbrev pub IsDurable : {P A : Type 0} {m : _} → CommittedLog P A m → Type 0
 IsDurable c = (v j : Blocks) → leaves_of c v j → (v ≡ seen_of c) × (j ≡ behind_of c)
+
+-- a step of the journal behind its first s blocks, which stay
+abbrev pub KeepsFirst : ℕ → Blocks → Blocks → Type 0
+KeepsFirst s old new = take s new ≡ take s old

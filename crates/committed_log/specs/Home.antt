@@ -1,9 +1,9 @@
 -- What stands before the slots are copied home, and after.
-use Rattle.std.specs.Prelude.{◌≡◌, ◌<◌, ℕ, false, length}
+use Rattle.std.specs.Prelude.{◌≡◌, ◌<◌, ℕ, false, List, length, take}
 use Rattle.block_device.specs.Device.{Blocks, block_at}
 use Rattle.committed_log.specs.Committed.{base_of, homes_of, journal_of, leaves_of, seen_of}
 use Rattle.committed_log.specs.Found.{IsSlot}
-use Rattle.committed_log.specs.Log.{says}
+use Rattle.committed_log.specs.Log.{overlaid, recovered, says}
 use Rattle.committed_log.specs.declared.log.CommittedLog.{CommittedLog}
 
 -- The base is synced, as it is read through the regions, and no region behind them is committed.
@@ -18,3 +18,8 @@ pub record IsCopied {P A : Type 0} {m : _} (k : ℕ) (old new : CommittedLog P A
       → block_at i (base_of new) ≡ block_at k (journal_of old)
   pub others : (i : ℕ) → ¬ IsSlot (homes_of old) i k → block_at i (base_of new) ≡ block_at i (base_of old)
   pub as_many : length (base_of new) ≡ length (base_of old)
+
+-- Who has read regions of these homes, and no further, sees these blocks of what a stop leaves: as well who reads
+-- the regions of it now, as who read them before.
+abbrev pub FirstShow : List ℕ → Blocks → Blocks → Blocks → Type 0
+FirstShow homes seen a b = (recovered a (take (length homes) b) ≡ seen) × (overlaid homes b a ≡ seen)

@@ -8,6 +8,7 @@ pub mod Committed
 pub mod Region
 pub mod Home
 pub mod Opening
+pub mod Appending
 -- Lemmas on them, which laws and callers cite.
 pub mod BucketsFact
 pub mod StopsFact

@@ -9,7 +9,7 @@ use Rattle.std.proofs.lemmas.Bool.Decides.{nat_tests}
 use Rattle.std.proofs.lemmas.List.{append_assoc, append-nil, drop-append-le, drop_all, drop-set-lt}
 use Rattle.std.proofs.lemmas.List.{get_or_append_left, get_or-set_other, get_or-set_same, get_or-take}
 use Rattle.std.proofs.lemmas.List.{length-append, length-drop, length-replicate, length-take-le}
-use Rattle.std.proofs.lemmas.List.{nil_from_length, set-append_left, take-append-drop}
+use Rattle.std.proofs.lemmas.List.{nil_from_length, set-append_left, take-append-drop, take-take}
 use Rattle.std.proofs.Math.Seq.{take-add}
 use Rattle.block_device.specs.Device.{Blocks, block_at}
 use Rattle.block_bytes.specs.Numbers.{number_at}
@@ -17,7 +17,7 @@ use Rattle.committed_log.specs.FlagLaws.{says-nothing, says-one}
 use Rattle.committed_log.specs.Log.{count_in, flag_block, home_in, homes_from, homes_in, index_blocks}
 use Rattle.committed_log.specs.Log.{is_committed, no_home, overlaid, recovered, region_homes, region_of, says}
 use Rattle.committed_log.specs.Log.{size_of, slot_homes}
-use Rattle.committed_log.specs.Overlay.{overlay_append}
+use Rattle.committed_log.specs.Overlay.{overlay_append, overlay_first}
 use Rattle.committed_log.specs.Replay.{same_blocks}
 use Rattle.committed_log.specs.Stops.{flagged}
 
@@ -302,18 +302,34 @@ flagged_aside s b c there there' same =
 
 -- ---- regions that are known, and the rest
 
--- the first s blocks of b are regions, and the first flag says so
+-- the first blocks of b are regions of these homes, where the first flag says so
+pub homes_first : (homes : List ℕ) (b : Blocks) → homes_in (flagged (take (length homes) b)) ≡ homes
+    → (0 < length homes → says (block_at 0 b) ≡ true) → homes_in (take (length homes) b) ≡ homes
+homes_first [] b regions said = homes_nil
+homes_first (h ∷ hs) b regions said =
+    let s : ℕ = length (h ∷ hs) in
+    let says_so : says (block_at 0 (take s b)) ≡ true =
+    ap says (get_or-take s b 0 [] (omega arith)) ∙ said (omega arith) in
+    sym (flagged_same (take s b) says_so) ∙ regions
+
+-- and the rest stands behind them
 pub homes_through : (homes : List ℕ) (b : Blocks) → homes_in (flagged (take (length homes) b)) ≡ homes
     → length homes ≤ length b → (0 < length homes → says (block_at 0 b) ≡ true)
     → homes_in b ≡ homes ++ homes_in (drop (length homes) b)
 homes_through [] b regions there said = refl
 homes_through (h ∷ hs) b regions there said =
     let s : ℕ = length (h ∷ hs) in
-    let says_so : says (block_at 0 (take s b)) ≡ true =
-    ap says (get_or-take s b 0 [] (omega arith)) ∙ said (omega arith) in
     ap homes_in (sym (take-append-drop s b))
-    ∙ homes_whole (take s b) (drop s b) (h ∷ hs) (sym (flagged_same (take s b) says_so) ∙ regions)
+    ∙ homes_whole (take s b) (drop s b) (h ∷ hs) (homes_first (h ∷ hs) b regions said)
     (sym (length-take-le s b there))
+
+-- recovery of these blocks alone
+pub recovery_first : (homes : List ℕ) (b a : Blocks) → homes_in (take (length homes) b) ≡ homes
+    → recovered a (take (length homes) b) ≡ overlaid homes b a
+recovery_first homes b a is =
+    let s : ℕ = length homes in
+    ap (λ (l : List ℕ). overlaid l (take s b) a) is
+    ∙ overlay_first homes b (take s b) a (take-take s s b (omega arith))
 
 -- recovery goes through them
 pub recovery_through : (homes : List ℕ) (b a : Blocks) → homes_in (flagged (take (length homes) b)) ≡ homes

@@ -14,10 +14,12 @@ use Rattle.committed_log.specs.Torn.{written_before, written_longer}
 use Rattle.logged_pair.specs.Shown.{within_written}
 use Rattle.logged_pair.specs.Index.{HasIndex, HasNext, IsIndexed}
 use Rattle.logged_pair.specs.Stages.{IsRecorded}
-use Rattle.logged_pair.specs.Standing.{IsHonest, KeepsTo, SameSlots, commits_of, homes_of, journal_of, pair_of}
-use Rattle.logged_pair.specs.Standing.{shown_of}
+use Rattle.logged_pair.specs.Snapshots.{KeepsSnapshots}
+use Rattle.logged_pair.specs.Standing.{IsHonest, KeepsTo, SameSlots, commits_of, homes_of, journal_of, kept_of}
+use Rattle.logged_pair.specs.Standing.{log_of, pair_of, shown_of}
 use Rattle.logged_pair.specs.declared.pair.LoggedPair.{LoggedPair}
 use Rattle.logged_pair.proofs.Keeping.{keeps_none, keeps_on}
+use Rattle.logged_pair.proofs.Snapped.{snaps_none, snapshots_then}
 
 -- ---- an index page
 
@@ -96,6 +98,7 @@ pub record IndexedTo {P A : Type 0} {m : _} (j : ℕ) (old new : LoggedPair P A 
   pub faults : m.faults (pair_of new) ≡ m.faults (pair_of old)
   pub shown : IsHonest old → shown_of new ≡ shown_of old
   pub keeps : IsHonest old → KeepsTo (commits_of old) old new
+  pub snapshots : IsHonest old → KeepsSnapshots old new
   pub index : IsHonest old → IsIndexed j (homes_of old) (journal_of new)
 
 pub indexed_start : {P A : Type 0} {m : _} (d : LoggedPair P A m) → IndexedTo 0 d d
@@ -105,16 +108,18 @@ indexed_start d = record {
   faults = refl;
   shown = λ h. refl;
   keeps = λ h. keeps_none d;
+  snapshots = λ h. snaps_none (kept_of d) (log_of d);
   index = λ h. index_first (homes_of d) (journal_of d) (d.standing h).room;
 }
 
 pub indexed_step : {P A : Type 0} {m : _} (j : ℕ) (old mid new : LoggedPair P A m) → IndexedTo j old mid
     → SameSlots mid new → (IsHonest mid ↔ IsHonest new) → m.faults (pair_of new) ≡ m.faults (pair_of mid)
     → (IsHonest mid → shown_of new ≡ shown_of mid) → (IsHonest mid → KeepsTo (commits_of mid) mid new)
+    → (IsHonest mid → KeepsSnapshots mid new)
     → (IsHonest old → IsIndexed j (homes_of old) (journal_of mid)
     → IsIndexed (j + 1) (homes_of old) (journal_of new))
     → IndexedTo (j + 1) old new
-indexed_step j old mid new c slots honest faults shown keeps more = record {
+indexed_step j old mid new c slots honest faults shown keeps snapshots more = record {
   slots = record {
     deciding = slots.deciding ∙ c.slots.deciding;
     clearing = slots.clearing ∙ c.slots.clearing;
@@ -125,6 +130,7 @@ indexed_step j old mid new c slots honest faults shown keeps more = record {
   faults = faults ∙ c.faults;
   shown = λ h. shown (c.honest.0 h) ∙ c.shown h;
   keeps = λ h. keeps_on (commits_of old) old mid new (c.keeps h) (keeps (c.honest.0 h));
+  snapshots = λ h. snapshots_then old mid new (c.snapshots h) (snapshots (c.honest.0 h));
   index = λ h. more h (c.index h);
 }
 

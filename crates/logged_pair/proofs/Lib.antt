@@ -5,5 +5,6 @@ mod Keeping
 mod Advanced
 mod Reached
 mod GivingUp
+pub mod Snapped
 mod Calling
 mod Indexing

@@ -3,9 +3,11 @@ pub mod Commits
 pub mod Index
 pub mod Stages
 pub mod Standing
+pub mod Snapshots
 -- Lemmas on them, which laws and callers cite.
 pub mod StagesFact
 pub mod Shown
 pub mod Law
 pub mod CommitLaws
+pub mod SnapshotLaws
 pub mod OpeningLaws

@@ -26,7 +26,7 @@ within_written (suc i) x (b ∷ bs) le = omega (arith, within_written i x bs (om
 
 -- ---- the blocks that it depends on
 
-set_here : (c : Blocks) (k h : ℕ) (x : List ℕ) → k ≡ h → k < length c → block_at k (set c h x) ≡ x
+pub set_here : (c : Blocks) (k h : ℕ) (x : List ℕ) → k ≡ h → k < length c → block_at k (set c h x) ≡ x
 set_here c k h x here lt =
     subst (λ (j : ℕ). block_at j (set c h x) ≡ x) (sym here)
     (get_or-set_same c h x [] (omega (arith, lt, here)))

@@ -1,11 +1,13 @@
 //! The laws of a commit and of recovery, each the contract of a function that does nothing.
-ghost use Rattle.std.specs.Prelude.{◌≡◌, ◌≤◌, ℕ};
+ghost use Rattle.std.specs.Prelude.{◌≡◌, ◌≤◌, ℕ, false, length, take};
 ghost use Rattle.block_device.specs.Device.{BeginsOne, Blocks};
 ghost use Rattle.device_pair.specs.Pairs.{PairLeaves, PairsNoMore};
-ghost use Rattle.committed_log.specs.Log.{recovered};
+ghost use Rattle.committed_log.specs.Appending.{IsAppended};
+ghost use Rattle.committed_log.specs.Log.{homes_in, overlaid, recovered};
 ghost use Rattle.committed_log.specs.Opening.{LeavesOr};
-ghost use Rattle.logged_pair.specs.Standing.{commits_of, left_since_of, may_leave_of, pair_of, shown_of};
-ghost use Rattle.logged_pair.specs.Standing.{IsHonest};
+ghost use Rattle.logged_pair.specs.Snapshots.{end_of, seen_by, snapshot, HasSnapshot};
+ghost use Rattle.logged_pair.specs.Standing.{base_of, clearing_of, commits_of, kept_of, left_since_of, log_of};
+ghost use Rattle.logged_pair.specs.Standing.{may_leave_of, pair_of, shown_of, IsHonest};
 ghost use Rattle.logged_pair.specs.declared.pair.LoggedPair.{LoggedPair};
 
 use device_pair::DevicePair;
@@ -48,4 +50,36 @@ pub fn what_is_given_up_is_a_commit_again<P: DevicePair, A: Allocator + Copy>()
     ensures { (d opened : LoggedPair P A ⟦<P as DevicePair>⟧) → IsHonest d →
         shown_of opened ≡ recovered (P.base (pair_of d)) (P.journal (pair_of d)) →
         BeginsOne (commits_of d) (shown_of opened) }
+{}
+
+/// Whatever a stop now may leave of both devices shows a reader's snapshot as they show it as they are read: the log
+/// up to its block, and through it the base, whether the index of the log is read now or was read before. So a
+/// reader sees it whose reads give what a stop at their moments may leave.
+pub fn what_a_reader_reads_stays<P: DevicePair, A: Allocator + Copy>()
+    ensures log { (d : LoggedPair P A ⟦<P as DevicePair>⟧) (p n : ℕ) (a b : Blocks) → HasSnapshot p n d →
+        P.may_leave (pair_of d) a b → take p b ≡ take p (P.journal (pair_of d)) }
+    ensures now { (d : LoggedPair P A ⟦<P as DevicePair>⟧) (p n : ℕ) (a b : Blocks) → HasSnapshot p n d →
+        P.may_leave (pair_of d) a b → snapshot p n a b ≡ seen_by p n (log_of d) }
+    ensures index { (d : LoggedPair P A ⟦<P as DevicePair>⟧) (p n : ℕ) (a b : Blocks) → HasSnapshot p n d →
+        P.may_leave (pair_of d) a b →
+        take n (overlaid (homes_in (take p (P.journal (pair_of d)))) b a) ≡ seen_by p n (log_of d) }
+    ensures blocks { (d : LoggedPair P A ⟦<P as DevicePair>⟧) (p n : ℕ) → IsHonest d → HasSnapshot p n d →
+        length (seen_by p n (log_of d)) ≡ n }
+{}
+
+/// Who has read all regions of the log has a snapshot of the last commit, or of its first blocks.
+pub fn the_last_commit_is_a_snapshot<P: DevicePair, A: Allocator + Copy>()
+    ensures there { (d : LoggedPair P A ⟦<P as DevicePair>⟧) (n : ℕ) → IsHonest d →
+        clearing_of d ≡ false → n ≤ kept_of d → HasSnapshot (end_of d) n d }
+    ensures shown { (d : LoggedPair P A ⟦<P as DevicePair>⟧) (n : ℕ) → IsHonest d →
+        clearing_of d ≡ false → seen_by (end_of d) n (log_of d) ≡ take n (base_of d) }
+{}
+
+/// What opening leaves of both devices, at each moment since they were synced, shows who has read the log before
+/// what it saw.
+pub fn what_is_appended_is_not_seen()
+    ensures log { (p : ℕ) (base journal a b : Blocks) → p ≤ length journal → IsAppended base journal a b →
+        take p b ≡ take p journal }
+    ensures blocks { (p n : ℕ) (base journal a b : Blocks) → p ≤ length journal →
+        IsAppended base journal a b → snapshot p n a b ≡ snapshot p n base journal }
 {}

@@ -3,8 +3,10 @@ ghost use Rattle.std.specs.Prelude.{◌≡◌, ◌≤◌, ◌<◌, ◌+◌, ◌^
 ghost use Rattle.std.specs.List.{Contains};
 ghost use Rattle.block_device.specs.Device.{Blocks, Torn, Counts, block_at, written};
 ghost use Rattle.device_pair.specs.Pairs.{BaseFollows, JournalFollows, PairElapses, PairsNoMore};
+ghost use Rattle.committed_log.specs.Appending.{AppendsOnly};
 ghost use Rattle.committed_log.specs.Committed.{base_of, behind_of, clearing_of, homes_of, journal_of};
-ghost use Rattle.committed_log.specs.Committed.{leaves_of, pair_of, seen_of, IsHonest, IsStill, SameLog};
+ghost use Rattle.committed_log.specs.Committed.{leaves_of, pair_of, seen_of, IsHonest, IsStill, KeepsFirst};
+ghost use Rattle.committed_log.specs.Committed.{SameLog};
 
 use crate::log::CommittedLog;
 use block_device::DeviceError;
@@ -108,6 +110,12 @@ impl<P: DevicePair, A: Allocator + Copy> CommittedLog<P, A> {
         ensures torn { IsHonest self.old → OnErr result (Torn i (seen_of self.old) (seen_of self.new)) }
         ensures behind { IsHonest self.old → behind_of self.new ≡ behind_of self.old }
         ensures stops { IsHonest self.old → BaseFollows (Torn i) (leaves_of self.old) (leaves_of self.new) }
+
+        // The same of the base and of the whole journal, as who has read only some regions sees them.
+        ensures base { IsHonest self.old → Torn i (base_of self.old) (base_of self.new) }
+        ensures journal { IsHonest self.old → journal_of self.new ≡ journal_of self.old }
+        ensures base_stops { IsHonest self.old →
+            BaseFollows (Torn i) (P.may_leave (pair_of self.old)) (P.may_leave (pair_of self.new)) }
         ensures time { IsHonest self.old →
             PairElapses (P.moment (pair_of self.old)) (P.moment (pair_of self.new))
             (P.left_since (pair_of self.old))
@@ -133,6 +141,16 @@ impl<P: DevicePair, A: Allocator + Copy> CommittedLog<P, A> {
         ensures base { IsHonest self.old → base_of self.new ≡ base_of self.old }
         ensures stops { IsHonest self.old →
             JournalFollows (Torn i) (leaves_of self.old) (leaves_of self.new) }
+
+        // The regions stay, in each outcome too.
+        ensures regions { IsHonest self.old →
+            KeepsFirst (length (homes_of self.old)) (journal_of self.old) (journal_of self.new) }
+        ensures region_stops { IsHonest self.old →
+            JournalFollows (KeepsFirst (length (homes_of self.old))) (P.may_leave (pair_of self.old))
+            (P.may_leave (pair_of self.new)) }
+
+        // Behind the last block it only appends.
+        ensures appends { IsHonest self.old → i ≡ length (behind_of self.old) → AppendsOnly self.old self.new }
         ensures time { IsHonest self.old →
             PairElapses (P.moment (pair_of self.old)) (P.moment (pair_of self.new))
             (P.left_since (pair_of self.old))

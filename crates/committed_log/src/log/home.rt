@@ -7,7 +7,7 @@ ghost use Rattle.committed_log.specs.Log.{flag_block, recovered};
 ghost use Rattle.committed_log.specs.Committed.{base_of, behind_of, clearing_of, homes_of, journal_of};
 ghost use Rattle.committed_log.specs.Committed.{pair_of, seen_of, IsHonest, SameLog};
 ghost use Rattle.committed_log.specs.Found.{IsSlot};
-ghost use Rattle.committed_log.specs.Home.{IsCopied, IsQuiet};
+ghost use Rattle.committed_log.specs.Home.{FirstShow, IsCopied, IsQuiet};
 
 use crate::flag::flag_page;
 use crate::log::CommittedLog;
@@ -21,8 +21,9 @@ impl<P: DevicePair, A: Allocator + Copy> CommittedLog<P, A> {
     /// the first flag says that its region is not committed, which is synced too. Where nothing else is
     /// behind the regions: no region there is committed, and the base is synced.
     ///
-    /// What is read of the base stays, and a stop within the call leaves what is recovered to it. Refused, it
-    /// may be asked again; `settle` ends one that was refused once the first flag may have been written.
+    /// What is read of the base stays, and a stop within the call leaves what is recovered to it: also by who has
+    /// read all of the regions that there were, though not by who has read fewer. Refused, it may be asked again;
+    /// `settle` ends one that was refused once the first flag may have been written.
     pub fn copy_home(&mut self) -> Result<(), DeviceError>
         requires settled { clearing_of self.old ≡ false }
         requires quiet { IsHonest self.old → IsQuiet self.old }
@@ -34,6 +35,10 @@ impl<P: DevicePair, A: Allocator + Copy> CommittedLog<P, A> {
         ensures stops { IsHonest self.old →
             PairLeaves P.moment P.left_since (pair_of self.old) (pair_of self.new)
             (λ a b. recovered a b ≡ seen_of self.old) }
+        ensures last { IsHonest self.old →
+            PairLeaves P.moment P.left_since (pair_of self.old) (pair_of self.new)
+            (FirstShow (homes_of self.old) (seen_of self.old)) }
+        ensures refused { OnErr result (homes_of self.new ≡ homes_of self.old) }
         ensures honest { IsHonest self.old ↔ IsHonest self.new }
         ensures faults { Counts (P.faults (pair_of self.old)) (P.faults (pair_of self.new)) result }
     {
@@ -58,6 +63,9 @@ impl<P: DevicePair, A: Allocator + Copy> CommittedLog<P, A> {
         ensures stops { IsHonest self.old → clearing_of self.old ≡ true →
             PairLeaves P.moment P.left_since (pair_of self.old) (pair_of self.new)
             (λ a b. recovered a b ≡ seen_of self.old) }
+        ensures last { IsHonest self.old → clearing_of self.old ≡ true →
+            PairLeaves P.moment P.left_since (pair_of self.old) (pair_of self.new)
+            (FirstShow (homes_of self.old) (seen_of self.old)) }
         ensures honest { IsHonest self.old ↔ IsHonest self.new }
         ensures faults { Counts (P.faults (pair_of self.old)) (P.faults (pair_of self.new)) result }
     {
@@ -82,6 +90,9 @@ impl<P: DevicePair, A: Allocator + Copy> CommittedLog<P, A> {
         ensures stops { IsHonest self.old →
             PairLeaves P.moment P.left_since (pair_of self.old) (pair_of self.new)
             (λ a b. recovered a b ≡ seen_of self.old) }
+        ensures last { IsHonest self.old →
+            PairLeaves P.moment P.left_since (pair_of self.old) (pair_of self.new)
+            (FirstShow (homes_of self.old) (seen_of self.old)) }
         ensures honest { IsHonest self.old ↔ IsHonest self.new }
         ensures faults { Counts (P.faults (pair_of self.old)) (P.faults (pair_of self.new)) result }
     {
@@ -103,6 +114,9 @@ impl<P: DevicePair, A: Allocator + Copy> CommittedLog<P, A> {
         ensures stops { IsHonest self.old →
             PairLeaves P.moment P.left_since (pair_of self.old) (pair_of self.new)
             (λ a b. recovered a b ≡ seen_of self.old) }
+        ensures last { IsHonest self.old →
+            PairLeaves P.moment P.left_since (pair_of self.old) (pair_of self.new)
+            (FirstShow (homes_of self.old) (seen_of self.old)) }
         ensures honest { IsHonest self.old ↔ IsHonest self.new }
         ensures faults { Counts (P.faults (pair_of self.old)) (P.faults (pair_of self.new)) result }
     {
@@ -125,6 +139,9 @@ impl<P: DevicePair, A: Allocator + Copy> CommittedLog<P, A> {
         ensures stops { IsHonest self.old →
             PairLeaves P.moment P.left_since (pair_of self.old) (pair_of self.new)
             (λ a b. recovered a b ≡ seen_of self.old) }
+        ensures last { IsHonest self.old →
+            PairLeaves P.moment P.left_since (pair_of self.old) (pair_of self.new)
+            (FirstShow (homes_of self.old) (seen_of self.old)) }
         ensures honest { IsHonest self.old ↔ IsHonest self.new }
         ensures faults { Counts (P.faults (pair_of self.old)) (P.faults (pair_of self.new)) result }
     {
@@ -165,6 +182,9 @@ impl<P: DevicePair, A: Allocator + Copy> CommittedLog<P, A> {
         ensures stops { IsHonest self.old →
             PairLeaves P.moment P.left_since (pair_of self.old) (pair_of self.new)
             (λ a b. recovered a b ≡ seen_of self.old) }
+        ensures last { IsHonest self.old →
+            PairLeaves P.moment P.left_since (pair_of self.old) (pair_of self.new)
+            (FirstShow (homes_of self.old) (seen_of self.old)) }
         ensures honest { IsHonest self.old ↔ IsHonest self.new }
         ensures faults { Counts (P.faults (pair_of self.old)) (P.faults (pair_of self.new)) result }
     {

@@ -4,6 +4,7 @@ ghost use Rattle.std.specs.Prelude.{false, length, min, IfOk, IfErr, IfSome, IsE
 ghost use Rattle.std.specs.List.{All};
 ghost use Rattle.block_device.specs.Device.{Counts, block_at};
 ghost use Rattle.device_pair.specs.Pairs.{PairLeaves};
+ghost use Rattle.committed_log.specs.Appending.{Appended, AppendsOnly, IsAppended, OrAppended};
 ghost use Rattle.committed_log.specs.Log.{count_in, home_in, recovered, says, size_of, slot_homes};
 ghost use Rattle.committed_log.specs.Committed.{base_of, behind_of, clearing_of, homes_of, journal_of};
 ghost use Rattle.committed_log.specs.Committed.{pair_of, seen_of, IsDurable, IsHonest, IsStill};
@@ -68,6 +69,9 @@ fn make_flag<P: DevicePair>(pair: &mut P) -> Result<(), DeviceError>
         OnOk result (AreSynced (P.base pair.new) (P.journal pair.new) (P.may_leave pair.new)) }
     ensures stops { P.honest pair.old →
         PairLeaves P.moment P.left_since pair.old pair.new (λ a b. recovered a b ≡ P.base pair.old) }
+    ensures append_stops { P.honest pair.old →
+        PairLeaves P.moment P.left_since pair.old pair.new
+        (IsAppended (P.base pair.old) (P.journal pair.old)) }
     ensures honest { P.honest pair.old ↔ P.honest pair.new }
     ensures faults { Counts (P.faults pair.old) (P.faults pair.new) result }
 {
@@ -90,6 +94,12 @@ fn prepare<P: DevicePair>(pair: &mut P) -> Result<(), DeviceError>
     ensures stops { P.honest pair.old →
         PairLeaves P.moment P.left_since pair.old pair.new
         (LeavesOr (P.may_leave pair.old) (recovered (P.base pair.old) (P.journal pair.old))) }
+    ensures appends { P.honest pair.old →
+        OnOk result (Appended (P.base pair.old) (P.journal pair.old) (P.base pair.new) (P.journal pair.new)
+        (P.may_leave pair.new)) }
+    ensures append_stops { P.honest pair.old →
+        PairLeaves P.moment P.left_since pair.old pair.new
+        (OrAppended (P.may_leave pair.old) (P.base pair.old) (P.journal pair.old)) }
     ensures honest { P.honest pair.old ↔ P.honest pair.new }
     ensures faults { Counts (P.faults pair.old) (P.faults pair.new) result }
 {
@@ -123,6 +133,16 @@ impl<P: DevicePair, A: Allocator + Copy> CommittedLog<P, A> {
         ensures refused_stops { IfErr result (λ e. P.honest pair →
             PairLeaves P.moment P.left_since pair e.1
             (LeavesOr (P.may_leave pair) (recovered (P.base pair) (P.journal pair)))) }
+
+        // And what shows the same to who has read the journal as it was.
+        ensures appends { IfOk result (λ c. P.honest pair →
+            Appended (P.base pair) (P.journal pair) (base_of c) (journal_of c) (P.may_leave (pair_of c))) }
+        ensures append_stops { IfOk result (λ c. P.honest pair →
+            PairLeaves P.moment P.left_since pair (pair_of c)
+            (OrAppended (P.may_leave pair) (P.base pair) (P.journal pair))) }
+        ensures refused_append_stops { IfErr result (λ e. P.honest pair →
+            PairLeaves P.moment P.left_since pair e.1
+            (OrAppended (P.may_leave pair) (P.base pair) (P.journal pair))) }
         ensures malformed { IfErr result (λ e. P.honest pair → e.0 ≡ fault.Malformed →
             IsMalformed (P.base pair) (P.journal pair)) }
         ensures honest { IfOk result (λ c. P.honest pair ↔ IsHonest c) }
@@ -159,6 +179,7 @@ impl<P: DevicePair, A: Allocator + Copy> CommittedLog<P, A> {
             (λ a b. recovered a b ≡ recovered (base_of self.old) (journal_of self.old)) }
         ensures malformed { IsHonest self.old → IsErrOf result fault.Malformed →
             IsMalformed (base_of self.old) (journal_of self.old) }
+        ensures appends { IsHonest self.old → AppendsOnly self.old self.new }
         ensures honest { IsHonest self.old ↔ IsHonest self.new }
     {
         'regions: while self.read_region()? {}
@@ -180,6 +201,7 @@ impl<P: DevicePair, A: Allocator + Copy> CommittedLog<P, A> {
         ensures stops { IsHonest self.old →
             PairLeaves P.moment P.left_since (pair_of self.old) (pair_of self.new)
             (λ a b. recovered a b ≡ seen_of self.old) }
+        ensures appends { IsHonest self.old → AppendsOnly self.old self.new }
         ensures honest { IsHonest self.old ↔ IsHonest self.new }
     {
         if self.behind_blocks() >= 2 {
@@ -216,6 +238,7 @@ impl<P: DevicePair, A: Allocator + Copy> CommittedLog<P, A> {
             (λ a b. recovered a b ≡ recovered (base_of self.old) (journal_of self.old)) }
         ensures malformed { IsHonest self.old → IsErrOf result fault.Malformed →
             IsBroken (base_of self.old) (behind_of self.old) }
+        ensures appends { IsHonest self.old → AppendsOnly self.old self.new }
         ensures honest { IsHonest self.old ↔ IsHonest self.new }
     {
         let Some(homes) = self.find_region()? else {
@@ -243,6 +266,7 @@ impl<P: DevicePair, A: Allocator + Copy> CommittedLog<P, A> {
         ensures stops { IsHonest self.old →
             PairLeaves P.moment P.left_since (pair_of self.old) (pair_of self.new)
             (λ a b. recovered a b ≡ recovered (base_of self.old) (journal_of self.old)) }
+        ensures appends { IsHonest self.old → AppendsOnly self.old self.new }
         ensures honest { IsHonest self.old ↔ IsHonest self.new }
     {
         self.reserve(homes.len())?;
@@ -387,6 +411,7 @@ impl<P: DevicePair, A: Allocator + Copy> CommittedLog<P, A> {
         ensures stops { IsHonest self.old →
             PairLeaves P.moment P.left_since (pair_of self.old) (pair_of self.new)
             (λ a b. recovered a b ≡ recovered (base_of self.old) (journal_of self.old)) }
+        ensures appends { IsHonest self.old → AppendsOnly self.old self.new }
         ensures honest { IsHonest self.old ↔ IsHonest self.new }
         ensures faults { Counts (P.faults (pair_of self.old)) (P.faults (pair_of self.new)) result }
     {

@@ -1,7 +1,8 @@
 //! Reads, writes and commits of a base and its log.
-ghost use Rattle.std.specs.Prelude.{◌≡◌, ◌≤◌, ◌<◌, ◌+◌, ◌^◌, ◌↔◌, [], false, length, OnOk, OnErr};
+ghost use Rattle.std.specs.Prelude.{◌≡◌, ◌≤◌, ◌<◌, ◌+◌, ◌^◌, ◌↔◌, ◌⊎◌, [], false, true, length, OnOk, OnErr};
 ghost use Rattle.block_device.specs.Device.{Blocks, Torn, Counts, block_at, written};
 ghost use Rattle.logged_pair.specs.Commits.{CommitsNoMore, Either, OrNew};
+ghost use Rattle.logged_pair.specs.Snapshots.{KeepsLast, KeepsSnapshots, LastStays, ShowsLast};
 ghost use Rattle.logged_pair.specs.Standing.{clearing_of, commits_of, deciding_of, homes_of, journal_of};
 ghost use Rattle.logged_pair.specs.Standing.{log_of, pair_of, shown_of, IsHonest, IsSettled, IsStill};
 ghost use Rattle.logged_pair.specs.Standing.{KeepsTo};
@@ -12,7 +13,7 @@ use block_device::DeviceError;
 use device_pair::DevicePair;
 use std::alloc::Allocator;
 
-/// How many blocks the log has at least when a write copies it home.
+/// How many blocks a long log has at least.
 const LONG_LOG: usize = 4096;
 
 impl<P: DevicePair, A: Allocator + Copy> LoggedPair<P, A> {
@@ -29,6 +30,7 @@ impl<P: DevicePair, A: Allocator + Copy> LoggedPair<P, A> {
         requires { i < length (shown_of self.old) }
         ensures bytes { IsHonest self.old → OnOk result (into.new ≡ block_at i (shown_of self.old)) }
         ensures still { IsHonest self.old → IsStill self.old self.new }
+        ensures snapshots { IsHonest self.old → KeepsSnapshots self.old self.new }
         ensures honest { IsHonest self.old ↔ IsHonest self.new }
         ensures faults { Counts (P.faults (pair_of self.old)) (P.faults (pair_of self.new)) result }
     {
@@ -53,8 +55,8 @@ impl<P: DevicePair, A: Allocator + Copy> LoggedPair<P, A> {
         self.log.read_behind(at as u32, into)
     }
 
-    /// Writes a block, which a commit then makes last. One that was refused before is finished first, and a log
-    /// that has grown long is copied home before the first block of a commit.
+    /// Writes a block, which a commit then makes last. One that was refused before is finished first. Nothing is
+    /// copied home, however long the log is.
     pub fn write(&mut self, i: u32, bytes: &[u8; 4096]) -> Result<(), DeviceError>
         requires within { i ≤ length (shown_of self.old) }
         requires small { i < 2 ^ 31 }
@@ -62,32 +64,31 @@ impl<P: DevicePair, A: Allocator + Copy> LoggedPair<P, A> {
             OnOk result (shown_of self.new ≡ written i bytes.now (shown_of self.old)) }
         ensures torn { IsHonest self.old → OnErr result (Torn i (shown_of self.old) (shown_of self.new)) }
         ensures keeps { IsHonest self.old → KeepsTo (commits_of self.old) self.old self.new }
+        ensures snapshots { IsHonest self.old → KeepsSnapshots self.old self.new }
         ensures honest { IsHonest self.old ↔ IsHonest self.new }
         ensures faults { Counts (P.faults (pair_of self.old)) (P.faults (pair_of self.new)) result }
     {
         self.finish()?;
-        self.shorten()?;
         self.write_now(i, bytes)
     }
 
-    // Copies a log home that has grown long, before the first block of a commit.
-    fn shorten(&mut self) -> Result<(), DeviceError>
-        requires filling { deciding_of self.old ≡ false }
-        requires settled { clearing_of self.old ≡ false }
-        ensures filling { deciding_of self.new ≡ false }
-        ensures settled { OnOk result (clearing_of self.new ≡ false) }
-        ensures shown { IsHonest self.old → shown_of self.new ≡ shown_of self.old }
-        ensures keeps { IsHonest self.old → KeepsTo (commits_of self.old) self.old self.new }
-        ensures honest { IsHonest self.old ↔ IsHonest self.new }
-        ensures faults { Counts (P.faults (pair_of self.old)) (P.faults (pair_of self.new)) result }
+    /// Whether the log has grown long, where no commit is being decided and nothing was written since the last one
+    /// but blocks that were appended. A caller that knows that no reader is there copies it home then, before the
+    /// first write of the next commit.
+    pub fn is_long(&self) -> bool
+        ensures none { result ≡ true → homes_of self.now ≡ [] }
+        ensures filling { result ≡ true → deciding_of self.now ≡ false }
+        ensures long { result ≡ true → LONG_LOG ≤ length (regions.homes_of (log_of self.now)) }
+        ensures not { result ≡ false → (deciding_of self.now ≡ true) ⊎
+            ((0 < length (homes_of self.now)) ⊎ (length (regions.homes_of (log_of self.now)) < LONG_LOG)) }
     {
+        if self.deciding {
+            return false;
+        }
         if self.slots.len() > 0 {
-            return Ok(());
+            return false;
         }
-        if self.log.region_blocks() < LONG_LOG {
-            return Ok(());
-        }
-        self.copy_now()
+        self.log.region_blocks() >= LONG_LOG
     }
 
     /// Commits what is read: after an `Ok` it is the only commit, after an `Err` it may be one more.
@@ -101,6 +102,8 @@ impl<P: DevicePair, A: Allocator + Copy> LoggedPair<P, A> {
             CommitsNoMore (OrNew (commits_of self.old) (shown_of self.old)) (commits_of self.new) }
         ensures keeps { IsHonest self.old →
             KeepsTo (Either (commits_of self.old) (commits_of self.new)) self.old self.new }
+        ensures snapshots { IsHonest self.old → KeepsSnapshots self.old self.new }
+        ensures new_snapshot { IsHonest self.old → OnOk result (ShowsLast self.new) }
         ensures honest { IsHonest self.old ↔ IsHonest self.new }
         ensures faults { Counts (P.faults (pair_of self.old)) (P.faults (pair_of self.new)) result }
     {
@@ -117,6 +120,11 @@ impl<P: DevicePair, A: Allocator + Copy> LoggedPair<P, A> {
         ensures settled { OnOk result (clearing_of self.new ≡ false) }
         ensures shown { IsHonest self.old → shown_of self.new ≡ shown_of self.old }
         ensures keeps { IsHonest self.old → KeepsTo (commits_of self.old) self.old self.new }
+
+        // Who has read all regions that there were sees the same at each moment, though not who has read fewer.
+        ensures last { IsHonest self.old → deciding_of self.old ≡ false → KeepsLast self.old self.new }
+        ensures last_stays { IsHonest self.old → deciding_of self.old ≡ false →
+            OnErr result (LastStays self.old self.new) }
         ensures honest { IsHonest self.old ↔ IsHonest self.new }
         ensures faults { Counts (P.faults (pair_of self.old)) (P.faults (pair_of self.new)) result }
     {
@@ -134,6 +142,8 @@ impl<P: DevicePair, A: Allocator + Copy> LoggedPair<P, A> {
         ensures settled { OnOk result (clearing_of self.new ≡ false) }
         ensures shown { IsHonest self.old → shown_of self.new ≡ shown_of self.old }
         ensures keeps { IsHonest self.old → KeepsTo (commits_of self.old) self.old self.new }
+        ensures last { IsHonest self.old → KeepsLast self.old self.new }
+        ensures last_stays { IsHonest self.old → OnErr result (LastStays self.old self.new) }
         ensures honest { IsHonest self.old ↔ IsHonest self.new }
         ensures faults { Counts (P.faults (pair_of self.old)) (P.faults (pair_of self.new)) result }
     {

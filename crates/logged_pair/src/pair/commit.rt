@@ -6,6 +6,7 @@ ghost use Rattle.committed_log.specs.Committed.{IsDurable};
 ghost use Rattle.committed_log.specs.Log.{flag_block, region_of, says};
 ghost use Rattle.committed_log.specs.Room.{HasRoomFor};
 ghost use Rattle.logged_pair.specs.Commits.{CommitsNoMore, Either, OrNew};
+ghost use Rattle.logged_pair.specs.Snapshots.{KeepsSnapshots, ShowsLast};
 ghost use Rattle.logged_pair.specs.Stages.{IsRecorded, SameBehind};
 ghost use Rattle.logged_pair.specs.Standing.{base_of, clearing_of, commits_of, deciding_of, homes_of};
 ghost use Rattle.logged_pair.specs.Standing.{journal_of, log_of, pair_of, shown_of, IsHonest, IsSettled};
@@ -31,6 +32,8 @@ impl<P: DevicePair, A: Allocator + Copy> LoggedPair<P, A> {
             CommitsNoMore (OrNew (commits_of self.old) (shown_of self.old)) (commits_of self.new) }
         ensures keeps { IsHonest self.old →
             KeepsTo (Either (commits_of self.old) (commits_of self.new)) self.old self.new }
+        ensures snapshots { IsHonest self.old → KeepsSnapshots self.old self.new }
+        ensures new_snapshot { IsHonest self.old → OnOk result (ShowsLast self.new) }
         ensures honest { IsHonest self.old ↔ IsHonest self.new }
         ensures faults { Counts (P.faults (pair_of self.old)) (P.faults (pair_of self.new)) result }
     {
@@ -56,6 +59,8 @@ impl<P: DevicePair, A: Allocator + Copy> LoggedPair<P, A> {
             CommitsNoMore (OrNew (commits_of self.old) (shown_of self.old)) (commits_of self.new) }
         ensures keeps { IsHonest self.old →
             KeepsTo (Either (commits_of self.old) (commits_of self.new)) self.old self.new }
+        ensures snapshots { IsHonest self.old → KeepsSnapshots self.old self.new }
+        ensures new_snapshot { IsHonest self.old → OnOk result (ShowsLast self.new) }
         ensures honest { IsHonest self.old ↔ IsHonest self.new }
         ensures faults { Counts (P.faults (pair_of self.old)) (P.faults (pair_of self.new)) result }
     {
@@ -76,6 +81,7 @@ impl<P: DevicePair, A: Allocator + Copy> LoggedPair<P, A> {
         ensures keeps { IsHonest self.old →
             KeepsTo (OrNew (commits_of self.old) (shown_of self.old)) self.old self.new }
         ensures refused { IsHonest self.old → OnErr result (KeepsTo (commits_of self.old) self.old self.new) }
+        ensures snapshots { IsHonest self.old → KeepsSnapshots self.old self.new }
         ensures honest { IsHonest self.old ↔ IsHonest self.new }
         ensures faults { Counts (P.faults (pair_of self.old)) (P.faults (pair_of self.new)) result }
     {
@@ -122,6 +128,8 @@ impl<P: DevicePair, A: Allocator + Copy> LoggedPair<P, A> {
         ensures settled { IsHonest self.old → OnOk result (IsSettled self.new) }
         ensures shown { IsHonest self.old → shown_of self.new ≡ shown_of self.old }
         ensures keeps { IsHonest self.old → KeepsTo (commits_of self.old) self.old self.new }
+        ensures snapshots { IsHonest self.old → KeepsSnapshots self.old self.new }
+        ensures new_snapshot { IsHonest self.old → OnOk result (ShowsLast self.new) }
         ensures honest { IsHonest self.old ↔ IsHonest self.new }
         ensures faults { Counts (P.faults (pair_of self.old)) (P.faults (pair_of self.new)) result }
     {
@@ -147,6 +155,8 @@ impl<P: DevicePair, A: Allocator + Copy> LoggedPair<P, A> {
         ensures settled { IsHonest self.old → IsSettled self.new }
         ensures shown { IsHonest self.old → shown_of self.new ≡ shown_of self.old }
         ensures keeps { IsHonest self.old → KeepsTo (commits_of self.old) self.old self.new }
+        ensures snapshots { IsHonest self.old → KeepsSnapshots self.old self.new }
+        ensures new_snapshot { IsHonest self.old → ShowsLast self.new }
         ensures honest { IsHonest self.old ↔ IsHonest self.new }
         ensures faults { P.faults (pair_of self.new) ≡ P.faults (pair_of self.old) }
     {
@@ -166,6 +176,7 @@ impl<P: DevicePair, A: Allocator + Copy> LoggedPair<P, A> {
         ensures synced { IsHonest self.old → OnOk result (IsDurable (log_of self.new)) }
         ensures shown { IsHonest self.old → shown_of self.new ≡ shown_of self.old }
         ensures keeps { IsHonest self.old → KeepsTo (commits_of self.old) self.old self.new }
+        ensures snapshots { IsHonest self.old → KeepsSnapshots self.old self.new }
         ensures honest { IsHonest self.old ↔ IsHonest self.new }
         ensures faults { Counts (P.faults (pair_of self.old)) (P.faults (pair_of self.new)) result }
     {
@@ -184,6 +195,7 @@ impl<P: DevicePair, A: Allocator + Copy> LoggedPair<P, A> {
         ensures behind { IsHonest self.old → SameBehind (journal_of self.new) (journal_of self.old) }
         ensures shown { IsHonest self.old → shown_of self.new ≡ shown_of self.old }
         ensures keeps { IsHonest self.old → KeepsTo (commits_of self.old) self.old self.new }
+        ensures snapshots { IsHonest self.old → KeepsSnapshots self.old self.new }
         ensures honest { IsHonest self.old ↔ IsHonest self.new }
         ensures faults { Counts (P.faults (pair_of self.old)) (P.faults (pair_of self.new)) result }
     {
@@ -198,6 +210,7 @@ impl<P: DevicePair, A: Allocator + Copy> LoggedPair<P, A> {
         ensures none { homes_of self.old ≡ [] → homes_of self.new ≡ [] }
         ensures shown { IsHonest self.old → shown_of self.new ≡ shown_of self.old }
         ensures keeps { IsHonest self.old → KeepsTo (commits_of self.old) self.old self.new }
+        ensures snapshots { IsHonest self.old → KeepsSnapshots self.old self.new }
         ensures honest { IsHonest self.old ↔ IsHonest self.new }
         ensures faults { Counts (P.faults (pair_of self.old)) (P.faults (pair_of self.new)) result }
     {
@@ -217,6 +230,7 @@ impl<P: DevicePair, A: Allocator + Copy> LoggedPair<P, A> {
         ensures none { homes_of self.old ≡ [] → homes_of self.new ≡ [] }
         ensures shown { IsHonest self.old → shown_of self.new ≡ shown_of self.old }
         ensures keeps { IsHonest self.old → KeepsTo (commits_of self.old) self.old self.new }
+        ensures snapshots { IsHonest self.old → KeepsSnapshots self.old self.new }
         ensures honest { IsHonest self.old ↔ IsHonest self.new }
         ensures faults { Counts (P.faults (pair_of self.old)) (P.faults (pair_of self.new)) result }
     {

@@ -3,6 +3,7 @@ ghost use Rattle.std.specs.Prelude.{◌≡◌, ◌≤◌, ◌<◌, ◌+◌, ◌^
 ghost use Rattle.block_device.specs.Device.{Torn, Counts, written};
 ghost use Rattle.committed_log.specs.Found.{IsSlot};
 ghost use Rattle.committed_log.specs.Room.{HasRoomFor};
+ghost use Rattle.logged_pair.specs.Snapshots.{KeepsSnapshots};
 ghost use Rattle.logged_pair.specs.Standing.{base_of, clearing_of, commits_of, deciding_of, homes_of};
 ghost use Rattle.logged_pair.specs.Standing.{journal_of, kept_of, pair_of, shown_of, slots_of, IsHonest};
 ghost use Rattle.logged_pair.specs.Standing.{KeepsTo, SameSlots};
@@ -27,6 +28,7 @@ impl<P: DevicePair, A: Allocator + Copy> LoggedPair<P, A> {
         ensures torn { IsHonest self.old → (Torn at (journal_of self.old) (journal_of self.new) ×
             (at ≤ length (journal_of self.old))) ⊎ (journal_of self.new ≡ journal_of self.old) }
         ensures keeps { IsHonest self.old → KeepsTo (commits_of self.old) self.old self.new }
+        ensures snapshots { IsHonest self.old → KeepsSnapshots self.old self.new }
         ensures honest { IsHonest self.old ↔ IsHonest self.new }
         ensures faults { Counts (P.faults (pair_of self.old)) (P.faults (pair_of self.new)) result }
     {
@@ -47,6 +49,7 @@ impl<P: DevicePair, A: Allocator + Copy> LoggedPair<P, A> {
             OnOk result (shown_of self.new ≡ written i bytes.now (shown_of self.old)) }
         ensures torn { IsHonest self.old → OnErr result (Torn i (shown_of self.old) (shown_of self.new)) }
         ensures keeps { IsHonest self.old → KeepsTo (commits_of self.old) self.old self.new }
+        ensures snapshots { IsHonest self.old → KeepsSnapshots self.old self.new }
         ensures honest { IsHonest self.old ↔ IsHonest self.new }
         ensures faults { Counts (P.faults (pair_of self.old)) (P.faults (pair_of self.new)) result }
     {
@@ -71,6 +74,7 @@ impl<P: DevicePair, A: Allocator + Copy> LoggedPair<P, A> {
             OnOk result (shown_of self.new ≡ written i bytes.now (shown_of self.old)) }
         ensures torn { IsHonest self.old → OnErr result (Torn i (shown_of self.old) (shown_of self.new)) }
         ensures keeps { IsHonest self.old → KeepsTo (commits_of self.old) self.old self.new }
+        ensures snapshots { IsHonest self.old → KeepsSnapshots self.old self.new }
         ensures honest { IsHonest self.old ↔ IsHonest self.new }
         ensures faults { Counts (P.faults (pair_of self.old)) (P.faults (pair_of self.new)) result }
     {
@@ -87,6 +91,7 @@ impl<P: DevicePair, A: Allocator + Copy> LoggedPair<P, A> {
             OnOk result (shown_of self.new ≡ written i bytes.now (shown_of self.old)) }
         ensures torn { IsHonest self.old → OnErr result (Torn i (shown_of self.old) (shown_of self.new)) }
         ensures keeps { IsHonest self.old → KeepsTo (commits_of self.old) self.old self.new }
+        ensures snapshots { IsHonest self.old → KeepsSnapshots self.old self.new }
         ensures honest { IsHonest self.old ↔ IsHonest self.new }
         ensures faults { Counts (P.faults (pair_of self.old)) (P.faults (pair_of self.new)) result }
     {
@@ -104,6 +109,7 @@ impl<P: DevicePair, A: Allocator + Copy> LoggedPair<P, A> {
             OnOk result (shown_of self.new ≡ written i bytes.now (shown_of self.old)) }
         ensures torn { IsHonest self.old → OnErr result (Torn i (shown_of self.old) (shown_of self.new)) }
         ensures keeps { IsHonest self.old → KeepsTo (commits_of self.old) self.old self.new }
+        ensures snapshots { IsHonest self.old → KeepsSnapshots self.old self.new }
         ensures honest { IsHonest self.old ↔ IsHonest self.new }
         ensures faults { Counts (P.faults (pair_of self.old)) (P.faults (pair_of self.new)) result }
     {
@@ -122,6 +128,7 @@ impl<P: DevicePair, A: Allocator + Copy> LoggedPair<P, A> {
             OnOk result (shown_of self.new ≡ written i bytes.now (shown_of self.old)) }
         ensures torn { IsHonest self.old → OnErr result (Torn i (shown_of self.old) (shown_of self.new)) }
         ensures keeps { IsHonest self.old → KeepsTo (commits_of self.old) self.old self.new }
+        ensures snapshots { IsHonest self.old → KeepsSnapshots self.old self.new }
         ensures honest { IsHonest self.old ↔ IsHonest self.new }
         ensures faults { Counts (P.faults (pair_of self.old)) (P.faults (pair_of self.new)) result }
     {

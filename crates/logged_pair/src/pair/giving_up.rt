@@ -2,6 +2,7 @@
 ghost use Rattle.std.specs.Prelude.{◌≡◌, ◌↔◌, [], false, length, OnErr, OnOk};
 ghost use Rattle.block_device.specs.Device.{BeginsOne, Blocks, Counts};
 ghost use Rattle.logged_pair.specs.Commits.{CommitsNoMore};
+ghost use Rattle.logged_pair.specs.Snapshots.{KeepsSnapshots};
 ghost use Rattle.logged_pair.specs.Standing.{base_of, clearing_of, commits_of, deciding_of, homes_of};
 ghost use Rattle.logged_pair.specs.Standing.{kept_of, pair_of, shown_of, IsHonest, KeepsTo};
 
@@ -24,6 +25,7 @@ impl<P: DevicePair, A: Allocator + Copy> LoggedPair<P, A> {
         ensures no_more { IsHonest self.old →
             OnErr result (CommitsNoMore (commits_of self.old) (commits_of self.new)) }
         ensures keeps { IsHonest self.old → KeepsTo (BeginsOne (commits_of self.old)) self.old self.new }
+        ensures snapshots { IsHonest self.old → KeepsSnapshots self.old self.new }
         ensures honest { IsHonest self.old ↔ IsHonest self.new }
         ensures faults { Counts (P.faults (pair_of self.old)) (P.faults (pair_of self.new)) result }
     {
@@ -44,6 +46,7 @@ impl<P: DevicePair, A: Allocator + Copy> LoggedPair<P, A> {
         ensures no_more { IsHonest self.old →
             OnErr result (CommitsNoMore (commits_of self.old) (commits_of self.new)) }
         ensures keeps { IsHonest self.old → KeepsTo (BeginsOne (commits_of self.old)) self.old self.new }
+        ensures snapshots { IsHonest self.old → KeepsSnapshots self.old self.new }
         ensures honest { IsHonest self.old ↔ IsHonest self.new }
         ensures faults { Counts (P.faults (pair_of self.old)) (P.faults (pair_of self.new)) result }
     {
@@ -64,6 +67,7 @@ impl<P: DevicePair, A: Allocator + Copy> LoggedPair<P, A> {
         ensures begins { IsHonest self.old → BeginsOne (commits_of self.old) (shown_of self.new) }
         ensures one { IsHonest self.old → (k : Blocks) → commits_of self.new k → k ≡ shown_of self.new }
         ensures keeps { IsHonest self.old → KeepsTo (commits_of self.old) self.old self.new }
+        ensures snapshots { IsHonest self.old → KeepsSnapshots self.old self.new }
         ensures honest { IsHonest self.old ↔ IsHonest self.new }
         ensures faults { P.faults (pair_of self.new) ≡ P.faults (pair_of self.old) }
     {

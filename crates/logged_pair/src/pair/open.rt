@@ -1,12 +1,14 @@
 //! A base and its log opened, after a stop or not.
-ghost use Rattle.std.specs.Prelude.{◌≡◌, ◌↔◌, false, [], IfOk, IfErr};
+ghost use Rattle.std.specs.Prelude.{◌≡◌, ◌≤◌, ◌↔◌, ℕ, false, [], length, take, IfOk, IfErr};
 ghost use Rattle.block_device.specs.Device.{Blocks};
 ghost use Rattle.device_pair.specs.Pairs.{PairLeaves};
-ghost use Rattle.committed_log.specs.Log.{recovered};
+ghost use Rattle.committed_log.specs.Appending.{OrAppended};
+ghost use Rattle.committed_log.specs.Log.{homes_in, recovered};
 ghost use Rattle.committed_log.specs.Opening.{IsMalformed, LeavesOr};
 ghost use Rattle.committed_log.specs.declared.log.open.OpenFault.TheVariants as fault;
-ghost use Rattle.logged_pair.specs.Standing.{clearing_of, commits_of, deciding_of, homes_of, pair_of};
-ghost use Rattle.logged_pair.specs.Standing.{shown_of, IsHonest};
+ghost use Rattle.logged_pair.specs.Snapshots.{end_of, seen_by, snapshot, HasSnapshot};
+ghost use Rattle.logged_pair.specs.Standing.{clearing_of, commits_of, deciding_of, homes_of, kept_of, log_of};
+ghost use Rattle.logged_pair.specs.Standing.{pair_of, shown_of, IsHonest};
 
 use crate::pair::LoggedPair;
 use committed_log::{CommittedLog, OpenFault, Slots};
@@ -33,6 +35,17 @@ impl<P: DevicePair, A: Allocator + Copy> LoggedPair<P, A> {
         ensures refused_stops { IfErr result (λ e. P.honest pair →
             PairLeaves P.moment P.left_since pair e.1
             (LeavesOr (P.may_leave pair) (recovered (P.base pair) (P.journal pair)))) }
+
+        // Who has read the log up to a block p, where a region ends, goes on to see what it saw.
+        ensures readers { IfOk result (λ d. P.honest pair → (p n : ℕ) → p ≤ end_of d →
+            p ≤ length (P.journal pair) → length (homes_in (take p (P.journal pair))) ≡ p → n ≤ kept_of d →
+            HasSnapshot p n d × (seen_by p n (log_of d) ≡ snapshot p n (P.base pair) (P.journal pair))) }
+        ensures append_stops { IfOk result (λ d. P.honest pair →
+            PairLeaves P.moment P.left_since pair (pair_of d)
+            (OrAppended (P.may_leave pair) (P.base pair) (P.journal pair))) }
+        ensures refused_append_stops { IfErr result (λ e. P.honest pair →
+            PairLeaves P.moment P.left_since pair e.1
+            (OrAppended (P.may_leave pair) (P.base pair) (P.journal pair))) }
         ensures malformed { IfErr result (λ e. P.honest pair → e.0 ≡ fault.Malformed →
             IsMalformed (P.base pair) (P.journal pair)) }
         ensures honest { IfOk result (λ d. P.honest pair ↔ IsHonest d) }

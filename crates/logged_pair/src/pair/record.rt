@@ -4,6 +4,7 @@ ghost use Rattle.block_bytes.specs.Numbers.{number_at};
 ghost use Rattle.block_device.specs.Device.{Counts};
 ghost use Rattle.logged_pair.specs.Index.{HasIndex, HasNext};
 ghost use Rattle.logged_pair.specs.Stages.{IsRecorded};
+ghost use Rattle.logged_pair.specs.Snapshots.{KeepsSnapshots};
 ghost use Rattle.logged_pair.specs.Standing.{clearing_of, commits_of, deciding_of, homes_of, journal_of};
 ghost use Rattle.logged_pair.specs.Standing.{pair_of, shown_of, IsHonest, KeepsTo, SameSlots};
 
@@ -42,6 +43,7 @@ impl<P: DevicePair, A: Allocator + Copy> LoggedPair<P, A> {
             OnOk result (IsRecorded (homes_of self.new) (journal_of self.new)) }
         ensures shown { IsHonest self.old → shown_of self.new ≡ shown_of self.old }
         ensures keeps { IsHonest self.old → KeepsTo (commits_of self.old) self.old self.new }
+        ensures snapshots { IsHonest self.old → KeepsSnapshots self.old self.new }
         ensures honest { IsHonest self.old ↔ IsHonest self.new }
         ensures faults { Counts (P.faults (pair_of self.old)) (P.faults (pair_of self.new)) result }
     {
@@ -62,6 +64,7 @@ impl<P: DevicePair, A: Allocator + Copy> LoggedPair<P, A> {
         ensures index { IsHonest self.old → OnOk result (HasIndex (homes_of self.new) (journal_of self.new)) }
         ensures shown { IsHonest self.old → shown_of self.new ≡ shown_of self.old }
         ensures keeps { IsHonest self.old → KeepsTo (commits_of self.old) self.old self.new }
+        ensures snapshots { IsHonest self.old → KeepsSnapshots self.old self.new }
         ensures honest { IsHonest self.old ↔ IsHonest self.new }
         ensures faults { Counts (P.faults (pair_of self.old)) (P.faults (pair_of self.new)) result }
     {
@@ -83,6 +86,7 @@ impl<P: DevicePair, A: Allocator + Copy> LoggedPair<P, A> {
         ensures next { IsHonest self.old → OnOk result (HasNext (homes_of self.new) (journal_of self.new)) }
         ensures shown { IsHonest self.old → shown_of self.new ≡ shown_of self.old }
         ensures keeps { IsHonest self.old → KeepsTo (commits_of self.old) self.old self.new }
+        ensures snapshots { IsHonest self.old → KeepsSnapshots self.old self.new }
         ensures honest { IsHonest self.old ↔ IsHonest self.new }
         ensures faults { Counts (P.faults (pair_of self.old)) (P.faults (pair_of self.new)) result }
     {

@@ -2,6 +2,7 @@
 ghost use Rattle.std.specs.Prelude.{◌≡◌, ◌<◌, ◌↔◌, [], None, IfOk, OnOk, false, is_none, length, true};
 ghost use Rattle.block_device.specs.Device.{Blocks, Counts, block_at};
 ghost use Rattle.page_file.specs.Opening.{failed_check};
+ghost use Rattle.logged_pair.specs.Snapshots.{KeepsSnapshots};
 ghost use Rattle.logged_pair.specs.Standing.{IsStill};
 ghost use Rattle.logged_pair.specs.Commits.{OrOpened};
 ghost use Rattle.logged_pair.specs.Standing.{commits_of, homes_of, pair_of, shown_of, IsHonest, IsSettled};
@@ -63,6 +64,7 @@ impl<P: DevicePair, A: Allocator + Copy> LoggedPair<P, A> {
             OnOk result (homes_of self.new ≡ []) }
         ensures keeps { IsHonest self.old →
             KeepsTo (OrOpened (commits_of self.old) (shown_of self.old)) self.old self.new }
+        ensures snapshots { IsHonest self.old → KeepsSnapshots self.old self.new }
         ensures honest { IsHonest self.old ↔ IsHonest self.new }
         ensures faults { Counts (P.faults (pair_of self.old)) (P.faults (pair_of self.new)) result }
     {

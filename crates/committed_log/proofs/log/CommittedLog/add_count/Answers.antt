@@ -7,6 +7,7 @@ use Rattle.committed_log.specs.Log.{recovered, says}
 use Rattle.committed_log.proofs.Adding.{added_seen, count_leaves, count_says, on_fine, two_blocks}
 use Rattle.committed_log.proofs.Keeping.{behind_still, leaves_call, leaves_still, leaves_then, seen_still}
 use Rattle.committed_log.proofs.Stood.{on_ok}
+use Rattle.committed_log.proofs.Appending.{appends_still, appends_then}
 use Rattle.committed_log.proofs.log.CommittedLog.add_count.Given as given
 use Rattle.committed_log.proofs.log.CommittedLog.add_count.Goals as goal
 use Rattle.committed_log.proofs.log.CommittedLog.add_count.Goals.{After-write_behind}
@@ -98,3 +99,16 @@ returns-clause-stops g c = λ h.
     (leaves_call m.pair e (seen_of m) (g.met.P.DevicePair.few_blocks e.pair).0
     (c.sync_journal.ensures.honest.0 h1) still.time
     (λ v j l. leaves_so g at h v j (leaves_still m e still v j l) ∙ sym (c.write_behind.ensures.seen h)))
+
+pub returns-in_err-write_behind-clause-appends : goal.returns-in_err-write_behind-clause-appends
+returns-in_err-write_behind-clause-appends g c = λ h.
+    c.write_behind.ensures.appends h
+    (sym (one_so g (goal.at.returns-in_err-write_behind-clause-appends g c).After-write_behind))
+
+pub returns-clause-appends : goal.returns-clause-appends
+returns-clause-appends g c = λ h.
+    let d = c.args.self.now in let m = c.write_behind.new.self in
+    appends_then d m c.sync_journal.new.self
+    (c.write_behind.ensures.appends h
+    (sym (one_so g (goal.at.returns-clause-appends g c).After-write_behind)))
+    (appends_still m c.sync_journal.new.self (c.sync_journal.ensures.still (c.write_behind.ensures.honest.0 h)))

@@ -9,6 +9,7 @@ use Rattle.committed_log.proofs.Keeping.{behind_still, leaves_call, leaves_still
 use Rattle.committed_log.proofs.Opened.{flag_added, longer_by}
 use Rattle.committed_log.proofs.Reading.{back_as, back_then, reads_back}
 use Rattle.committed_log.proofs.Stood.{on_ok}
+use Rattle.committed_log.proofs.Appending.{appends_still, appends_then}
 use Rattle.committed_log.proofs.log.CommittedLog.add_flag.Given as given
 use Rattle.committed_log.proofs.log.CommittedLog.add_flag.Goals as goal
 use Rattle.committed_log.proofs.log.CommittedLog.add_flag.Goals.{After-write_behind}
@@ -146,3 +147,15 @@ returns-clause-stops g c = λ h.
     (leaves_call m.pair e (recovered (seen_of d) (behind_of d)) (g.met.P.DevicePair.few_blocks e.pair).0
     (c.sync_journal.ensures.honest.0 h1) still.time
     (λ v j l. leaves_so g at h v j (leaves_still m e still v j l)))
+
+pub returns-in_err-write_behind-clause-appends : goal.returns-in_err-write_behind-clause-appends
+returns-in_err-write_behind-clause-appends g c = λ h.
+    c.write_behind.ensures.appends h
+    (last_so g (goal.at.returns-in_err-write_behind-clause-appends g c).After-write_behind)
+
+pub returns-clause-appends : goal.returns-clause-appends
+returns-clause-appends g c = λ h.
+    let d = c.args.self.now in let m = c.write_behind.new.self in
+    appends_then d m c.sync_journal.new.self
+    (c.write_behind.ensures.appends h (last_so g (goal.at.returns-clause-appends g c).After-write_behind))
+    (appends_still m c.sync_journal.new.self (c.sync_journal.ensures.still (c.write_behind.ensures.honest.0 h)))

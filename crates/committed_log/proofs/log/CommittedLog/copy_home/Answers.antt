@@ -2,10 +2,13 @@
 use Rattle.std.proofs.Common.{◌≡◌, ◌∙◌, ◌<◌, ◌≤◌, ap, arith, drop, length, refl, sym}
 use Rattle.device_pair.specs.Pairs.{PairLeaves}
 use Rattle.device_pair.specs.Runs.{pair_call, pair_then, pair_weaker}
-use Rattle.committed_log.specs.Committed.{behind_of, homes_of, seen_of}
+use Rattle.committed_log.specs.Committed.{behind_of, homes_of, seen_of, SameLog}
+use Rattle.committed_log.specs.Home.{FirstShow}
 use Rattle.committed_log.specs.Log.{overlaid, recovered}
-use Rattle.committed_log.proofs.Homing.{Quiet, copied_stands, drop_longer, quiet_recovers, quiet_still}
-use Rattle.committed_log.proofs.Homing.{seen_equal}
+use Rattle.committed_log.proofs.Homing.{Quiet, copied_stands, drop_longer, quiet_first, quiet_recovers}
+use Rattle.committed_log.proofs.Homing.{quiet_still, seen_equal}
+use Rattle.committed_log.proofs.Keeping.{first_shows}
+use Rattle.committed_log.proofs.Stood.{on_any, on_err}
 use Rattle.committed_log.proofs.log.CommittedLog.copy_home.Given as given
 use Rattle.committed_log.proofs.log.CommittedLog.copy_home.Goals as goal
 use Rattle.committed_log.proofs.log.CommittedLog.copy_home.Goals.{After-sync_base}
@@ -39,6 +42,35 @@ leaves_so g c h =
     (p.may_leave m.pair) (g.met.P.DevicePair.few_blocks m.pair).0 (m.standing h1) (quiet_so g c h) a b
     (c.sync_base.ensures.stops h1 a b left)
     ∙ c.copy_slots.ensures.seen h))
+
+last_so : (g : given.Over) (c : After-sync_base g) → g.P.DevicePair.honest c.args.self.now.pair
+    → PairLeaves g.P.DevicePair.moment g.P.DevicePair.left_since c.args.self.now.pair c.sync_base.new.self
+    (FirstShow (homes_of c.args.self.now) (seen_of c.args.self.now))
+last_so g c h =
+    let d = c.args.self.now in let m = c.copy_slots.new.self in let p = g.P.DevicePair in
+    let e = c.sync_base.new.self in
+    let h1 = c.copy_slots.ensures.honest.0 h in
+    pair_then p.moment p.left_since d.pair m.pair e _ (c.copy_slots.ensures.last h)
+    (pair_call p.moment p.left_since m.pair e _ (p.may_leave e) (c.sync_base.ensures.time h1) (λ a b left.
+    first_shows (homes_of m) (homes_of d) (seen_of m) (seen_of d) c.copy_slots.ensures.log.homes
+    (c.copy_slots.ensures.seen h) a b
+    (quiet_first m.clearing m.slots.homes.items (p.base m.pair) (p.journal m.pair) (seen_of m)
+    (p.may_leave m.pair) (g.met.P.DevicePair.few_blocks m.pair).0 (m.standing h1) (quiet_so g c h) a b
+    (c.sync_base.ensures.stops h1 a b left))))
+
+pub returns-in_err-sync_base-clause-last : goal.returns-in_err-sync_base-clause-last
+returns-in_err-sync_base-clause-last g c = λ h.
+    last_so g (goal.at.returns-in_err-sync_base-clause-last g c).After-sync_base h
+
+pub returns-clause-last : goal.returns-clause-last
+returns-clause-last g c = λ h.
+    let d = c.args.self.now in let p = g.P.DevicePair in let e = c.sync_base.new.self in
+    let at = (goal.at.returns-clause-last g c).After-sync_base in
+    pair_then p.moment p.left_since d.pair e c.settle.new.self.pair _ (last_so g at h)
+    (pair_weaker p.moment p.left_since e c.settle.new.self.pair _ _
+    (first_shows (homes_of c.copy_slots.new.self) (homes_of d) _ (seen_of d) c.copy_slots.ensures.log.homes
+    (seen_so g at h))
+    (c.settle.ensures.last (c.sync_base.ensures.honest.0 (c.copy_slots.ensures.honest.0 h)) refl))
 
 pub invariant_of-self-2 : goal.invariant_of-self-2
 invariant_of-self-2 g c =
@@ -127,3 +159,17 @@ returns-clause-room g c = λ h.
       room_so g (goal.at.returns-clause-room g c).After-sync_base h,
       c.settle.ensures.room (c.sync_base.ensures.honest.0 (c.copy_slots.ensures.honest.0 h)),
     )
+
+pub returns-in_err-copy_slots-clause-refused : goal.returns-in_err-copy_slots-clause-refused
+returns-in_err-copy_slots-clause-refused g c =
+    on_any c.from_residual.result _ c.copy_slots.ensures.log.homes
+
+pub returns-in_err-sync_base-clause-refused : goal.returns-in_err-sync_base-clause-refused
+returns-in_err-sync_base-clause-refused g c =
+    on_any c.from_residual-in_err-sync_base.result _ c.copy_slots.ensures.log.homes
+
+pub returns-clause-refused : goal.returns-clause-refused
+returns-clause-refused g c =
+    on_err c.settle.result _ _
+    (λ (same : SameLog _ c.settle.new.self). same.homes ∙ c.copy_slots.ensures.log.homes)
+    (c.settle.ensures.refused refl)

@@ -4,7 +4,7 @@ use Rattle.std.specs.Prelude.{slice_index}
 use Rattle.block_device.specs.Device.{written}
 use Rattle.committed_log.specs.Committed.{base_of}
 use Rattle.committed_log.proofs.Copies.{copied_now}
-use Rattle.committed_log.proofs.Keeping.{leaves_then, quiet_on, seen_still, still_leaves}
+use Rattle.committed_log.proofs.Keeping.{last_then, leaves_then, quiet_on, seen_still, still_last, still_leaves}
 use Rattle.committed_log.proofs.Stood.{on_ok}
 use Rattle.committed_log.proofs.log.CommittedLog.copy_slot.Goals as goal
 
@@ -39,3 +39,18 @@ returns-clause-stops g c = λ h.
     leaves_then d m c.put_home.new.self (seen_still d m still)
     (still_leaves d m (g.met.P.DevicePair.few_blocks m.pair).0 h1 still (c.requires.quiet h))
     (c.put_home.ensures.stops h1)
+
+pub returns-in_err-read_slot-clause-last : goal.returns-in_err-read_slot-clause-last
+returns-in_err-read_slot-clause-last g c = λ h.
+    let d = c.args.self.now in let m = c.read_slot.new.self in
+    still_last d m (g.met.P.DevicePair.few_blocks m.pair).0 (c.read_slot.ensures.honest.0 h)
+    (c.read_slot.ensures.still h) (c.requires.quiet h)
+
+pub returns-clause-last : goal.returns-clause-last
+returns-clause-last g c = λ h.
+    let d = c.args.self.now in let m = c.read_slot.new.self in
+    let h1 = c.read_slot.ensures.honest.0 h in
+    let still = c.read_slot.ensures.still h in
+    last_then d m c.put_home.new.self (seen_still d m still) still.log.homes
+    (still_last d m (g.met.P.DevicePair.few_blocks m.pair).0 h1 still (c.requires.quiet h))
+    (c.put_home.ensures.last h1)

@@ -8,7 +8,7 @@ loop-k-preserved g c =
     let inv = c.loop-k.invariant in let e = c.copy_slot.ensures in (
       copies_step c.loop-k.k c.args.self.now c.loop-k.self c.copy_slot.new.self inv.0 e.log e.honest
           (c.in_ok-copy_slot.ensures.faults.other (λ x. cc)) e.journal
-          (λ h. c.in_ok-copy_slot.ensures.copied h) e.seen e.quiet e.stops,
+          (λ h. c.in_ok-copy_slot.ensures.copied h) e.seen e.quiet e.stops e.last,
       inv.1,
       inv.2,
     )

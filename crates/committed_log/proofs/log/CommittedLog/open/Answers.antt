@@ -1,8 +1,11 @@
 -- The log is opened.
-use Rattle.std.proofs.Common.{◌≡◌, rules, subst, ⊎_elim}
+use Rattle.std.proofs.Common.{◌≡◌, inr, rules, subst, sym, ⊎_elim}
 use Rattle.block_device.specs.Device.{Blocks}
 use Rattle.committed_log.specs.Opening.{IsEmpty, IsMalformed}
 use Rattle.committed_log.proofs.Opened.{not_malformed, opened_stands}
+use Rattle.device_pair.specs.Pairs.{PairLeaves}
+use Rattle.device_pair.specs.Runs.{pair_then, pair_weaker}
+use Rattle.committed_log.specs.Appending.{OrAppended}
 use Rattle.committed_log.proofs.log.CommittedLog.open.Goals as goal
 
 pub invariant_of-log : goal.invariant_of-log
@@ -30,3 +33,30 @@ returns-in-Err-read_regions-clause-malformed g c = λ h e.
     (λ (empty : IsEmpty (p.journal m)). absurd
     (not_malformed (p.base m) (p.journal m) empty.few empty.unsaid bad))
     (c.in_default.ensures.made h)
+
+pub returns-in-Ok-clause-appends : goal.returns-in-Ok-clause-appends
+returns-in-Ok-clause-appends g c = λ h.
+    let p = g.P.DevicePair in let d = c.args.pair in let m = c.prepare.new.pair in
+    (c.read_regions.ensures.appends (c.prepare.ensures.honest.0 h)).after (p.base d) (p.journal d)
+    (c.in_default.ensures.appends h)
+
+pub returns-in-Ok-clause-append_stops : goal.returns-in-Ok-clause-append_stops
+returns-in-Ok-clause-append_stops g c = λ h.
+    let p = g.P.DevicePair in let d = c.args.pair in let m = c.prepare.new.pair in
+    let e = c.read_regions.new.self in
+    pair_then p.moment p.left_since d m e.pair _ (c.prepare.ensures.append_stops h)
+    (pair_weaker p.moment p.left_since m e.pair _ _ (λ a b is. inr is)
+    ((c.read_regions.ensures.appends (c.prepare.ensures.honest.0 h)).stops (p.base d) (p.journal d)
+    (c.in_default.ensures.appends h)))
+
+pub returns-in-Err-read_regions-clause-refused_append_stops : goal.returns-in-Err-read_regions-clause-refused_append_stops
+returns-in-Err-read_regions-clause-refused_append_stops g c = λ h.
+    let p = g.P.DevicePair in let d = c.args.pair in let m = c.prepare.new.pair in
+    let e = c.read_regions.new.self in
+    subst
+    (λ (x : _). PairLeaves p.moment p.left_since d x (OrAppended (p.may_leave d) (p.base d) (p.journal d)))
+    (sym c.into_pair.ensures)
+    (pair_then p.moment p.left_since d m e.pair _ (c.prepare.ensures.append_stops h)
+    (pair_weaker p.moment p.left_since m e.pair _ _ (λ a b is. inr is)
+    ((c.read_regions.ensures.appends (c.prepare.ensures.honest.0 h)).stops (p.base d) (p.journal d)
+    (c.in_default.ensures.appends h))))

@@ -4,7 +4,7 @@ use Rattle.block_device.specs.Device.{Torn}
 use Rattle.device_pair.specs.Runs.{pair_call}
 use Rattle.committed_log.specs.Log.{overlaid}
 use Rattle.committed_log.specs.Stops.{IsStanding}
-use Rattle.committed_log.proofs.Homing.{Quiet, home_quiet, home_seen, quiet_recovers}
+use Rattle.committed_log.proofs.Homing.{Quiet, home_quiet, home_seen, quiet_first, quiet_recovers}
 use Rattle.committed_log.proofs.Stood.{base_stands, torn_of}
 use Rattle.committed_log.proofs.log.CommittedLog.put_home.Given as given
 use Rattle.committed_log.proofs.log.CommittedLog.put_home.Goals as goal
@@ -82,4 +82,12 @@ returns-clause-stops g c = λ h.
     let at = (goal.at.returns-clause-stops g c).After-write_base in
     pair_call p.moment p.left_since d.pair e _ (p.may_leave e) (c.write_base.ensures.time h)
     (quiet_recovers d.clearing d.slots.homes.items (p.base e) (p.journal e) _ (p.may_leave e)
+    (g.met.P.DevicePair.few_blocks e).0 (stands_so g at h) (quiet_so g at h))
+
+pub returns-clause-last : goal.returns-clause-last
+returns-clause-last g c = λ h.
+    let d = c.args.self.now in let p = g.P.DevicePair in let e = c.write_base.new.self in
+    let at = (goal.at.returns-clause-last g c).After-write_base in
+    pair_call p.moment p.left_since d.pair e _ (p.may_leave e) (c.write_base.ensures.time h)
+    (quiet_first d.clearing d.slots.homes.items (p.base e) (p.journal e) _ (p.may_leave e)
     (g.met.P.DevicePair.few_blocks e).0 (stands_so g at h) (quiet_so g at h))

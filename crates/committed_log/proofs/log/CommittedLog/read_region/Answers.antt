@@ -8,6 +8,7 @@ use Rattle.committed_log.specs.Regions.{committed_says}
 use Rattle.committed_log.proofs.Keeping.{same_still}
 use Rattle.committed_log.proofs.Making.{recovered_as}
 use Rattle.committed_log.proofs.Reading.{back_as, back_then, durable_on, reads_back, still_recovers}
+use Rattle.committed_log.proofs.Appending.{appends_still, appends_then}
 use Rattle.committed_log.proofs.log.CommittedLog.read_region.Goals as goal
 
 pub returns-in_default-clause-durable : goal.returns-in_default-clause-durable
@@ -48,3 +49,23 @@ returns-clause-stops g c = λ h.
     (recovered (seen_of d) (behind_of d)) (sym back)
     (still_recovers d m (g.met.P.DevicePair.few_blocks m.pair).0 h1 still (c.requires.durable h)))
     (c.take_region.ensures.stops h1)
+
+pub returns-in_err-homes-clause-appends : goal.returns-in_err-homes-clause-appends
+returns-in_err-homes-clause-appends g c = λ h.
+    appends_still c.args.self.now c.find_region.new.self (c.find_region.ensures.still h)
+
+pub returns-in_default-clause-appends : goal.returns-in_default-clause-appends
+returns-in_default-clause-appends g c = λ h.
+    appends_still c.args.self.now c.find_region.new.self (c.find_region.ensures.still h)
+
+pub returns-in_err-take_region-clause-appends : goal.returns-in_err-take_region-clause-appends
+returns-in_err-take_region-clause-appends g c = λ h.
+    let d = c.args.self.now in let m = c.find_region.new.self in
+    appends_then d m c.take_region.new.self (appends_still d m (c.find_region.ensures.still h))
+    (c.take_region.ensures.appends (c.find_region.ensures.honest.0 h))
+
+pub returns-clause-appends : goal.returns-clause-appends
+returns-clause-appends g c = λ h.
+    let d = c.args.self.now in let m = c.find_region.new.self in
+    appends_then d m c.take_region.new.self (appends_still d m (c.find_region.ensures.still h))
+    (c.take_region.ensures.appends (c.find_region.ensures.honest.0 h))

@@ -15,6 +15,8 @@ use Rattle.committed_log.proofs.Adding.{flag_behind, kept_size, region_kept, slo
 use Rattle.committed_log.proofs.Adding.{taken_recovers}
 use Rattle.committed_log.proofs.Keeping.{SameRead, behind_same, same_pair, seen_same}
 use Rattle.committed_log.proofs.Reading.{durable_on}
+use Rattle.committed_log.specs.Appending.{AppendsOnly}
+use Rattle.committed_log.proofs.Appending.{appends_pair, appends_then}
 use Rattle.committed_log.proofs.log.CommittedLog.take_region.Given as given
 use Rattle.committed_log.proofs.log.CommittedLog.take_region.Goals as goal
 use Rattle.committed_log.proofs.log.CommittedLog.take_region.Goals.{After-add_flag, After-reserve, In_ok-add_flag}
@@ -229,3 +231,25 @@ returns-clause-honest g c =
       λ h3. was_honest g at.After-reserve
           (c.add_flag.ensures.honest.1 (subst g.P.DevicePair.honest c.take_in.ensures.pair h3)),
     )
+
+added_so : (g : given.Over) (c : After-add_flag g) → IsHonest c.reserve.new.self
+    → AppendsOnly c.args.self.now c.add_flag.new.self
+added_so g c h1 =
+    appends_then c.args.self.now c.reserve.new.self c.add_flag.new.self
+    (appends_pair c.args.self.now c.reserve.new.self c.reserve.ensures.pair) (c.add_flag.ensures.appends h1)
+
+pub returns-in_err-reserve-clause-appends : goal.returns-in_err-reserve-clause-appends
+returns-in_err-reserve-clause-appends g c = λ h.
+    appends_pair c.args.self.now c.reserve.new.self c.reserve.ensures.pair
+
+pub returns-in_err-add_flag-clause-appends : goal.returns-in_err-add_flag-clause-appends
+returns-in_err-add_flag-clause-appends g c = λ h.
+    added_so g (goal.at.returns-in_err-add_flag-clause-appends g c).After-add_flag
+    (honest_so g (goal.at.returns-in_err-add_flag-clause-appends g c).After-reserve h)
+
+pub returns-clause-appends : goal.returns-clause-appends
+returns-clause-appends g c = λ h.
+    appends_then c.args.self.now c.add_flag.new.self c.take_in.new.self
+    (added_so g (goal.at.returns-clause-appends g c).After-add_flag
+    (honest_so g (goal.at.returns-clause-appends g c).After-reserve h))
+    (appends_pair c.add_flag.new.self c.take_in.new.self c.take_in.ensures.pair)

@@ -71,3 +71,9 @@ returns-clause-stops g c = λ h.
       (g.met.P.DevicePair.no_longer d.pair a b h left).0,
       (g.met.P.DevicePair.few_blocks d.pair).0,
     )) (d.standing h)
+
+pub returns-then-has_slot-clause-base_stops : goal.returns-then-has_slot-clause-base_stops
+returns-then-has_slot-clause-base_stops g c = λ h a b left. (a, left, inl refl)
+
+pub returns-clause-base : goal.returns-clause-base
+returns-clause-base g c = λ h. torn_so g (goal.at.returns-clause-base g c).After-write_base h

@@ -1,8 +1,12 @@
 -- A block of the journal behind the regions.
 use Rattle.std.proofs.Common.{◌≡◌, ◌+◌, ℕ, ap, arith, inl, length, refl}
+use Rattle.std.proofs.lemmas.List.{length-drop}
 use Rattle.block_device.specs.Device.{Torn, written}
+use Rattle.committed_log.specs.Committed.{homes_of}
+use Rattle.committed_log.specs.Torn.{take_torn}
 use Rattle.committed_log.proofs.Stood.{behind_leaves, behind_seen, behind_stands, behind_torn, behind_written}
-use Rattle.committed_log.proofs.Stood.{on_err, on_ok, torn_of}
+use Rattle.committed_log.proofs.Stood.{kept_stop, on_err, on_ok, torn_of}
+use Rattle.committed_log.proofs.Appending.{appends_journal, appends_none}
 use Rattle.committed_log.proofs.log.CommittedLog.write_behind.Given as given
 use Rattle.committed_log.proofs.log.CommittedLog.write_behind.Goals as goal
 use Rattle.committed_log.proofs.log.CommittedLog.write_behind.Goals.{After-write_journal}
@@ -74,3 +78,40 @@ returns-clause-stops g c = λ h.
     behind_leaves d.clearing d.slots.homes.items c.args.i (c.len.result + c.args.i) (p.base d.pair)
     (p.base e) (p.journal d.pair) (p.journal e) (p.may_leave d.pair) (p.may_leave e)
     c.requires.settled (place_so g at) (c.write_journal.ensures.stops h) (d.standing h)
+
+pub returns-then-at-journal_blocks-clause-region_stops : goal.returns-then-at-journal_blocks-clause-region_stops
+returns-then-at-journal_blocks-clause-region_stops g c = λ h a b left. (b, left, refl)
+
+pub returns-clause-regions : goal.returns-clause-regions
+returns-clause-regions g c = λ h.
+    let d = c.args.self.now in let p = g.P.DevicePair in let e = c.write_journal.new.self in
+    let at = (goal.at.returns-clause-regions g c).After-write_journal in
+    take_torn (length (homes_of d)) (c.len.result + c.args.i) (p.journal d.pair) (p.journal e)
+    (omega (arith, c.len.ensures)) (omega (arith, (d.standing h).there)) (torn_so g at h)
+
+pub returns-clause-region_stops : goal.returns-clause-region_stops
+returns-clause-region_stops g c = λ h a b left.
+    let d = c.args.self.now in let p = g.P.DevicePair in
+    let from = c.write_journal.ensures.stops h a b left in (
+      from.0,
+      from.1,
+      take_torn (length (homes_of d)) (c.len.result + c.args.i) from.0 b (omega (arith, c.len.ensures))
+          (omega (
+            arith,
+            (kept_stop d.clearing d.slots.homes.items (p.base d.pair) (p.journal d.pair) (p.may_leave d.pair)
+                c.requires.settled (d.standing h) a from.0 from.1).there,
+          ))
+          from.2,
+    )
+
+pub returns-then-at-journal_blocks-clause-appends : goal.returns-then-at-journal_blocks-clause-appends
+returns-then-at-journal_blocks-clause-appends g c = λ h last.
+    appends_none c.args.self.now
+
+pub returns-clause-appends : goal.returns-clause-appends
+returns-clause-appends g c = λ h last.
+    let d = c.args.self.now in let p = g.P.DevicePair in
+    let at = (goal.at.returns-clause-appends g c).After-write_journal in
+    appends_journal (c.len.result + c.args.i) d _ (c.write_journal.ensures.base h)
+    (omega (arith, c.len.ensures, last, length-drop (length (homes_of d)) (p.journal d.pair)))
+    (torn_so g at h) (c.write_journal.ensures.stops h) (c.write_journal.ensures.time h)

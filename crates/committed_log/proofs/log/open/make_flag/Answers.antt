@@ -6,6 +6,8 @@ use Rattle.committed_log.specs.Log.{says}
 use Rattle.committed_log.proofs.Adding.{on_fine}
 use Rattle.committed_log.proofs.Making.{made_base, made_now, made_stops, made_unsaid, one_answer, one_there}
 use Rattle.committed_log.proofs.Stood.{on_ok}
+use Rattle.committed_log.specs.Appending.{IsAppended}
+use Rattle.committed_log.proofs.Appending.{none_begins}
 use Rattle.committed_log.proofs.log.open.make_flag.Goals as goal
 
 pub returns-in_err-write_journal-clause-few : goal.returns-in_err-write_journal-clause-few
@@ -71,3 +73,27 @@ returns-clause-stops g c = λ h. let p = g.P.DevicePair in let d = c.args.pair.n
     made_now p.moment p.left_since p.may_leave (p.base d) (p.journal d) d m c.requires.none
     (c.requires.synced h) (c.write_journal.ensures.stops h) (c.write_journal.ensures.time h) a b
     (c.sync_journal.ensures.stops h1 a b left)))
+
+pub returns-in_err-write_journal-clause-append_stops : goal.returns-in_err-write_journal-clause-append_stops
+returns-in_err-write_journal-clause-append_stops g c = λ h.
+    let p = g.P.DevicePair in let d = c.args.pair.now in let m = c.write_journal.new.self in
+    pair_call p.moment p.left_since d m _ (p.may_leave m) (c.write_journal.ensures.time h) (λ a b left. record {
+      base_is = made_base p.moment p.left_since p.may_leave (p.base d) (p.journal d) d m c.requires.none
+          (c.requires.synced h) (c.write_journal.ensures.stops h) (c.write_journal.ensures.time h) a b left;
+      begins = none_begins (p.journal d) b c.requires.none;
+    })
+
+pub returns-clause-append_stops : goal.returns-clause-append_stops
+returns-clause-append_stops g c = λ h.
+    let p = g.P.DevicePair in let d = c.args.pair.now in
+    let m = c.write_journal.new.self in let e = c.sync_journal.new.self in
+    let h1 = c.write_journal.ensures.honest.0 h in
+    let made : (a b : Blocks) → p.may_leave m a b → IsAppended (p.base d) (p.journal d) a b = λ a b left. record {
+      base_is = made_base p.moment p.left_since p.may_leave (p.base d) (p.journal d) d m c.requires.none
+          (c.requires.synced h) (c.write_journal.ensures.stops h) (c.write_journal.ensures.time h) a b left;
+      begins = none_begins (p.journal d) b c.requires.none;
+    } in
+    pair_then p.moment p.left_since d m e _
+    (pair_call p.moment p.left_since d m _ (p.may_leave m) (c.write_journal.ensures.time h) made)
+    (pair_call p.moment p.left_since m e _ (p.may_leave e) (c.sync_journal.ensures.time h1)
+    (λ a b left. made a b (c.sync_journal.ensures.stops h1 a b left)))

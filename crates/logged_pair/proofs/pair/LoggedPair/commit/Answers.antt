@@ -3,6 +3,7 @@ use Rattle.std.proofs.Common.{◌∙◌, inl}
 use Rattle.logged_pair.specs.Standing.{commits_of, shown_of}
 use Rattle.logged_pair.proofs.Keeping.{keeps_either, keeps_old, or_both}
 use Rattle.logged_pair.proofs.Reached.{same_shown}
+use Rattle.logged_pair.proofs.Snapped.{snapshots_then}
 use Rattle.logged_pair.proofs.pair.LoggedPair.commit.Goals as goal
 
 pub returns-in_err-finish-clause-keeps : goal.returns-in_err-finish-clause-keeps
@@ -32,3 +33,12 @@ pub returns-clause-keeps : goal.returns-clause-keeps
 returns-clause-keeps g c = λ h.
     keeps_either c.args.self.now c.finish.new.self c.commit_now.new.self (c.finish.ensures.keeps h)
     (c.commit_now.ensures.keeps (c.finish.ensures.honest.0 h))
+
+pub returns-clause-snapshots : goal.returns-clause-snapshots
+returns-clause-snapshots g c = λ h.
+    snapshots_then c.args.self.now c.finish.new.self c.commit_now.new.self (c.finish.ensures.snapshots h)
+    (c.commit_now.ensures.snapshots (c.finish.ensures.honest.0 h))
+
+pub returns-clause-new_snapshot : goal.returns-clause-new_snapshot
+returns-clause-new_snapshot g c = λ h.
+    c.commit_now.ensures.new_snapshot (c.finish.ensures.honest.0 h)

@@ -1,15 +1,16 @@
 -- Appended blocks are committed.
-use Rattle.std.proofs.Common.{◌≡◌, ◌∙◌, inl, inr, sym}
+use Rattle.std.proofs.Common.{◌≡◌, ◌∙◌, ap, arith, inl, inr, length, sym}
 use Rattle.block_device.specs.Device.{Blocks}
 use Rattle.committed_log.specs.Committed as regions
 use Rattle.logged_pair.specs.CommitLaws.{few_seen, settled_of}
-use Rattle.logged_pair.specs.Stages.{CommitsIn, shown_through}
+use Rattle.logged_pair.specs.Stages.{CommitsIn, IsStanding, shown_through}
 use Rattle.logged_pair.specs.Standing.{commits_of, shown_of}
 use Rattle.logged_pair.proofs.Advanced.{appended}
 use Rattle.logged_pair.proofs.GivingUp.{bare_shown}
 use Rattle.logged_pair.proofs.Keeping.{keeps_call, keeps_now, keeps_old}
 use Rattle.logged_pair.proofs.Stills.{log_behind, log_commits, log_leaves, log_seen, log_shown, log_stands, stays_of}
 use Rattle.logged_pair.proofs.Stood.{filling, filling_all}
+use Rattle.logged_pair.proofs.Snapped.{last_is, snaps_still}
 use Rattle.logged_pair.proofs.pair.LoggedPair.commit_appended.Given as given
 use Rattle.logged_pair.proofs.pair.LoggedPair.commit_appended.Goals as goal
 use Rattle.logged_pair.proofs.pair.LoggedPair.commit_appended.Goals.{After-base_blocks-self}
@@ -37,19 +38,28 @@ invariant_of-self g c =
           log_stands d.deciding d.kept d.slots.homes.items d.log e (stays_of (c.sync_base.ensures.still h)) (d.standing h);
     }
 
+-- what stands once they are committed
+stands_so : (g : given.Over) (c : After-base_blocks-self g) → regions.IsHonest c.args.self.now.log
+    → ((v j : Blocks) → regions.leaves_of c.sync_base.new.self v j → v ≡ regions.seen_of c.args.self.now.log)
+    → IsStanding c.args.self.now.deciding (regions.clearing_of c.sync_base.new.self) c.base_blocks-self.result
+    c.args.self.now.slots.homes.items (regions.seen_of c.sync_base.new.self)
+    (regions.behind_of c.sync_base.new.self) (regions.leaves_of c.sync_base.new.self)
+stands_so g c h durable =
+    let d = c.args.self.now in let e = c.sync_base.new.self in
+    let still = stays_of (c.sync_base.ensures.still h) in
+    appended d.deciding (regions.clearing_of d.log) (regions.clearing_of e) d.kept d.slots.homes.items
+    (regions.seen_of d.log) (regions.seen_of e) (regions.behind_of d.log) (regions.behind_of e)
+    (regions.leaves_of d.log) (regions.leaves_of e) c.requires.filling
+    (c.sync_base.ensures.log.clearing ∙ c.requires.settled) (log_seen d.log e still)
+    (log_behind d.log e still) (d.standing h) c.base_blocks-self.result c.base_blocks-self.ensures.is
+    (log_leaves d.log e still) durable
+
 pub invariant_of-self-2 : goal.invariant_of-self-2
 invariant_of-self-2 g c =
-    let d = c.args.self.now in let e = c.sync_base.new.self in
     record {
       standing = λ h2.
           let h = c.sync_base.ensures.honest.1 h2 in
-          let still = stays_of (c.sync_base.ensures.still h) in
-          appended d.deciding (regions.clearing_of d.log) (regions.clearing_of e) d.kept d.slots.homes.items
-          (regions.seen_of d.log) (regions.seen_of e) (regions.behind_of d.log) (regions.behind_of e)
-          (regions.leaves_of d.log) (regions.leaves_of e) c.requires.filling
-          (c.sync_base.ensures.log.clearing ∙ c.requires.settled) (log_seen d.log e still)
-          (log_behind d.log e still) (d.standing h) c.base_blocks-self.result c.base_blocks-self.ensures.is
-          (log_leaves d.log e still) (c.in_ok-sync_base.ensures.durable h);
+          stands_so g (goal.at.invariant_of-self-2 g c).After-base_blocks-self h (c.in_ok-sync_base.ensures.durable h);
     }
 
 pub returns-in_err-sync_base-clause-shown : goal.returns-in_err-sync_base-clause-shown
@@ -102,3 +112,30 @@ returns-clause-keeps g c = λ h.
     let d = c.args.self.now in let e = c.sync_base.new.self in
     keeps_now d _ (g.met.P.DevicePair.few_blocks (regions.pair_of e)).0 (c.sync_base.ensures.honest.0 h)
     (c.sync_base.ensures.still h).time
+
+pub returns-in_err-sync_base-clause-snapshots : goal.returns-in_err-sync_base-clause-snapshots
+returns-in_err-sync_base-clause-snapshots g c = λ h.
+    let d = c.args.self.now in
+    snaps_still d.kept d.kept d.log c.sync_base.new.self (omega arith) (stays_of (c.sync_base.ensures.still h))
+
+pub returns-clause-snapshots : goal.returns-clause-snapshots
+returns-clause-snapshots g c = λ h.
+    let d = c.args.self.now in let e = c.sync_base.new.self in
+    let still = stays_of (c.sync_base.ensures.still h) in
+    snaps_still d.kept c.base_blocks-self.result d.log e
+    (omega (
+      arith,
+      (d.standing h).kept_there,
+      c.base_blocks-self.ensures.is,
+      ap length (log_seen d.log e still),
+    ))
+    still
+
+pub returns-clause-new_snapshot : goal.returns-clause-new_snapshot
+returns-clause-new_snapshot g c = λ h.
+    let d = c.args.self.now in let e = c.sync_base.new.self in
+    last_is d.deciding (regions.clearing_of e) c.base_blocks-self.result d.slots.homes.items e
+    (g.met.P.DevicePair.few_blocks (regions.pair_of e)).0 (c.sync_base.ensures.honest.0 h)
+    (c.sync_base.ensures.log.clearing ∙ c.requires.settled) c.requires.none c.base_blocks-self.ensures.is
+    (stands_so g (goal.at.returns-clause-new_snapshot g c).After-base_blocks-self h
+    (c.in_ok-sync_base.ensures.durable h))

@@ -6,6 +6,8 @@ use Rattle.logged_pair.specs.Standing.{shown_of, IsHonest, KeepsTo}
 use Rattle.logged_pair.proofs.Keeping.{keeps_new, keeps_old, keeps_on, keeps_then, keeps_weaker, or_both}
 use Rattle.logged_pair.proofs.Keeping.{or_more}
 use Rattle.logged_pair.proofs.Reached.{reached, same_shown}
+use Rattle.logged_pair.specs.Snapshots.{KeepsSnapshots}
+use Rattle.logged_pair.proofs.Snapped.{snapshots_then}
 use Rattle.logged_pair.proofs.pair.LoggedPair.commit_now.Given as given
 use Rattle.logged_pair.proofs.pair.LoggedPair.commit_now.Goals as goal
 use Rattle.logged_pair.proofs.pair.LoggedPair.commit_now.Goals.{After-prepare}
@@ -79,3 +81,23 @@ returns-clause-keeps g c = λ h.
     (same_shown c.decide.result _ _ _ same (c.decide.ensures.durable hp))
     (c.decide.ensures.shown hp ∙ same))
     z
+
+prepared_snaps : (g : given.Over) (c : After-prepare g) → IsHonest c.args.self.now
+    → KeepsSnapshots c.args.self.now c.prepare.new.self
+prepared_snaps g c h =
+    snapshots_then c.args.self.now c.record.new.self c.prepare.new.self (c.record.ensures.snapshots h)
+    (c.prepare.ensures.snapshots (c.record.ensures.honest.0 h))
+
+pub returns-in_err-prepare-clause-snapshots : goal.returns-in_err-prepare-clause-snapshots
+returns-in_err-prepare-clause-snapshots g c = λ h.
+    prepared_snaps g (goal.at.returns-in_err-prepare-clause-snapshots g c).After-prepare h
+
+pub returns-clause-snapshots : goal.returns-clause-snapshots
+returns-clause-snapshots g c = λ h.
+    snapshots_then c.args.self.now c.prepare.new.self c.decide.new.self
+    (prepared_snaps g (goal.at.returns-clause-snapshots g c).After-prepare h)
+    (c.decide.ensures.snapshots (c.prepare.ensures.honest.0 (c.record.ensures.honest.0 h)))
+
+pub returns-clause-new_snapshot : goal.returns-clause-new_snapshot
+returns-clause-new_snapshot g c = λ h.
+    c.decide.ensures.new_snapshot (c.prepare.ensures.honest.0 (c.record.ensures.honest.0 h))

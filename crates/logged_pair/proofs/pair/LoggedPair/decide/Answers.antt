@@ -5,6 +5,8 @@ use Rattle.committed_log.specs.Log.{region_of}
 use Rattle.committed_log.specs.Room.{HasRoomFor}
 use Rattle.logged_pair.specs.Standing.{commits_of, homes_of, log_of, pair_of, shown_of, IsHonest, KeepsTo}
 use Rattle.logged_pair.proofs.Keeping.{keeps_on, keeps_still, shown_still}
+use Rattle.logged_pair.specs.Snapshots.{KeepsSnapshots}
+use Rattle.logged_pair.proofs.Snapped.{snapshots_still, snapshots_then}
 use Rattle.logged_pair.proofs.pair.LoggedPair.decide.Given as given
 use Rattle.logged_pair.proofs.pair.LoggedPair.decide.Goals as goal
 use Rattle.logged_pair.proofs.pair.LoggedPair.decide.Goals.{After-reserve_region, After-say_committed}
@@ -94,3 +96,38 @@ returns-clause-keeps g c = λ h.
     keeps_on (commits_of d) d c.say_committed.new.self c.take_region.new.self
     (said_so g (goal.at.returns-clause-keeps g c).After-say_committed h h1 (reserved_so g first h))
     (c.take_region.ensures.keeps (c.say_committed.ensures.honest.0 h1))
+
+reserved_snaps : (g : given.Over) (c : After-reserve_region g)
+    → KeepsSnapshots c.args.self.now c.reserve_region.new.self
+reserved_snaps g c = snapshots_still c.args.self.now c.reserve_region.new.self c.reserve_region.ensures.still
+
+said_snaps : (g : given.Over) (c : After-say_committed g) → IsHonest c.reserve_region.new.self
+    → KeepsSnapshots c.args.self.now c.reserve_region.new.self
+    → KeepsSnapshots c.args.self.now c.say_committed.new.self
+said_snaps g c h2 x =
+    snapshots_then c.args.self.now c.reserve_region.new.self c.say_committed.new.self x
+    (c.say_committed.ensures.snapshots h2)
+
+pub returns-in_err-reserve_region-clause-snapshots : goal.returns-in_err-reserve_region-clause-snapshots
+returns-in_err-reserve_region-clause-snapshots g c = λ h.
+    reserved_snaps g (goal.at.returns-in_err-reserve_region-clause-snapshots g c).After-reserve_region
+
+pub returns-in_err-say_committed-clause-snapshots : goal.returns-in_err-say_committed-clause-snapshots
+returns-in_err-say_committed-clause-snapshots g c = λ h.
+    let first = (goal.at.returns-in_err-say_committed-clause-snapshots g c).After-reserve_region in
+    said_snaps g (goal.at.returns-in_err-say_committed-clause-snapshots g c).After-say_committed
+    (honest_so g first h) (reserved_snaps g first)
+
+pub returns-clause-snapshots : goal.returns-clause-snapshots
+returns-clause-snapshots g c = λ h.
+    let first = (goal.at.returns-clause-snapshots g c).After-reserve_region in
+    let h1 = honest_so g first h in
+    snapshots_then c.args.self.now c.say_committed.new.self c.take_region.new.self
+    (said_snaps g (goal.at.returns-clause-snapshots g c).After-say_committed h1 (reserved_snaps g first))
+    (c.take_region.ensures.snapshots (c.say_committed.ensures.honest.0 h1))
+
+pub returns-clause-new_snapshot : goal.returns-clause-new_snapshot
+returns-clause-new_snapshot g c = λ h.
+    c.take_region.ensures.new_snapshot
+    (c.say_committed.ensures.honest.0
+    (honest_so g (goal.at.returns-clause-new_snapshot g c).After-reserve_region h))

@@ -5,6 +5,7 @@ use Rattle.logged_pair.specs.CommitLaws.{few_seen}
 use Rattle.logged_pair.proofs.Advanced.{bare_stands}
 use Rattle.logged_pair.proofs.GivingUp.{bare_begins, bare_commits, bare_one}
 use Rattle.logged_pair.proofs.Keeping.{keeps_bare}
+use Rattle.logged_pair.proofs.Snapped.{snaps_none}
 use Rattle.logged_pair.proofs.pair.LoggedPair.forget_slots.Goals as goal
 
 pub invariant_of-self : goal.invariant_of-self
@@ -37,3 +38,7 @@ returns-clause-keeps g c = λ h.
     keeps_bare d _ refl
     (bare_commits d.deciding d.kept d.slots.homes.items c.clear.new.self.homes.items (regions.seen_of d.log)
     (regions.behind_of d.log) c.requires.filling)
+
+pub returns-clause-snapshots : goal.returns-clause-snapshots
+returns-clause-snapshots g c = λ h.
+    snaps_none c.args.self.now.kept c.args.self.now.log

@@ -4,6 +4,7 @@ use Rattle.block_device.specs.Device.{BeginsOne}
 use Rattle.logged_pair.proofs.GivingUp.{begins_given_up, commit_begins, keeps_appended, keeps_given_up}
 use Rattle.logged_pair.proofs.Keeping.{keeps_weaker}
 use Rattle.logged_pair.proofs.Stood.{on_any}
+use Rattle.logged_pair.proofs.Snapped.{snapshots_then}
 use Rattle.logged_pair.proofs.pair.LoggedPair.give_up.Goals as goal
 
 pub returns-in_err-finish-clause-keeps : goal.returns-in_err-finish-clause-keeps
@@ -42,3 +43,16 @@ returns-clause-keeps g c = λ h.
     keeps_given_up (commits_of d) d m _
     (keeps_appended d c.finish.new.self m (c.finish.ensures.keeps h) (c.keep_appended.ensures.keeps h1))
     (c.forget_slots.ensures.keeps (c.keep_appended.ensures.honest.0 h1))
+
+pub returns-in_err-keep_appended-clause-snapshots : goal.returns-in_err-keep_appended-clause-snapshots
+returns-in_err-keep_appended-clause-snapshots g c = λ h.
+    snapshots_then c.args.self.now c.finish.new.self c.keep_appended.new.self (c.finish.ensures.snapshots h)
+    (c.keep_appended.ensures.snapshots (c.finish.ensures.honest.0 h))
+
+pub returns-clause-snapshots : goal.returns-clause-snapshots
+returns-clause-snapshots g c = λ h.
+    let d = c.args.self.now in let f = c.finish.new.self in let m = c.keep_appended.new.self in
+    let h1 = c.finish.ensures.honest.0 h in
+    snapshots_then d m c.forget_slots.new.self
+    (snapshots_then d f m (c.finish.ensures.snapshots h) (c.keep_appended.ensures.snapshots h1))
+    (c.forget_slots.ensures.snapshots (c.keep_appended.ensures.honest.0 h1))

@@ -1,5 +1,5 @@
 -- Appended blocks are synced.
-use Rattle.std.proofs.Common.{◌∙◌}
+use Rattle.std.proofs.Common.{◌∙◌, ap, arith, length}
 use Rattle.block_device.specs.Device.{BeginsOne}
 use Rattle.committed_log.specs.Committed as regions
 use Rattle.logged_pair.specs.Standing.{commits_of}
@@ -8,6 +8,7 @@ use Rattle.logged_pair.proofs.GivingUp.{appended_begins, commit_begins}
 use Rattle.logged_pair.proofs.Keeping.{keeps_call, keeps_none, keeps_weaker}
 use Rattle.logged_pair.proofs.Stills.{log_behind, log_commits, log_leaves, log_seen, log_shown, log_stands, stays_of}
 use Rattle.logged_pair.proofs.Stood.{on_any}
+use Rattle.logged_pair.proofs.Snapped.{snaps_none, snaps_still}
 use Rattle.logged_pair.proofs.pair.LoggedPair.keep_appended.Goals as goal
 
 -- there are none
@@ -75,3 +76,25 @@ returns-clause-keeps g c = λ h.
     (appended_begins d.deciding d.kept c.base_blocks-self.result d.slots.homes.items (regions.seen_of d.log)
     (regions.seen_of e) (regions.behind_of d.log) (regions.behind_of e) c.requires.filling
     c.base_blocks-self.ensures.is (log_seen d.log e still) (d.standing h).kept_there)
+
+pub returns-then-base_blocks-self-clause-snapshots : goal.returns-then-base_blocks-self-clause-snapshots
+returns-then-base_blocks-self-clause-snapshots g c = λ h.
+    snaps_none c.args.self.now.kept c.args.self.now.log
+
+pub returns-in_err-sync_base-clause-snapshots : goal.returns-in_err-sync_base-clause-snapshots
+returns-in_err-sync_base-clause-snapshots g c = λ h.
+    let d = c.args.self.now in
+    snaps_still d.kept d.kept d.log c.sync_base.new.self (omega arith) (stays_of (c.sync_base.ensures.still h))
+
+pub returns-clause-snapshots : goal.returns-clause-snapshots
+returns-clause-snapshots g c = λ h.
+    let d = c.args.self.now in let e = c.sync_base.new.self in
+    let still = stays_of (c.sync_base.ensures.still h) in
+    snaps_still d.kept c.base_blocks-self.result d.log e
+    (omega (
+      arith,
+      (d.standing h).kept_there,
+      c.base_blocks-self.ensures.is,
+      ap length (log_seen d.log e still),
+    ))
+    still

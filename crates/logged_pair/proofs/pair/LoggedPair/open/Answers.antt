@@ -2,6 +2,7 @@
 use Rattle.std.proofs.Common.{◌∙◌, false, refl}
 use Rattle.committed_log.specs.Committed as regions
 use Rattle.logged_pair.specs.CommitLaws.{few_seen}
+use Rattle.logged_pair.specs.SnapshotLaws.{appended_there}
 use Rattle.logged_pair.proofs.Advanced.{open_stands}
 use Rattle.logged_pair.proofs.GivingUp.{bare_shown}
 use Rattle.logged_pair.proofs.Stood.{filling_all}
@@ -31,3 +32,9 @@ returns-clause-commits g c = λ h kept is.
     filling_all false c.base_blocks-kept.result c.new.result.homes.items (regions.seen_of log)
     (regions.behind_of log) kept refl c.base_blocks-kept.ensures.is is
     ∙ c.in_ok-log.ensures.seen h
+
+pub returns-clause-readers : goal.returns-clause-readers
+returns-clause-readers g c = λ h p n there le ends few.
+    let e = c.in_ok-log.ensures in let q = g.P.DevicePair in
+    appended_there p n c.base_blocks-kept.result (q.base c.args.pair) (q.journal c.args.pair) c.in_ok-log.log
+    (e.appends h) e.settled there le ends few

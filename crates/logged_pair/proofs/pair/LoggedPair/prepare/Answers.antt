@@ -9,6 +9,7 @@ use Rattle.logged_pair.proofs.Calling.{still_then}
 use Rattle.logged_pair.proofs.Keeping.{commits_still, keeps_call, keeps_still, keeps_weaker, or_both, or_more}
 use Rattle.logged_pair.proofs.Keeping.{recorded_still, shown_still}
 use Rattle.logged_pair.proofs.Stood.{on_any}
+use Rattle.logged_pair.proofs.Snapped.{snapshots_still}
 use Rattle.logged_pair.proofs.pair.LoggedPair.prepare.Given as given
 use Rattle.logged_pair.proofs.pair.LoggedPair.prepare.Goals as goal
 use Rattle.logged_pair.proofs.pair.LoggedPair.prepare.Goals.{After-reserve_region, After-sync_region}
@@ -112,3 +113,17 @@ returns-clause-keeps g c = λ h.
     (shown_still d e still) kept
     (commits_prepared e.deciding e.kept (homes_of e) (base_of e) (base_of e) (journal_of e) (journal_of e)
     (filling_so g at) refl refl kept is))
+
+pub returns-in_err-reserve_region-clause-snapshots : goal.returns-in_err-reserve_region-clause-snapshots
+returns-in_err-reserve_region-clause-snapshots g c = λ h.
+    snapshots_still c.args.self.now c.reserve_region.new.self c.reserve_region.ensures.still
+
+pub returns-in_err-sync_region-clause-snapshots : goal.returns-in_err-sync_region-clause-snapshots
+returns-in_err-sync_region-clause-snapshots g c = λ h.
+    snapshots_still c.args.self.now c.sync_region.new.self
+    (still_so g (goal.at.returns-in_err-sync_region-clause-snapshots g c).After-sync_region h)
+
+pub returns-clause-snapshots : goal.returns-clause-snapshots
+returns-clause-snapshots g c = λ h.
+    snapshots_still c.args.self.now c.sync_region.new.self
+    (still_so g (goal.at.returns-clause-snapshots g c).After-sync_region h)

@@ -1,14 +1,16 @@
 -- A block of the base, behind those of the last commit.
-use Rattle.std.proofs.Common.{◌≡◌, ◌∙◌, ◌<◌, ap, arith, length, subst, sym}
+use Rattle.std.proofs.Common.{◌≡◌, ◌∙◌, ◌<◌, ap, arith, drop, length, refl, subst, sym}
 use Rattle.block_device.specs.Device.{Blocks, Torn, written}
 use Rattle.committed_log.specs.Committed as regions
-use Rattle.committed_log.specs.Log.{no_home}
+use Rattle.committed_log.specs.Log.{no_home, overlaid}
 use Rattle.logged_pair.specs.CommitLaws.{few_seen}
 use Rattle.logged_pair.specs.Shown.{behind_torn, shown_behind}
 use Rattle.logged_pair.specs.Stages.{shown_through}
 use Rattle.logged_pair.specs.Standing.{commits_of}
 use Rattle.logged_pair.proofs.Keeping.{keeps_call}
 use Rattle.logged_pair.proofs.Stood.{behind_put, commits_filling, on_err, on_ok, torn_first, torn_of}
+use Rattle.committed_log.specs.Replay.{length-overlaid}
+use Rattle.logged_pair.proofs.Snapped.{filled_there, snaps_base}
 use Rattle.logged_pair.proofs.pair.LoggedPair.put_behind.Given as given
 use Rattle.logged_pair.proofs.pair.LoggedPair.put_behind.Goals as goal
 use Rattle.logged_pair.proofs.pair.LoggedPair.put_behind.Goals.{After-write_base}
@@ -77,3 +79,24 @@ returns-clause-torn g c = λ h.
     (few_so g at) (omega (arith, c.requires.small)) (d.standing h).homes_below c.requires.behind
     (d.standing h).kept_there t))
     (c.write_base.ensures.torn h)
+
+pub returns-clause-snapshots : goal.returns-clause-snapshots
+returns-clause-snapshots g c = λ h.
+    let d = c.args.self.now in let e = c.write_base.new.self in
+    let hs = regions.homes_of d.log in
+    snaps_base d.kept c.args.i d.log e c.requires.behind c.write_base.ensures.log.homes
+    c.write_base.ensures.log.clearing (c.write_base.ensures.journal h) (c.write_base.ensures.base h)
+    (c.write_base.ensures.base_stops h)
+    (omega (
+      arith,
+      (d.standing h).kept_there,
+      length-overlaid hs (regions.journal_of d.log) (regions.base_of d.log),
+    ))
+    (λ a b left. omega (
+      arith,
+      length-overlaid hs b a,
+      filled_there d.deciding (regions.clearing_of d.log) d.kept d.slots.homes.items (regions.seen_of d.log)
+          (regions.behind_of d.log) (regions.leaves_of d.log) c.requires.filling (d.standing h)
+          (overlaid hs b a) (drop (length hs) b) (a, b, left, refl, refl),
+    ))
+    (c.write_base.ensures.time h)

@@ -8,6 +8,7 @@ use Rattle.logged_pair.specs.Stages.{SameBehind}
 use Rattle.logged_pair.specs.Standing.{commits_of}
 use Rattle.logged_pair.proofs.Keeping.{keeps_call}
 use Rattle.logged_pair.proofs.Stood.{behind_answer, commits_same, flag_put, flag_shown, on_ok}
+use Rattle.logged_pair.proofs.Snapped.{snaps_journal}
 use Rattle.logged_pair.proofs.pair.LoggedPair.put_flag.Given as given
 use Rattle.logged_pair.proofs.pair.LoggedPair.put_flag.Goals as goal
 use Rattle.logged_pair.proofs.pair.LoggedPair.put_flag.Goals.{After-write_behind}
@@ -63,3 +64,10 @@ returns-clause-keeps g c = λ h.
     (flag_shown d.slots.homes.items (regions.seen_of d.log) (regions.seen_of e) (regions.behind_of d.log)
     (regions.behind_of e) (few_seen d.log (g.met.P.DevicePair.few_blocks (regions.pair_of d.log)).0)
     (c.write_behind.ensures.seen h) (behind_so g at h)))
+
+pub returns-clause-snapshots : goal.returns-clause-snapshots
+returns-clause-snapshots g c = λ h.
+    let d = c.args.self.now in let e = c.write_behind.new.self in
+    snaps_journal d.kept d.log e c.write_behind.ensures.log.homes c.write_behind.ensures.log.clearing
+    (c.write_behind.ensures.base h) (c.write_behind.ensures.regions h) (c.write_behind.ensures.region_stops h)
+    (c.write_behind.ensures.time h)

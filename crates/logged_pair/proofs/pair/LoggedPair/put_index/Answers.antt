@@ -7,6 +7,7 @@ use Rattle.logged_pair.specs.CommitLaws.{few_seen}
 use Rattle.logged_pair.specs.Standing.{IsHonest, base_of, homes_of, journal_of, shown_of}
 use Rattle.logged_pair.proofs.Indexing.{index_more, indexed_step}
 use Rattle.logged_pair.proofs.Stood.{elsewhere_is}
+use Rattle.logged_pair.proofs.Snapped.{snapshots_then}
 use Rattle.logged_pair.proofs.pair.LoggedPair.put_index.Given as given
 use Rattle.logged_pair.proofs.pair.LoggedPair.put_index.Goals as goal
 use Rattle.logged_pair.proofs.pair.LoggedPair.put_index.Goals.{After-put_journal}
@@ -32,7 +33,7 @@ loop-j-preserved g c =
     let e = c.put_journal.ensures in
     let at = (goal.at.loop-j-preserved g c).After-put_journal in (
       indexed_step c.loop-j.j c.args.self.now c.loop-j.self c.put_journal.new.self inv.0 e.slots e.honest
-          (c.in_ok-put_journal.ensures.faults.other (λ x. cc)) (λ h. still g at h) e.keeps
+          (c.in_ok-put_journal.ensures.faults.other (λ x. cc)) (λ h. still g at h) e.keeps e.snapshots
           (λ h i. index_more (homes_of c.args.self.now) c.loop-j.j _ _ (journal_of c.loop-j.self)
           (journal_of c.put_journal.new.self) c.index_page-page.result (omega (arith, inv.1))
           (omega arith)
@@ -44,3 +45,9 @@ loop-j-preserved g c =
       e.slots.deciding ∙ inv.2,
       e.slots.clearing ∙ inv.3,
     )
+
+pub returns-in_err-put_journal-clause-snapshots : goal.returns-in_err-put_journal-clause-snapshots
+returns-in_err-put_journal-clause-snapshots g c = λ h.
+    let inv = c.loop-j.invariant in
+    snapshots_then c.args.self.now c.loop-j.self c.put_journal.new.self (inv.0.snapshots h)
+    (c.put_journal.ensures.snapshots (inv.0.honest.0 h))

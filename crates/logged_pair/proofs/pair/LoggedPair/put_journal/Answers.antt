@@ -6,6 +6,7 @@ use Rattle.committed_log.specs.Committed as regions
 use Rattle.logged_pair.specs.Standing.{commits_of}
 use Rattle.logged_pair.proofs.Keeping.{keeps_call}
 use Rattle.logged_pair.proofs.Stood.{commits_filling, journal_put, torn_of}
+use Rattle.logged_pair.proofs.Snapped.{snaps_journal}
 use Rattle.logged_pair.proofs.pair.LoggedPair.put_journal.Given as given
 use Rattle.logged_pair.proofs.pair.LoggedPair.put_journal.Goals as goal
 use Rattle.logged_pair.proofs.pair.LoggedPair.put_journal.Goals.{After-write_behind}
@@ -44,3 +45,10 @@ returns-clause-keeps g c = λ h.
     (commits_filling d.deciding d.deciding d.kept d.slots.homes.items d.slots.homes.items
     (regions.seen_of d.log) (regions.seen_of e) (regions.behind_of d.log) (regions.behind_of e)
     c.requires.filling c.requires.filling (ap (take d.kept) (c.write_behind.ensures.seen h)))
+
+pub returns-clause-snapshots : goal.returns-clause-snapshots
+returns-clause-snapshots g c = λ h.
+    let d = c.args.self.now in let e = c.write_behind.new.self in
+    snaps_journal d.kept d.log e c.write_behind.ensures.log.homes c.write_behind.ensures.log.clearing
+    (c.write_behind.ensures.base h) (c.write_behind.ensures.regions h) (c.write_behind.ensures.region_stops h)
+    (c.write_behind.ensures.time h)

@@ -7,6 +7,7 @@ use Rattle.logged_pair.specs.Index.{HasIndex, HasNext}
 use Rattle.logged_pair.specs.Standing.{IsHonest, base_of, homes_of, journal_of, shown_of}
 use Rattle.logged_pair.proofs.Indexing.{next_written}
 use Rattle.logged_pair.proofs.Stood.{elsewhere_is, on_ok}
+use Rattle.logged_pair.proofs.Snapped.{snapshots_then}
 use Rattle.logged_pair.proofs.pair.LoggedPair.put_next_region.Given as given
 use Rattle.logged_pair.proofs.pair.LoggedPair.put_next_region.Goals as goal
 use Rattle.logged_pair.proofs.pair.LoggedPair.put_next_region.Goals.{After-put_journal, After-put_journal-2}
@@ -64,3 +65,8 @@ returns-clause-next g c = λ h.
     on_ok c.put_journal-2.result _ _
     (λ w. (next_so g (goal.at.returns-clause-next g c).After-put_journal-2 h w).1)
     (c.put_journal-2.ensures.written (c.put_journal.ensures.honest.0 h))
+
+pub returns-clause-snapshots : goal.returns-clause-snapshots
+returns-clause-snapshots g c = λ h.
+    snapshots_then c.args.self.now c.put_journal.new.self c.put_journal-2.new.self
+    (c.put_journal.ensures.snapshots h) (c.put_journal-2.ensures.snapshots (c.put_journal.ensures.honest.0 h))

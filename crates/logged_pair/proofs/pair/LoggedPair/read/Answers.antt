@@ -9,6 +9,7 @@ use Rattle.logged_pair.specs.Shown.{length-shown, shown_other, shown_reads}
 use Rattle.logged_pair.specs.Standing.{base_of, homes_of, journal_of}
 use Rattle.logged_pair.proofs.Stills.{log_stands, stays_of}
 use Rattle.logged_pair.proofs.Stood.{on_ok}
+use Rattle.logged_pair.proofs.Snapped.{snapshots_still, snaps_still}
 use Rattle.logged_pair.proofs.pair.LoggedPair.read.Goals as goal
 
 pub read_base-requires : goal.read_base-requires
@@ -52,3 +53,12 @@ returns-in-None-clause-still g c = λ h. record {
   slots = record { deciding = refl; clearing = c.read_base.ensures.log.clearing; kept = refl; homes = refl };
   log = stays_of (c.read_base.ensures.still h);
 }
+
+pub returns-in-Some-clause-snapshots : goal.returns-in-Some-clause-snapshots
+returns-in-Some-clause-snapshots g c = λ h.
+    snapshots_still c.args.self.now c.read_slot.new.self (c.read_slot.ensures.still h)
+
+pub returns-in-None-clause-snapshots : goal.returns-in-None-clause-snapshots
+returns-in-None-clause-snapshots g c = λ h.
+    let d = c.args.self.now in
+    snaps_still d.kept d.kept d.log c.read_base.new.self (omega arith) (stays_of (c.read_base.ensures.still h))

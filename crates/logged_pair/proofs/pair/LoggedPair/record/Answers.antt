@@ -7,6 +7,7 @@ use Rattle.logged_pair.specs.Stages.{IsRecorded}
 use Rattle.logged_pair.specs.Standing.{base_of, homes_of, journal_of}
 use Rattle.logged_pair.proofs.Indexing.{recorded_now}
 use Rattle.logged_pair.proofs.Stood.{elsewhere_is, on_ok}
+use Rattle.logged_pair.proofs.Snapped.{snapshots_then}
 use Rattle.logged_pair.proofs.pair.LoggedPair.record.Goals as goal
 
 pub returns-clause-recorded : goal.returns-clause-recorded
@@ -38,3 +39,16 @@ returns-clause-shown g c = λ h.
     _ (inl (omega arith)) (c.put_journal.ensures.torn h2)
     ∙ c.put_next_region.ensures.shown h1
     ∙ c.put_index.ensures.shown h
+
+pub returns-in_err-put_next_region-clause-snapshots : goal.returns-in_err-put_next_region-clause-snapshots
+returns-in_err-put_next_region-clause-snapshots g c = λ h.
+    snapshots_then c.args.self.now c.put_index.new.self c.put_next_region.new.self (c.put_index.ensures.snapshots h)
+    (c.put_next_region.ensures.snapshots (c.put_index.ensures.honest.0 h))
+
+pub returns-clause-snapshots : goal.returns-clause-snapshots
+returns-clause-snapshots g c = λ h.
+    let d = c.args.self.now in let x = c.put_index.new.self in let m = c.put_next_region.new.self in
+    let h1 = c.put_index.ensures.honest.0 h in
+    snapshots_then d m c.put_journal.new.self
+    (snapshots_then d x m (c.put_index.ensures.snapshots h) (c.put_next_region.ensures.snapshots h1))
+    (c.put_journal.ensures.snapshots (c.put_next_region.ensures.honest.0 h1))

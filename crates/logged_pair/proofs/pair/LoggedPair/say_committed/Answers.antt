@@ -1,5 +1,5 @@
 -- The flag is written and synced.
-use Rattle.std.proofs.Common.{◌≡◌, ◌∙◌, ap, sym}
+use Rattle.std.proofs.Common.{◌≡◌, ◌∙◌, ap, arith, sym}
 use Rattle.block_device.specs.Device.{Blocks, block_at}
 use Rattle.committed_log.specs.Committed as regions
 use Rattle.committed_log.specs.FlagLaws.{says-one}
@@ -8,6 +8,7 @@ use Rattle.logged_pair.specs.Standing.{base_of, clearing_of, commits_of, homes_o
 use Rattle.logged_pair.proofs.Keeping.{keeps_call, keeps_on}
 use Rattle.logged_pair.proofs.Stills.{log_behind, log_commits, log_leaves, log_seen, log_shown, log_stands, stays_of}
 use Rattle.logged_pair.proofs.Stood.{deciding_stop, on_either, on_ok}
+use Rattle.logged_pair.proofs.Snapped.{snaps_still, snaps_then}
 use Rattle.logged_pair.proofs.pair.LoggedPair.say_committed.Goals as goal
 
 pub invariant_of-self : goal.invariant_of-self
@@ -58,3 +59,10 @@ returns-clause-keeps g c = λ h.
     (keeps_call (commits_of m) m _ (g.met.P.DevicePair.few_blocks (regions.pair_of e)).0
     (c.sync_journal.ensures.honest.0 h2) (c.sync_journal.ensures.still h2).time
     (log_commits m.deciding m.kept m.slots.homes.items m.log e (stays_of (c.sync_journal.ensures.still h2))))
+
+pub returns-clause-snapshots : goal.returns-clause-snapshots
+returns-clause-snapshots g c = λ h.
+    let d = c.args.self.now in let m = c.put_flag.new.self in let e = c.sync_journal.new.self in
+    snaps_then d.kept m.kept m.kept d.log m.log e (c.put_flag.ensures.snapshots h)
+    (snaps_still m.kept m.kept m.log e (omega arith)
+    (stays_of (c.sync_journal.ensures.still (c.put_flag.ensures.honest.0 h))))

@@ -5,6 +5,7 @@ use Rattle.logged_pair.specs.Standing.{commits_of, pair_of, shown_of}
 use Rattle.logged_pair.proofs.Calling.{keeps_committed, keeps_opened, none_from, not_none}
 use Rattle.logged_pair.proofs.Keeping.{shown_still}
 use Rattle.logged_pair.proofs.Reached.{same_shown}
+use Rattle.logged_pair.proofs.Snapped.{snapshots_still, snapshots_then}
 use Rattle.logged_pair.proofs.pair.LoggedPair.sync.Goals as goal
 
 -- no commit
@@ -71,3 +72,17 @@ returns-then-not-branch-clause-emptied g c =
 
 pub returns-clause-emptied : goal.returns-clause-emptied
 returns-clause-emptied g c = λ h taken. c.commit.ensures.emptied
+
+pub returns-then-not-branch-clause-snapshots : goal.returns-then-not-branch-clause-snapshots
+returns-then-not-branch-clause-snapshots g c = λ h.
+    snapshots_still c.args.self.now c.is_taken.new.self (c.is_taken.ensures.still h)
+
+pub returns-in_err-is_taken-clause-snapshots : goal.returns-in_err-is_taken-clause-snapshots
+returns-in_err-is_taken-clause-snapshots g c = λ h.
+    snapshots_still c.args.self.now c.is_taken.new.self (c.is_taken.ensures.still h)
+
+pub returns-clause-snapshots : goal.returns-clause-snapshots
+returns-clause-snapshots g c = λ h.
+    let d = c.args.self.now in let e = c.is_taken.new.self in
+    snapshots_then d e c.commit.new.self (snapshots_still d e (c.is_taken.ensures.still h))
+    (c.commit.ensures.snapshots (c.is_taken.ensures.honest.0 h))
