@@ -108,7 +108,7 @@ class Builds(unittest.TestCase):
     def build(self, *words):
         """The status of a call, what it said, and which crates it began."""
         ran = self.begin(*words)
-        said = ran.communicate(timeout=60)[1]
+        said = ran.communicate(timeout=300)[1]
         return ran.returncode, said, [it[1] for it in self.logged() if it[0] == "begin"]
 
     def logged(self):
@@ -206,7 +206,7 @@ class Stamps(Builds):
         while not self.logged():
             time.sleep(0.05)
         self.crate("low", "1 quick")
-        self.assertIn("low was changed: once more", ran.communicate(timeout=60)[1])
+        self.assertIn("low was changed: once more", ran.communicate(timeout=300)[1])
         with open(f"{self.top}/crates/low/out/rlib/low.rlib/format") as it:
             self.assertEqual(it.read(), "quick")
 
@@ -238,7 +238,7 @@ class BadCases(Builds):
             while not os.path.exists(f"{self.top}/crates/right/out/rlib/right.stamp"):
                 time.sleep(0.05)
             ran.send_signal(number)
-            self.assertIn("interrupted: what was proved so far is kept", ran.communicate(timeout=10)[1])
+            self.assertIn("interrupted: what was proved so far is kept", ran.communicate(timeout=300)[1])
             self.assertEqual(ran.returncode, 130)
             told = subprocess.run(["ps", "-e", "-o", "args"], capture_output=True, text=True).stdout
             self.assertNotIn(f"{self.room}/kit/bin/rattle", told)
@@ -297,7 +297,7 @@ class BadCases(Builds):
         self.write(f"{self.room}/log", "")
         self.log = f"{self.room}/log"
         words = [sys.executable, "-c", script, "--top", self.top, "--jobs", "4", "top"]
-        ran = subprocess.run(words, env=env, capture_output=True, text=True, timeout=60)
+        ran = subprocess.run(words, env=env, capture_output=True, text=True, timeout=300)
         self.assertEqual(ran.returncode, 0, ran.stderr)
         self.assertIn("1.8 GB of memory are free, room for one check at a time", ran.stderr)
         self.assertEqual([it[0] for it in self.logged()], ["begin", "end"] * 3)
@@ -413,7 +413,7 @@ class WithTheKit(Builds):
         for status, text, said in ((0, ABOVE, ""), (1, ABOVE.replace("a, 7", "7, a"), "fn above::seven: no proof")):
             self.crate("above", text)
             ran = self.begin("above")
-            told = ran.communicate(timeout=600)[1]
+            told = ran.communicate(timeout=3000)[1]
             self.assertEqual(ran.returncode, status, told)
             self.assertIn(said, told)
             self.assertEqual(os.path.exists(f"{self.top}/crates/above/out/rlib/above.stamp"), status == 0)

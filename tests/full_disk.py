@@ -73,10 +73,10 @@ class Session:
     def end(self):
         """The status of the run, negative for a signal, and what it said on standard error."""
         try:
-            said = self.process.communicate(timeout=60)[1]
+            said = self.process.communicate(timeout=300)[1]
         except BrokenPipeError:
             said = self.process.stderr.read()
-        return self.process.wait(timeout=60), said
+        return self.process.wait(timeout=300), said
 
 
 class Plain:

@@ -10,6 +10,7 @@ is begun, and the status is 1.
 """
 import concurrent.futures
 import os
+import signal
 import subprocess
 import sys
 import threading
@@ -17,6 +18,8 @@ import time
 
 TOP = os.path.realpath(os.path.join(os.path.dirname(__file__), ".."))
 failed, printing = [], threading.Lock()
+# What a shell begins in the background ignores an interrupt, and so would the commands.
+signal.signal(signal.SIGINT, signal.default_int_handler)
 
 
 def run(command):

@@ -386,10 +386,10 @@ class Run:
         for command in [] if is_text else given:
             self.told += [reply for reply in [asked(process, command)] if reply]
         try:
-            self.said = process.communicate(given if is_text else None, timeout=60)[1]
+            self.said = process.communicate(given if is_text else None, timeout=300)[1]
         except BrokenPipeError:
             self.said = process.stderr.read()
-        self.status = process.wait(timeout=60)
+        self.status = process.wait(timeout=300)
         limit.cancel()
         names = [name for name, blocks in zip(NAMES, state) if blocks is not None]
         with open(trace, encoding="ascii") as lines:
