@@ -318,7 +318,7 @@ int rstore_open_blocks(const rstore_blocks *blocks, void *context, int flags, ui
     if (!db) return RSTORE_MEMORY;
     db->memory = true; /* its journal */
     db->blocks = *blocks, db->context = context;
-    return open_store(db, RSTORE_OK, flags, cache, opened);
+    return open_store(db, RSTORE_OK, flags | 4, cache, opened); /* each commit goes to the caller's blocks */
 }
 
 /* Closes the store, and lets go of all. */

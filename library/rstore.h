@@ -155,7 +155,8 @@ int rstore_close(rstore *db);
  * fine. */
 void rstore_abandon(rstore *db);
 
-/* Keeps all changes in the file (four to six syncs, none where nothing was changed), and goes on. */
+/* Keeps all changes in the file, and goes on: by two syncs, three where blocks were added, and by three more in the first
+ * commit of a session; by none where nothing was changed. */
 int rstore_commit(rstore *db);
 
 /* Gives up what was changed since the last rstore_commit, or the opening, and goes on with the table that was kept

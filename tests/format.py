@@ -2,8 +2,9 @@
 """Compares the program with the reader that was written from docs/FORMAT.md alone (format_reader.py): files that the
 program makes, of two and three axes, small and large fanouts, each version and kind of table, with free pages, are
 dumped by both; so are files whose run was killed, with their journal, at each step that a commit and a clean end come
-to; of files with a wrong byte both say whether they are sound; and the hexdumps of the page are what the program
-writes. It tests the programs that `rt ci` made, by both compilers; where there is none, one is made.
+to, behind one commit and behind several; of files with a wrong byte both say whether they are sound; and the hexdumps
+of the page are what the program writes. It tests the programs that `rt ci` made, by both compilers; where there is
+none, one is made.
 
 format.py [WORDS OF unittest, as the name of a class or Class.test]
 """
@@ -25,6 +26,9 @@ from runs import TOP, main
 
 UNENDED = "rstore: the last run did not end; what changed after its last closing is lost\n"
 DIRECTORY, FREE, LEAF = 3, 5, 9  # kinds of pages
+FLAG = 2  # the block of a journal that is the flag of its first region
+NO_FLAG = b"RSTARJNL".ljust(SIZE, b"\0")  # of a region that is not committed
+OLDER = int.from_bytes(b"RSTARTTL", "big")  # the text of the titles of older programs
 
 
 def reply_of(rows):
@@ -164,6 +168,17 @@ class Made(Read):
         self.assertEqual((run.returncode, run.stdout, run.stderr), wanted)
 
 
+def regions_of(journal):
+    """The regions of a journal that say that they are committed, of each the block of its flag and the count of its
+    slots; and the block behind them."""
+    found, at = [], FLAG
+    while block_of(journal, at)[:9] == b"RSTARJNL\1":
+        slots = number_at(journal, at + 1, 8, 4)
+        found.append((at, slots))
+        at += 2 + slots + -(-slots // 1024)
+    return found, at
+
+
 class Killed(Read):
     """Files whose run was killed, with their journal: as the kill left them, and as stops at other moments would."""
 
@@ -178,19 +193,38 @@ class Killed(Read):
         self.new, self.journal = self.files()["store"], self.files()["store-journal"]
         # the file of a stop behind the commit, of which no slot was copied, and the journal then
         self.base = self.old + self.new[len(self.old) :]
-        self.complete = with_numbers(self.journal, (2, 8, 1, 1))
-        self.slots = number_at(self.journal, 3, 8, 4)
+        self.complete = with_numbers(self.journal, (FLAG, 8, 1, 1))
+        self.slots = number_at(self.journal, FLAG + 1, 8, 4)
 
     def clear(self):
         for name in self.files():
             os.remove(self.path(name))
 
-    # These files are read so, or refused.
-    def tells(self, base, journal, why=None):
+    def puts(self, base, journal):
         self.clear()
         self.write("store", base)
         if journal is not None:
             self.write("store-journal", journal)
+
+    # Both files behind these further commands of a run, each of which it does.
+    def behind(self, run, commands):
+        run.stdin.write(text_of(commands).encode())
+        run.stdin.flush()
+        self.assertEqual(b"".join(run.stdout.readline() for _ in commands), b"ok\n" * len(commands))
+        files = self.files()
+        return files["store"], files["store-journal"]
+
+    # The same behind each of these parts of a run, which is then killed.
+    def parts(self, *parts):
+        run = self.held("store", "", "")
+        found = [self.behind(run, commands) for commands in parts]
+        run.kill()
+        run.wait()
+        return found
+
+    # These files are read so, or refused.
+    def tells(self, base, journal, why=None):
+        self.puts(base, journal)
         if why is None:
             self.agrees(("", UNENDED))
             self.assertEqual(list(self.files()), ["store"])
@@ -216,8 +250,9 @@ class Killed(Read):
             home = number_at(self.journal, 4 + self.slots, 4 * slot, 4)
             half[SIZE * home : SIZE * home + SIZE] = block_of(self.journal, 4 + slot)
         for base in (self.base, marked, half, with_numbers(half, (0, 9, 8, 2**64 - 1), (1, 0, 8, 5))):
-            self.tells(base, self.complete)
-            self.assertTrue(self.store() == with_numbers(self.new, (0, 0, 16, number_at(self.old, 0, 0, 16))))
+            for cut in (None, -SIZE, -2 * SIZE):  # nothing need stand behind the region
+                self.tells(base, self.complete[:cut])
+                self.assertTrue(self.store() == with_numbers(self.new, (0, 0, 16, number_at(self.old, 0, 0, 16))))
 
     def test_an_index_of_two_blocks(self):
         self.clear()
@@ -227,8 +262,8 @@ class Killed(Read):
         moves = [f"move a {ident} {box_of(dice, 2)}" for ident in range(0, 5000, 3)]
         self.kill("store", text_of([*moves, "reopen"]), "ok\n" * (len(moves) + 1))
         new, journal = self.files()["store"], self.files()["store-journal"]
-        self.assertGreater(number_at(journal, 3, 8, 4), 1024)
-        self.tells(old + new[len(old) :], with_numbers(journal, (2, 8, 1, 1)))
+        self.assertGreater(number_at(journal, FLAG + 1, 8, 4), 1024)
+        self.tells(old + new[len(old) :], with_numbers(journal, (FLAG, 8, 1, 1)))
         self.assertTrue(self.store() == with_numbers(new, (0, 8, 1, 1)))
 
     def test_journals_without_a_commit(self):
@@ -238,8 +273,8 @@ class Killed(Read):
         for base, journal in (
             (self.base, self.journal),  # before the commit
             (self.base, self.journal[: 6 * SIZE]),
-            (self.base, with_numbers(self.journal, (2, 8, 1, 7))),
-            (self.base, with_numbers(self.complete, (2, 0, 8, 7))),
+            (self.base, with_numbers(self.journal, (FLAG, 8, 1, 7))),
+            (self.base, with_numbers(self.complete, (FLAG, 0, 8, 7))),
             (shut, None),
             (shut, b""),
             (shut, b"some bytes"),
@@ -261,11 +296,13 @@ class Killed(Read):
             (marked, b"\7" * 5 * SIZE, format_reader.NO_JOURNAL),
             (self.base, b"\7" * 2 * SIZE + b"\7", format_reader.NO_JOURNAL),
             (self.base, other, format_reader.OTHER_JOURNAL),
-            (self.base, with_numbers(other, (2, 8, 1, 0)), format_reader.OTHER_JOURNAL),
+            (self.base, with_numbers(other, (FLAG, 8, 1, 0)), format_reader.OTHER_JOURNAL),
+            (self.base, with_numbers(other, (0, 0, 8, OLDER)), format_reader.OTHER_JOURNAL),
+            (self.base, with_numbers(self.complete, (0, 0, 8, 7)), format_reader.NO_JOURNAL),
             (self.base[:SIZE], self.complete, format_reader.OTHER_JOURNAL),
             (marked[:SIZE], self.complete, format_reader.NO_JOURNAL),
             (self.base, with_numbers(self.complete, (3, 8, 4, self.slots + 1025)), format_reader.NO_JOURNAL),
-            (self.base, self.complete[: -SIZE], format_reader.NO_JOURNAL),
+            (self.base, self.complete[: -3 * SIZE], format_reader.NO_JOURNAL),
             (marked, with_numbers(self.complete, behind), format_reader.NO_JOURNAL),
             (marked, with_numbers(self.complete, (4, 4095, 1, 1)), format_reader.NO_JOURNAL),
             (marked, with_numbers(self.complete, (4, 8, 1, 0)), "fail 20 NotClosed"),
@@ -274,6 +311,101 @@ class Killed(Read):
         ):
             with self.subTest(why=why):
                 self.tells(base, journal, why)
+
+    # Behind a run's first commit FILE keeps the blocks of that one, and gets others behind them.
+    def test_a_log_of_several_commits(self):
+        self.tells(self.new, self.journal)
+        idents = [3000, 3001, 3002]
+        states = self.parts(*([f"insert a {it} 1 1 2 2", f"delete a {it - 3000}", "reopen"] for it in idents))
+        for count, (base, journal) in enumerate(states):
+            regions, behind = regions_of(journal)
+            self.assertEqual((len(regions), number_at(base, 0, 8, 1)), (count, 2))
+            self.assertTrue(base.startswith(states[0][0]))
+            if count > 0:
+                self.assertTrue(journal[SIZE * behind :].startswith(NO_FLAG + bytes(SIZE)))
+            self.tells(base, journal)
+            self.has(idents[: count + 1], idents[count + 1 :])
+        self.tell_logs_that_are_cut(*states[2])
+
+    # The file has the first of these objects, and none of the others.
+    def has(self, some, others=()):
+        rows = self.read()
+        for idents, are_there in ((some, True), (others, False)):
+            self.assertEqual([f"insert a {it} 1 1 2 2\n" in rows for it in idents], [are_there] * len(idents))
+
+    # Of two regions the last one is not committed, or says that it is and is not whole.
+    def tell_logs_that_are_cut(self, base, journal):
+        [_, (last, slots)], behind = regions_of(journal)
+        torn = [with_numbers(journal, (last, *number)) for number in ((8, 1, 0), (8, 1, 7), (0, 8, 7))]
+        for cut in (*torn, journal[: SIZE * last]):
+            self.tells(base, cut)
+            self.has([3000, 3001], [3002])
+        and_one_without_slots = with_numbers(journal, (behind, 8, 1, 1))
+        for whole in (journal[: SIZE * behind], and_one_without_slots):
+            self.tells(base, whole)
+            self.has([3000, 3001, 3002])
+        for broken in (
+            journal[: SIZE * (last + 1)],
+            journal[: SIZE * (behind - 1)],
+            with_numbers(journal, (last + 1, 8, 4, slots + 1025)),
+            with_numbers(journal, (last + 2 + slots, 4 * slots - 4, 4, blocks_of(base))),
+            and_one_without_slots[: SIZE * (behind + 1)],
+        ):
+            self.tells(base, broken, format_reader.NO_JOURNAL)
+
+    # A run that finds a commit copies nothing until it commits itself, and then all of it.
+    def test_a_run_goes_on_with_the_log_that_it_finds(self):
+        self.puts(self.base, self.complete)
+        found, (base, journal) = self.parts(["check"], ["insert a 3000 1 1 2 2", "reopen"])
+        self.assertTrue(found == (self.base, self.complete))
+        self.assertEqual((number_at(base, 0, 8, 1), number_at(journal, FLAG, 8, 1)), (2, 0))
+        both = with_numbers(journal, (FLAG, 8, 1, 1))
+        self.assertEqual(len(regions_of(both)[0]), 2)
+        self.assertTrue(both[: SIZE * (self.slots + 5)] == self.complete[: SIZE * (self.slots + 5)])
+        older = self.base + base[len(self.base) :]
+        for left in (older, with_numbers(older, (0, 8, 1, 2)), base):
+            for log in (both, *([journal] if left == base else [])):
+                self.tells(left, log)
+                self.has([3000])
+
+    # It has another text in its title, and nothing behind its one region.
+    def test_a_journal_of_an_older_program(self):
+        older = b"RSTARTTL" + self.journal[8 : -2 * SIZE]
+        complete = with_numbers(older, (FLAG, 8, 1, 1))
+        marked = with_numbers(self.base, (0, 8, 1, 2))
+        for base, journal in ((self.new, older), (self.base, older), (self.base, complete), (marked, complete)):
+            self.tells(base, journal)
+        self.puts(self.base, complete)
+        [(base, journal)] = self.parts(["check"])
+        self.assertTrue(base == self.base)
+        self.assertTrue(journal == b"RSTARLOG" + complete[8:] + NO_FLAG + bytes(SIZE))
+        self.tells(base, journal)
+        self.assertIn("insert a 1000 1 1 2 2 tag 3\n", self.read())
+
+    # The first write behind a commit copies a log of 4096 blocks or more into FILE.
+    def test_a_long_log_is_copied_home(self):
+        self.clear()
+        dice = random.Random(13)
+        self.makes("", ["create a 2 4", load("a", objects_of(dice, 2, range(5000)))])
+        run, long = self.held("store", "", ""), False
+        for turn in range(8):
+            moves = [f"move a {ident} {box_of(dice, 2)}" for ident in range(turn % 3, 5000, 3)]
+            base, journal = self.behind(run, [*moves, "reopen"])
+            regions, behind = regions_of(journal)
+            base_then, journal_then = self.behind(run, ["insert a 3000000 1 1 2 2"])
+            if long := behind - FLAG >= 4096:
+                break
+            self.assertTrue(base_then.startswith(base) and regions_of(journal_then)[0] == regions)
+            self.behind(run, ["delete a 3000000"])
+        run.kill()
+        run.wait()
+        self.assertTrue(long and len(regions) > 1)
+        home = format_reader.recovered(format_reader.blocks_of(base), format_reader.blocks_of(journal))
+        self.assertTrue(base_then.startswith(base[:SIZE] + b"".join(home[1:])))
+        self.assertEqual(regions_of(journal_then)[0], [])
+        for files in ((base, journal), (base_then, journal_then)):
+            self.tells(*files)
+            self.has([], [3000000])
 
 
 class Damaged(Read):
@@ -410,7 +542,7 @@ class Examples(Read):
         self.kill("store", "insert a 2 0 0 1 1\nreopen\n", "ok\nok\n")
         journal = self.files()["store-journal"]
         self.shows(examples()["Example"], journal, False)
-        self.assertEqual(len(journal), 0xA000)
+        self.assertEqual(len(journal), 0xC000)
 
 
 if __name__ == "__main__":

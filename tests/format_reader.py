@@ -19,6 +19,7 @@ import sys
 
 SIZE = 4096
 SHUT = b"RSTARGAT\1".ljust(SIZE, b"\0")
+TITLES = b"RSTARLOG", b"RSTARTTL"
 NO_JOURNAL = "FILE-journal is missing, or is no journal"
 OTHER_JOURNAL = "FILE-journal is the journal of another file"
 NAME = re.compile("[a-z][a-z0-9_]*")
@@ -50,7 +51,7 @@ def blocks_of(data):
 
 
 def says(block, text, value):
-    """Whether a gate of FILE or of its journal has that value."""
+    """Whether the gate of FILE, or the flag of a region, has that value."""
     return block[:8] == text and block[8] == value
 
 
@@ -58,7 +59,7 @@ def recovered(base, journal):
     """The blocks of FILE as they are read beside its journal, None where there is none."""
     marked = bool(base) and says(base[0], b"RSTARGAT", 2)
     header = (base[1] if len(base) > 1 else bytes(SIZE))[8:]
-    if journal is None or len(journal) < 2 or journal[0][:8] != b"RSTARTTL":
+    if journal is None or len(journal) < 2 or journal[0][:8] not in TITLES:
         if marked or (journal is not None and len(journal) > 2):
             raise Refused(NO_JOURNAL)
         return base
@@ -68,30 +69,40 @@ def recovered(base, journal):
     has_slots = len(journal) > 4
     has_commit = has_slots and says(journal[2], b"RSTARJNL", 1)
     if marked:
-        return brought_back(shut, journal) if has_commit else shut
+        return brought_back(shut, journal[2:]) if has_commit else shut
     if not has_slots:
         return base
-    if len(base) < 2 or journal[0] != b"RSTARTTL" + header:
+    if len(base) < 2 or journal[0][8:] != header:
         raise Refused(OTHER_JOURNAL)
-    return brought_back(base, journal) if has_commit else base
+    return brought_back(base, journal[2:]) if has_commit else base
 
 
-def brought_back(base, journal):
-    """The base with the bytes of each slot in their block."""
-    slots = number(journal[3], 8, 4)
-    if len(base) < 2 or len(journal) < 4 + slots + -(-slots // 1024):
+def brought_back(base, log):
+    """The base with the bytes of each slot of the log in their block, region by region."""
+    if len(base) < 2:
         raise Refused(NO_JOURNAL)
-    blocks = list(base)
-    for slot in range(slots):
-        block = number(journal[slots + 4 + slot // 1024], 4 * (slot % 1024), 4)
-        if block >= len(base):
-            raise Refused(NO_JOURNAL)
-        blocks[block] = journal[4 + slot]
+    blocks, at = list(base), 0
+    while at < len(log) and says(log[at], b"RSTARJNL", 1):
+        at += bring_back(blocks, log[at:])
     _, following, _, _ = open_header(blocks)
     open_catalog(blocks[2], following)
     if blocks[0] != SHUT:
         raise Refused(NO_JOURNAL)
     return blocks
+
+
+def bring_back(blocks, region):
+    """Puts the bytes of each slot of a region into their block. How many blocks the region has is answered."""
+    slots = number(region[1], 8, 4) if len(region) > 1 else 0
+    size = 2 + slots + -(-slots // 1024)
+    if len(region) < size:
+        raise Refused(NO_JOURNAL)
+    for slot in range(slots):
+        block = number(region[2 + slots + slot // 1024], 4 * (slot % 1024), 4)
+        if block >= len(blocks):
+            raise Refused(NO_JOURNAL)
+        blocks[block] = region[2 + slot]
+    return size
 
 
 # ---- opening

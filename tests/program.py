@@ -31,7 +31,7 @@ SAID = "ok\nok\nok\n" + ROWS + "ok 0\n"
 
 GATE_BYTE = 8  # where the gate says that the file was closed (docs/FORMAT.md)
 VERSION_AT = 4096 + 8  # where the header says its version, as two bytes
-EMPTY_JOURNAL = b"RSTARJNL" + bytes(4088)  # its gate: it has nothing to bring back
+NO_FLAG = b"RSTARJNL" + bytes(4088)  # the flag of a journal that has nothing to bring back
 
 
 def failing(text):
@@ -58,8 +58,8 @@ def let_no_file_be_locked():
 
 
 def completed(journal):
-    """A journal that a run left which was killed, with a gate that says that it is complete."""
-    at = 2 * 4096 + 8  # where its gate says that it is complete
+    """A journal that a run left which was killed, with a flag that says that its first region is committed."""
+    at = 2 * 4096 + 8  # where the flag says so
     return journal[:at] + b"\1" + journal[at + 1 :]
 
 
@@ -301,12 +301,13 @@ class CutShort(Runs):
         self.is_not_made()
         self.write("store-journal", kept["store-journal"])
         self.holds_one(UNENDED)
-        title = b"RSTARTTL" + self.files()["store"][4104:8192]
-        end = b"RSTAREND" + title[8:]
-        for journal in (b"", title, title + bytes(4096), title + end, title + bytes(4096) + EMPTY_JOURNAL):
-            self.write("store-journal", journal)
-            self.is_not_made()
-            self.holds_one("")
+        header = self.files()["store"][4104:8192]
+        end = b"RSTAREND" + header
+        for title in (b"RSTARLOG" + header, b"RSTARTTL" + header):
+            for journal in (b"", title, title + bytes(4096), title + end, title + bytes(4096) + NO_FLAG):
+                self.write("store-journal", journal)
+                self.is_not_made()
+                self.holds_one("")
 
     def test_a_file_that_was_moved_away_keeps_its_journal_where_another_is_made(self):
         os.rename(self.path("store"), self.path("away"))

@@ -83,8 +83,8 @@ kills() {
     exec {end}>&-
 }
 
-# journal FILE WHAT: writes a journal beside FILE (docs/FORMAT.md, "The journal"): one of another file, complete (foreign)
-# or empty again (idle), or one that says that the session of this one has ended, whose gate was torn.
+# journal FILE WHAT: writes a journal beside FILE (docs/FORMAT.md, "The journal"): one of another file, with a commit
+# (foreign) or with none (idle), or one that says that the session of this one has ended, whose gate was torn.
 journal() {
     python3 - "$1" "$2" <<'END'
 import sys
@@ -96,7 +96,7 @@ blocks = [bytes(4096)] * 7
 if what in ("foreign", "idle"):
     header[100] ^= 1
     blocks[2] = b"RSTARJNL" + bytes([what == "foreign"]) + bytes(4087)
-    blocks[3] = bytes(11) + bytes([2]) + bytes(4084)  # of two entries: blocks 0 and 2
+    blocks[3] = bytes(11) + bytes([2]) + bytes(4084)  # of two slots: blocks 0 and 2
     blocks[4] = bytes(file[:4096])
     blocks[5] = bytes([7]) * 4096
     blocks[6] = bytes(7) + bytes([2]) + bytes(4088)
@@ -104,7 +104,7 @@ if what == "ended":
     blocks[1] = b"RSTAREND" + bytes(header[8:])
     file[3] ^= 255
     open(path, "wb").write(file)
-blocks[0] = b"RSTARTTL" + bytes(header[8:])
+blocks[0] = b"RSTARLOG" + bytes(header[8:])
 open(path + "-journal", "wb").write(b"".join(blocks[:2] if what == "ended" else blocks))
 END
 }
@@ -212,7 +212,7 @@ for made in "$program" "$program.by-rattle"; do
     unopens _ _ new "$made" new
     mv aside new-journal
     # a copy of it with an empty journal is opened, as docs/COMMANDS.md says of a journal that is lost
-    cp new found && { printf RSTARTTL; head -c 8184 /dev/zero; } >found-journal
+    cp new found && { printf RSTARLOG; head -c 8184 /dev/zero; } >found-journal
     ends 0 "$unended" "$made" found <<<'check' >replies
     grep -q '^ok$' replies || wrong "a file whose journal was lost: $(cat replies)"
     ln -s new newlink # a link leads to the same journal

@@ -37,7 +37,8 @@ from typing import NamedTuple
 from runs import BUILT, TOP
 from stops import FILE, JOURNAL, NONE, Disk, Run, asked, put_state, state_of
 from stops_scripts import BASE, CHANGES, NEXT, REFUSED, SCRIPTS
-from stops_scripts import answer_of, damages, filters, loads_of, may_be, moments_of, place, syncs_of, table_of, writes
+from stops_scripts import answer_of, commits, damages, filters, loads_of, may_be, moments_of, place, syncs_of, table_of
+from stops_scripts import writes
 
 UNENDED = "rstore: the last run did not end; what changed after its last closing is lost\n"
 SYNCS = ("sync", "folder")
@@ -248,10 +249,12 @@ class Checker:
         return random.Random(self.seed).sample(tasks, len(tasks))
 
     def damaged(self):
-        """Files whose journal is complete, which are damaged: where they are refused, they stay as they were."""
+        """Files whose journal has a commit, not copied yet or copied, or two commits, which are damaged: where they are
+        refused, they stay as they were."""
         state, run, _ = self.first("closings")
-        gate = place(run.calls, writes(JOURNAL, 2, 1))
-        for count in (place(run.calls, syncs_of(JOURNAL), gate) + 1, place(run.calls, writes(JOURNAL, 2, 0), gate)):
+        flags = [k for k, call in enumerate(run.calls) if commits(call)]
+        first, *_, last = (place(run.calls, syncs_of(JOURNAL), flag) + 1 for flag in flags)
+        for count in (first, place(run.calls, writes(JOURNAL, 2, 0), first), last):
             behind = Disk.behind(state, run.calls[:count]).shown()
             for what, other in damages(behind, state):
                 self.tally["damaged"] += 1
@@ -327,7 +330,7 @@ def name_of(kind, disk, is_killed=False):
     if "store-journal block 1" in dropped or is_killed and "store-journal block 1" in disk.unsynced():
         return "an end that was not synced"
     if "store-journal block 2" in dropped:
-        return "a journal's gate whose sync failed"
+        return "a journal's flag whose sync failed"
     if "store block 0" in dropped:
         return "a mark whose sync failed"
     if "store added" in dropped:

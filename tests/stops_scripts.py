@@ -7,13 +7,14 @@ REFUSED = "a refusal"  # in the place of a table
 FIRST = ["create a 2 4", *(f"insert a {k} {k} 0 {k + 2} 1" for k in range(1, 9))]
 BASE = [*FIRST, "insert a 9 0 0 9 9", "insert a 10 5 5 6 6", "create b 3 4", "insert b 7 0 0 0 9 9 9"]
 CHANGES = ["insert a 20 5 5 6 6", "delete a 3", "create c 2 4", "insert c 1 0 0 1 1 tag 7", "reopen"]
+LATER = ["insert a 3 1 1 2 2", "insert b 8 1 1 1 2 2 2"]  # on other pages than the changes before them, too
 LOAD = "\n".join(["load d 40", *(f"{k} {k} {k} {k + 5} {k}" for k in range(40))])
 BOXES = "id,minx,miny,maxx,maxy\n" + "".join(f"{k},{k},0,{k + 1},1\n" for k in range(30, 40))
 
 # Words, what is read, and whether the store is there before.
 SCRIPTS = {
     "creation": (["--create"], [*FIRST, "reopen", "insert a 50 0 0 1 1"], False),
-    "closings": ([], [*CHANGES, "delete a 7", "move a 1 9 9 9 9", "reopen", "reopen", "insert a 3 1 1 2 2"], True),
+    "closings": ([], [*CHANGES, "delete a 7", "move a 1 9 9 9 9", "reopen", "reopen", *LATER], True),
     "growth": (["--cache", "8"], ["create d 2 4", LOAD, "delete a 1", "reopen", "drop a", "reopen", *FIRST], True),
     "import": (["--import", "a"], BOXES, True),
     "new import": (["--create", "--import", "n:4"], BOXES, False),
@@ -90,6 +91,11 @@ def writes(name, block=None, byte=None):
     )
 
 
+def commits(call):
+    """Whether a call says that a region of the journal is committed."""
+    return call.word == "write" and call.file[0] == JOURNAL and call.data[:9] == b"RSTARJNL\1"
+
+
 def syncs_of(name):
     """Whether a call is a sync of a file."""
     return lambda call: call.word == "sync" and call.file[0] == name
@@ -98,6 +104,10 @@ def syncs_of(name):
 def place(calls, test, begin=0):
     """The place of the first call from one on that passes a test."""
     return next(k for k, call in enumerate(calls) if k >= begin and test(call))
+
+
+def is_reply(call):
+    return call.word == "reply"
 
 
 def filters(calls):
@@ -110,26 +120,48 @@ def filters(calls):
         others = calls[:there] + calls[there + 1 :]
         return others[:to] + [calls[there]] + others[to:]
 
-    gate = place(calls, writes(JOURNAL, 2, 1))
-    entry = max(k for k in range(gate) if writes(JOURNAL)(calls[k]))
-    commit = place(calls, syncs_of(JOURNAL), gate)
+    def last(test, end):
+        return max(k for k in range(end) if test(calls[k]))
+
+    # the first commit of the run, which is copied home at once
+    added = place(calls, writes(FILE))
+    flag = place(calls, commits)
+    entry = last(writes(JOURNAL), flag)
+    commit = place(calls, syncs_of(JOURNAL), flag)
     mark = place(calls, writes(FILE, 0, 2))
     home = place(calls, lambda call: writes(FILE)(call) and call.at, max(commit, mark))
     clear = place(calls, writes(JOURNAL, 2, 0), home)
-    told = place(calls, lambda call: call.word == "reply", clear)
-    end = place(calls, lambda call: call.data[:8] == b"RSTAREND", told)
-    shut = place(calls, writes(FILE, 0, 1), end)
-    gone = place(calls, lambda call: call.word == "remove", shut)
-    yield "no sync of the folder with the journal", without(lambda call: call.word == "folder", 0, gate)
-    yield "no sync of the entries", without(syncs_of(JOURNAL), entry, gate)
-    yield "no sync of the journal's gate", without(syncs_of(JOURNAL), gate, home)
+    told = place(calls, is_reply, clear)
+    yield "no sync of the folder with the journal", without(lambda call: call.word == "folder", 0, flag)
+    yield "no sync of the blocks that are added", without(syncs_of(FILE), added, flag)
+    yield "no sync of the slots", without(syncs_of(JOURNAL), entry, flag)
+    yield "no sync of the flag", without(syncs_of(JOURNAL), flag, home)
     yield "no sync of the mark", without(syncs_of(FILE), mark, home)
     yield "no sync of what is copied", without(syncs_of(FILE), home, clear)
+    yield "no sync of the flag that is cleared", without(syncs_of(JOURNAL), clear, told)
+    yield "the flag before the sync of the slots", moved(flag, place(calls, syncs_of(JOURNAL), entry))
+    yield "a copy before the sync of the flag", moved(home, commit)
+    yield "the flag is cleared before the sync of what is copied", moved(clear, place(calls, syncs_of(FILE), home))
+    yield "a reply before the sync of the flag", moved(told, flag)
+    # the second, which stays in the log
+    flag = place(calls, commits, told)
+    entry = last(writes(JOURNAL), flag)
+    told = place(calls, is_reply, flag)
+    yield "no sync of the slots of a later commit", without(syncs_of(JOURNAL), entry, flag)
+    yield "no sync of the flag of a later commit", without(syncs_of(JOURNAL), flag, told)
+    yield "the flag of a later commit before the sync of its slots", moved(flag, place(calls, syncs_of(JOURNAL), entry))
+    yield "a reply before the sync of the flag of a later commit", moved(told, flag)
+    # the third, in a region behind that, and the end of the run, which copies both home
+    flag = place(calls, commits, told)
+    home = place(calls, writes(FILE), place(calls, syncs_of(JOURNAL), flag))
+    clear = place(calls, writes(JOURNAL, 2, 0), home)
+    end = place(calls, lambda call: call.data[:8] == b"RSTAREND", clear)
+    shut = place(calls, writes(FILE, 0, 1), end)
+    gone = place(calls, lambda call: call.word == "remove", shut)
+    yield "no sync of the flag of a second region", without(syncs_of(JOURNAL), flag, home)
+    yield "no sync of what is copied at the end", without(syncs_of(FILE), home, clear)
     yield "no sync of the end", without(syncs_of(JOURNAL), end, shut)
     yield "no sync of the shut gate", without(syncs_of(FILE), shut, gone)
-    yield "the journal's gate before the sync of the entries", moved(gate, place(calls, syncs_of(JOURNAL), entry))
-    yield "a copy before the sync of the journal's gate", moved(home, commit)
-    yield "a reply before the sync of the journal's gate", moved(told, gate)
     yield "the removal before the sync of the shut gate", moved(gone, place(calls, syncs_of(FILE), shut))
 
 

@@ -21,7 +21,7 @@
 #include "rstore.h"
 
 /* ---- the disk: files by their bytes, as they are read and as they were synced, and a folder of three names */
-enum { SIZE = 4096, BLOCKS = 160, FILES = 8, FOLDER = 900, FIRST = 1000, OPEN = 8, NAMES = 3 };
+enum { SIZE = 4096, BLOCKS = 320, FILES = 8, FOLDER = 900, FIRST = 1000, OPEN = 8, NAMES = 3 };
 static const char *const names[NAMES] = {"/m/store", "/m/store-journal", "/m/store-journal-part"};
 
 struct file {

@@ -1,5 +1,5 @@
 -- The slots copied home, and the first flag cleared: what stands then, and what a stop leaves.
-use Rattle.std.proofs.Common.{◌≡◌, ◌∙◌, ℕ, ◌^◌, ◌<◌, ◌≤◌, Bool, true, false, List, [], length, drop}
+use Rattle.std.proofs.Common.{◌≡◌, ◌∙◌, ℕ, ◌^◌, ◌<◌, ◌≤◌, Bool, true, false, List, [], length, drop, take}
 use Rattle.std.proofs.Common.{Ok, Err, OnOk, OnErr, refl, sym, ap, subst, arith, ⊎_elim}
 use Rattle.std.specs.List.{All, Contains}
 use Rattle.std.proofs.lemmas.Bool.{cases_lt}
@@ -10,11 +10,12 @@ use Rattle.block_device.specs.Written.{torn_other}
 use Rattle.device_pair.specs.Pairs.{BaseFollows, JournalFollows, PairsNoMore}
 use Rattle.committed_log.specs.FlagLaws.{says-none}
 use Rattle.committed_log.specs.Home.{FirstShow}
-use Rattle.committed_log.specs.Log.{flag_block, homes_in, overlaid, recovered, says}
+use Rattle.committed_log.specs.Log.{flag_block, homes_in, no_home, overlaid, recovered, says}
 use Rattle.committed_log.specs.Overlay.{overlay_aside, overlay_home}
 use Rattle.committed_log.specs.Regions.{flagged_aside, homes_nil, recovered_unsaid}
-use Rattle.committed_log.specs.Stops.{IsClearing, IsHome, IsKept, IsStanding}
+use Rattle.committed_log.specs.Stops.{AreWholeBelow, IsClearing, IsHome, IsKept, IsStanding, flagged}
 use Rattle.committed_log.specs.Torn.{torn_size}
+use Rattle.committed_log.specs.Whole.{whole_none}
 use Rattle.committed_log.proofs.Recovering.{first_stands, recovery_stands}
 use Rattle.committed_log.proofs.Stood.{Answer, Leaves, first_home, overlay_left, still_stands}
 
@@ -93,6 +94,7 @@ clearing_stands clearing homes base journal ml some settled home is q stands =
       there = s.there;
       regions = s.regions;
       homes = s.homes;
+      whole = s.whole;
       reads = (some, sym home);
       stops = λ a b left.
           let was : IsKept homes journal a b = s.stops a b left in
@@ -157,13 +159,18 @@ module _ (homes : List ℕ) (base base' journal journal' : Blocks) (ml ml' : Out
       ∙ overlay_aside homes journal journal' base (first_home homes journal s.regions) (omega (arith, few))
       (λ k gt lt. aside.same k gt)
 
+  flag_first : flagged (take (length homes) journal') ≡ flagged (take (length homes) journal)
+  flag_first =
+      flagged_aside (length homes) journal journal' (omega (arith, s.there))
+      (omega (arith, aside.as_many, s.there)) (λ k gt lt. aside.same k gt)
+
   pub flag_stands : JournalFollows (Torn 0) ml ml' → IsStanding true homes base' journal' ml'
   flag_stands follows =
       subst (λ (x : Blocks). IsStanding true homes x journal' ml') (sym same) (record {
         there = omega (arith, aside.as_many, s.there);
-        regions = ap homes_in (flagged_aside (length homes) journal journal' (omega (arith, s.there))
-            (omega (arith, aside.as_many, s.there)) (λ k gt lt. aside.same k gt)) ∙ s.regions;
+        regions = ap homes_in flag_first ∙ s.regions;
         homes = s.homes;
+        whole = subst (AreWholeBelow no_home) (sym flag_first) s.whole;
         reads = (
           s.reads.0,
           overlay_aside homes journal journal' base (first_home homes journal s.regions)
@@ -192,6 +199,7 @@ module _ (homes homes' : List ℕ) (base base' journal journal' : Blocks) (ml ml
         there = omega (arith, ap length same', s.there);
         regions = homes_nil;
         homes = λ k d lt. absurd (omega (arith, lt));
+        whole = whole_none no_home;
         reads = λ some. absurd (omega (arith, some));
         stops = λ a b left.
             let was : IsClearing homes base journal a b = s.stops a b (more a b left) in

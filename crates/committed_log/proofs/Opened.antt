@@ -5,14 +5,14 @@ use Rattle.std.proofs.Common.{refl, sym, ap, subst, arith, ⊎_elim}
 use Rattle.std.specs.Prelude.{◌/◌, ◌%◌}
 use Rattle.std.specs.List.{All}
 use Rattle.std.proofs.lemmas.Bool.{cases_Bool}
-use Rattle.std.proofs.lemmas.List.{append-nil, drop_all, get_or_append_left, get_or-take, length-take}
+use Rattle.std.proofs.lemmas.List.{append-nil, drop_all, get_or_append_left, get_or-take}
 use Rattle.std.proofs.lemmas.List.{take-append-le}
 use Rattle.block_device.specs.Device.{Blocks, Torn, block_at, written}
 use Rattle.block_device.specs.Written.{block_at-written, length-written_behind, push_written}
 use Rattle.block_bytes.specs.Numbers.{number_at}
 use Rattle.committed_log.specs.FlagLaws.{says-none}
 use Rattle.committed_log.specs.Log.{count_in, flag_block, home_in, homes_in, index_blocks, is_committed}
-use Rattle.committed_log.specs.Log.{overlaid, recovered, region_homes, region_of, says, size_of, slot_homes}
+use Rattle.committed_log.specs.Log.{no_home, overlaid, recovered, region_homes, region_of, says, size_of, slot_homes}
 use Rattle.committed_log.specs.Opening.{AreSynced, IsBroken, IsMalformed}
 use Rattle.committed_log.specs.Overlay.{overlay_first}
 use Rattle.committed_log.specs.Region.{HasSlots}
@@ -21,6 +21,7 @@ use Rattle.committed_log.specs.Regions.{homes_whole, is_committed_so, length_hom
 use Rattle.committed_log.specs.Regions.{short_none}
 use Rattle.committed_log.specs.Stops.{IsStanding, flagged}
 use Rattle.committed_log.specs.Torn.{torn_cases}
+use Rattle.committed_log.specs.Whole.{whole_none}
 
 -- ---- the count and the homes of a region
 
@@ -96,18 +97,6 @@ malformed_behind homes base journal regions reads broken = record {
         ∙ said (omega arith)))
         ∙ are
 
--- a journal that is one block, which says nothing, is not malformed
-pub not_malformed : (base journal : Blocks) → length journal ≤ 1 → says (block_at 0 journal) ≡ false
-    → ¬ IsMalformed base journal
-not_malformed base journal few unsaid bad =
-    let short : homes_in (take (length bad.homes) journal) ≡ [] =
-    homes_end (take (length bad.homes) journal) (short_none (take (length bad.homes) journal)
-    (omega (arith, few, length-take (length bad.homes) journal))) in
-    let none : length bad.homes ≡ 0 = ap length (sym bad.regions ∙ short) in
-    let said : says (block_at 0 journal) ≡ true =
-    ap (λ (n : ℕ). says (block_at 0 (drop n journal))) (sym none) ∙ bad.says_so in
-    let never : true ≡ false = sym said ∙ unsaid in cc
-
 -- ---- a block added behind the last region
 
 homes_one : (b : Blocks) (x : List ℕ) → size_of b ≡ length b → homes_in (b ++ x ∷ []) ≡ homes_in b
@@ -177,6 +166,7 @@ opened_stands homes base journal ml none some synced =
       there = some;
       regions = homes_nil;
       homes = λ k d lt. absurd (omega (arith, lt));
+      whole = whole_none no_home;
       reads = λ there. absurd (omega (arith, there));
       stops = λ a b left. record {
         there = omega (arith, some, ap length (synced a b left).1);

@@ -1,13 +1,17 @@
 -- What recovery makes of what a stop leaves.
 use Rattle.std.proofs.Common.{◌≡◌, ◌∙◌, ℕ, ◌^◌, ◌<◌, ◌≤◌, Bool, true, false, List, [], length}
 use Rattle.std.proofs.Common.{take, drop, sym, ap, arith, subst, ⊎_elim}
+use Rattle.std.specs.List.{All}
 use Rattle.std.proofs.lemmas.Bool.{cases_Bool}
 use Rattle.std.proofs.lemmas.List.{get_or-drop, get_or-take}
 use Rattle.block_device.specs.Device.{Blocks, block_at}
 use Rattle.committed_log.specs.Log.{homes_in, no_home, overlaid, recovered, says}
+use Rattle.committed_log.specs.Opening.{IsMalformed}
 use Rattle.committed_log.specs.Regions.{flagged_aside, homes_first, recovered_unsaid, recovery_first}
 use Rattle.committed_log.specs.Regions.{recovery_through}
-use Rattle.committed_log.specs.Stops.{IsClearing, IsKept, IsStanding, ReadsIn, StopIn, flagged}
+use Rattle.committed_log.specs.Stops.{AreWholeBelow, IsClearing, IsHome, IsKept, IsStanding, ReadsIn, StopIn}
+use Rattle.committed_log.specs.Stops.{flagged}
+use Rattle.committed_log.specs.Whole.{malformed_left, unsaid_well}
 use Rattle.committed_log.proofs.Stood.{overlay_left}
 
 -- while the first flag is cleared: the base has all that the regions have
@@ -66,6 +70,33 @@ pub recovery_stands : (clearing : Bool) (homes : List ℕ) (base journal a b : B
 recovery_stands clearing homes base journal a b ml few s left =
     recovery_left clearing homes base journal a b (omega (arith, few)) (omega (arith, s.there)) s.regions
     s.reads (s.stops a b left)
+
+-- ---- what opening finds malformed stands behind the regions
+
+malformed_stop : (clearing : Bool) (homes : List ℕ) (base journal a b : Blocks)
+    (ml : Blocks → Blocks → Type 0) → IsStanding clearing homes base journal ml
+    → StopIn clearing homes base journal a b → IsMalformed a b
+    → IsMalformed (overlaid homes b a) (drop (length homes) b)
+malformed_stop false homes base journal a b ml s stop bad =
+    malformed_left homes a b (ap (λ (l : Blocks). homes_in (flagged l)) stop.regions ∙ s.regions)
+    (omega (arith, stop.there))
+    (λ some. first_flag (length homes) journal b some stop.regions ∙ s.reads some)
+    (subst (λ (l : Blocks). AreWholeBelow no_home (flagged l)) (sym stop.regions) s.whole) stop.homes bad
+malformed_stop true homes base journal a b ml s stop bad = ⊎_elim
+    (λ (said : says (block_at 0 b) ≡ true).
+    let first : flagged (take (length homes) b) ≡ flagged (take (length homes) journal) =
+    flagged_aside (length homes) journal b (omega (arith, s.there)) (omega (arith, stop.there)) stop.same in
+    malformed_left homes a b (ap homes_in first ∙ s.regions) (omega (arith, stop.there)) (λ some. said)
+    (subst (AreWholeBelow no_home) (sym first) s.whole)
+    (subst (λ (x : Blocks). All (IsHome (length x)) homes) (sym stop.base_is) s.homes) bad)
+    (λ (unsaid : says (block_at 0 b) ≡ false). absurd (unsaid_well a b unsaid bad))
+    (cases_Bool (says (block_at 0 b)))
+
+pub malformed_stands : (clearing : Bool) (homes : List ℕ) (base journal a b : Blocks)
+    (ml : Blocks → Blocks → Type 0) → IsStanding clearing homes base journal ml → ml a b → IsMalformed a b
+    → IsMalformed (overlaid homes b a) (drop (length homes) b)
+malformed_stands clearing homes base journal a b ml s left bad =
+    malformed_stop clearing homes base journal a b ml s (s.stops a b left) bad
 
 -- ---- recovery of the regions alone, as who has read no further makes it
 

@@ -9,7 +9,7 @@ use Rattle.device_pair.specs.Pairs.{BaseFollows, JournalFollows, PairsNoMore}
 use Rattle.committed_log.specs.Log.{homes_in, no_home, overlaid, says}
 use Rattle.committed_log.specs.Overlay.{overlay_aside, overlay_first, overlay_torn, overlay_written}
 use Rattle.committed_log.specs.Regions.{first_none}
-use Rattle.committed_log.specs.Stops.{IsHome, IsKept, IsStanding, StopIn, flagged}
+use Rattle.committed_log.specs.Stops.{AreWholeBelow, IsHome, IsKept, IsStanding, StopIn, flagged}
 use Rattle.committed_log.specs.Torn.{drop_torn, drop_written, take_torn, torn_before, torn_longer}
 
 abbrev Outcomes : Type 1
@@ -78,6 +78,7 @@ still_stands clearing homes base base' journal journal' ml ml' b j more s =
       there = s.there;
       regions = s.regions;
       homes = s.homes;
+      whole = s.whole;
       reads = s.reads;
       stops = λ x y left. s.stops x y (more x y left);
     }))
@@ -107,6 +108,7 @@ module _ (clearing : Bool) (homes : List ℕ) (i : ℕ) (base base' journal jour
         there = s.there;
         regions = s.regions;
         homes = home_more (length base) (length base') homes (torn_longer i base base' torn) s.homes;
+        whole = s.whole;
         reads = s.reads;
         stops = λ a b left.
             let from = follows a b left in
@@ -167,6 +169,7 @@ module _ (clearing : Bool) (homes : List ℕ) (i at : ℕ) (base base' journal j
         there = omega (arith, s.there, torn_longer at journal journal' torn);
         regions = ap (λ (l : Blocks). homes_in (flagged l)) first ∙ s.regions;
         homes = s.homes;
+        whole = subst (λ (l : Blocks). AreWholeBelow no_home (flagged l)) (sym first) s.whole;
         reads = λ some.
             ap says (torn_before 0 at journal journal' (omega (arith, behind, some))
             (omega (arith, some, s.there)) torn)

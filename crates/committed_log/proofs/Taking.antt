@@ -1,11 +1,11 @@
 -- Slots added one after the other, and the region behind the others taken in.
-use Rattle.std.proofs.Common.{◌≡◌, ◌∙◌, ℕ, ◌+◌, ◌<◌, ◌≤◌, Bool, true, false, List, [], ◌∷◌, ◌++◌, length, take}
+use Rattle.std.proofs.Common.{◌≡◌, ◌∙◌, ℕ, ◌+◌, ◌^◌, ◌<◌, ◌≤◌, Bool, true, false, List, [], ◌∷◌, ◌++◌, length, take}
 use Rattle.std.proofs.Common.{drop, replicate, refl, sym, ap, subst, arith, ⊎_elim}
 use Rattle.std.specs.List.{All}
 use Rattle.std.proofs.lemmas.Bool.{cases_lt}
 use Rattle.std.proofs.lemmas.List.{append_assoc, append-nil, drop-drop, get_or-drop}
 use Rattle.std.proofs.lemmas.List.{length-append, length-drop, take-append-drop}
-use Rattle.std.proofs.lemmas.List.Elements.{All-append, All-cons, All-replicate}
+use Rattle.std.proofs.lemmas.List.Elements.{All-append, All-cons, All-replicate, All-weaker}
 use Rattle.block_device.specs.Device.{Blocks, block_at}
 use Rattle.committed_log.specs.Log.{homes_in, index_blocks, no_home, overlaid, region_of, says}
 use Rattle.committed_log.specs.Log.{size_of}
@@ -14,7 +14,8 @@ use Rattle.committed_log.specs.Region.{IsRegion}
 use Rattle.committed_log.specs.Regions.{committed_says, length_homes, region_behind}
 use Rattle.committed_log.specs.Replay.{length-overlaid}
 use Rattle.committed_log.specs.Room.{blocks_of, HasRoomFor}
-use Rattle.committed_log.specs.Stops.{IsHome, IsStanding, flagged}
+use Rattle.committed_log.specs.Stops.{AreWholeBelow, IsHome, IsStanding, flagged}
+use Rattle.committed_log.specs.Whole.{slots_below, whole_behind}
 use Rattle.committed_log.specs.declared.slots.Slots.{Slots}
 use Rattle.committed_log.proofs.Stood.{Leaves}
 
@@ -128,8 +129,20 @@ module _ (clearing : Bool) (homes slots : List ℕ) (base journal : Blocks) (ml 
       (region_are (length base) slots
       (subst (λ (m : ℕ). All (λ h. h < m) slots) (length-overlaid homes journal base) region.below)))
 
-  pub taken_stands : IsStanding clearing (homes ++ region_of slots) base journal ml
-  taken_stands =
+  -- and each region is whole
+  whole_is : length base ≤ 2 ^ 31
+      → AreWholeBelow no_home (flagged (take (length (homes ++ region_of slots)) journal))
+  whole_is few =
+      subst (λ (n : ℕ). AreWholeBelow no_home (flagged (take n journal))) (sym many_is)
+      (whole_behind no_home homes journal settled_stands.regions (omega (arith, settled_stands.there))
+      region.committed
+      (slots_below no_home slots (drop (length homes) journal) region.homes
+      (All-weaker (λ h. h < length (overlaid homes journal base)) (λ h. h < no_home)
+      (λ h lt. omega (arith, lt, few, length-overlaid homes journal base)) slots region.below))
+      settled_stands.whole)
+
+  pub taken_stands : length base ≤ 2 ^ 31 → IsStanding clearing (homes ++ region_of slots) base journal ml
+  taken_stands few =
       subst (λ (t : Bool). IsStanding t (homes ++ region_of slots) base journal ml) (sym settled) (record {
         there = there_is;
         regions = ap (λ (n : ℕ). homes_in (flagged (take n journal))) many_is
@@ -137,6 +150,7 @@ module _ (clearing : Bool) (homes slots : List ℕ) (base journal : Blocks) (ml 
             region.committed
             ∙ ap (λ (l : List ℕ). homes ++ l) region.homes;
         homes = homes_are (length base) refl;
+        whole = whole_is few;
         reads = λ some. first_says;
         stops = λ a b left.
             let is : b ≡ journal = journal_left a b left in

@@ -4,8 +4,9 @@ use Rattle.block_device.specs.Device.{Blocks}
 use Rattle.committed_log.specs.Committed.{base_of, clearing_of, homes_of, journal_of, pair_of, IsHonest}
 use Rattle.committed_log.specs.Committed.{KeepsFirst}
 use Rattle.committed_log.specs.Log.{homes_in, overlaid, recovered}
+use Rattle.committed_log.specs.Opening.{IsMalformed}
 use Rattle.committed_log.specs.declared.log.CommittedLog.{CommittedLog}
-use Rattle.committed_log.proofs.Recovering.{first_stands, homes_read, recovery_stands}
+use Rattle.committed_log.proofs.Recovering.{first_stands, homes_read, malformed_stands, recovery_stands}
 use Rattle.committed_log.proofs.Stood.{kept_stop}
 
 pub recovery_of : {P A : Type 0} {m : _} (c : CommittedLog P A m) (a b : Blocks) → length (base_of c) ≤ 2 ^ 31
@@ -14,6 +15,14 @@ pub recovery_of : {P A : Type 0} {m : _} (c : CommittedLog P A m) (a b : Blocks)
 recovery_of {m = m} c a b few h left =
     recovery_stands (clearing_of c) (homes_of c) (base_of c) (journal_of c) a b (m.may_leave (pair_of c)) few
     (c.standing h) left
+
+-- and what opening finds malformed stands behind them
+pub malformed_of : {P A : Type 0} {m : _} (c : CommittedLog P A m) (a b : Blocks) → IsHonest c
+    → m.may_leave (pair_of c) a b → IsMalformed a b
+    → IsMalformed (overlaid (homes_of c) b a) (drop (length (homes_of c)) b)
+malformed_of {m = m} c a b h left bad =
+    malformed_stands (clearing_of c) (homes_of c) (base_of c) (journal_of c) a b (m.may_leave (pair_of c))
+    (c.standing h) left bad
 
 -- recovery of the regions alone, as who has read no further makes it
 pub first_of : {P A : Type 0} {m : _} (c : CommittedLog P A m) (a b : Blocks) → length (base_of c) ≤ 2 ^ 31

@@ -17,3 +17,4 @@ pub mod Torn
 pub mod Overlay
 pub mod FlagLaws
 pub mod Regions
+pub mod Whole

@@ -1,8 +1,9 @@
 -- What stands of a base and a log is a fact: a ghost field may hold it.
-use Rattle.std.specs.Prelude.{ℕ, Bool, true, false, List}
+use Rattle.std.specs.Prelude.{ℕ, Bool, true, false, List, length, take}
 use Rattle.std.proofs.Props.{props}
 use Rattle.block_device.specs.Device.{Blocks}
-use Rattle.committed_log.specs.Stops.{IsClearing, IsKept, IsStanding, ReadsIn, StopIn}
+use Rattle.committed_log.specs.Log.{no_home}
+use Rattle.committed_log.specs.Stops.{AreWholeBelow, IsClearing, IsKept, IsStanding, ReadsIn, StopIn, flagged}
 
 kept_fact : (homes : List ℕ) (journal a b : Blocks) → IsProp (IsKept homes journal a b)
 kept_fact homes journal a b = hlevel props
@@ -20,7 +21,16 @@ reads_fact : (clearing : Bool) (homes : List ℕ) (base journal : Blocks)
 reads_fact false homes base journal = hlevel props
 reads_fact true homes base journal = hlevel props
 
+whole_fact : (n : ℕ) (b : Blocks) → IsProp (AreWholeBelow n b)
+unfolding AreWholeBelow
+whole_fact n b = hlevel props
+
 pub standing_fact : (clearing : Bool) (homes : List ℕ) (base journal : Blocks)
     (may_leave : Blocks → Blocks → Type 0) → IsProp (IsStanding clearing homes base journal may_leave)
 standing_fact clearing homes base journal may_leave =
-    hlevel (props, reads_fact clearing homes base journal, stop_fact clearing homes base journal)
+    hlevel (
+      props,
+      whole_fact no_home (flagged (take (length homes) journal)),
+      reads_fact clearing homes base journal,
+      stop_fact clearing homes base journal,
+    )

@@ -1,8 +1,9 @@
-//! The law of recovery through the regions, as the contract of a function that does nothing.
+//! The laws of what a stop leaves of a log, each the contract of a function that does nothing.
 ghost use Rattle.std.specs.Prelude.{◌≡◌, drop, length};
 ghost use Rattle.block_device.specs.Device.{Blocks};
 ghost use Rattle.committed_log.specs.Committed.{homes_of, pair_of, IsHonest};
 ghost use Rattle.committed_log.specs.Log.{overlaid, recovered};
+ghost use Rattle.committed_log.specs.Opening.{IsMalformed};
 ghost use Rattle.committed_log.specs.declared.log.CommittedLog.{CommittedLog};
 
 use device_pair::DevicePair;
@@ -14,4 +15,12 @@ pub fn recovery_goes_through_the_regions<P: DevicePair, A: Allocator + Copy>()
     ensures { (c : CommittedLog P A ⟦<P as DevicePair>⟧) (a b : Blocks) → IsHonest c →
         P.may_leave (pair_of c) a b →
         recovered a b ≡ recovered (overlaid (homes_of c) b a) (drop (length (homes_of c)) b) }
+{}
+
+/// Whatever a stop leaves of base and journal, each region of the log is whole in it, with room for its slots and
+/// homes that are there: where opening finds it malformed, it is the blocks behind the regions that are so.
+pub fn a_log_that_is_left_is_well_formed<P: DevicePair, A: Allocator + Copy>()
+    ensures { (c : CommittedLog P A ⟦<P as DevicePair>⟧) (a b : Blocks) → IsHonest c →
+        P.may_leave (pair_of c) a b → IsMalformed a b →
+        IsMalformed (overlaid (homes_of c) b a) (drop (length (homes_of c)) b) }
 {}

@@ -105,6 +105,11 @@ fn many_changed_blocks_are_found(rt: HostRuntime) {
     }
     assert!(rt; device.sync().is_ok());
     assert!(rt; all_are(&mut device, MANY, 3));
+    let left = device.into_pair().after_stop(Left::Synced, Left::Synced);
+    let Ok(mut device) = JournaledDevice::open(left, alloc, false) else {
+        panic!(rt; "the device was not opened");
+    };
+    assert!(rt; device.bring_home().is_ok());
     let mut left = device.into_pair().after_stop(Left::Synced, Left::Synced);
     assert!(rt; base_is(&mut left, MANY, 3));
 }
@@ -119,8 +124,8 @@ fn each_is<D: BlockDevice>(device: &mut D, rounds: &[u8; FEW as usize]) -> bool 
     true
 }
 
-// Changes each of a few blocks. A write that is refused has to say so and to change nothing, and is tried
-// again where memory is there. Tells whether one was refused, or answers None.
+// Changes each of a few blocks, and commits. A call that is refused has to say so and to change nothing, and is
+// tried again where memory is there. Tells whether one was refused, or answers None.
 fn changes<D: BlockDevice>(device: &mut D, heap: &Refusing<Global>) -> Option<bool> {
     let mut rounds = [1; FEW as usize];
     let mut refused = false;
@@ -134,6 +139,13 @@ fn changes<D: BlockDevice>(device: &mut D, heap: &Refusing<Global>) -> Option<bo
             put(device, i, 2).ok()?;
         }
         rounds[i as usize] = 2;
+    }
+    if let Err(fault) = device.sync() {
+        if fault != DeviceError::Memory || !heap.relent() || !each_is(device, &rounds) {
+            return None;
+        }
+        refused = true;
+        device.sync().ok()?;
     }
     if !each_is(device, &rounds) {
         return None;
@@ -154,7 +166,6 @@ fn a_refused_growth_changes_nothing(rt: HostRuntime) -> Result<(), Fail> {
             None => panic!(rt; "growth {from} of the index"),
             Some(again) => refused = again,
         }
-        assert!(rt; device.sync().is_ok());
         assert!(rt; all_are(&mut device, FEW, 2));
         if !refused {
             assert!(rt; from > 20);

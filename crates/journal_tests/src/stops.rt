@@ -9,14 +9,18 @@ use std::alloc::Global;
 
 const KINDS: [Left; 3] = [Left::Written, Left::Synced, Left::Filled(0xEE)];
 
-// Opens what is left, with so many calls that pass. Says whether it was refused as no journal, and whether it
-// opened.
+// Opens what is left and brings it home, with so many calls that pass. Says whether it was refused as no journal,
+// and whether all of it was done.
 fn opened(alloc: Global, left: MemoryPair, passes: u64) -> (MemoryPair, bool, bool)
     requires { passes < 2 ^ 64 - 1 }
 {
     let pair = FusePair::new(left, passes, FuseMode::Onward);
     match JournaledDevice::open(pair, alloc, false) {
-        Ok(device) => (device.into_pair().into_inner(), false, true),
+        Ok(device) => {
+            let mut device = device;
+            let home = device.bring_home().is_ok();
+            (device.into_pair().into_inner(), false, home)
+        }
         Err((OpenFault::Malformed, pair)) => (pair.into_inner(), true, false),
         Err((OpenFault::Device(_), pair)) => (pair.into_inner(), false, false),
     }

@@ -1,6 +1,6 @@
 -- What a call makes of the notes of a journaled device, and of what a stop leaves of it.
 use Rattle.std.proofs.Common.{◌≡◌, ◌∙◌, ◌-◌, ◌+◌, ◌<◌, ◌≤◌, ℕ, Bool, true, false, nat_lt, if◌then◌else◌, List}
-use Rattle.std.proofs.Common.{[], ◌∷◌, length, take, set, Option, Some, None, Ok, Err, IsErr, OnOk, OnErr}
+use Rattle.std.proofs.Common.{[], ◌∷◌, length, take, set, Option, Some, None, Result, Ok, Err, IsErr, OnOk, OnErr}
 use Rattle.std.proofs.Common.{refl, sym, ap, subst, arith, inl, inr, ⊎_elim}
 use Rattle.std.specs.List.{All}
 use Rattle.std.proofs.lemmas.Bool.{ltb-true, ltb-false}
@@ -13,18 +13,22 @@ use Rattle.block_device.specs.History.{undone, unsynced}
 use Rattle.block_device.specs.Outcomes.{set_blocks, shown_left, sync_le}
 use Rattle.block_device.specs.Stop.{IsOutcome}
 use Rattle.block_device.specs.Written.{length-written_behind, push_written, set_written}
+use Rattle.block_device.specs.declared.device.DeviceError.{DeviceError}
 use Rattle.block_device.proofs.Stops.{elapses_more, only_shown, outcome_before}
 use Rattle.page_file.specs.Opening.{failed_check}
-use Rattle.journaled_device.specs.Commits.{CommitsNoMore, OrOpened}
+use Rattle.logged_pair.specs.Commits.{CommitsNoMore, OrOpened}
 use Rattle.journaled_device.specs.EventLaws.{back_le, fall_more, length-moments, until_le, until_new}
 use Rattle.journaled_device.specs.Events.{IsNoted, event, events, events_until, moments}
 use Rattle.journaled_device.specs.Journaled.{HasSynced, HasWritten, events_of, inner_of, left_since_of}
 use Rattle.journaled_device.specs.Journaled.{may_leave_of, moment_of, pair_moment_of, pair_of, recovery_of}
-use Rattle.journaled_device.specs.Standing.{KeepsTo, commits_of, shown_of}
-use Rattle.journaled_device.specs.Torn.{within_written}
-use Rattle.journaled_device.specs.declared.pair.JournaledPair.{JournaledPair}
+use Rattle.logged_pair.specs.Standing.{KeepsTo, commits_of, shown_of}
+use Rattle.logged_pair.specs.Standing as logged
+use Rattle.logged_pair.specs.Shown.{within_written}
+use Rattle.logged_pair.specs.declared.pair.LoggedPair.{LoggedPair}
 use Rattle.journaled_device.specs.declared.device.JournaledDevice.{JournaledDevice}
-use Rattle.journaled_device.proofs.Stood.{Answer}
+
+abbrev Answer : Type 0
+Answer = Result (Unit {0}) DeviceError
 
 -- the time that passes without an event, and with one
 time_still : (b b' : Blocks) (es es' : List Event) (ts ts' : List ℕ) (now now' : ℕ) → b' ≡ b → es' ≡ es
@@ -124,33 +128,33 @@ module _ (i : ℕ) (b : List ℕ) (old : Blocks) (at_most : i ≤ length old) (s
       (subst (λ (x : Blocks). IsOutcome (written i b old) x (i ∷ unsynced es) c) same now)
 
 -- What stands of no notes.
-pub noted_new : {P A : Type 0} {m : _} (p : JournaledPair P A m) (ns : List (JournaledPair P A m × Option ℕ))
+pub noted_new : {P A : Type 0} {m : _} (p : LoggedPair P A m) (ns : List (LoggedPair P A m × Option ℕ))
     → ns ≡ [] → All IsBlock (shown_of p) → ((k : Blocks) → commits_of p k → k ≡ shown_of p) → IsNoted p ns
 noted_new p ns e whole one =
     rw e record { whole = whole; leads = tt; falls = tt; durable = λ none taken. one }
 
 -- where there are none, a stop of a plain disk leaves what is read
-pub only_new : {P A : Type 0} {m : _} (blocks : Blocks) (ns : List (JournaledPair P A m × Option ℕ))
+pub only_new : {P A : Type 0} {m : _} (blocks : Blocks) (ns : List (LoggedPair P A m × Option ℕ))
     (c : Blocks) → ns ≡ [] → MayLeave blocks (events ns) c → c ≡ blocks
 only_new {P} {A} {m} blocks ns c e left =
     only_shown blocks [] c
-    (subst (λ (es : List (JournaledPair P A m × Option ℕ)). MayLeave blocks (events es) c) e left)
+    (subst (λ (es : List (LoggedPair P A m × Option ℕ)). MayLeave blocks (events es) c) e left)
 
 -- What stands of the notes after a call.
-module _ {P A : Type 0} {m : _} (p p' : JournaledPair P A m) (ns : List (JournaledPair P A m × Option ℕ))
-    (n : IsNoted p ns) (later : m.moment p.pair ≤ m.moment p'.pair) where
+module _ {P A : Type 0} {m : _} (p p' : LoggedPair P A m) (ns : List (LoggedPair P A m × Option ℕ))
+    (n : IsNoted p ns) (later : m.moment (logged.pair_of p) ≤ m.moment (logged.pair_of p')) where
   pub noted_same : shown_of p' ≡ shown_of p
       → CommitsNoMore (OrOpened (commits_of p) (shown_of p)) (commits_of p') → IsNoted p' ns
   noted_same e more = record {
     whole = subst (All IsBlock) (sym e) n.whole;
     leads = subst (λ (b : Blocks). IsHistory b (events ns)) (sym e) n.leads;
-    falls = fall_more (m.moment p.pair) (m.moment p'.pair) (moments ns) later n.falls;
+    falls = fall_more (m.moment (logged.pair_of p)) (m.moment (logged.pair_of p')) (moments ns) later n.falls;
     durable =
         λ none taken k is. ⊎_elim (λ was. n.durable none (ap failed_check (sym e) ∙ taken) k was)
         (λ new. new.1) (more k is) ∙ sym e;
   }
 
-  pub noted_written : (ns' : List (JournaledPair P A m × Option ℕ)) (i : ℕ) (b : List ℕ)
+  pub noted_written : (ns' : List (LoggedPair P A m × Option ℕ)) (i : ℕ) (b : List ℕ)
       → ns' ≡ (p, Some i) ∷ ns → i ≤ length (shown_of p) → IsBlock b → shown_of p' ≡ written i b (shown_of p)
       → IsNoted p' ns'
   noted_written ns' i b ens le block e = rw ens record {
@@ -161,7 +165,7 @@ module _ {P A : Type 0} {m : _} (p p' : JournaledPair P A m) (ns : List (Journal
     durable = λ none taken k is. absurd (cc);
   }
 
-  pub noted_synced : (ns' : List (JournaledPair P A m × Option ℕ)) → ns' ≡ (p, None) ∷ ns
+  pub noted_synced : (ns' : List (LoggedPair P A m × Option ℕ)) → ns' ≡ (p, None) ∷ ns
       → shown_of p' ≡ shown_of p
       → (failed_check (shown_of p) ≡ None → (k : Blocks) → commits_of p' k → k ≡ shown_of p) → IsNoted p' ns'
   noted_synced ns' ens e durable = rw ens record {
@@ -198,7 +202,7 @@ module _ {P A : Type 0} {m : _} (old new : JournaledDevice P A m)
       → Brings moment_of recovery_of old new Q
   brings_same C Q e keeps so =
       brings_by C Q
-      (λ t le. ap (λ (ns : List (JournaledPair P A m × Option ℕ)). t - events_until (moments ns) t) e) keeps
+      (λ t le. ap (λ (ns : List (LoggedPair P A m × Option ℕ)). t - events_until (moments ns) t) e) keeps
       so
 
   -- and with one
@@ -207,7 +211,7 @@ module _ {P A : Type 0} {m : _} (old new : JournaledDevice P A m)
       → ((k : Blocks) → C k → OrTaken recovery_of old Q k) → Brings moment_of recovery_of old new Q
   brings_event C Q x e keeps so =
       brings_by C Q
-      (λ t le. ap (λ (ns : List (JournaledPair P A m × Option ℕ)). t - events_until (moments ns) t) e
+      (λ t le. ap (λ (ns : List (LoggedPair P A m × Option ℕ)). t - events_until (moments ns) t) e
       ∙ ap (λ (k : ℕ). t - k) (until_new (m.moment (pair_of old)) (moments old.past.taken) t le)) keeps so
 
   still_time : new.past.taken ≡ old.past.taken → shown_of (inner_of new) ≡ shown_of (inner_of old)

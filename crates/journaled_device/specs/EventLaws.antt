@@ -11,7 +11,7 @@ use Rattle.block_device.specs.Device.{Blocks, IsBlock, Only, block_at}
 use Rattle.block_device.specs.History.{Event, Synced, Wrote, IsHistory, MayLeave, unsynced}
 use Rattle.block_device.specs.Outcomes.{not_first, repeated_block, set_blocks, sync_le, there_lt}
 use Rattle.journaled_device.specs.Events.{Fall, events, events_until, moments}
-use Rattle.journaled_device.specs.declared.pair.JournaledPair.{JournaledPair}
+use Rattle.logged_pair.specs.declared.pair.LoggedPair.{LoggedPair}
 
 choose : {X : Type 0} (b : Bool) (x y : X) (P : X → Type 0) → (b ≡ true → P x) → (b ≡ false → P y)
     → P (if b then x else y)
@@ -65,7 +65,7 @@ pub fall_more : (now later : ℕ) (ts : List ℕ) → now ≤ later → Fall now
 fall_more now later [] le f = tt
 fall_more now later (t ∷ ts) le f = (omega (arith, f.0, le), f.1)
 
-pub length-moments : {P A : Type 0} {m : _} (ns : List (JournaledPair P A m × Option ℕ))
+pub length-moments : {P A : Type 0} {m : _} (ns : List (LoggedPair P A m × Option ℕ))
     → length (moments ns) ≡ length (events ns)
 length-moments [] = refl
 length-moments (n ∷ ns) = ap suc (length-moments ns)

@@ -7,17 +7,17 @@ use Rattle.block_device.specs.History.{Event, LeftSince, MayLeave}
 use Rattle.block_device.specs.declared.device.DeviceError.{DeviceError}
 use Rattle.page_file.specs.Opening.{failed_check}
 use Rattle.journaled_device.specs.Events.{events, events_until, moments}
-use Rattle.journaled_device.specs.Standing.{commits_of, shown_of}
-use Rattle.journaled_device.specs.Standing as pair
-use Rattle.journaled_device.specs.declared.pair.JournaledPair.{JournaledPair}
+use Rattle.logged_pair.specs.Standing.{commits_of, shown_of}
+use Rattle.logged_pair.specs.Standing as logged
+use Rattle.logged_pair.specs.declared.pair.LoggedPair.{LoggedPair}
 use Rattle.journaled_device.specs.declared.device.JournaledDevice.{JournaledDevice}
 
--- its base and journal with how far a commit has come, and their pair
-abbrev pub inner_of : {P A : Type 0} {m : _} → JournaledDevice P A m → JournaledPair P A m
+-- its base with the log of its commits, and the pair of both
+abbrev pub inner_of : {P A : Type 0} {m : _} → JournaledDevice P A m → LoggedPair P A m
 inner_of d = d.pair
 
 abbrev pub pair_of : {P A : Type 0} {m : _} → JournaledDevice P A m → P
-pair_of d = d.pair.pair
+pair_of d = logged.pair_of d.pair
 
 -- its writes and syncs, the newest first
 abbrev pub events_of : {P A : Type 0} {m : _} → JournaledDevice P A m → List Event
@@ -29,7 +29,7 @@ may_leave_of d c = MayLeave (shown_of (inner_of d)) (events_of d) c
 
 -- the moment: one more than the pair's with each event
 abbrev pub moment_of : {P A : Type 0} {m : _} → JournaledDevice P A m → ℕ
-moment_of {m = m} d = m.moment d.pair.pair + length (moments d.past.taken)
+moment_of {m = m} d = m.moment (pair_of d) + length (moments d.past.taken)
 
 -- what a stop since a moment would have left of a plain disk
 abbrev pub left_since_of : {P A : Type 0} {m : _} → JournaledDevice P A m → ℕ → Blocks → Type 0
@@ -42,7 +42,7 @@ pair_moment_of d t = t - events_until (moments d.past.taken) t
 
 -- what stops since a moment left, once it is recovered
 abbrev pub found_since_of : {P A : Type 0} {m : _} → JournaledDevice P A m → ℕ → Blocks → Type 0
-found_since_of d t c = pair.left_since_of (inner_of d) (pair_moment_of d t) c
+found_since_of d t c = logged.left_since_of (inner_of d) (pair_moment_of d t) c
 
 -- What a stop really brings back: one of the commits of the pair. Each is of blocks that opening takes.
 abbrev pub recovery_of : {P A : Type 0} {m : _} → Recovery (JournaledDevice P A m)

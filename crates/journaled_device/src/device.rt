@@ -1,15 +1,16 @@
-//! A device over a base and its journal, which commits where a sync finds blocks that opening takes.
+//! A device over a base and the log of its commits, which commits where a sync finds blocks that opening takes.
 ghost use Rattle.journaled_device.specs.Events.{IsNoted};
 ghost use Rattle.journaled_device.specs.EventsFact.{noted_is_fact};
-ghost use Rattle.journaled_device.specs.Standing.{IsHonest};
+ghost use Rattle.logged_pair.specs.Standing.{IsHonest};
 
 mod calls;
 mod giving_up;
+mod home;
 mod noting;
 mod open;
 
-use crate::pair::JournaledPair;
 use device_pair::{DevicePair, Snapshots};
+use logged_pair::LoggedPair;
 use std::alloc::{Allocator, Global};
 
 /// A device over a base and its journal, of which a stop brings back the last commit, or the one in progress.
@@ -19,9 +20,9 @@ use std::alloc::{Allocator, Global};
 /// `page_file` would open it, and makes no call but reads where it would not.
 #[derive(Drop)]
 pub struct JournaledDevice<P: DevicePair, A: Allocator + Copy = Global> {
-    pair: JournaledPair<P, A>,
+    pair: LoggedPair<P, A>,
     // the pair before each write and sync, and the number of the block that was written
-    past: Snapshots<JournaledPair<P, A>, Option<u32>>,
+    past: Snapshots<LoggedPair<P, A>, Option<u32>>,
     ghost noted: { IsHonest pair →
         IsNoted pair past.taken } by { λ p q i h. noted_is_fact pair past.taken (p h) (q h) i },
 }

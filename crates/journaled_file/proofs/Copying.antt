@@ -5,6 +5,8 @@ use Rattle.std.proofs.lemmas.List.{take_all}
 use Rattle.block_device.specs.Device.{Blocks, block_at, written}
 use Rattle.device_pair.specs.Pairs.{PairLeaves}
 use Rattle.journaled_file.specs.Paired.{HasBegunEmpty}
+use Rattle.titled_pair.specs.Title.{retitled}
+use Rattle.titled_pair.specs.TitleLaws.{length-retitled}
 
 -- one block more
 one_suc : (k : ℕ) (f : Blocks) → k < length f → written k (block_at k f) (take k f) ≡ take (suc k) f
@@ -45,7 +47,7 @@ pub record IsCopiedTo {J P : Type 0} (shown : J → Blocks) (is_honest : J → T
   pub from_is : is_honest first → shown from ≡ shown first
   pub honest_is : honest old ↔ honest new
   pub base_is : honest old → base new ≡ base old
-  pub copied : is_honest first → honest old → journal new ≡ take k (shown first)
+  pub copied : is_honest first → honest old → journal new ≡ take k (retitled (shown first))
   pub begun : honest old → HasBegunEmpty (moment new) (left_since new)
 
 module _ {J P : Type 0} (shown : J → Blocks) (is_honest : J → Type 0) (base journal : P → Blocks)
@@ -67,7 +69,7 @@ module _ {J P : Type 0} (shown : J → Blocks) (is_honest : J → Type 0) (base 
     from_is = λ h. refl;
     honest_is = (λ h. h, λ h. h);
     base_is = λ h. refl;
-    copied = λ j h. none_of (journal pair) (shown from) none;
+    copied = λ j h. none_of (journal pair) (retitled (shown from)) none;
     begun = λ h. record {
       moment = moment pair;
       past = omega arith;
@@ -81,7 +83,7 @@ module _ {J P : Type 0} (shown : J → Blocks) (is_honest : J → Type 0) (base 
       → (is_honest from → k < length (shown from)) → (is_honest from ↔ is_honest from')
       → (is_honest from → shown from' ≡ shown from) → (honest mid ↔ honest new)
       → (honest mid → base new ≡ base mid)
-      → (is_honest from → honest mid → journal new ≡ written k (block_at k (shown from)) (journal mid))
+      → (is_honest from → honest mid → journal new ≡ written k (block_at k (retitled (shown from))) (journal mid))
       → (honest mid → HasBegunEmpty (moment mid) (left_since mid)
       → HasBegunEmpty (moment new) (left_since new))
       → IsCopiedTo shown is_honest base journal honest moment left_since (k + 1) first from' old new
@@ -94,13 +96,15 @@ module _ {J P : Type 0} (shown : J → Blocks) (is_honest : J → Type 0) (base 
         let jm = r.from_honest.0 j in
         let same = r.from_is j in
         p_copied jm (r.honest_is.0 h)
-        ∙ ap (λ (x : Blocks). written k (block_at k x) (journal mid)) same
-        ∙ ap (written k (block_at k (shown first))) (r.copied j h)
-        ∙ one_more k (shown first) (subst (λ (x : Blocks). k < length x) same (lt jm));
+        ∙ ap (λ (x : Blocks). written k (block_at k (retitled x)) (journal mid)) same
+        ∙ ap (written k (block_at k (retitled (shown first)))) (r.copied j h)
+        ∙ one_more k (retitled (shown first))
+        (omega (arith, subst (λ (x : Blocks). k < length x) same (lt jm), length-retitled (shown first)));
     begun = λ h. p_begun (r.honest_is.0 h) (r.begun h);
   }
 
   pub all_copied : (n : ℕ) (first from : J) (old new : P)
       → IsCopiedTo shown is_honest base journal honest moment left_since n first from old new
-      → n ≡ length (shown first) → is_honest first → honest old → journal new ≡ shown first
-  all_copied n first from old new r is j h = r.copied j h ∙ take_all n (shown first) (omega (arith, is))
+      → n ≡ length (shown first) → is_honest first → honest old → journal new ≡ retitled (shown first)
+  all_copied n first from old new r is j h =
+      r.copied j h ∙ take_all n (retitled (shown first)) (omega (arith, is, length-retitled (shown first)))

@@ -1,8 +1,8 @@
 -- What a stop within an opening leaves, led back from the journal's pair to the two files.
 use Rattle.std.proofs.Common.{◌≡◌, ◌≤◌, ◌⊎◌, ℕ, refl, inl, inr, ⊎_elim}
-use Rattle.block_device.specs.Device.{Begins, Blocks}
-use Rattle.journaled_device.specs.Journal.{recovered}
-use Rattle.journaled_device.specs.Opening.{LeavesOr}
+use Rattle.block_device.specs.Device.{Blocks}
+use Rattle.committed_log.specs.Log.{recovered}
+use Rattle.committed_log.specs.Opening.{LeavesOr}
 use Rattle.journaled_file.specs.Opened.{LeavesRead, ShownAs}
 use Rattle.marked_pair.specs.Mark.{unmarked}
 use Rattle.marked_pair.specs.Shown.{Shown}
@@ -50,6 +50,6 @@ module _ (files titled marked : Blocks → Blocks → Type 0) (m0 m1 m2 : Blocks
       (λ (now : LeavesOr (Shown (Untitled m2)) blocks (unmarked a) (untitled e)). ⊎_elim
       (λ (m : Shown (Untitled m2) (unmarked a) (untitled e)).
       inl (shown_as a e (m.0, (m.1.0, n2 m.0 m.1.0 m.1.1, m.1.2), m.2)))
-      (λ (begins : Begins blocks (recovered (unmarked a) (untitled e))). inr begins)
+      (λ (same : recovered (unmarked a) (untitled e) ≡ blocks). inr same)
       now)
       (of_pair (unmarked a) (untitled e) (a, (e, left, refl), refl))

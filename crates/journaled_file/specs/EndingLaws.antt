@@ -1,9 +1,14 @@
 -- Laws of a clean end that is cut short.
-use Rattle.std.proofs.Common.{◌≡◌, ◌∙◌, ◌≤◌, List, [], ◌∷◌, ℕ, length, refl, ap, subst, sym, arith, ⊎_elim}
+use Rattle.std.proofs.Common.{◌≡◌, ◌∙◌, ◌≤◌, List, [], ◌∷◌, ℕ, Bool, true, false, length, refl, ap, subst, sym}
+use Rattle.std.proofs.Common.{arith, lit<, ⊎_elim}
+use Rattle.std.proofs.lemmas.Bool.{cases_Bool}
 use Rattle.block_device.specs.Device.{Blocks, IsBlock, Torn, block_at, written}
 use Rattle.journaled_file.specs.Ending.{IsEnding}
 use Rattle.journaled_file.specs.Judged.{IsJournal, IsJudged}
 use Rattle.journaled_file.specs.declared.judging.Found.TheVariants.{Ended}
+use Rattle.marked_pair.specs.Mark.{reads_as, unmarked, IsMarked}
+use Rattle.marked_pair.specs.MarkLaws.{gate_bytes, gate_reads, unmarked_marked, unmarked_plain}
+use Rattle.page_file.specs.Layout.{gate_block}
 use Rattle.titled_pair.specs.Title.{end_text, header_in, untitled, with_text}
 
 header_written : (b : List ℕ) (base : Blocks) → header_in (written 0 b base) ≡ header_in base
@@ -48,3 +53,24 @@ torn_end d e two torn = ⊎_elim
     (λ (w : (b : List ℕ) × IsBlock b × (e ≡ written 1 b d)).
     let is = end_written w.0 d two in (ap (block_at 0) w.2 ∙ is.0, ap untitled w.2 ∙ is.1))
     torn
+
+-- a base whose mark is taken away is shown as it was
+shut_plain : ¬ (reads_as 2 (gate_block 1) ≡ true)
+shut_plain e =
+    absurd
+    (omega (
+      arith,
+      (gate_bytes 2 (gate_block 1) e).1,
+      (gate_bytes 1 (gate_block 1) (gate_reads 1 (lit< tt))).1,
+    ))
+
+pub shut_shown : (a b : Blocks) → (IsMarked a → b ≡ written 0 (gate_block 1) a) → (¬ IsMarked a → b ≡ a)
+    → unmarked b ≡ unmarked a
+shut_shown [] b shut plain = ap unmarked (plain (λ m. absurd (omega (arith, m.there))))
+shut_shown (x ∷ a) b shut plain = ⊎_elim
+    (λ (is : reads_as 2 x ≡ true).
+    ap unmarked (shut (record { there = omega arith; mark = is }))
+    ∙ ap (λ (g : List ℕ). g ∷ a) (unmarked_plain (gate_block 1) shut_plain ∙ sym (unmarked_marked x is)))
+    (λ (no : reads_as 2 x ≡ false).
+    ap unmarked (plain (λ m. let both : true ≡ false = sym m.mark ∙ no in cc)))
+    (cases_Bool (reads_as 2 x))

@@ -3,7 +3,7 @@ use Rattle.std.proofs.Common.{◌≡◌, ◌∙◌, ◌≤◌, ◌⊎◌, List, 
 use Rattle.std.proofs.Common.{true, [], ◌∷◌, ◌<◌, inl, inr, ⊎_elim, arith}
 use Rattle.block_device.specs.Device.{Blocks, IsBlock, Torn, written}
 use Rattle.block_device.specs.Written.{length-written_within, torn_length, torn_other}
-use Rattle.journaled_device.specs.Journal.{gate_says}
+use Rattle.committed_log.specs.Log.{says}
 use Rattle.journaled_file.specs.Ending.{AreRead, EndTorn, GateTorn, IsEnding}
 use Rattle.journaled_file.specs.EndingLaws.{torn_end, torn_header}
 use Rattle.journaled_file.specs.Judged.{HasEnded, HasEntries, IsJudged, IsOf}
@@ -11,7 +11,8 @@ use Rattle.journaled_file.specs.declared.judging.Found.TheVariants.{Own, Unended
 use Rattle.marked_pair.specs.Behind.{IsSynced}
 use Rattle.marked_pair.specs.Mark.{reads_as, unmarked, IsMarked}
 use Rattle.marked_pair.specs.MarkLaws.{unmarked_marked}
-use Rattle.titled_pair.specs.Title.{end_text, reads_title, title_text, with_text}
+use Rattle.titled_pair.specs.Title.{end_text, reads_title, retitled, title_text, with_text}
+use Rattle.titled_pair.specs.TitleLaws.{reads_retitled, with_text_twice}
 
 -- a gate that is written once the end is there
 pub gate_ending : (base journal : Blocks) (outcomes : Blocks → Blocks → Type 0) (a e : Blocks)
@@ -67,7 +68,7 @@ torn_unended base e d is torn none =
       λ (has : HasEntries d). is.3 (record {
         room = omega (arith, has.room, size);
         complete =
-            sym (ap gate_says (torn_other 1 2 e d torn (omega (arith, two)) (λ same. absurd (omega (arith, same)))))
+            sym (ap says (torn_other 1 2 e d torn (omega (arith, two)) (λ same. absurd (omega (arith, same)))))
             ∙ has.complete;
       }),
     )
@@ -78,3 +79,16 @@ pub unmarked_again : (b : List ℕ) (a : Blocks) → IsMarked a → reads_as 2 b
 unmarked_again b [] m is = absurd (omega (arith, m.there))
 unmarked_again b (x ∷ a) m is =
     ap (λ (gate : List ℕ). gate ∷ a) (unmarked_marked b is ∙ sym (unmarked_marked x m.mark))
+
+-- a journal with the text of today is what it was
+pub retitled_own : (a e : Blocks) → IsJudged Own a e → IsJudged Own a (retitled e)
+retitled_own a [] own = own
+retitled_own a (t ∷ e) own = (
+  record { room = own.0.room; title = reads_retitled t },
+  own.1,
+  record { room = own.2.room; complete = own.2.complete },
+  ⊎_elim
+      (λ (m : IsMarked a). inl m)
+      (λ (of : (2 ≤ length a) × IsOf a (t ∷ e)). inr (of.0, with_text_twice title_text title_text t ∙ of.1))
+      own.3,
+)

@@ -2,21 +2,21 @@
 -- journal", "Files").
 use Rattle.std.specs.Prelude.{◌≡◌, ◌<◌, ◌≤◌, ◌⊎◌, true, length}
 use Rattle.block_device.specs.Device.{Blocks, block_at}
-use Rattle.journaled_device.specs.Journal.{gate_says}
-use Rattle.journaled_device.specs.Opening.{IsMalformed}
+use Rattle.committed_log.specs.Log.{says}
+use Rattle.committed_log.specs.Opening.{IsMalformed}
 use Rattle.journaled_file.specs.declared.judging.Found.{Found}
 use Rattle.journaled_file.specs.declared.judging.Found.TheVariants.{Fresh, Own, Unended, Ended, Missing, Foreign}
 use Rattle.marked_pair.specs.Mark.{unmarked, IsMarked}
-use Rattle.titled_pair.specs.Title.{end_of, reads_title, title_of, untitled}
+use Rattle.titled_pair.specs.Title.{end_of, reads_title, title_of, title_text, untitled, with_text}
 
 -- it begins with a title and an end
 pub record IsJournal (e : Blocks) : Type 0 where
   pub room : 2 ≤ length e
   pub title : reads_title (block_at 0 e) ≡ true
 
--- its title is of this base
+-- its title, of whichever text, is of this base
 abbrev pub IsOf : Blocks → Blocks → Type 0
-IsOf a e = block_at 0 e ≡ title_of a
+IsOf a e = with_text title_text (block_at 0 e) ≡ title_of a
 
 -- its end is of this base
 abbrev pub HasEnded : Blocks → Blocks → Type 0
@@ -29,7 +29,7 @@ HadEntries e = 4 < length e
 -- and is complete
 pub record HasEntries (e : Blocks) : Type 0 where
   pub room : HadEntries e
-  pub complete : gate_says (block_at 2 e) ≡ true
+  pub complete : says (block_at 2 e) ≡ true
 
 -- it has not ended, and a base without a mark needs nothing of it: it never had an entry, or is its own and
 -- empty again

@@ -39,7 +39,7 @@ none_foreign n base journal a e size of has left judged =
     let two : 2 ≤ n = many n plain.few in
     ⊎_elim (λ (few : length a < 2). absurd (omega (arith, two, few, plain.there)))
     (λ (other : ¬ IsOf a e). other
-    (has.title ∙ of (λ m. judged.2 (left.found m))
+    (ap (with_text title_text) has.title ∙ of (λ m. judged.2 (left.found m))
     ∙ sym (same_title n base a (untitled e) size two plain)))
     judged.4
   where

@@ -1,27 +1,34 @@
 //! How a run ends.
-ghost use Rattle.std.specs.Prelude.{◌≡◌, ◌<◌, ◌↔◌, ◌⊎◌, true, false, length, IfOk};
-ghost use Rattle.block_device.specs.Device.{written};
+ghost use Rattle.std.specs.Prelude.{◌≡◌, ◌<◌, ◌↔◌, ◌⊎◌, true, false, length, IfOk, IfSome};
+ghost use Rattle.block_device.specs.Device.{BeginsOne, written};
 ghost use Rattle.device_pair.specs.Pairs.{PairLeaves};
 ghost use Rattle.journaled_file.specs.Ending.{EndTorn, LeavesEnding};
 ghost use Rattle.journaled_file.specs.Judged.{HasEnded, HasEntries};
+ghost use Rattle.journaled_device.specs.Journaled.{inner_of, pair_of};
+ghost use Rattle.logged_pair.specs.Standing.{commits_of, IsHonest};
 ghost use Rattle.marked_pair.specs.Behind.{IsSynced, LeavesBase};
-ghost use Rattle.marked_pair.specs.Mark.{IsMarked};
+ghost use Rattle.marked_pair.specs.Mark.{unmarked, IsMarked};
+ghost use Rattle.marked_pair.specs.Pair.{pair_of as titled_of};
 ghost use Rattle.page_file.specs.Layout.{gate_block};
 ghost use Rattle.titled_pair.specs.Calls.{IsQuiet};
+ghost use Rattle.titled_pair.specs.Pair.{pair_of as files_of};
 
-use crate::JournaledFile;
 use crate::judging::{has_entries, is_marked};
-use crate::open::shut_gate;
-use block_device::DeviceError;
-use device_pair::DevicePair;
+use crate::open::{pair_under, shut_gate};
+use crate::{JournaledFile, JournaledOver};
+use block_device::{BlockDevice, DeviceError};
+use device_pair::{DevicePair, TwoDevices};
 use file_device::{FileDevice, HostFile, remove_journal};
+use logged_pair::laws::what_is_home_is_the_base;
+use marked_pair::MarkedPair;
+use std::alloc::Allocator;
 use std::fs::{File, Files};
 use std::io::ErrorKind;
-use titled_pair::end_of_base;
+use titled_pair::{TitledPair, end_of_base};
 
-/// Ends a run over a file whose journal lies at `name`: what was not committed is given up, the mark is taken
-/// away, and the journal is removed. Where a commit was not finished nothing is written; where this is cut
-/// short, or fails, the next opening brings the same blocks back.
+/// Ends a run over a file whose journal lies at `name`: what was not committed is given up, what was is copied home,
+/// the mark is taken away, and the journal is removed. Where a commit can't be finished no mark is taken away; where
+/// this is cut short, or fails, the next opening brings the same blocks back.
 ///
 /// A failure of a device is answered, and memory that is refused. Another journal that can't be removed is no
 /// failure: it says that the run has ended.
@@ -30,13 +37,55 @@ pub fn end_journaled<R: Files<File = File>>(
     name: &str,
     device: JournaledFile,
 ) -> Result<(), DeviceError> {
-    let mut pair = device.into_pair().into_pair().into_pair();
     // The files are locked until the journal is gone.
-    if end_session(&mut pair)? {
-        let (_base, journal) = pair.into_devices();
-        return removed(rt, name, &journal);
+    match ended(device)? {
+        Some((_base, journal)) => removed(rt, name, &journal),
+        None => Ok(()),
     }
-    Ok(())
+}
+
+// Ends the run over a device, and gives both its files where the base is then read without its journal. It stands
+// over devices of any kind, since each call over those of the system, with all that lies on them, is dear to prove.
+fn ended<B: BlockDevice + Drop, J: BlockDevice + Drop, A: Allocator + Copy>(
+    device: JournaledOver<TwoDevices<B, J>, A>,
+) -> Result<Option<(B, J)>, DeviceError> {
+    match end_device(device)? {
+        Some(pair) => Ok(Some(pair.into_devices())),
+        None => Ok(None),
+    }
+}
+
+/// Ends the run over a device: what was not committed is given up, what was is copied home, and the session is
+/// ended as `end_session` says. The pair is given where the base is then read without its journal: its blocks begin
+/// with a commit that was there.
+pub fn end_device<P: DevicePair + Drop, A: Allocator + Copy>(
+    device: JournaledOver<P, A>,
+) -> Result<Option<P>, DeviceError>
+    ensures home { IfOk result (λ ended. IfSome ended (λ pair. IsHonest (inner_of device) →
+        BeginsOne (commits_of (inner_of device)) (unmarked (P.base pair)))) }
+    ensures honest { IfOk result (λ ended. IfSome ended (λ pair.
+        IsHonest (inner_of device) ↔ P.honest pair)) }
+{
+    let mut pair = pair_under(brought_home(device)?);
+    if end_session(&mut pair)? {
+        return Ok(Some(pair));
+    }
+    Ok(None)
+}
+
+// A device whose base has what was committed, and no more.
+fn brought_home<P: DevicePair + Drop, A: Allocator + Copy>(
+    device: JournaledOver<P, A>,
+) -> Result<JournaledOver<P, A>, DeviceError>
+    ensures begins { IfOk result (λ home. IsHonest (inner_of device) → BeginsOne (commits_of (inner_of device))
+        (unmarked (P.base (files_of (titled_of (pair_of home)))))) }
+    ensures honest { IfOk result (λ home. IsHonest (inner_of device) ↔ IsHonest (inner_of home)) }
+{
+    let mut device = device;
+    device.forget()?;
+    device.bring_home()?;
+    what_is_home_is_the_base::<MarkedPair<TitledPair<P>>, A>();
+    Ok(device)
 }
 
 // Removes the journal, and tries it again where that is refused, since memory may be there by then.

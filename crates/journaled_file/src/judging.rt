@@ -9,10 +9,10 @@ ghost use Rattle.titled_pair.specs.Title.{reads_title};
 
 use block_bytes::zero_block;
 use block_device::DeviceError;
+use committed_log::says_committed;
 use device_pair::DevicePair;
-use journaled_device::says_complete;
 use marked_pair::{MARKED, reads_as};
-use titled_pair::{TITLE_BLOCKS, end_of_base, is_title, title_of_base};
+use titled_pair::{TITLE_BLOCKS, end_of_base, is_title, retitled_page, title_of_base};
 
 // How many blocks a journal has at most that never had an entry: its title, its end, a gate and a count.
 const EMPTY_BLOCKS: u32 = TITLE_BLOCKS + 2;
@@ -102,7 +102,7 @@ fn judge_titled<P: DevicePair>(
     }
     // Also one that is empty again: the file that it is of has the mark, and is not read without it. A base
     // without a header never brings about an entry, though a session that made its file has the same title.
-    if pair.base_blocks() < 2 || *title != title_of_base(pair)? {
+    if pair.base_blocks() < 2 || retitled_page(title) != title_of_base(pair)? {
         return Ok(Found::Foreign);
     }
     Ok(if complete { Found::Own } else { Found::Fresh })
@@ -153,5 +153,5 @@ pub(crate) fn has_entries<P: DevicePair>(pair: &mut P) -> Result<bool, DeviceErr
     }
     let mut gate = zero_block();
     pair.read_journal(TITLE_BLOCKS, &mut gate)?;
-    Ok(says_complete(&gate))
+    Ok(says_committed(&gate))
 }

@@ -12,7 +12,7 @@ mod looking;
 mod open;
 mod pairing;
 
-pub use end::{end_journaled, end_session};
+pub use end::{end_device, end_journaled, end_session};
 pub use judging::{Found, judge};
 pub use looking::{Looked, StoreJudge, look};
 pub use open::{

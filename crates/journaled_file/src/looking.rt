@@ -5,15 +5,16 @@ ghost use Rattle.journaled_file.specs.Judged.{IsJudged};
 ghost use Rattle.marked_pair.specs.Behind.{IsSynced};
 
 use crate::judging::{Found, has_entries, judge};
-use crate::open::{open_over, sync_both};
+use crate::open::{device_over, pair_under, sync_both};
 use crate::pairing::{JournalSource, put_title};
 use block_bytes::zero_block;
 use block_device::{BlockDevice, DeviceError, MemoryDevice};
+use committed_log::{count_page, flag_page};
 use device_pair::{DevicePair, TwoDevices};
 use file_device::OpenError;
-use journaled_device::{count_page, gate_page as journal_gate};
 use marked_pair::{SHUT, gate_page};
-use std::alloc::{Allocator, Global};
+use std::alloc::Global;
+use unwritten_pair::UnwrittenPair;
 
 /// Who opens a store over a device, and gives the device back.
 pub trait StoreJudge {
@@ -160,16 +161,45 @@ fn opens_alone<B: BlockDevice + Drop, G: StoreJudge>(
 ) -> Result<(bool, B), OpenError>
     ensures honest { IfOk result (λ r. B.honest base → B.honest r.1) }
 {
-    let mut pair = TwoDevices::of(base, MemoryDevice::new(alloc));
-    put_stand_in(&mut pair, found)?;
+    opens_beside(base, MemoryDevice::new(alloc), found, judge, alloc)
+}
+
+// The same beside a journal without blocks.
+fn opens_beside<B: BlockDevice + Drop, J: BlockDevice + Drop, G: StoreJudge>(
+    base: B,
+    journal: J,
+    found: Found,
+    judge: &mut G,
+    alloc: Global,
+) -> Result<(bool, B), OpenError>
+    ensures honest { IfOk result (λ r. B.honest base → J.honest journal → B.honest r.1) }
+{
+    let pair = stand_in(base, journal, found)?;
     let (opens, pair) = opens_over(pair, judge, alloc)?;
     let (base, _none) = pair.into_devices();
     Ok((opens, base))
 }
 
-/// Makes a journal without blocks one that has nothing to bring back, or beside a file whose session has ended
-/// the shut gate.
-pub(crate) fn put_stand_in<P: DevicePair>(pair: &mut P, found: Found) -> Result<(), DeviceError>
+/// A file beside a journal without blocks, which `put_stand_in` makes one that has nothing to bring back.
+pub(crate) fn stand_in<B: BlockDevice + Drop, J: BlockDevice + Drop>(
+    base: B,
+    journal: J,
+    found: Found,
+) -> Result<TwoDevices<B, J>, OpenError>
+    ensures honest { IfOk result (λ pair. B.honest base → J.honest journal
+        → ⟦<TwoDevices<B, J> as DevicePair>⟧.honest pair) }
+{
+    let mut pair = TwoDevices::of(base, journal);
+    if pair.journal_blocks() != 0 {
+        return Err(OpenError::Refused);
+    }
+    put_stand_in(&mut pair, found)?;
+    Ok(pair)
+}
+
+// Makes a journal without blocks one that has nothing to bring back, or beside a file whose session has ended
+// the shut gate.
+fn put_stand_in<P: DevicePair>(pair: &mut P, found: Found) -> Result<(), DeviceError>
     requires none { length (P.journal pair.old) ≡ 0 }
     ensures honest { P.honest pair.old ↔ P.honest pair.new }
 {
@@ -180,7 +210,7 @@ pub(crate) fn put_stand_in<P: DevicePair>(pair: &mut P, found: Found) -> Result<
     if pair.base_blocks() < 2 {
         return Ok(());
     }
-    append(pair, &journal_gate(1))?;
+    append(pair, &flag_page(1))?;
     append(pair, &count_page(1))?;
     append(pair, &gate_page(SHUT))?;
     append(pair, &zero_block()) // the slot is of block 0
@@ -197,8 +227,8 @@ fn append<P: DevicePair>(pair: &mut P, bytes: &[u8; 4096]) -> Result<(), DeviceE
     pair.write_journal(at, bytes)
 }
 
-// Whether a store opens over what recovery would make of a pair. A commit has the gate that is written for a shut
-// one: a journal that has another, which reads as shut, is none.
+// Whether a store opens over what recovery would make of a pair, into which nothing is written. A commit has the gate
+// that is written for a shut one: a journal that has another, which reads as shut, is none.
 fn opens_over<P: DevicePair + Drop, G: StoreJudge>(
     pair: P,
     judge: &mut G,
@@ -208,17 +238,52 @@ fn opens_over<P: DevicePair + Drop, G: StoreJudge>(
 {
     let mut pair = pair;
     let commits = has_entries(&mut pair)?;
-    let device = match open_over(pair, alloc, true) {
-        Ok(device) => device,
-        Err((error, _)) => return Err(error),
-    };
+    let (opens, pair) = opens_unwritten(unwritten(pair, alloc)?, commits, judge, alloc)?;
+    Ok((opens, pair.into_pair()))
+}
+
+// A pair into which nothing is written, by what it is.
+fn unwritten<P: DevicePair + Drop>(
+    pair: P,
+    alloc: Global,
+) -> Result<UnwrittenPair<P, Global>, OpenError>
+    ensures honest { IfOk result (λ d. P.honest pair → ⟦<UnwrittenPair<P, Global> as DevicePair>⟧.honest d) }
+{
+    match UnwrittenPair::over(pair, alloc) {
+        Ok(pair) => Ok(pair),
+        Err((fault, _)) => Err(fault.into()),
+    }
+}
+
+// The same over a pair of any kind.
+fn opens_unwritten<P: DevicePair + Drop, G: StoreJudge>(
+    pair: P,
+    commits: bool,
+    judge: &mut G,
+    alloc: Global,
+) -> Result<(bool, P), OpenError>
+    ensures honest { IfOk result (λ r. P.honest pair → P.honest r.1) }
+{
+    let device = device_over(pair, alloc)?;
+    let (opens, device) = opens_device(device, commits, judge)?;
+    Ok((opens, pair_under(device)))
+}
+
+// Whether a store opens over a device. One that commits has the gate that is written for a shut one.
+fn opens_device<D: BlockDevice + Drop, G: StoreJudge>(
+    device: D,
+    commits: bool,
+    judge: &mut G,
+) -> Result<(bool, D), OpenError>
+    ensures honest { IfOk result (λ r. D.honest device → D.honest r.1) }
+{
     let (opens, device) = judge.opens(device);
     let opens = opens?;
     let mut device = device;
     if opens && commits {
         check_gate(&mut device)?;
     }
-    Ok((opens, device.into_pair().into_pair().into_pair()))
+    Ok((opens, device))
 }
 
 // Refuses a gate that is another block than the one that is written for a shut gate.

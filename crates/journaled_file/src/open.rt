@@ -1,5 +1,5 @@
 //! How a file and its journal are opened.
-ghost use Rattle.std.specs.Prelude.{◌≡◌, ◌<◌, ◌≤◌, ◌↔◌, ◌⊎◌, ℕ, length, true, IfErr, IfOk, OnOk};
+ghost use Rattle.std.specs.Prelude.{◌≡◌, ◌<◌, ◌≤◌, ◌↔◌, ◌⊎◌, ℕ, length, IfErr, IfOk, OnOk};
 ghost use Rattle.block_device.specs.Device.{Blocks, written};
 ghost use Rattle.device_pair.specs.Pairs.{PairLeaves, PairsNoMore};
 ghost use Rattle.file_device.specs.declared.open.OpenError.TheVariants as error;
@@ -8,8 +8,8 @@ ghost use Rattle.journaled_file.specs.Judged.{HasEnded, IsJudged, IsNoJournal};
 ghost use Rattle.journaled_file.specs.Opened.{LeavesRead, read_of};
 ghost use Rattle.journaled_file.specs.declared.judging.Found.TheVariants.{Ended, Unended};
 ghost use Rattle.journaled_device.specs.Journaled.{inner_of, pair_of};
-ghost use Rattle.journaled_device.specs.declared.pair.open.OpenFault.TheVariants.{Malformed};
-ghost use Rattle.journaled_device.specs.Standing.{commits_of, found_of, shown_of, IsHonest};
+ghost use Rattle.committed_log.specs.declared.log.open.OpenFault.TheVariants.{Malformed};
+ghost use Rattle.logged_pair.specs.Standing.{commits_of, shown_of, IsHonest};
 ghost use Rattle.marked_pair.specs.Behind.{IsSynced, LeavesBase};
 ghost use Rattle.marked_pair.specs.Mark.{unmarked, IsMarked};
 ghost use Rattle.marked_pair.specs.Pair.{pair_of as titled_of};
@@ -19,15 +19,16 @@ ghost use Rattle.titled_pair.specs.Title.{untitled};
 
 use crate::end::put_end;
 use crate::judging::{Found, is_marked, judge};
-use crate::looking::{Looked, StoreJudge, look, put_stand_in};
-use crate::pairing::{JournalSource, pair_up};
+use crate::looking::{Looked, StoreJudge, look, stand_in};
+use crate::pairing::{JournalSource, beside_copy, pair_up};
 use block_device::DeviceError;
+use committed_log::OpenFault;
 use device_pair::{DevicePair, TwoDevices};
 use file_device::{
     FileDevice, HostFile, OpenError, copy_path, journal_path, make_anew, make_nameless, open_file,
     open_journal, replace_journal, unlink_journal,
 };
-use journaled_device::{JournaledDevice, OpenFault};
+use journaled_device::JournaledDevice;
 use marked_pair::{MarkedPair, SHUT, gate_page};
 use std::alloc::{Alloc, Allocator, Global};
 use std::fs::{self, File, Files};
@@ -86,18 +87,15 @@ pub fn open_journaled<R: Files<File = File> + Alloc, G: StoreJudge>(
         opens: _,
     } = looked;
     let (pair, unended) = pair_up(base, journal, &mut source)?;
-    match open_over(pair, alloc, false) {
-        Ok(device) => Ok(OpenedFile {
-            device,
-            name: Some(name),
-            unended,
-        }),
-        Err((error, _)) => Err(error),
-    }
+    Ok(OpenedFile {
+        device: device_over(pair, alloc)?,
+        name: Some(name),
+        unended,
+    })
 }
 
-// Both files as they were found, over which no store opens. A journal that has nothing to bring back is left
-// out: in its place stands a file without a name.
+// Both files as they were found, over which no store opens. The journal is left as it is: in its place stands a file
+// without a name, with a copy of it where it has a commit to bring back.
 fn as_it_was<R: Files<File = File>>(
     looked: Looked<SystemFile, SystemFile>,
     source: &JournalAt<'_, R>,
@@ -109,25 +107,27 @@ fn as_it_was<R: Files<File = File>>(
         found,
         opens: _,
     } = looked;
+    let none = source.nameless()?;
     if found != Found::Own {
-        return seen(source.beside(base, found)?, alloc);
+        return only_read(stand_in(base, none, found)?, alloc);
     }
     match journal {
-        Some(journal) => seen(TwoDevices::of(base, journal), alloc),
+        Some(journal) => only_read(beside_copy(base, journal, none)?, alloc),
         None => Err(OpenError::Refused),
     }
 }
 
-// A pair that is only looked at.
-fn seen(pair: TwoDevices<SystemFile, SystemFile>, alloc: Global) -> Result<OpenedFile, OpenError> {
-    match open_over(pair, alloc, true) {
-        Ok(device) => Ok(OpenedFile {
-            device,
-            name: None,
-            unended: false,
-        }),
-        Err((error, _)) => Err(error),
-    }
+// A pair as a device that no one is to write.
+fn only_read(
+    pair: TwoDevices<SystemFile, SystemFile>,
+    alloc: Global,
+) -> Result<OpenedFile, OpenError> {
+    let device = device_over(pair, alloc)?;
+    Ok(OpenedFile {
+        device,
+        name: None,
+        unended: false,
+    })
 }
 
 // The path of the journal of the file that this path leads to: it lies beside the file itself, and not beside
@@ -153,18 +153,9 @@ struct JournalAt<'a, R> {
 }
 
 impl<R: Files<File = File>> JournalAt<'_, R> {
-    // A file beside a journal that has no name, and is gone with the run.
-    fn beside(
-        &self,
-        base: SystemFile,
-        found: Found,
-    ) -> Result<TwoDevices<SystemFile, SystemFile>, OpenError> {
-        let mut pair = TwoDevices::of(base, make_nameless(self.rt, self.part)?);
-        if pair.journal_blocks() != 0 {
-            return Err(OpenError::Refused);
-        }
-        put_stand_in(&mut pair, found)?;
-        Ok(pair)
+    // A file that has no name, and is gone with the run.
+    fn nameless(&self) -> Result<SystemFile, OpenError> {
+        make_nameless(self.rt, self.part)
     }
 }
 
@@ -286,16 +277,46 @@ pub(crate) fn shut_gate<P: DevicePair>(pair: &mut P) -> Result<(), DeviceError>
     pair.sync_base()
 }
 
+/// The pair that a device lies on, as it is.
+pub(crate) fn pair_under<P: DevicePair + Drop, A: Allocator + Copy>(
+    device: JournaledOver<P, A>,
+) -> P
+    ensures { result ≡ files_of (titled_of (pair_of device)) }
+{
+    files_under(device.into_pair())
+}
+
+// The pair under its title and its mark.
+fn files_under<P: DevicePair + Drop>(marked: MarkedPair<TitledPair<P>>) -> P
+    ensures { result ≡ files_of (titled_of marked) }
+{
+    marked.into_pair().into_pair()
+}
+
+/// `open_over`, where a pair that is refused is let go.
+pub(crate) fn device_over<P: DevicePair + Drop, A: Allocator + Copy>(
+    pair: P,
+    alloc: A,
+) -> Result<JournaledOver<P, A>, OpenError>
+    ensures honest { IfOk result (λ d. P.honest pair ↔ IsHonest (inner_of d)) }
+{
+    match open_over(pair, alloc, false) {
+        Ok(device) => Ok(device),
+        Err((error, _)) => Err(error),
+    }
+}
+
 /// Opens a pair whose journal has a title. Where the pair is honest, what is then read is what recovery makes
 /// of the base, a gate with the mark as a shut one, and of the journal behind its title; and a stop within
 /// leaves what is read so again. Where it is refused, the pair is given back.
 ///
-/// With `as_found` the base stays as it is, its mark aside, and so does a journal that has more than its title:
-/// what is opened is only looked at, and takes no write.
+/// Nothing is copied home: the base stays as it is, its mark aside, and the journal gets no more than the first
+/// blocks of a region behind those that are there. With `each_home` a sync copies each commit home, for a base that
+/// others read without its journal.
 pub fn open_over<P: DevicePair + Drop, A: Allocator + Copy>(
     pair: P,
     alloc: A,
-    as_found: bool,
+    each_home: bool,
 ) -> Result<JournaledOver<P, A>, (OpenError, P)>
     ensures shown { IfOk result (λ d. P.honest pair →
         shown_of (inner_of d) ≡ read_of (P.base pair) (P.journal pair)) }
@@ -307,11 +328,8 @@ pub fn open_over<P: DevicePair + Drop, A: Allocator + Copy>(
     ensures refused_stops { IfErr result (λ r. P.honest pair → (t : ℕ) (a e : Blocks) → t ≤ P.moment pair →
         P.left_since r.1 t a e →
         LeavesRead (P.left_since pair t) (read_of (P.base pair) (P.journal pair)) a e) }
-    ensures found { as_found ≡ true → IfOk result (λ d. found_of (inner_of d) ≡ true) }
-    ensures base { as_found ≡ true → IfOk result (λ d. P.honest pair →
+    ensures base { IfOk result (λ d. P.honest pair →
         unmarked (P.base (files_of (titled_of (pair_of d)))) ≡ unmarked (P.base pair)) }
-    ensures journal { as_found ≡ true → IfOk result (λ d. P.honest pair → 4 ≤ length (P.journal pair) →
-        untitled (P.journal (files_of (titled_of (pair_of d)))) ≡ untitled (P.journal pair)) }
     ensures honest { IfOk result (λ d. P.honest pair ↔ IsHonest (inner_of d)) }
     ensures refused_honest { IfErr result (λ e. P.honest pair ↔ P.honest e.1) }
     ensures refused { IfErr result (λ e. (e.0 ≡ error.NoJournal) ⊎ (e.0 ≡ error.Refused)) }
@@ -332,7 +350,7 @@ pub fn open_over<P: DevicePair + Drop, A: Allocator + Copy>(
         Ok(marked) => marked,
         Err((_, titled)) => return Err((OpenError::Refused, titled.into_pair())),
     };
-    match JournaledDevice::open(marked, alloc, as_found) {
+    match JournaledDevice::open(marked, alloc, each_home) {
         Ok(device) => Ok(device),
         Err((fault, left)) => Err((told(fault), left.into_pair().into_pair())),
     }

@@ -9,6 +9,7 @@ ghost use Rattle.journaled_file.specs.Paired.{LeavesOwnGate};
 ghost use Rattle.journaled_file.specs.declared.judging.Found.TheVariants.{Own};
 ghost use Rattle.marked_pair.specs.Mark.{reads_as, unmarked, IsMarked};
 ghost use Rattle.titled_pair.specs.Calls.{IsQuiet};
+ghost use Rattle.titled_pair.specs.Title.{retitled};
 
 use crate::judging::{Found, is_marked};
 use crate::open::judge_and_finish;
@@ -17,7 +18,7 @@ use block_device::{BlockDevice, DeviceError};
 use device_pair::{DevicePair, TwoDevices};
 use file_device::OpenError;
 use marked_pair::{MARKED, gate_page, reads_as};
-use titled_pair::{make_title, title_of_base};
+use titled_pair::{make_title, retitled_page, title_of_base};
 
 /// Who opens the journal of a file, locks it and removes it.
 pub trait JournalSource<J: BlockDevice> {
@@ -170,7 +171,8 @@ fn rewritten<B: BlockDevice + Drop, J: BlockDevice + Drop, S: JournalSource<J>>(
     Ok(pair)
 }
 
-// The pair with a copy of its journal, which was written whole and synced, in the journal's place.
+// The pair with a copy of its journal, which was written whole and synced, in the journal's place. Its title has the
+// text of today: programs that write another know a journal of one region alone.
 fn copied<B: BlockDevice + Drop, J: BlockDevice + Drop, S: JournalSource<J>>(
     pair: TwoDevices<B, J>,
     source: &mut S,
@@ -181,7 +183,8 @@ fn copied<B: BlockDevice + Drop, J: BlockDevice + Drop, S: JournalSource<J>>(
         → ⟦<TwoDevices<B, J> as DevicePair>⟧.base new ≡ ⟦<TwoDevices<B, J> as DevicePair>⟧.base pair) }
     ensures journal { IfOk result (λ new. ⟦<TwoDevices<B, J> as DevicePair>⟧.honest pair
         → ⟦<TwoDevices<B, J> as DevicePair>⟧.honest new
-        → ⟦<TwoDevices<B, J> as DevicePair>⟧.journal new ≡ ⟦<TwoDevices<B, J> as DevicePair>⟧.journal pair) }
+        → ⟦<TwoDevices<B, J> as DevicePair>⟧.journal new
+        ≡ retitled (⟦<TwoDevices<B, J> as DevicePair>⟧.journal pair)) }
     ensures synced { IfOk result (λ new. ⟦<TwoDevices<B, J> as DevicePair>⟧.honest new → (a e : Blocks)
         → ⟦<TwoDevices<B, J> as DevicePair>⟧.may_leave new a e
         → e ≡ ⟦<TwoDevices<B, J> as DevicePair>⟧.journal new) }
@@ -201,10 +204,29 @@ fn copied<B: BlockDevice + Drop, J: BlockDevice + Drop, S: JournalSource<J>>(
     Ok(pair)
 }
 
-// Copies all blocks of a device into a journal without blocks, and syncs it.
+/// A file beside a copy of its journal, which is written into one without blocks.
+pub(crate) fn beside_copy<B: BlockDevice + Drop, J: BlockDevice + Drop, K: BlockDevice + Drop>(
+    base: B,
+    journal: J,
+    copy: K,
+) -> Result<TwoDevices<B, K>, OpenError>
+    ensures honest { IfOk result (λ pair. B.honest base → K.honest copy
+        → ⟦<TwoDevices<B, K> as DevicePair>⟧.honest pair) }
+{
+    let mut journal = journal;
+    let mut pair = TwoDevices::of(base, copy);
+    if pair.journal_blocks() != 0 {
+        return Err(OpenError::Refused);
+    }
+    copy_blocks(&mut journal, &mut pair)?;
+    Ok(pair)
+}
+
+// Copies all blocks of a device into a journal without blocks, with the text of today in the title, and syncs it.
 fn copy_blocks<J: BlockDevice, P: DevicePair>(from: &mut J, pair: &mut P) -> Result<(), DeviceError>
     requires none { length (P.journal pair.old) ≡ 0 }
-    ensures copied { J.honest from.old → P.honest pair.old → OnOk result (P.journal pair.new ≡ J.shown from.old) }
+    ensures copied { J.honest from.old → P.honest pair.old → OnOk result
+        (P.journal pair.new ≡ retitled (J.shown from.old)) }
     ensures base { P.honest pair.old → P.base pair.new ≡ P.base pair.old }
     ensures synced { P.honest pair.old → OnOk result ((a e : Blocks) → P.may_leave pair.new a e →
         e ≡ P.journal pair.new) }
@@ -217,7 +239,7 @@ fn copy_blocks<J: BlockDevice, P: DevicePair>(from: &mut J, pair: &mut P) -> Res
     pair.sync_journal()
 }
 
-// Copies a block.
+// Copies a block; block 0 with the text of today.
 fn copy_block<J: BlockDevice, P: DevicePair>(
     from: &mut J,
     pair: &mut P,
@@ -226,7 +248,7 @@ fn copy_block<J: BlockDevice, P: DevicePair>(
     requires small { k < 2 ^ 31 }
     ensures there { J.honest from.old → OnOk result (k < length (J.shown from.old)) }
     ensures copied { J.honest from.old → P.honest pair.old → OnOk result
-        (P.journal pair.new ≡ written k (block_at k (J.shown from.old)) (P.journal pair.old)) }
+        (P.journal pair.new ≡ written k (block_at k (retitled (J.shown from.old))) (P.journal pair.old)) }
     ensures from { J.honest from.old → J.shown from.new ≡ J.shown from.old }
     ensures from_honest { J.honest from.old ↔ J.honest from.new }
     ensures base { P.honest pair.old → P.base pair.new ≡ P.base pair.old }
@@ -242,7 +264,15 @@ fn copy_block<J: BlockDevice, P: DevicePair>(
     }
     let mut page = zero_block();
     from.read(k, &mut page)?;
-    pair.write_journal(k, &page)
+    pair.write_journal(k, &as_titled(k, &page))
+}
+
+// Block k of a journal, where it is the title with the text of today.
+fn as_titled(k: u32, page: &[u8; 4096]) -> [u8; 4096]
+    ensures { (blocks : Blocks) → k < length blocks → page.now ≡ block_at k blocks →
+        result ≡ block_at k (retitled blocks) }
+{
+    if k == 0 { retitled_page(page) } else { *page }
 }
 
 // Writes the mark again, with other bytes, where the base's header is as its journal's title has it. There no
@@ -313,7 +343,7 @@ fn has_its_title<P: DevicePair>(pair: &mut P) -> Result<bool, DeviceError>
     }
     let mut found = zero_block();
     pair.read_journal(0, &mut found)?;
-    Ok(found == title)
+    Ok(retitled_page(&found) == title)
 }
 
 // A gate with the mark that is another block than this one.

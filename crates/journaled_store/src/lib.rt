@@ -5,7 +5,7 @@
 mod judge;
 
 ghost use Rattle.block_device.specs.Device.{Blocks};
-ghost use Rattle.journaled_device.specs.Journal.{recovered};
+ghost use Rattle.committed_log.specs.Log.{recovered};
 ghost use Rattle.journaled_device.specs.Journaled.{pair_of};
 ghost use Rattle.journaled_device.specs.declared.device.JournaledDevice.{JournaledDevice as Journaled};
 ghost use Rattle.marked_pair.specs.Mark.{unmarked};

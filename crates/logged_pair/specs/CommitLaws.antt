@@ -3,11 +3,12 @@ use Rattle.std.proofs.Common.{◌≡◌, ◌∙◌, ◌^◌, ◌≤◌, false, l
 use Rattle.block_device.specs.Device.{BeginsOne, Blocks, block_at}
 use Rattle.committed_log.specs.Committed as regions
 use Rattle.committed_log.specs.Log.{overlaid, recovered, says}
+use Rattle.committed_log.specs.Opening.{IsMalformed}
 use Rattle.committed_log.specs.Regions.{recovered_unsaid}
 use Rattle.committed_log.specs.Replay.{length-overlaid}
 use Rattle.committed_log.specs.declared.log.CommittedLog.{CommittedLog}
-use Rattle.committed_log.proofs.Through.{recovery_of}
-use Rattle.logged_pair.specs.Law.{recovery}
+use Rattle.committed_log.proofs.Through.{malformed_of, recovery_of}
+use Rattle.logged_pair.specs.Law.{recovery, stop_well}
 use Rattle.logged_pair.specs.Standing.{base_of, commits_of, deciding_of, homes_of, journal_of, kept_of, log_of}
 use Rattle.logged_pair.specs.Standing.{pair_of, IsHonest}
 use Rattle.logged_pair.specs.declared.pair.LoggedPair.{LoggedPair}
@@ -29,6 +30,16 @@ begins d a b few h left =
     subst (BeginsOne (commits_of d)) (sym (recovery_of (log_of d) a b few h left))
     (recovery (deciding_of d) (kept_of d) (homes_of d) (base_of d) (journal_of d) v j
     (omega (arith, few_seen (log_of d) few)) s.kept_there s.reads (s.stops v j (a, b, left, refl, refl)))
+
+-- and opening finds no region of it malformed
+pub left_well : {P A : Type 0} {m : _} (d : LoggedPair P A m) (a b : Blocks) → IsHonest d
+    → m.may_leave (pair_of d) a b → ¬ IsMalformed a b
+left_well d a b h left bad =
+    let s = d.standing h in
+    let v : Blocks = overlaid (regions.homes_of (log_of d)) b a in
+    let j : Blocks = drop (length (regions.homes_of (log_of d))) b in
+    stop_well (deciding_of d) (kept_of d) (homes_of d) (base_of d) (journal_of d) v j s.kept_there s.homes_below
+    s.reads (s.stops v j (a, b, left, refl, refl)) (malformed_of (log_of d) a b h left bad)
 
 -- and is what is read, where a stop leaves nothing else and no region is committed behind the others
 pub settled_of : {P A : Type 0} {m : _} (c : CommittedLog P A m) (s : Blocks)

@@ -1,13 +1,14 @@
 //! The laws of a commit and of recovery, each the contract of a function that does nothing.
-ghost use Rattle.std.specs.Prelude.{◌≡◌, ◌≤◌, ℕ, false, length, take};
+ghost use Rattle.std.specs.Prelude.{◌≡◌, ◌≤◌, ℕ, [], false, length, take};
 ghost use Rattle.block_device.specs.Device.{BeginsOne, Blocks};
 ghost use Rattle.device_pair.specs.Pairs.{PairLeaves, PairsNoMore};
 ghost use Rattle.committed_log.specs.Appending.{IsAppended};
+ghost use Rattle.committed_log.specs.Committed as regions;
 ghost use Rattle.committed_log.specs.Log.{homes_in, overlaid, recovered};
-ghost use Rattle.committed_log.specs.Opening.{LeavesOr};
+ghost use Rattle.committed_log.specs.Opening.{IsMalformed, LeavesOr};
 ghost use Rattle.logged_pair.specs.Snapshots.{end_of, seen_by, snapshot, HasSnapshot};
-ghost use Rattle.logged_pair.specs.Standing.{base_of, clearing_of, commits_of, kept_of, left_since_of, log_of};
-ghost use Rattle.logged_pair.specs.Standing.{may_leave_of, pair_of, shown_of, IsHonest};
+ghost use Rattle.logged_pair.specs.Standing.{base_of, clearing_of, commits_of, homes_of, kept_of, left_since_of};
+ghost use Rattle.logged_pair.specs.Standing.{log_of, may_leave_of, pair_of, shown_of, IsHonest};
 ghost use Rattle.logged_pair.specs.declared.pair.LoggedPair.{LoggedPair};
 
 use device_pair::DevicePair;
@@ -18,6 +19,13 @@ use std::alloc::Allocator;
 pub fn recovery_gives_a_commit<P: DevicePair, A: Allocator + Copy>()
     ensures { (d : LoggedPair P A ⟦<P as DevicePair>⟧) (a b : Blocks) → IsHonest d →
         P.may_leave (pair_of d) a b → BeginsOne (commits_of d) (recovered a b) }
+{}
+
+/// Whatever a stop of both devices leaves, each region that says that it is committed is so, with room for its slots
+/// and homes that are there: opening finds none malformed.
+pub fn a_log_that_is_left_is_well_formed<P: DevicePair, A: Allocator + Copy>()
+    ensures { (d : LoggedPair P A ⟦<P as DevicePair>⟧) (a b : Blocks) → IsHonest d →
+        P.may_leave (pair_of d) a b → IsMalformed a b → ⊥ }
 {}
 
 /// What is read, recovered from both devices as they are read, is one of the outcomes of a stop now.
@@ -82,4 +90,11 @@ pub fn what_is_appended_is_not_seen()
         take p b ≡ take p journal }
     ensures blocks { (p n : ℕ) (base journal a b : Blocks) → p ≤ length journal →
         IsAppended base journal a b → snapshot p n a b ≡ snapshot p n base journal }
+{}
+
+/// Where nothing is in the log, and nothing was written since the last commit but blocks that were appended, what is
+/// read is the base alone.
+pub fn what_is_home_is_the_base<P: DevicePair, A: Allocator + Copy>()
+    ensures { (d : LoggedPair P A ⟦<P as DevicePair>⟧) → homes_of d ≡ [] →
+        regions.homes_of (log_of d) ≡ [] → shown_of d ≡ P.base (pair_of d) }
 {}

@@ -3,6 +3,7 @@ ghost use Rattle.committed_log.specs.Committed as regions;
 ghost use Rattle.logged_pair.specs.Stages.{IsStanding};
 ghost use Rattle.logged_pair.specs.StagesFact.{standing_fact};
 
+mod alone;
 mod calls;
 mod commit;
 mod filling;
@@ -28,6 +29,10 @@ pub struct LoggedPair<P: DevicePair, A: Allocator + Copy = Global> {
     kept: u32,
     // the region is whole and synced, and its flag says that it is committed, or not: it has been asked to
     deciding: bool,
+    // a commit of this session was copied home
+    copied: bool,
+    // each commit is
+    each_home: bool,
     ghost standing: { regions.IsHonest log → IsStanding deciding (regions.clearing_of log) kept slots.homes.items
         (regions.seen_of log) (regions.behind_of log)
         (regions.leaves_of log) } by { λ p q i h.

@@ -2,7 +2,7 @@
 ghost use Rattle.std.specs.Io.KnownBytes.{Appends};
 ghost use Rattle.std.specs.Prelude.{ℕ, List};
 
-use crate::words::read_words;
+use crate::words::{Options, read_words};
 use page_file::Version;
 use std::alloc::Global;
 use std::io::Write;
@@ -26,7 +26,7 @@ pub fn greet<E: Write>(alloc: Global, words: &[&str], errors: &mut E)
 
 // The line for a person at a terminal.
 fn greeting(alloc: Global, words: &[&str]) -> Option<String> {
-    let options = read_words(alloc, words).ok()?;
+    let options = options_of(alloc, words)?;
     match options.file {
         Some(path) if options.read_only => {
             format!(in alloc; "rstore: the store in {path} is only read; {TOLD}\n")
@@ -39,16 +39,21 @@ fn greeting(alloc: Global, words: &[&str]) -> Option<String> {
 
 /// Whether the words ask for an import.
 pub fn imports(alloc: Global, words: &[&str]) -> bool {
-    match read_words(alloc, words) {
-        Ok(options) => options.import.any(),
-        Err(_) => false,
+    match options_of(alloc, words) {
+        Some(options) => options.import.any(),
+        None => false,
     }
 }
 
 /// The newest version that the file may have by the words; none where they are refused, or memory for them is.
 pub fn newest_allowed(alloc: Global, words: &[&str]) -> Option<Version> {
-    match read_words(alloc, words) {
-        Ok(options) => Some(options.limits.newest),
-        Err(_) => None,
+    match options_of(alloc, words) {
+        Some(options) => Some(options.limits.newest),
+        None => None,
     }
+}
+
+// What the words ask for, where they are taken. The error of `clap` is let go here alone, which is dear to prove.
+fn options_of<'a>(alloc: Global, words: &'a [&'a str]) -> Option<Options<'a>> {
+    read_words(alloc, words).ok()
 }

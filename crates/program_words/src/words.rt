@@ -1,13 +1,16 @@
 //! What the words of the command line ask for.
-ghost use Rattle.std.specs.Prelude.{◌≡◌, ◌≤◌, ◌||◌, Bool, IfOk, IfSome, Some, codes, false, is_some};
+ghost use Rattle.std.specs.Prelude.{◌≡◌, ◌≤◌, ◌||◌, ℕ, Bool, IfOk, IfSome, Some, codes, false, is_some};
 ghost use Rattle.std.specs.Prelude.{option_map, true};
+ghost use Rattle.clap.specs.Simple.{on_top};
 ghost use Rattle.clap.specs.Values.{bool_text};
 ghost use Rattle.clap.specs.Walk.{texts};
-ghost use Rattle.clap.specs.Words.{FailsBy, app_of, fault_of, first_value, found_of, one_text};
-ghost use Rattle.clap.specs.Words.{rule_of};
+ghost use Rattle.clap.specs.Words.{FailsBy, Text, app_of, fault_of, first_value, found_of, one_text};
+ghost use Rattle.clap.specs.Words.{new_app, rule_of, with_rule};
 ghost use Rattle.page_file.specs.Layout.{version_number};
-ghost use Rattle.program_words.specs.Words.{AskFor, AsksToBeStrict, AsksToImport, AsksToShow, flag_rule};
-ghost use Rattle.program_words.specs.Words.{import_rules, is_cache, number_rule, program, show_rules};
+ghost use Rattle.program_words.specs.Words.{AskFor, AsksToBeStrict, AsksToImport, AsksToShow, IsNumber};
+ghost use Rattle.program_words.specs.Words.{cache_rule, create_rule, file_rule, flag_rule, format_rule};
+ghost use Rattle.program_words.specs.Words.{import_rules, is_cache, number_rule, program, read_only_rule};
+ghost use Rattle.program_words.specs.Words.{show_rules, strict_rule};
 ghost use Rattle.program_words.specs.Words.{target_in, valued_rule};
 
 use clap::builder::ValueParser;
@@ -168,60 +171,103 @@ fn number<'a>(
         .default_value(default)
 }
 
-// The words that the program takes, as `clap` reads them.
+// The words that the program takes, as `clap` reads them. Each is made where it is put in: one that waits in a
+// variable meanwhile is dear to prove, since each call that may fail lets it go.
 fn command<'a>(alloc: Global) -> Result<Command<'a>, AllocError>
     ensures { IfOk result (λ c. app_of c ≡ program) }
 {
-    let cache = number(
+    let limited = with_limits(alloc, without_words(alloc))?;
+    let plain = with_flags(alloc, limited)?;
+    with_import(alloc, with_shows(alloc, plain)?)?.arg(file_word(alloc))
+}
+
+// The program before it has words.
+fn without_words<'a>(alloc: Global) -> Command<'a>
+    ensures { app_of result ≡ on_top (λ s. record s { has_version = true }) (new_app (codes "rstore")) }
+{
+    Command::new(alloc, "rstore")
+        .version("1")
+        .about(ABOUT)
+        .after_help(AFTER_HELP)
+}
+
+// The words, with those of what the store is held to.
+fn with_limits<'a>(alloc: Global, words: Command<'a>) -> Result<Command<'a>, AllocError>
+    ensures { IfOk result (λ c. app_of c ≡ with_rule (with_rule (app_of words.entry) cache_rule) format_rule) }
+{
+    words.arg(cache_word(alloc))?.arg(format_word(alloc))
+}
+
+// How many pages are cached.
+fn cache_word<'a>(alloc: Global) -> Arg<'a>
+    ensures rule { rule_of result ≡ cache_rule }
+    ensures own { result.global ≡ false }
+{
+    number(
         alloc,
         "cache",
         "How many pages the store caches, 8 to 4096",
         value_parser!(u32).range(8..=4096),
         "64",
-    );
-    let format = number(
+    )
+}
+
+// The newest version of the file.
+fn format_word<'a>(alloc: Global) -> Arg<'a>
+    ensures rule { rule_of result ≡ format_rule }
+    ensures own { result.global ≡ false }
+{
+    number(
         alloc,
         "format",
         "The newest version of its format that FILE may have, 2 or 3",
         value_parser!(u32).range(2..=3),
         "3",
-    );
-    let create = flag(alloc, "create", "Make FILE, which must be missing or empty");
-    let read_only = flag(alloc, "read-only", "Only read FILE, beside other readers");
-    let strict = flag(
-        alloc,
-        "strict",
-        "End at the first line that is refused, with status 3, and close nothing",
-    );
-    let file = Arg::new(alloc, "file").value_name("FILE").help(
+    )
+}
+
+// The words, with the flags of a run that answers lines.
+fn with_flags<'a>(alloc: Global, words: Command<'a>) -> Result<Command<'a>, AllocError>
+    ensures { IfOk result (λ c. app_of c ≡ with_rule (with_rule (with_rule (app_of words.entry)
+        create_rule) read_only_rule) strict_rule) }
+{
+    words
+        .arg(flag(alloc, "create", "Make FILE, which must be missing or empty"))?
+        .arg(flag(alloc, "read-only", "Only read FILE, beside other readers"))?
+        .arg(flag(
+            alloc,
+            "strict",
+            "End at the first line that is refused, with status 3, and close nothing",
+        ))
+}
+
+// The file.
+fn file_word<'a>(alloc: Global) -> Arg<'a>
+    ensures rule { rule_of result ≡ file_rule }
+    ensures own { result.global ≡ false }
+{
+    Arg::new(alloc, "file").value_name("FILE").help(
         "The file of the store; without it the store is in memory and is lost at the end",
-    );
-    let rstore = Command::new(alloc, "rstore")
-        .version("1")
-        .about(ABOUT)
-        .after_help(AFTER_HELP);
-    let limited = rstore.arg(cache)?.arg(format)?;
-    let plain = limited.arg(create)?.arg(read_only)?.arg(strict)?;
-    with_import(alloc, with_shows(alloc, plain)?)?.arg(file)
+    )
 }
 
 // The words, with those by which something is shown.
 fn with_shows<'a>(alloc: Global, words: Command<'a>) -> Result<Command<'a>, AllocError>
     ensures { IfOk result (λ c. app_of c ≡ show_rules (app_of words.entry)) }
 {
-    let draw = valued(
-        alloc,
-        "draw",
-        "LAYER",
-        "Write an SVG picture of the layer's tree, and read no line",
-    );
-    let stats = flag(
-        alloc,
-        "stats",
-        "Tell what one tunes each layer by, and read no line",
-    );
-    let json = flag(alloc, "json", "With --stats, tell it as JSON");
-    words.arg(draw)?.arg(stats)?.arg(json)
+    words
+        .arg(valued(
+            alloc,
+            "draw",
+            "LAYER",
+            "Write an SVG picture of the layer's tree, and read no line",
+        ))?
+        .arg(flag(
+            alloc,
+            "stats",
+            "Tell what one tunes each layer by, and read no line",
+        ))?
+        .arg(flag(alloc, "json", "With --stats, tell it as JSON"))
 }
 
 // A word with a value.
@@ -239,41 +285,36 @@ fn valued<'a>(alloc: Global, name: &'a str, value: &'a str, help: &'a str) -> Ar
 fn with_import<'a>(alloc: Global, words: Command<'a>) -> Result<Command<'a>, AllocError>
     ensures { IfOk result (λ c. app_of c ≡ import_rules (app_of words.entry)) }
 {
-    let layer = valued(
-        alloc,
-        "import",
-        "LAYER[:FANOUT]",
-        "Put the objects of the input into the layer, all or none",
-    );
-    let columns = valued(
-        alloc,
-        "columns",
-        "LIST",
-        "Which columns: id,minx,miny,maxx,maxy[,tag]; of GeoJSON which properties: id,tag",
-    );
-    let scale = valued(
-        alloc,
-        "scale",
-        "N",
-        "What coordinates are multiplied by, 1 to 1000000000; without it they are whole numbers",
-    );
-    let axes = valued(
-        alloc,
-        "axes",
-        "N",
-        "How many axes of GeoJSON are read, 2 or 3",
-    );
-    let geojson = flag(
-        alloc,
-        "geojson",
-        "The input is lines of GeoJSON, and no CSV",
-    );
     words
-        .arg(layer)?
-        .arg(columns)?
-        .arg(scale)?
-        .arg(axes)?
-        .arg(geojson)
+        .arg(valued(
+            alloc,
+            "import",
+            "LAYER[:FANOUT]",
+            "Put the objects of the input into the layer, all or none",
+        ))?
+        .arg(valued(
+            alloc,
+            "columns",
+            "LIST",
+            "Which columns: id,minx,miny,maxx,maxy[,tag]; of GeoJSON which properties: id,tag",
+        ))?
+        .arg(valued(
+            alloc,
+            "scale",
+            "N",
+            "What coordinates are multiplied by, 1 to 1000000000; without it they are whole numbers",
+        ))?
+        .arg(valued(
+            alloc,
+            "axes",
+            "N",
+            "How many axes of GeoJSON are read, 2 or 3",
+        ))?
+        .arg(flag(
+            alloc,
+            "geojson",
+            "The input is lines of GeoJSON, and no CSV",
+        ))
 }
 
 // The words of an import, among those that `clap` found.
@@ -298,6 +339,62 @@ fn import_in<'a>(matches: &ArgMatches<'a>) -> ImportWords<'a>
     }
 }
 
+// What the store is held to, by what `clap` found.
+fn limits_in(matches: &ArgMatches<'_>) -> Limits
+    ensures fits { is_cache result.cache ≡ true }
+    ensures cache { (text : Text) (n : ℕ) → one_text (found_of matches.now) (codes "cache") ≡ Some text
+        → IsNumber text n → 8 ≤ n → n ≤ 4096 → result.cache ≡ n }
+    ensures newest { (text : Text) (n : ℕ) → one_text (found_of matches.now) (codes "format") ≡ Some text
+        → IsNumber text n → 2 ≤ n → n ≤ 3 → version_number result.newest ≡ n }
+{
+    Limits {
+        cache: cached_pages(matches.get_one::<u32>("cache")),
+        newest: newest_version(matches.get_one::<u32>("format")),
+    }
+}
+
+// What is asked for, by what `clap` found. That is only lent here: where it is let go, each call is dear to prove.
+fn options_in<'a>(matches: &ArgMatches<'a>) -> Options<'a>
+    ensures cache { (text : Text) (n : ℕ) → one_text (found_of matches.now) (codes "cache") ≡ Some text
+        → IsNumber text n → 8 ≤ n → n ≤ 4096 → result.limits.cache ≡ n }
+    ensures newest { (text : Text) (n : ℕ) → one_text (found_of matches.now) (codes "format") ≡ Some text
+        → IsNumber text n → 2 ≤ n → n ≤ 3 → version_number result.limits.newest ≡ n }
+    ensures create { (flag : Bool) → one_text (found_of matches.now) (codes "create")
+        ≡ Some (bool_text flag) → result.create ≡ flag }
+    ensures read_only { (flag : Bool) → one_text (found_of matches.now) (codes "read-only")
+        ≡ Some (bool_text flag) → result.read_only ≡ flag }
+    ensures strict { (flag : Bool) → one_text (found_of matches.now) (codes "strict")
+        ≡ Some (bool_text flag) → result.strict ≡ flag }
+    ensures stats { (flag : Bool) → one_text (found_of matches.now) (codes "stats")
+        ≡ Some (bool_text flag) → result.stats ≡ flag }
+    ensures json { (flag : Bool) → one_text (found_of matches.now) (codes "json")
+        ≡ Some (bool_text flag) → result.json ≡ flag }
+    ensures draw { option_map (λ w. w.now) result.draw ≡ first_value (found_of matches.now) (codes "draw") }
+    ensures file { option_map (λ w. w.now) result.file ≡ first_value (found_of matches.now) (codes "file") }
+    ensures layer { option_map (λ w. w.now) result.import.layer
+        ≡ first_value (found_of matches.now) (codes "import") }
+    ensures columns { option_map (λ w. w.now) result.import.columns
+        ≡ first_value (found_of matches.now) (codes "columns") }
+    ensures scale { option_map (λ w. w.now) result.import.scale
+        ≡ first_value (found_of matches.now) (codes "scale") }
+    ensures axes { option_map (λ w. w.now) result.import.axes
+        ≡ first_value (found_of matches.now) (codes "axes") }
+    ensures geojson { (flag : Bool) → one_text (found_of matches.now) (codes "geojson")
+        ≡ Some (bool_text flag) → result.import.geojson ≡ flag }
+{
+    Options {
+        limits: limits_in(matches),
+        create: matches.get_flag("create"),
+        read_only: matches.get_flag("read-only"),
+        strict: matches.get_flag("strict"),
+        draw: matches.get_str("draw"),
+        stats: matches.get_flag("stats"),
+        json: matches.get_flag("json"),
+        import: import_in(matches),
+        file: matches.get_str("file"),
+    }
+}
+
 /// What the words ask for, the first of which is the program's name; or the text of `clap` that refuses them
 /// or helps.
 pub fn read_words<'a>(alloc: Global, words: &'a [&'a str]) -> Result<Options<'a>, Error>
@@ -314,18 +411,5 @@ pub fn read_words<'a>(alloc: Global, words: &'a [&'a str]) -> Result<Options<'a>
     ensures refused { FailsBy (fault_of program (texts words.now)) result }
 {
     let matches = command(alloc)?.try_get_matches_from(words)?;
-    Ok(Options {
-        limits: Limits {
-            cache: cached_pages(matches.get_one::<u32>("cache")),
-            newest: newest_version(matches.get_one::<u32>("format")),
-        },
-        create: matches.get_flag("create"),
-        read_only: matches.get_flag("read-only"),
-        strict: matches.get_flag("strict"),
-        draw: matches.get_str("draw"),
-        stats: matches.get_flag("stats"),
-        json: matches.get_flag("json"),
-        import: import_in(&matches),
-        file: matches.get_str("file"),
-    })
+    Ok(options_in(&matches))
 }

@@ -2,9 +2,11 @@
 
 use crate::held::{ByStreams, Device};
 use block_device::{BlockDevice, DeviceError};
-use device_pair::TwoDevices;
+use device_pair::{DevicePair, TwoDevices};
 use file_device::{FileDevice, OpenError};
-use journaled_file::{Found, JournalSource, Looked, end_session, judge, look, open_over, pair_up};
+use journaled_file::{
+    Found, JournalSource, JournaledOver, Looked, end_device, judge, look, open_over, pair_up,
+};
 use journaled_store::OpeningJudge;
 use layer_store::{Refusal, Store, Version, create_store, open_store};
 use std::alloc::Global;
@@ -63,13 +65,15 @@ impl From<OpenError> for Unopened {
 
 /// Opens the store in the file and its journal, or with `create` makes one where the file has no blocks.
 /// Whether the last run had closed anything and not ended is told. Where no store opens over both, nothing is
-/// written into either.
+/// written into either. With `each_home` each commit is in the file once it is answered, and not in its journal: for
+/// blocks of the caller's, whose journal is in memory.
 pub fn open(
     alloc: Global,
     base: Streams,
     journal: JournalStreams,
     ask: &mut Streams,
     create: bool,
+    each_home: bool,
     cache: u32,
 ) -> Result<(Store<Device>, bool), Unopened> {
     let mut source = JournalByStreams {
@@ -78,8 +82,28 @@ pub fn open(
         anew: Some(journal.anew),
     };
     let base = side(base, FileSide::Base)?;
+    let (pair, unended) = paired(alloc, base, &mut source, create, cache)?;
+    match store_over(alloc, pair, create, each_home, cache)? {
+        Ok(store) => Ok((store, unended)),
+        Err((refusal, device)) => {
+            let _ = end(device, ask);
+            Err(Unopened::Store(refusal))
+        }
+    }
+}
+
+// A file with its journal, once a store opens over both or is to be made, and whether the last run had closed
+// anything and not ended. This and what follows stand over devices of any kind: each call over those of C, with all
+// that lies on them, is dear to prove.
+fn paired<B: BlockDevice + Drop, J: BlockDevice + Drop, S: JournalSource<J>>(
+    alloc: Global,
+    base: B,
+    source: &mut S,
+    create: bool,
+    cache: u32,
+) -> Result<(TwoDevices<B, J>, bool), Unopened> {
     let mut opening = OpeningJudge::of(alloc, cache, Version::Three, false);
-    let looked = look(base, create, &mut source, &mut opening, alloc);
+    let looked = look(base, create, &mut *source, &mut opening, alloc);
     if let Some(refusal) = opening.refusal() {
         return Err(Unopened::Store(refusal));
     }
@@ -89,23 +113,38 @@ pub fn open(
         found: _,
         opens: _,
     } = looked?;
-    let (pair, unended) = pair_up(base, journal, &mut source)?;
-    let device = match open_over(pair, alloc, false) {
-        Ok(device) => device,
-        Err((error, _)) => return Err(Unopened::File(error)),
-    };
-    let made = if create && device.blocks() == 0 {
-        create_store(alloc, device, cache, Version::Three)
-    } else {
-        open_store(alloc, device, cache, Version::Three)
-    };
-    match made {
-        Ok(store) => Ok((store, unended)),
-        Err((refusal, device)) => {
-            let _ = end(device, ask);
-            Err(Unopened::Store(refusal))
-        }
+    Ok(pair_up(base, journal, source)?)
+}
+
+// The store over a pair, or with `create` a new one where it has no blocks. Where that is refused, the device is
+// given back.
+fn store_over<P: DevicePair + Drop>(
+    alloc: Global,
+    pair: P,
+    create: bool,
+    each_home: bool,
+    cache: u32,
+) -> Result<
+    Result<Store<JournaledOver<P, Global>>, (Refusal, JournaledOver<P, Global>)>,
+    OpenError,
+> {
+    match open_over(pair, alloc, each_home) {
+        Ok(device) => Ok(store_in(alloc, device, create, cache)),
+        Err((error, _)) => Err(error),
     }
+}
+
+// The same over a device.
+fn store_in<D: BlockDevice + Drop>(
+    alloc: Global,
+    device: D,
+    create: bool,
+    cache: u32,
+) -> Result<Store<D>, (Refusal, D)> {
+    if create && device.blocks() == 0 {
+        return create_store(alloc, device, cache, Version::Three);
+    }
+    open_store(alloc, device, cache, Version::Three)
 }
 
 /// Opens the store in a file that is only read. It has no journal: one whose last run did not end is refused.
@@ -119,28 +158,34 @@ pub fn open_to_read(
     let Ok(none) = FileDevice::over(none) else {
         return Err(Unopened::File(OpenError::Refused));
     };
-    let mut pair = TwoDevices::of(side(base, FileSide::Base)?, none);
+    let pair = TwoDevices::of(side(base, FileSide::Base)?, none);
+    Ok((store_read(alloc, pair, cache)?, false))
+}
+
+// The store over a pair that is only read.
+fn store_read<P: DevicePair + Drop>(
+    alloc: Global,
+    pair: P,
+    cache: u32,
+) -> Result<Store<JournaledOver<P, Global>>, Unopened> {
+    let mut pair = pair;
     match judge(&mut pair) {
         Ok(Found::Fresh) => {}
         Ok(_) => return Err(Unopened::Store(Refusal::NotClosed)),
         Err(_) => return Err(Unopened::File(OpenError::Refused)),
     }
-    let device = match open_over(pair, alloc, false) {
-        Ok(device) => device,
-        Err((error, _)) => return Err(Unopened::File(error)),
-    };
-    match open_store(alloc, device, cache, Version::Three) {
-        Ok(store) => Ok((store, false)),
+    match store_over(alloc, pair, false, false, cache)? {
+        Ok(store) => Ok(store),
         Err((refusal, _)) => Err(Unopened::Store(refusal)),
     }
 }
 
-/// Ends a run over the files: what was not committed is given up, the mark is taken away, and the journal is
-/// removed. Where a device fails the next opening brings the same blocks back. A journal that can't be removed
+/// Ends a run over the files: what was not committed is given up, what was is copied home, the mark is taken away, and
+/// the journal is removed. Where a device fails the next opening brings the same blocks back. A journal that can't be removed
 /// is no failure: it says that the run has ended.
 pub fn end(device: Device, ask: &mut Streams) -> Result<(), DeviceError> {
-    let mut pair = device.into_pair().into_pair().into_pair();
-    if end_session(&mut pair)? {
+    // The files are open until the journal is gone.
+    if let Some(_pair) = end_device(device)? {
         let _ = ask.ask(JournalWish::Remove);
     }
     Ok(())

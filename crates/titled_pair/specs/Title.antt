@@ -1,12 +1,16 @@
 -- The first two blocks of a journal: its title, and whether its session has ended (our format,
 -- docs/FORMAT.md, "The journal").
-use Rattle.std.specs.Prelude.{◌≡◌, ◌<◌, ◌≤◌, ℕ, Bool, ◌==◌, List, [], ◌∷◌, length, slice_index_or}
+use Rattle.std.specs.Prelude.{◌≡◌, ◌<◌, ◌≤◌, ℕ, Bool, ◌||◌, ◌==◌, List, [], ◌∷◌, length, slice_index_or}
 use Rattle.block_device.specs.Device.{Blocks, block_at}
 use Rattle.block_bytes.specs.Numbers.{zeros, number_at, put_number}
 
--- the ASCII text RSTARTTL
+-- the ASCII text RSTARLOG
 abbrev pub title_text : ℕ
-title_text = 0x525354415254544c
+title_text = 0x52535441524c4f47
+
+-- the ASCII text RSTARTTL, with which the journals of older programs begin, which have one region
+abbrev pub older_text : ℕ
+older_text = 0x525354415254544c
 
 -- the ASCII text RSTAREND
 abbrev pub end_text : ℕ
@@ -27,9 +31,14 @@ title_of a = with_text title_text (header_in a)
 abbrev pub end_of : Blocks → List ℕ
 end_of a = with_text end_text (header_in a)
 
--- a block that begins with the text of a title
+-- a block that begins with the text of a title, or with that of an older one
 abbrev pub reads_title : List ℕ → Bool
-reads_title block = number_at 8 0 block == title_text
+reads_title block = (number_at 8 0 block == title_text) || (number_at 8 0 block == older_text)
+
+-- the same journal, with the text of a title that is not an older one
+abbrev pub retitled : Blocks → Blocks
+retitled [] = []
+retitled (t ∷ blocks) = with_text title_text t ∷ blocks
 
 -- a journal behind its title
 abbrev pub untitled : Blocks → Blocks

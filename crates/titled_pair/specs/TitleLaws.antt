@@ -1,12 +1,16 @@
 -- Laws of a title: what is behind it, of blocks that are written or torn.
-use Rattle.std.proofs.Common.{◌≡◌, ◌∙◌, ℕ, zero, suc, ◌+◌, ◌-◌, ◌^◌, ◌<◌, ◌≤◌, List, [], ◌∷◌, length, refl}
-use Rattle.std.proofs.Common.{sym, ap, subst, arith, inl, inr, ⊎_elim}
+use Rattle.std.proofs.Common.{◌≡◌, ◌∙◌, ℕ, zero, suc, ◌+◌, ◌-◌, ◌^◌, ◌<◌, ◌≤◌, List, [], ◌∷◌, ◌++◌, length, refl}
+use Rattle.std.proofs.Common.{sym, ap, subst, arith, inl, inr, ⊎_elim, true, ◌||◌, ◌==◌, drop, lit<}
 use Rattle.std.proofs.Props.{props}
+use Rattle.std.proofs.lemmas.Slice.{drop-append-drop}
 use Rattle.std.specs.List.{All}
+use Rattle.byteorder.specs.Endian.{big_bytes}
+use Rattle.byteorder.specs.Numbers.{big_number-reads_back, length-bytes_high_first}
+use Rattle.block_bytes.specs.Numbers.{number_at, put_number}
 use Rattle.block_device.specs.Device.{Blocks, IsBlock, Torn, block_at, written}
 use Rattle.block_device.specs.Written.{torn_length, torn_other}
 use Rattle.device_pair.specs.Pairs.{BaseFollows, JournalFollows, PairElapses, PairsNoMore}
-use Rattle.titled_pair.specs.Title.{untitled, HasTitle}
+use Rattle.titled_pair.specs.Title.{older_text, reads_title, retitled, title_text, untitled, with_text, HasTitle}
 use Rattle.titled_pair.specs.Titled.{Untitled, HasRoom, IsOf, StaysTitled}
 
 pub length-untitled : (e : Blocks) → length (untitled e) ≡ length e - 2
@@ -165,3 +169,33 @@ no_longer_behind base journal a e b is both =
 pub untitled_whole_of : (a e b : Blocks) → b ≡ untitled e → All IsBlock a × All IsBlock e
     → All IsBlock a × All IsBlock b
 untitled_whole_of a e b is both = (both.0, subst (All IsBlock) (sym is) (untitled_whole e both.1))
+
+-- a text that is written twice
+pub with_text_twice : (text other : ℕ) (h : List ℕ) → with_text text (with_text other h) ≡ with_text text h
+unfolding with_text put_number
+with_text_twice text other h =
+    ap (λ (l : List ℕ). big_bytes 8 text ++ l)
+    (drop-append-drop 8 h (big_bytes 8 other) 8 (omega arith) (length-bytes_high_first 8 other))
+
+-- a text is read back
+number_at-text : (text : ℕ) (h : List ℕ) → text < 256 ^ 8 → number_at 8 0 (with_text text h) ≡ text
+unfolding with_text put_number number_at
+number_at-text text h small = big_number-reads_back 8 text (drop 8 h) small
+
+-- a journal with the text of a title
+pub reads_retitled : (h : List ℕ) → reads_title (with_text title_text h) ≡ true
+reads_retitled h =
+    ap (λ (n : ℕ). (n == title_text) || (n == older_text)) (number_at-text title_text h (lit< tt))
+
+pub length-retitled : (e : Blocks) → length (retitled e) ≡ length e
+length-retitled [] = refl
+length-retitled (t ∷ e) = refl
+
+pub retitled_first : (e : Blocks) → 0 < length e → block_at 0 (retitled e) ≡ with_text title_text (block_at 0 e)
+retitled_first [] lt = absurd (omega (arith, lt))
+retitled_first (t ∷ e) lt = refl
+
+pub retitled_behind : (k : ℕ) (e : Blocks) → 0 < k → block_at k (retitled e) ≡ block_at k e
+retitled_behind k [] lt = refl
+retitled_behind zero (t ∷ e) lt = absurd (omega (arith, lt))
+retitled_behind (suc k) (t ∷ e) lt = refl

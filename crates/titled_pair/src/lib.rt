@@ -10,4 +10,4 @@ mod pair;
 mod title;
 
 pub use pair::TitledPair;
-pub use title::{TITLE_BLOCKS, end_of_base, is_title, make_title, title_of_base};
+pub use title::{TITLE_BLOCKS, end_of_base, is_title, make_title, retitled_page, title_of_base};

@@ -14,8 +14,11 @@ use device_pair::DevicePair;
 /// How many blocks stand before the journal proper: its title and its end.
 pub const TITLE_BLOCKS: u32 = 2;
 
+// The ASCII text RSTARLOG.
+const TITLE_TEXT: u64 = 0x5253_5441_524c_4f47;
+
 // The ASCII text RSTARTTL.
-const TITLE_TEXT: u64 = 0x5253_5441_5254_544c;
+const OLDER_TEXT: u64 = 0x5253_5441_5254_544c;
 
 // The ASCII text RSTAREND.
 const END_TEXT: u64 = 0x5253_5441_5245_4e44;
@@ -45,7 +48,7 @@ fn read_header<P: DevicePair>(pair: &mut P) -> Result<[u8; 4096], DeviceError>
     Ok(header)
 }
 
-/// The title that a journal of the base has: the text `RSTARTTL`, and behind it the bytes of block 1 of the
+/// The title that a journal of the base has: the text `RSTARLOG`, and behind it the bytes of block 1 of the
 /// base, zeros where there is none. It fails where the device does.
 pub fn title_of_base<P: DevicePair>(pair: &mut P) -> Result<[u8; 4096], DeviceError>
     ensures is { P.honest pair.old → IfOk result (λ page. page ≡ title_of (P.base pair.old)) }
@@ -69,11 +72,18 @@ pub fn end_of_base<P: DevicePair>(pair: &mut P) -> Result<[u8; 4096], DeviceErro
     Ok(text_page(END_TEXT, &header))
 }
 
-/// Whether a block begins with the text of a title.
+/// Whether a block begins with the text of a title, or with `RSTARTTL`, as the titles of older programs do.
 pub fn is_title(page: &[u8; 4096]) -> bool
     ensures { result ≡ reads_title page.now }
 {
-    read_u64(page, 0) == TITLE_TEXT
+    read_u64(page, 0) == TITLE_TEXT || read_u64(page, 0) == OLDER_TEXT
+}
+
+/// A title with the text `RSTARLOG`, whichever it has.
+pub fn retitled_page(title: &[u8; 4096]) -> [u8; 4096]
+    ensures { result ≡ with_text title_text title.now }
+{
+    text_page(TITLE_TEXT, title)
 }
 
 /// Makes the title of the base's journal, which has no blocks. No session has ended.

@@ -102,8 +102,54 @@ impl<P: DevicePair, A: Allocator + Copy> CommittedLog<P, A> {
         self.pair.write_journal(0, &flag_page(0))
     }
 
-    // Copies the newest slot of each block home.
+    /// Copies block 0 home where it has a slot, and no other block. Where nothing else is behind the regions: no region
+    /// there is committed, and the base is synced.
+    pub fn copy_first(&mut self) -> Result<(), DeviceError>
+        requires settled { clearing_of self.old ≡ false }
+        requires quiet { IsHonest self.old → IsQuiet self.old }
+        ensures log { SameLog self.old self.new }
+        ensures journal { IsHonest self.old → journal_of self.new ≡ journal_of self.old }
+        ensures seen { IsHonest self.old → seen_of self.new ≡ seen_of self.old }
+        ensures quiet { IsHonest self.old → IsQuiet self.new }
+        ensures stops { IsHonest self.old →
+            PairLeaves P.moment P.left_since (pair_of self.old) (pair_of self.new)
+            (λ a b. recovered a b ≡ seen_of self.old) }
+        ensures last { IsHonest self.old →
+            PairLeaves P.moment P.left_since (pair_of self.old) (pair_of self.new)
+            (FirstShow (homes_of self.old) (seen_of self.old)) }
+        ensures honest { IsHonest self.old ↔ IsHonest self.new }
+        ensures faults { Counts (P.faults (pair_of self.old)) (P.faults (pair_of self.new)) result }
+    {
+        match self.slots.slot_of(0) {
+            Some(k) => self.copy_slot(k),
+            None => Ok(()),
+        }
+    }
+
+    // Copies the newest slot of each block home, that of block 0 first: who marks a base knows then that it is written.
     fn copy_slots(&mut self) -> Result<(), DeviceError>
+        requires settled { clearing_of self.old ≡ false }
+        requires quiet { IsHonest self.old → IsQuiet self.old }
+        ensures log { SameLog self.old self.new }
+        ensures journal { IsHonest self.old → journal_of self.new ≡ journal_of self.old }
+        ensures home { IsHonest self.old → OnOk result (base_of self.new ≡ seen_of self.old) }
+        ensures seen { IsHonest self.old → seen_of self.new ≡ seen_of self.old }
+        ensures quiet { IsHonest self.old → IsQuiet self.new }
+        ensures stops { IsHonest self.old →
+            PairLeaves P.moment P.left_since (pair_of self.old) (pair_of self.new)
+            (λ a b. recovered a b ≡ seen_of self.old) }
+        ensures last { IsHonest self.old →
+            PairLeaves P.moment P.left_since (pair_of self.old) (pair_of self.new)
+            (FirstShow (homes_of self.old) (seen_of self.old)) }
+        ensures honest { IsHonest self.old ↔ IsHonest self.new }
+        ensures faults { Counts (P.faults (pair_of self.old)) (P.faults (pair_of self.new)) result }
+    {
+        self.copy_first()?;
+        self.copy_each()
+    }
+
+    // Copies the newest slot of each block home, one after the other.
+    fn copy_each(&mut self) -> Result<(), DeviceError>
         requires settled { clearing_of self.old ≡ false }
         requires quiet { IsHonest self.old → IsQuiet self.old }
         ensures log { SameLog self.old self.new }

@@ -1,13 +1,9 @@
 //! The calls of a device over a base and its journal.
-ghost use Rattle.journaled_device.specs.CommitLaws.{begins, few_shown};
-ghost use Rattle.journaled_device.specs.DeviceLaws.{committed_of, counts_now_of, only_now_of, pair_left};
-ghost use Rattle.journaled_device.specs.DeviceLaws.{shown_counts_of};
-ghost use Rattle.journaled_device.specs.DeviceLaws.{since_earlier_of};
+ghost use Rattle.journaled_device.specs.DeviceLaws.{brought_of, committed_of, counts_now_of, few_shown};
+ghost use Rattle.journaled_device.specs.DeviceLaws.{only_now_of, shown_counts_of, since_earlier_of};
 ghost use Rattle.journaled_device.specs.Journaled.{events_of, inner_of, left_since_of, may_leave_of};
-ghost use Rattle.journaled_device.specs.Journaled.{moment_of, pair_of};
-ghost use Rattle.journaled_device.specs.Journaled.{recovery_of};
-ghost use Rattle.journaled_device.specs.Standing.{base_of, homes_of, journal_of, shown_of, IsHonest};
-ghost use Rattle.journaled_device.specs.Standing.{IsSettled};
+ghost use Rattle.journaled_device.specs.Journaled.{moment_of, pair_of, recovery_of};
+ghost use Rattle.logged_pair.specs.Standing.{shown_of, IsHonest, IsSettled};
 ghost use Rattle.page_file.specs.Opening.{failed_check};
 ghost use Rattle.std.specs.Prelude.{◌≡◌, None, OnOk};
 ghost use Rattle.block_device.specs.Outcomes.{no_longer_left};
@@ -52,9 +48,7 @@ impl<P: DevicePair, A: Allocator + Copy> BlockDevice for JournaledDevice<P, A> {
         self.make_last()
     }
 
-    ghost few_blocks = { λ d.
-        few_shown (homes_of (inner_of d)) (journal_of (inner_of d)) (base_of (inner_of d))
-        (P.few_blocks (pair_of d)).0 };
+    ghost few_blocks = { λ d. few_shown (inner_of d) (P.few_blocks (pair_of d)).0 };
 
     ghost shown_counts = { λ d h. shown_counts_of d h };
 
@@ -68,12 +62,8 @@ impl<P: DevicePair, A: Allocator + Copy> BlockDevice for JournaledDevice<P, A> {
 
     ghost since_earlier = { λ d t u c _ le left. since_earlier_of d t u c le left };
 
-    ghost brought_now = { λ d c h found. begins (inner_of d) c h (
-      found.0,
-      found.1,
-      P.only_now (pair_of d) found.0 found.1 h (pair_left d h found.0 found.1 found.2),
-      found.3,
-    ) };
+    ghost brought_now = { λ d c h found.
+        brought_of d h c (P.few_blocks (pair_of d)).0 (λ a b left. P.only_now (pair_of d) a b h left) found };
 
     ghost committed = { λ d k h only taken is. committed_of d h k only taken is };
 

@@ -1,11 +1,11 @@
 //! What was written since the last commit, given up.
-ghost use Rattle.std.specs.Prelude.{◌≡◌, ◌↔◌, OnErr, OnOk};
+ghost use Rattle.std.specs.Prelude.{◌≡◌, ◌↔◌, [], OnErr, OnOk};
 ghost use Rattle.block_device.specs.Device.{BeginsOne, Blocks, Counts, Only};
 ghost use Rattle.device_pair.specs.Pairs.{PairLeaves};
-ghost use Rattle.journaled_device.specs.Commits.{CommitsNoMore};
-ghost use Rattle.journaled_device.specs.Journal.{recovered};
+ghost use Rattle.committed_log.specs.Log.{recovered};
+ghost use Rattle.logged_pair.specs.Commits.{CommitsNoMore};
+ghost use Rattle.logged_pair.specs.Standing.{commits_of, homes_of, shown_of, IsHonest};
 ghost use Rattle.journaled_device.specs.Journaled.{inner_of, may_leave_of, pair_of};
-ghost use Rattle.journaled_device.specs.Standing.{commits_of, shown_of, IsHonest};
 
 use crate::device::JournaledDevice;
 use crate::giving_up::GivesUp;
@@ -23,6 +23,7 @@ impl<P: DevicePair, A: Allocator + Copy> JournaledDevice<P, A> {
             OnOk result (Only (shown_of (inner_of self.new)) (may_leave_of self.new)) }
         ensures one { IsHonest (inner_of self.old) →
             OnOk result ((k : Blocks) → commits_of (inner_of self.new) k → k ≡ shown_of (inner_of self.new)) }
+        ensures emptied { OnOk result (homes_of (inner_of self.new) ≡ []) }
         ensures shown { IsHonest (inner_of self.old) →
             OnErr result (shown_of (inner_of self.new) ≡ shown_of (inner_of self.old)) }
         ensures no_more { IsHonest (inner_of self.old) → OnErr result (CommitsNoMore

@@ -1,9 +1,9 @@
 //! Writes and syncs, which are noted.
 ghost use Rattle.std.specs.Prelude.{◌≡◌, ◌≤◌, ◌<◌, ◌^◌, ◌↔◌, None, OnOk, length};
 ghost use Rattle.block_device.specs.Device.{Counts};
-ghost use Rattle.journaled_device.specs.Journaled.{inner_of, pair_of, HasSynced, HasWritten};
-ghost use Rattle.journaled_device.specs.Standing.{shown_of, IsHonest, IsSettled};
 ghost use Rattle.page_file.specs.Opening.{failed_check};
+ghost use Rattle.logged_pair.specs.Standing.{shown_of, IsHonest, IsSettled};
+ghost use Rattle.journaled_device.specs.Journaled.{inner_of, pair_of, HasSynced, HasWritten};
 
 use crate::device::JournaledDevice;
 use block_device::DeviceError;
@@ -21,7 +21,7 @@ impl<P: DevicePair, A: Allocator + Copy> JournaledDevice<P, A> {
         ensures faults { Counts (P.faults (pair_of self.old)) (P.faults (pair_of self.new)) result }
     {
         let past = self.past.with(&self.pair, &Some(i));
-        let result = self.pair.write(i, bytes);
+        let result = self.pair.write_alone(i, bytes);
         if i >= self.pair.blocks() {
             return result;
         }
@@ -38,7 +38,7 @@ impl<P: DevicePair, A: Allocator + Copy> JournaledDevice<P, A> {
         ensures faults { Counts (P.faults (pair_of self.old)) (P.faults (pair_of self.new)) result }
     {
         let past = self.past.with(&self.pair, &None);
-        self.pair.sync()?;
+        self.pair.sync_alone()?;
         self.past = past;
         Ok(())
     }

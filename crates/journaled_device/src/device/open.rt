@@ -1,42 +1,37 @@
 //! A base and its journal opened, after a stop or not.
-ghost use Rattle.std.specs.Prelude.{◌≡◌, ◌≤◌, ◌↔◌, IfOk, IfErr, [], length, true};
+ghost use Rattle.std.specs.Prelude.{◌≡◌, ◌↔◌, IfOk, IfErr, []};
 ghost use Rattle.block_device.specs.Device.{Blocks};
 ghost use Rattle.device_pair.specs.Pairs.{PairLeaves};
-ghost use Rattle.journaled_device.specs.Journal.{recovered};
+ghost use Rattle.committed_log.specs.Log.{recovered};
+ghost use Rattle.committed_log.specs.Opening.{IsMalformed, LeavesOr};
+ghost use Rattle.committed_log.specs.declared.log.open.OpenFault.TheVariants as fault;
+ghost use Rattle.logged_pair.specs.Standing.{commits_of, homes_of, shown_of, IsHonest};
 ghost use Rattle.journaled_device.specs.Journaled.{events_of, inner_of, moment_of, pair_of};
-ghost use Rattle.journaled_device.specs.Opening.{IsMalformed, LeavesOr};
-ghost use Rattle.journaled_device.specs.Standing.{commits_of, found_of, shown_of, IsHonest};
-ghost use Rattle.journaled_device.specs.declared.pair.open.OpenFault.TheVariants as fault;
 
 use crate::device::JournaledDevice;
-use crate::pair::{JournaledPair, OpenFault};
+use committed_log::OpenFault;
 use device_pair::{DevicePair, Snapshots};
+use logged_pair::LoggedPair;
 use std::alloc::Allocator;
 
 impl<P: DevicePair, A: Allocator + Copy> JournaledDevice<P, A> {
-    /// Opens a base and its journal, which may be empty, and finishes a commit that was cut short. It may be
-    /// cut short itself, at any moment. With `as_found` both stay as they are, but that a journal is made where
-    /// there is none: the device is only looked at, takes no write, and finishes nothing.
+    /// Opens a base and its journal, which may be empty, and copies nothing home. It may be cut short, at any
+    /// moment. With `each_home` a sync copies each commit home, for a base that others read without its journal.
     ///
     /// What is then read is what recovery makes of base and journal as they were read. It is the one commit,
     /// and as a plain disk all of it is synced.
-    pub fn open(pair: P, alloc: A, as_found: bool) -> Result<JournaledDevice<P, A>, (OpenFault, P)>
+    pub fn open(pair: P, alloc: A, each_home: bool) -> Result<JournaledDevice<P, A>, (OpenFault, P)>
         ensures shown { IfOk result (λ d. P.honest pair →
             shown_of (inner_of d) ≡ recovered (P.base pair) (P.journal pair)) }
         ensures commits { IfOk result (λ d. P.honest pair → (k : Blocks) → commits_of (inner_of d) k →
             k ≡ shown_of (inner_of d)) }
+        ensures none { IfOk result (λ d. homes_of (inner_of d) ≡ []) }
         ensures synced { IfOk result (λ d. events_of d ≡ []) }
         ensures moment { IfOk result (λ d. moment_of d ≡ P.moment (pair_of d)) }
-        ensures found { as_found ≡ true → IfOk result (λ d. found_of (inner_of d) ≡ true) }
-        ensures base { as_found ≡ true → IfOk result (λ d. P.honest pair → P.base (pair_of d) ≡ P.base pair) }
-        ensures journal { as_found ≡ true → IfOk result (λ d. P.honest pair → 2 ≤ length (P.journal pair) →
-            P.journal (pair_of d) ≡ P.journal pair) }
-        ensures refused_base { as_found ≡ true → IfErr result (λ e. P.honest pair → P.base e.1 ≡ P.base pair) }
-        ensures refused_journal { as_found ≡ true → IfErr result (λ e. P.honest pair →
-            2 ≤ length (P.journal pair) → P.journal e.1 ≡ P.journal pair) }
+        ensures base { IfOk result (λ d. P.honest pair → P.base (pair_of d) ≡ P.base pair) }
+        ensures refused_base { IfErr result (λ e. P.honest pair → P.base e.1 ≡ P.base pair) }
 
-        // A stop leaves what one before the call might have left, or what recovers to blocks that begin with
-        // these.
+        // A stop leaves what one before the call might have left, or what recovers to these blocks.
         ensures stops { IfOk result (λ d. P.honest pair →
             PairLeaves P.moment P.left_since pair (pair_of d)
             (LeavesOr (P.may_leave pair) (recovered (P.base pair) (P.journal pair)))) }
@@ -48,7 +43,7 @@ impl<P: DevicePair, A: Allocator + Copy> JournaledDevice<P, A> {
         ensures honest { IfOk result (λ d. P.honest pair ↔ IsHonest (inner_of d)) }
         ensures refused_honest { IfErr result (λ e. P.honest pair ↔ P.honest e.1) }
     {
-        let pair = JournaledPair::open(pair, alloc, as_found)?;
+        let pair = LoggedPair::open(pair, alloc, each_home)?;
         Ok(JournaledDevice {
             pair,
             past: Snapshots::new(),

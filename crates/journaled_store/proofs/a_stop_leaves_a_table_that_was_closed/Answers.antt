@@ -2,7 +2,7 @@
 use Rattle.std.proofs.Common.{◌≡◌, ◌∙◌, None, ap, sym, arith}
 use Rattle.std.specs.Prelude.{is_some}
 use Rattle.block_device.specs.Device.{Blocks}
-use Rattle.journaled_device.specs.Journal.{recovered}
+use Rattle.committed_log.specs.Log.{recovered}
 use Rattle.journaled_device.specs.Journaled.{pair_of}
 use Rattle.layer_store.specs.Representation.{device_in}
 use Rattle.layer_store.proofs.StoreLemmas.{what_is_kept}

@@ -116,9 +116,11 @@ impl<P: DevicePair, A: Allocator + Copy> LoggedPair<P, A> {
     pub fn copy_home(&mut self) -> Result<(), DeviceError>
         requires none { homes_of self.old ≡ [] }
         ensures done { OnOk result (regions.homes_of (log_of self.new) ≡ []) }
+        ensures none { homes_of self.new ≡ [] }
         ensures filling { OnOk result (deciding_of self.new ≡ false) }
         ensures settled { OnOk result (clearing_of self.new ≡ false) }
         ensures shown { IsHonest self.old → shown_of self.new ≡ shown_of self.old }
+        ensures durable { IsHonest self.old → OnOk result (IsSettled self.new) }
         ensures keeps { IsHonest self.old → KeepsTo (commits_of self.old) self.old self.new }
 
         // Who has read all regions that there were sees the same at each moment, though not who has read fewer.
@@ -138,9 +140,11 @@ impl<P: DevicePair, A: Allocator + Copy> LoggedPair<P, A> {
         requires filling { deciding_of self.old ≡ false }
         requires settled { clearing_of self.old ≡ false }
         ensures done { OnOk result (regions.homes_of (log_of self.new) ≡ []) }
+        ensures none { homes_of self.new ≡ [] }
         ensures filling { deciding_of self.new ≡ false }
         ensures settled { OnOk result (clearing_of self.new ≡ false) }
         ensures shown { IsHonest self.old → shown_of self.new ≡ shown_of self.old }
+        ensures durable { IsHonest self.old → OnOk result (IsSettled self.new) }
         ensures keeps { IsHonest self.old → KeepsTo (commits_of self.old) self.old self.new }
         ensures last { IsHonest self.old → KeepsLast self.old self.new }
         ensures last_stays { IsHonest self.old → OnErr result (LastStays self.old self.new) }
@@ -160,6 +164,8 @@ impl<P: DevicePair, A: Allocator + Copy> LoggedPair<P, A> {
             slots: _,
             kept: _,
             deciding: _,
+            copied: _,
+            each_home: _,
         } = self;
         log.into_pair()
     }

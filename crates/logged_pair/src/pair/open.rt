@@ -17,9 +17,10 @@ use std::alloc::Allocator;
 
 impl<P: DevicePair, A: Allocator + Copy> LoggedPair<P, A> {
     /// Opens a base and its journal, which may be empty, and copies nothing. It may be cut short, at any moment.
+    /// With `each_home` a sync copies each commit home, for a base that others read without its journal.
     ///
     /// What is then read is what recovery makes of base and journal as they were read, and is the one commit.
-    pub fn open(pair: P, alloc: A) -> Result<LoggedPair<P, A>, (OpenFault, P)>
+    pub fn open(pair: P, alloc: A, each_home: bool) -> Result<LoggedPair<P, A>, (OpenFault, P)>
         ensures shown { IfOk result (λ d. P.honest pair →
             shown_of d ≡ recovered (P.base pair) (P.journal pair)) }
         ensures commits { IfOk result (λ d. P.honest pair → (kept : Blocks) → commits_of d kept →
@@ -27,6 +28,8 @@ impl<P: DevicePair, A: Allocator + Copy> LoggedPair<P, A> {
         ensures filling { IfOk result (λ d. deciding_of d ≡ false) }
         ensures settled { IfOk result (λ d. clearing_of d ≡ false) }
         ensures none { IfOk result (λ d. homes_of d ≡ []) }
+        ensures base { IfOk result (λ d. P.honest pair → P.base (pair_of d) ≡ P.base pair) }
+        ensures refused_base { IfErr result (λ e. P.honest pair → P.base e.1 ≡ P.base pair) }
 
         // A stop leaves what one before the call might have left, or what recovers to the same.
         ensures stops { IfOk result (λ d. P.honest pair →
@@ -58,6 +61,8 @@ impl<P: DevicePair, A: Allocator + Copy> LoggedPair<P, A> {
             slots: Slots::new(alloc),
             kept,
             deciding: false,
+            copied: false,
+            each_home,
         })
     }
 }

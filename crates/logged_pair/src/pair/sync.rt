@@ -34,7 +34,7 @@ impl<P: DevicePair, A: Allocator + Copy> LoggedPair<P, A> {
     }
 
     // Whether opening takes what is read.
-    fn is_taken(&mut self) -> Result<bool, DeviceError>
+    pub(crate) fn is_taken(&mut self) -> Result<bool, DeviceError>
         ensures is { IsHonest self.old → IfOk result (λ t. is_none (failed_check (shown_of self.old)) ≡ t) }
         ensures still { IsHonest self.old → IsStill self.old self.new }
         ensures honest { IsHonest self.old ↔ IsHonest self.new }

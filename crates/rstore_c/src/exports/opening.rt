@@ -47,9 +47,13 @@ fn unopened(why: Unopened, detail: &mut u64) -> u32
     }
 }
 
+// From which number on flags are of blocks of the caller's, whose journal is in memory.
+const BLOCKS: u32 = 4;
+
 /// Opens a store and gives the address of its session. `flags` is 0 for a file that is there, 1 for one that
-/// is made where it has no blocks, and 2 for one that is only read. The streams take no argument of C's: they
-/// are what `read` of 0 and `write` of 1 are to this library, which C renames as it links.
+/// is made where it has no blocks, and 2 for one that is only read; of blocks of the caller's it is 4 or 5 for
+/// the first two. The streams take no argument of C's: they are what `read` of 0 and `write` of 1 are to this
+/// library, which C renames as it links.
 #[unsafe(no_mangle)]
 pub extern "C" fn rstore_c_open(
     alloc: Global,
@@ -77,7 +81,15 @@ pub extern "C" fn rstore_c_open(
             first: journal,
             anew,
         };
-        files::open(alloc, base, journal, &mut ask, flags == 1, cache)
+        files::open(
+            alloc,
+            base,
+            journal,
+            &mut ask,
+            flags & 1 == 1,
+            flags >= BLOCKS,
+            cache,
+        )
     };
     match opened {
         Ok((store, unended)) => { hand_out(alloc, store, cache, flags == 2, unended, at, detail) }

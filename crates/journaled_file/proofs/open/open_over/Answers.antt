@@ -1,6 +1,6 @@
 -- What a stop within an opening leaves.
 use Rattle.std.proofs.Common.{◌≡◌, ◌≤◌, ◌∙◌, ap, arith, inl, subst}
-use Rattle.journaled_device.specs.Journal.{recovered}
+use Rattle.committed_log.specs.Log.{recovered}
 use Rattle.journaled_device.specs.Journaled.{pair_of}
 use Rattle.journaled_file.proofs.OpeningStops.{back_from_pair, back_to_files}
 use Rattle.journaled_file.specs.Opened.{LeavesRead}

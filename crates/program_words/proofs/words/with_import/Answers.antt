@@ -8,16 +8,16 @@ pub returns : goal.returns
 returns c =
     IfOk-weaker c.arg-5.result _ _
     (λ r h.
-    h.shape c.flag-geojson.ensures.own
+    h.shape c.flag.ensures.own
     ∙ ap₂ with_rule
-    (c.in_ok-arg-4.ensures.shape c.valued-axes.ensures.own
+    (c.in_ok-arg-4.ensures.shape c.valued-4.ensures.own
     ∙ ap₂ with_rule
-    (c.in_ok-arg-3.ensures.shape c.valued-scale.ensures.own
+    (c.in_ok-arg-3.ensures.shape c.valued-3.ensures.own
     ∙ ap₂ with_rule
-    (c.in_ok-arg-2.ensures.shape c.valued-columns.ensures.own
+    (c.in_ok-arg-2.ensures.shape c.valued-2.ensures.own
     ∙ ap₂ with_rule
-    (c.in_ok-arg.ensures.shape c.valued-layer.ensures.own
-    ∙ ap (with_rule _) c.valued-layer.ensures.rule)
-    c.valued-columns.ensures.rule) c.valued-scale.ensures.rule) c.valued-axes.ensures.rule)
-    c.flag-geojson.ensures.rule)
+    (c.in_ok-arg.ensures.shape c.valued.ensures.own
+    ∙ ap (with_rule _) c.valued.ensures.rule)
+    c.valued-2.ensures.rule) c.valued-3.ensures.rule) c.valued-4.ensures.rule)
+    c.flag.ensures.rule)
     c.arg-5.ensures

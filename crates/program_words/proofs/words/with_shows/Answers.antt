@@ -8,12 +8,12 @@ pub returns : goal.returns
 returns c =
     IfOk-weaker c.arg-3.result _ _
     (λ r h.
-    h.shape c.flag-json.ensures.own
+    h.shape c.flag-2.ensures.own
     ∙ ap₂ with_rule
-    (c.in_ok-arg-2.ensures.shape c.flag-stats.ensures.own
+    (c.in_ok-arg-2.ensures.shape c.flag.ensures.own
     ∙ ap₂ with_rule
-    (c.in_ok-arg.ensures.shape c.valued-draw.ensures.own
-    ∙ ap (with_rule _) c.valued-draw.ensures.rule)
-    c.flag-stats.ensures.rule)
-    c.flag-json.ensures.rule)
+    (c.in_ok-arg.ensures.shape c.valued.ensures.own
+    ∙ ap (with_rule _) c.valued.ensures.rule)
+    c.flag.ensures.rule)
+    c.flag-2.ensures.rule)
     c.arg-3.ensures

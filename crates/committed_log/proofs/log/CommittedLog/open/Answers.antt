@@ -2,7 +2,8 @@
 use Rattle.std.proofs.Common.{◌≡◌, inr, rules, subst, sym, ⊎_elim}
 use Rattle.block_device.specs.Device.{Blocks}
 use Rattle.committed_log.specs.Opening.{IsEmpty, IsMalformed}
-use Rattle.committed_log.proofs.Opened.{not_malformed, opened_stands}
+use Rattle.committed_log.specs.Whole.{unsaid_well}
+use Rattle.committed_log.proofs.Opened.{opened_stands}
 use Rattle.device_pair.specs.Pairs.{PairLeaves}
 use Rattle.device_pair.specs.Runs.{pair_then, pair_weaker}
 use Rattle.committed_log.specs.Appending.{OrAppended}
@@ -31,7 +32,7 @@ returns-in-Err-read_regions-clause-malformed g c = λ h e.
     subst (λ (b : Blocks). IsMalformed b (p.journal d)) (c.prepare.ensures.base h)
     (subst (IsMalformed (p.base m)) same bad))
     (λ (empty : IsEmpty (p.journal m)). absurd
-    (not_malformed (p.base m) (p.journal m) empty.few empty.unsaid bad))
+    (unsaid_well (p.base m) (p.journal m) empty.unsaid bad))
     (c.in_default.ensures.made h)
 
 pub returns-in-Ok-clause-appends : goal.returns-in-Ok-clause-appends

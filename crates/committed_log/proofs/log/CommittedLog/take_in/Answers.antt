@@ -47,7 +47,7 @@ invariant_of-self g c =
           (p.may_leave d.pair)) (sym (homes_so g at))
           (taken_stands d.clearing d.slots.homes.items c.args.homes.now (p.base d.pair) (p.journal d.pair)
           (p.may_leave d.pair) c.requires.settled (c.requires.region h) (c.requires.durable h)
-          (d.standing h));
+          (d.standing h) (g.met.P.DevicePair.few_blocks d.pair).0);
     }
 
 pub returns-clause-homes : goal.returns-clause-homes

@@ -1,7 +1,8 @@
 -- What is given up was noted, and nothing is noted of what is read then.
 use Rattle.std.proofs.Common.{inl}
+use Rattle.committed_log.specs.Committed.{base_of, journal_of}
+use Rattle.logged_pair.specs.Standing.{log_of, pair_of, shown_of}
 use Rattle.journaled_device.specs.DeviceLaws.{shown_blocks}
-use Rattle.journaled_device.specs.Standing.{base_of, journal_of, shown_of}
 use Rattle.journaled_device.proofs.GivingUp.{stops_given_up}
 use Rattle.journaled_device.proofs.Noting.{noted_new, noted_same, only_new}
 use Rattle.journaled_device.proofs.device.JournaledDevice.forget.Goals as goal
@@ -27,7 +28,8 @@ invariant_of-self-2 g c = record {
       let p = g.met.P.DevicePair in
       let h = c.give_up.ensures.honest.1 h' in
       noted_new d c.new-self.result.taken c.new-self.ensures
-      (shown_blocks d h' (p.whole d.pair (base_of d) (journal_of d) h' (p.shown_counts d.pair h')))
+      (shown_blocks d h' (p.whole (pair_of d) (base_of (log_of d)) (journal_of (log_of d)) h'
+      (p.shown_counts (pair_of d) h')))
       (c.in_ok-give_up.ensures.one h);
 }
 

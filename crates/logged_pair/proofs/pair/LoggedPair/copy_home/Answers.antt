@@ -52,3 +52,6 @@ returns-clause-last_stays g c = λ h fills.
     let is = stays settled p n (stay.there p n s) (all ∙ ap (λ (x : _). end_of x) (sym same)) in
     (is.0, is.1 ∙ (stay.shown p n s).blocks))
     (c.copy_now.ensures.last_stays (c.finish.ensures.honest.0 h))
+
+pub returns-clause-durable : goal.returns-clause-durable
+returns-clause-durable g c = λ h. c.copy_now.ensures.durable (c.finish.ensures.honest.0 h)

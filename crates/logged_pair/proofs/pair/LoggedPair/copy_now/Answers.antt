@@ -8,12 +8,12 @@ use Rattle.committed_log.specs.Home.{IsQuiet}
 use Rattle.committed_log.specs.Log.{recovered}
 use Rattle.logged_pair.specs.CommitLaws.{few_seen, settled_of}
 use Rattle.logged_pair.specs.Standing.{commits_of}
-use Rattle.logged_pair.specs.Stages.{IsFilling, IsStanding}
+use Rattle.logged_pair.specs.Stages.{IsFilling, IsStanding, shown_through}
 use Rattle.logged_pair.proofs.Advanced.{quiet_stands}
 use Rattle.logged_pair.proofs.GivingUp.{bare_shown}
 use Rattle.logged_pair.proofs.Keeping.{keeps_call, keeps_seen}
 use Rattle.logged_pair.proofs.Stills.{log_behind, log_commits, log_leaves, log_seen, log_shown, log_stands, stays_of}
-use Rattle.logged_pair.proofs.Stood.{commits_filling, filling, on_any, on_err}
+use Rattle.logged_pair.proofs.Stood.{commits_filling, filling, on_any, on_either, on_err}
 use Rattle.logged_pair.specs.Snapshots.{IsSnapshot, ShowsLastOf}
 use Rattle.logged_pair.proofs.Snapped.{last_same, last_shows, last_stays, snaps_still}
 use Rattle.logged_pair.proofs.pair.LoggedPair.copy_now.Given as given
@@ -176,3 +176,15 @@ returns-clause-last_stays g c = λ h.
     (g.met.P.DevicePair.few_blocks (regions.pair_of e)).0 h (c.copy_home.ensures.honest.0 h2)
     (homes ∙ (stays_of (c.sync_base.ensures.still h)).homes) (same_so g at h) (stands_so g at h))
     c.copy_home.ensures.refused
+
+pub returns-clause-durable : goal.returns-clause-durable
+returns-clause-durable g c = λ h.
+    let e = c.copy_home.new.self in let hs = c.args.self.now.slots.homes.items in
+    let few = (g.met.P.DevicePair.few_blocks (regions.pair_of e)).0 in
+    let h2 = c.sync_base.ensures.honest.0 h in
+    let quiet : IsQuiet e = c.copy_home.ensures.quiet h2 in
+    on_either c.copy_home.result _
+    (settled_of e (shown_through hs (regions.behind_of e) (regions.seen_of e)) few (c.copy_home.ensures.honest.0 h2)
+    (λ v j left. quiet.base v j left
+    ∙ sym (bare_shown hs (regions.seen_of e) (regions.behind_of e) (few_seen e few) c.requires.none))
+    quiet.unsaid)

@@ -10,6 +10,6 @@ use Rattle.rstore_c.proofs.exports.questions.rstore_c_nearest.Goals as goal
 -- the session is the one that the handle holds
 pub returns-clause-asks : goal.returns-clause-asks
 returns-clause-asks c =
-    subst (λ (held : Held). AsksWith held.session c.nearest-number.new.self (raw_point c.args.numbers.now)
-    (λ p. Nearest c.args.layer.now c.args.k p) distances_answer with_near c.nearest-number.result)
-    c.held.ensures.value c.nearest-number.ensures
+    subst (λ (held : Held). AsksWith held.session c.nearest_in.new.session (raw_point c.args.numbers.now)
+    (λ p. Nearest c.args.layer.now c.args.k p) distances_answer with_near c.nearest_in.result)
+    c.held.ensures.value c.nearest_in.ensures.asks

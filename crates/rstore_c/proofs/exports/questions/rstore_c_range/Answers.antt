@@ -10,7 +10,7 @@ use Rattle.rstore_c.proofs.exports.questions.rstore_c_range.Goals as goal
 -- the session is the one that the handle holds
 pub returns-clause-asks : goal.returns-clause-asks
 returns-clause-asks c =
-    subst (λ (held : Held). AsksWith held.session c.range-number.new.self
+    subst (λ (held : Held). AsksWith held.session c.range_in.new.session
     (raw_query c.args.kind c.args.numbers.now)
     (λ query. Range c.args.layer.now query (tag_of c.args.tagged c.args.tag)) boxes_answer with_boxes
-    c.range-number.result) c.held.ensures.value c.range-number.ensures
+    c.range_in.result) c.held.ensures.value c.range_in.ensures.asks

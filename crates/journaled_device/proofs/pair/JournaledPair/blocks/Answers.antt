@@ -1,9 +1,0 @@
--- The slots add no block.
-use Rattle.std.proofs.Common.{◌∙◌, sym}
-use Rattle.journaled_device.specs.Standing.{base_of, homes_of, journal_of}
-use Rattle.journaled_device.specs.Replay.{length-overlaid}
-use Rattle.journaled_device.proofs.pair.JournaledPair.blocks.Goals as goal
-
-pub returns-clause-is : goal.returns-clause-is
-returns-clause-is g c = let d = c.args.self.now in
-    c.base_blocks.ensures.is ∙ sym (length-overlaid (homes_of d) (journal_of d) (base_of d))

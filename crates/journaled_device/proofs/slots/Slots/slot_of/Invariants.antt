@@ -1,9 +1,0 @@
--- Down the chain of a bucket.
-use Rattle.journaled_device.proofs.Chains.{IsSought}
-use Rattle.journaled_device.proofs.slots.Slots.slot_of.Given as goal
-
-abbrev pub invariant-loop-next : goal.invariant-loop-next
-invariant-loop-next g l = IsSought l.self.homes.items l.self.heads.items l.i l.next
-
-abbrev pub decreases-loop-next : goal.decreases-loop-next
-decreases-loop-next g l = l.next

@@ -1,0 +1,2 @@
+-- The files of lemmas.
+mod Steps
