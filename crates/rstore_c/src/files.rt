@@ -181,8 +181,8 @@ fn store_read<P: DevicePair + Drop>(
 }
 
 /// Ends a run over the files: what was not committed is given up, what was is copied home, the mark is taken away, and
-/// the journal is removed. Where a device fails the next opening brings the same blocks back. A journal that can't be removed
-/// is no failure: it says that the run has ended.
+/// the journal is removed. Where a device fails the next opening brings the same blocks back. A journal that can't be
+/// removed is no failure: it says that the run has ended.
 pub fn end(device: Device, ask: &mut Streams) -> Result<(), DeviceError> {
     // The files are open until the journal is gone.
     if let Some(_pair) = end_device(device)? {
