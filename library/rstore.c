@@ -12,15 +12,22 @@
 #include <sys/file.h>
 #include <sys/mman.h>
 #include <sys/stat.h>
+#include <time.h>
 #include <unistd.h>
 
 /* What the proved code calls a Handle is the first member: the address of a session, in a block of malloc's. */
 struct rstore {
     void *session;
     int fd[3];      /* the file; its journal, or -1; and the copy that took the journal's place, or -1 */
-    char *journal;  /* the path of the journal, or NULL */
-    char *part;     /* where a copy of it is made, or NULL */
+    char *real;     /* the path of the file, or NULL; of its journal; and of where a copy of that is made */
+    char *journal;
+    char *part;
     bool memory;    /* the files are in memory, without names */
+    bool reads;     /* they are only read */
+    bool alone;     /* the file is locked alone, whoever reads */
+    uint64_t told;  /* the file's size, as it was told last */
+    off_t end;      /* of a reader: where the flag lies behind the regions of the log that it reads */
+    uint32_t cache;
     bool unsure;    /* the folder of a journal that was opened could not be synced */
     bool half;      /* a change was half done, and is to be rolled back */
     bool abandoned; /* nothing is read or written any more */
@@ -29,6 +36,8 @@ struct rstore {
     rstore_blocks blocks; /* in the place of the file, or NULL each */
     void *context;
     bool marked, shut;    /* of these: whether the gate has the mark; whether their gate is known to be shut */
+    bool refused;         /* the last call was a refresh, which was refused with this detail */
+    uint64_t detail;
 };
 
 /* The handle whose function runs, and what came with the last opening that was refused. */
@@ -36,7 +45,7 @@ static _Thread_local rstore *serving;
 static _Thread_local uint64_t refused_detail;
 
 /* ---- files, as crates/file_device opens them; the numbers are those of OpenError in crates/stream_file */
-enum { DONE = 0, REFUSED = 1, IN_USE = 2, NO_LOCKS = 3, NO_MEMORY = 4 };
+enum { DONE = 0, REFUSED = 1, IN_USE = 2, NO_LOCKS = 3, NO_MEMORY = 4, MISSING = 5 };
 enum { UNSURE = -2 };
 
 /* The folder of a path, open; or -1. */
@@ -48,15 +57,40 @@ static int folder_of(const char *path) {
     return fd;
 }
 
-/* Opens a regular file and locks it, and syncs its folder where its name is to be kept: *fd is UNSURE where that failed.
- * Its number is none of a standard stream's. */
-static int open_locked(const char *path, int how, int lock, bool keeps, int *fd) {
+/* A thousandth of a second. */
+static void wait_a_moment(void) { nanosleep(&(struct timespec){0, 1000000}, NULL); }
+
+/* Asks for a lock, for some two seconds where it is one that others hold alone for an instant. */
+static int lock_file(int fd, int lock, bool waits) {
+    for (int tries = waits ? 2000 : 0;; tries--) {
+        if (!flock(fd, lock | LOCK_NB)) return DONE;
+        if (errno != EWOULDBLOCK && errno != EINTR) return NO_LOCKS;
+        if (tries <= 0) return IN_USE;
+        wait_a_moment();
+    }
+}
+
+/* Whether a path leads to the file that is open. */
+static bool leads_to(const char *path, int fd) {
+    struct stat there, open;
+    return !stat(path, &there) && !fstat(fd, &open) && there.st_dev == open.st_dev && there.st_ino == open.st_ino;
+}
+
+/* Opens a regular file, with its folder synced where its name is to be kept: *fd is UNSURE where that failed. Its number is
+ * none of a standard stream's. With a lock it is locked, once for others or alone; one that has other names is locked alone
+ * by a writer, and *alone says so, since its journal is known by one of them. */
+enum lock { NONE, SHARED, WAITS, ALONE };
+static int open_file(const char *path, int how, enum lock lock, bool keeps, int *fd, bool *alone) {
     struct stat found;
     int folder = keeps ? folder_of(path) : -1;
     if (keeps && folder < 0) return *fd = UNSURE, REFUSED;
-    int made = open(path, how | O_CLOEXEC | O_NOCTTY | O_NONBLOCK, 0666), error = REFUSED;
-    if (made >= 3 && !fstat(made, &found) && S_ISREG(found.st_mode))
-        error = !flock(made, lock | LOCK_NB) ? DONE : errno == EWOULDBLOCK ? IN_USE : NO_LOCKS;
+    int made = open(path, how | O_CLOEXEC | O_NOCTTY | O_NONBLOCK, 0666);
+    int error = made < 0 && errno == ENOENT ? MISSING : REFUSED;
+    if (made >= 3 && !fstat(made, &found) && S_ISREG(found.st_mode)) {
+        bool only = lock == ALONE || (lock == SHARED && found.st_nlink > 1);
+        error = lock == NONE ? DONE : lock_file(made, only ? LOCK_EX : LOCK_SH, lock == WAITS);
+        if (alone) *alone = only;
+    }
     if (!error && folder >= 0 && fsync(folder)) error = REFUSED, *fd = UNSURE;
     if (folder >= 0) close(folder);
     if (error && made >= 0) close(made);
@@ -72,18 +106,62 @@ static int open_memory(int *fd) {
     return REFUSED;
 }
 
+/* Whether the lock of a journal counts: its path still leads to it, and the file, which was looked at before, has no other
+ * size. Else another session came in between, and may have gone again. */
+static bool is_own(rstore *db, const char *path, int fd) {
+    struct stat found;
+    bool lent = db->blocks.read, first = db->fd[1] < 0;
+    return leads_to(path, fd) && (lent || !first || (!fstat(db->fd[0], &found) && (uint64_t)found.st_size == db->told));
+}
+
 /* Opens the journal, or makes it, or makes a copy's file; one that was open is closed. In memory there is none but one that
- * is made. Once the name of one that is there was not synced none is opened: it was not looked at. */
+ * is made. Once the name of one that is there was not synced none is opened: it was not looked at. A reader's was opened
+ * before, if there is one. */
 static int open_journal(rstore *db, int side, const char *path, int how) {
     int fd = -1, error = REFUSED;
+    if (db->reads) return side == 1 && !how && db->fd[1] >= 0 ? DONE : REFUSED;
     if (db->unsure) return error;
-    if (path) error = open_locked(path, O_RDWR | how, LOCK_EX, side == 1, &fd);
+    if (path) error = open_file(path, O_RDWR | how, ALONE, side == 1, &fd, NULL);
     else if (db->memory && how & O_CREAT) error = open_memory(&fd);
     db->unsure = fd == UNSURE;
+    if (!error && path && !is_own(db, path, fd)) close(fd), error = IN_USE;
     if (error) return error;
     if (db->fd[side] >= 0) close(db->fd[side]);
     db->fd[side] = fd;
     return DONE;
+}
+
+/* The lock of a file that others may read: it is held alone, if nobody does, or shared as before. Of a handle whose lock is
+ * lost nothing is read or written any more. */
+static int take_lock(rstore *db, bool alone) {
+    if (db->memory || db->alone) return DONE;
+    if (db->reads) return IN_USE;
+    int error = alone ? lock_file(db->fd[0], LOCK_EX, false) : DONE;
+    if (alone && !error) return DONE;
+    if (lock_file(db->fd[0], LOCK_SH, true)) db->abandoned = true, error = REFUSED;
+    return error;
+}
+
+/* ---- the log of a journal, as a reader finds it (docs/FORMAT.md, "The journal") */
+enum { BLOCK = 4096, LOG = 2 * BLOCK };
+
+/* Whether a region there is committed. */
+static bool is_committed(int fd, off_t at) {
+    unsigned char flag[9];
+    return pread(fd, flag, sizeof flag, at) == sizeof flag && !memcmp(flag, "RSTARJNL\1", sizeof flag);
+}
+
+/* Where the flag lies behind the regions that are committed; -1 where one has no count, which the proved code refuses. It
+ * ends, since the file does. */
+static off_t end_of_log(int fd) {
+    unsigned char count[12];
+    off_t at = LOG;
+    while (is_committed(fd, at)) {
+        if (pread(fd, count, sizeof count, at + BLOCK) != sizeof count) return -1;
+        off_t n = (off_t)count[8] << 24 | (off_t)count[9] << 16 | (off_t)count[10] << 8 | count[11];
+        at += BLOCK * (2 + n + (n + 1023) / 1024);
+    }
+    return at;
 }
 
 /* Makes an empty file for a copy, in the place of one that was left. */
@@ -97,6 +175,7 @@ static int make_copy(rstore *db) {
 static int unlink_journal(rstore *db, bool replaced) {
     struct stat there, open;
     if (db->memory) return DONE; /* it goes with the handle */
+    if (db->reads) return REFUSED;
     int folder = db->journal ? folder_of(db->journal) : -1;
     if (folder < 0) return REFUSED;
     bool found = !lstat(db->journal, &there), missing = !found && errno == ENOENT && !replaced;
@@ -153,6 +232,7 @@ static int size_of(rstore *db, uint64_t *size) {
     int answer = lent ? done_by(db, db->blocks.count(db->context, size))
                       : fstat(db->fd[db->side], &found) ? REFUSED : DONE;
     *size = answer ? 0 : lent ? *size * 4096 : (uint64_t)found.st_size;
+    if (db->side == 0) db->told = *size;
     return answer;
 }
 
@@ -161,10 +241,13 @@ static int sync_file(rstore *db) {
     return db->blocks.sync ? done_by(db, db->blocks.sync(db->context)) : DONE;
 }
 
-/* A block, whole, read or written; what the file lacks reads as zeros. */
+/* A block, whole, read or written; what the file lacks reads as zeros, and so does to a reader the flag behind the regions
+ * that it found, so that it has one table, whatever is committed meanwhile. */
 static int block(rstore *db, void *into, const void *from) {
     if (db->abandoned) { if (into) memset(into, 0, 4096); return REFUSED; }
     if (db->blocks.read && db->side == 0) return into ? read_lent(db, into) : write_lent(db, from);
+    if (db->reads && !into) return REFUSED;
+    if (db->reads && db->side == 1 && db->at == db->end) return memset(into, 0, 4096), DONE;
     int fd = db->fd[db->side];
     for (size_t done = 0; done < 4096;) {
         ssize_t n = into ? pread(fd, (char *)into + done, 4096 - done, db->at + (off_t)done)
@@ -200,6 +283,8 @@ ssize_t rstore_stream_write(int fd, const void *bytes, size_t count) {
     case 'x': db->outcome = (unsigned char)unlink_journal(db, false); break;
     case 'c': db->outcome = (unsigned char)make_copy(db); break;
     case 'p': db->outcome = (unsigned char)unlink_journal(db, true); break;
+    case 'a': db->outcome = (unsigned char)take_lock(db, true); break;
+    case 'l': db->outcome = (unsigned char)take_lock(db, false); break;
     default: break;
     }
     return 10;
@@ -228,7 +313,7 @@ ssize_t rstore_stream_read(int fd, void *into, size_t count) {
 #define NAMED(layer) ((layer) && *(layer))
 #define AXES(axes) ((axes) == 2 || (axes) == 3)
 /* A call that may read or write the files of db, and a function that is one. */
-#define DO(call) (db->half ? RSTORE_STORE_FAILED : (serving = db, (int)(call)))
+#define DO(call) (db->half ? RSTORE_STORE_FAILED : (serving = db, db->refused = false, (int)(call)))
 #define CALL(condition, call) { ASK(condition); return DO(call); }
 
 /* ---- errors */
@@ -252,26 +337,35 @@ const char *rstore_errstr(int error) {
     return error > 100 && error <= 108 ? own[error - 101] : "not an error of rstore";
 }
 
-uint64_t rstore_detail(rstore *db) { return db ? rstore_c_detail(db) : refused_detail; }
+uint64_t rstore_detail(rstore *db) { return !db ? refused_detail : db->refused ? db->detail : rstore_c_detail(db); }
 
 /* ---- opening and closing */
-/* Opens the file, and knows the path of its journal, which lies beside the file itself and not beside a link to it. */
-static int open_files(rstore *db, const char *path, int flags) {
-    static const int numbers[] = { RSTORE_OK, RSTORE_CANNOT_OPEN, RSTORE_BUSY, RSTORE_NO_LOCKS, RSTORE_MEMORY };
-    if (!path) return db->memory = true, numbers[open_memory(&db->fd[0])];
-    bool reads = flags == RSTORE_READ_ONLY;
-    int how = reads ? O_RDONLY : O_RDWR | (flags == RSTORE_CREATE ? O_CREAT : 0);
-    int error = open_locked(path, how, reads ? LOCK_SH : LOCK_EX, how & O_CREAT, &db->fd[0]);
-    if (error || reads) return numbers[error];
-    char *real = realpath(path, NULL);
-    if (!real) return errno == ENOMEM ? RSTORE_MEMORY : RSTORE_CANNOT_OPEN;
-    size_t length = strlen(real);
+/* Knows the path of the file, and that of its journal, which lies beside the file itself and not beside a link to it. */
+static int name_files(rstore *db, const char *path) {
+    db->real = realpath(path, NULL);
+    if (!db->real) return errno == ENOMEM ? RSTORE_MEMORY : RSTORE_CANNOT_OPEN;
+    size_t length = strlen(db->real);
     db->journal = malloc(length + sizeof "-journal");
     db->part = malloc(length + sizeof "-journal-part");
-    if (db->journal) strcpy(strcpy(db->journal, real) + length, "-journal");
-    if (db->part) strcpy(strcpy(db->part, real) + length, "-journal-part");
-    free(real);
+    if (db->journal) strcpy(strcpy(db->journal, db->real) + length, "-journal");
+    if (db->part) strcpy(strcpy(db->part, db->real) + length, "-journal-part");
     return db->journal && db->part ? RSTORE_OK : RSTORE_MEMORY;
+}
+
+/* Opens the file, and of a reader the journal, without a lock, if there is one. */
+static int open_files(rstore *db, const char *path, int flags) {
+    static const int numbers[] = { RSTORE_OK, RSTORE_CANNOT_OPEN, RSTORE_BUSY, RSTORE_NO_LOCKS, RSTORE_MEMORY,
+                                   RSTORE_CANNOT_OPEN };
+    if (!path) return db->memory = true, numbers[open_memory(&db->fd[0])];
+    db->reads = flags == RSTORE_READ_ONLY;
+    int how = db->reads ? O_RDONLY : O_RDWR | (flags == RSTORE_CREATE ? O_CREAT : 0);
+    int error = open_file(path, how, db->reads ? WAITS : SHARED, how & O_CREAT, &db->fd[0], &db->alone);
+    if (error) return numbers[error];
+    error = name_files(db, path);
+    if (error || !db->reads) return error;
+    error = open_file(db->journal, O_RDONLY, NONE, false, &db->fd[1], NULL);
+    if (!error) db->end = end_of_log(db->fd[1]);
+    return error == MISSING ? RSTORE_OK : numbers[error];
 }
 
 /* Lets go of the files, with their locks, and of the handle. */
@@ -279,7 +373,7 @@ static int let_go(rstore *db) {
     int failed = 0;
     for (int side = 2; side >= 0; side--)
         if (db->fd[side] >= 0 && close(db->fd[side])) failed = RSTORE_DEVICE;
-    free(db->journal), free(db->part), free(db->session), free(db);
+    free(db->real), free(db->journal), free(db->part), free(db->session), free(db);
     serving = NULL;
     return failed;
 }
@@ -298,11 +392,41 @@ static int open_store(rstore *db, int error, int flags, uint32_t cache, rstore *
     return error;
 }
 
+/* Closes the store, and lets go of all. */
+static int end(rstore *db) {
+    serving = db;
+    int error = (int)rstore_c_close(db), failed = let_go(db);
+    return error ? error : failed;
+}
+
+/* Has the disk take the log that a reader shows, so that no stop takes it back. A file system that takes nothing has no
+ * more to lose. */
+static int sync_log(rstore *db) {
+    bool done = db->end <= LOG || !fdatasync(db->fd[1]) || errno == EINVAL || errno == EROFS;
+    return done ? RSTORE_OK : RSTORE_DEVICE;
+}
+
+/* Opens the store to be only read. A writer may be making its journal anew: where that of the file is not found, both are
+ * looked at again. */
+static int open_reader(const char *path, uint32_t cache, rstore **opened) {
+    for (int tries = 50;; tries--) {
+        rstore *db = new_handle();
+        if (!db) return RSTORE_MEMORY;
+        db->cache = cache;
+        int error = open_store(db, open_files(db, path, RSTORE_READ_ONLY), RSTORE_READ_ONLY, cache, opened);
+        if (!error && (error = sync_log(*opened))) end(*opened), *opened = NULL;
+        bool anew = error == RSTORE_NO_JOURNAL || error == RSTORE_OTHER_JOURNAL || error == RSTORE_NOT_CLOSED;
+        if (!anew || !tries) return error;
+        wait_a_moment();
+    }
+}
+
 int rstore_open(const char *path, int flags, uint32_t cache, rstore **opened) {
     refused_detail = 0;
     ASK(opened);
     *opened = NULL;
     ASK(path ? *path && flags >= RSTORE_EXISTING && flags <= RSTORE_READ_ONLY : flags == RSTORE_CREATE);
+    if (flags == RSTORE_READ_ONLY) return open_reader(path, cache, opened);
     rstore *db = new_handle();
     if (!db) return RSTORE_MEMORY;
     return open_store(db, open_files(db, path, flags), flags, cache, opened);
@@ -321,13 +445,6 @@ int rstore_open_blocks(const rstore_blocks *blocks, void *context, int flags, ui
     return open_store(db, RSTORE_OK, flags | 4, cache, opened); /* each commit goes to the caller's blocks */
 }
 
-/* Closes the store, and lets go of all. */
-static int end(rstore *db) {
-    serving = db;
-    int error = (int)rstore_c_close(db), failed = let_go(db);
-    return error ? error : failed;
-}
-
 int rstore_close(rstore *db) {
     if (!db) return RSTORE_OK;
     bool failed_before = db->half;
@@ -340,6 +457,36 @@ void rstore_abandon(rstore *db) {
     if (!db) return;
     db->abandoned = true;
     end(db);
+}
+
+/* Whether a reader has another table than it would find now: another file or journal lies there, the log goes on, or the
+ * gate has got the mark of a journal that is not there. While a reader shares the lock, nothing else changes it. */
+static bool is_newer(rstore *db) {
+    unsigned char gate[GATE_BYTE + 1];
+    if (!leads_to(db->real, db->fd[0])) return true;
+    if (db->fd[1] >= 0) return !leads_to(db->journal, db->fd[1]) || is_committed(db->fd[1], db->end);
+    int fd = open(db->journal, O_RDONLY | O_CLOEXEC | O_NOCTTY | O_NONBLOCK);
+    bool newer = fd >= 0 ? is_committed(fd, LOG)
+                         : pread(db->fd[0], gate, sizeof gate, 0) != sizeof gate || is_gate(gate, MARKED);
+    if (fd >= 0) close(fd);
+    return newer;
+}
+
+int rstore_refresh(rstore *db, int *changed) {
+    ASK(db);
+    bool newer = db->reads && is_newer(db);
+    db->refused = false;
+    if (newer) {
+        rstore *made = NULL;
+        refused_detail = 0;
+        int error = open_reader(db->real, db->cache, &made);
+        if (error) return db->refused = true, db->detail = refused_detail, error;
+        rstore older = *db;
+        *db = *made, *made = older;
+        end(made);
+    }
+    if (changed) *changed = newer;
+    return RSTORE_OK;
 }
 
 int rstore_commit(rstore *db) CALL(db, rstore_c_commit(db))

@@ -14,13 +14,16 @@
  * WHAT IS KEPT. Changes are in the file once rstore_commit or rstore_close answered RSTORE_OK, all of them or, before,
  * none. A process that is killed, or a machine that stops, at any moment, loses what was changed since the last of
  * these, and nothing else: the next rstore_open brings back the table that was kept last (or that of a commit that was
- * in progress). For that a journal stands beside the file, as FILE-journal, from rstore_open to rstore_close. After a
- * kill the two belong together: do not copy, move or remove one without the other, until the file was opened once for
- * writing. The file and the journal are those of the program rstore, byte for byte (docs/FORMAT.md).
+ * in progress). For that a journal stands beside the file, as FILE-journal, from rstore_open to rstore_close, and longer
+ * after a kill, or where somebody still reads the file. While it is there the two belong together: do not copy, move or
+ * remove one without the other, until the file was opened once for writing, alone, and closed. The file and the journal are those of the program rstore, byte for byte (docs/FORMAT.md).
  *
- * THE LOCK. A file is open for writing once at a time, or any number of times with RSTORE_READ_ONLY, by whatever
- * programs: rstore_open takes the lock of the program rstore (flock), and answers RSTORE_BUSY where it is not given. A
- * reader sees the file as it was closed last, and the writer waits for no reader: it is refused while there is one.
+ * READERS BESIDE A WRITER. A file is open for writing once at a time, and any number of times with RSTORE_READ_ONLY, by
+ * whatever programs: rstore_open takes the locks of the program rstore (flock), and a second writer gets RSTORE_BUSY. A
+ * reader has one table throughout: that which was kept last when it opened the file, or at its last rstore_refresh. The
+ * writer commits whenever it likes. While there are readers its commits stay in the journal, which grows with each; once it
+ * finds none, at a change after some 4000 blocks or at its close, all goes into the file. A reader writes nothing. It waits
+ * up to two seconds while the writer does that, and is answered RSTORE_BUSY then.
  *
  * OWNERSHIP. A handle is the caller's, from rstore_open to rstore_close, which frees it whatever it answers. Arrays of
  * results are made by the library and freed by rstore_free. Names, paths, boxes and rows that are given are read during
@@ -109,14 +112,14 @@ enum {
     RSTORE_DEVICE = 17,           /* a read, write or sync of the file failed */
     RSTORE_DAMAGED = 18,          /* rstore_detail: the page */
     RSTORE_STORE_FAILED = 19,     /* rstore_detail: the number of the fault, or 19 where it had failed before */
-    RSTORE_NOT_CLOSED = 20,       /* the file was changed and not closed: with RSTORE_READ_ONLY after a kill, or no journal */
+    RSTORE_NOT_CLOSED = 20,       /* the file was changed and not closed, and has no journal */
     RSTORE_NOT_A_STORE = 21,
     RSTORE_WRONG_VERSION = 22,
     RSTORE_BAD_CACHE = 23,        /* 8 to 4096 pages */
     RSTORE_BAD_LINE = 24,         /* of the command language; no function answers it */
     RSTORE_NO_PAGES = 25,
     RSTORE_CANNOT_OPEN = 101,     /* the system refuses the file or its journal, or it is no regular file */
-    RSTORE_BUSY = 102,            /* the file is open elsewhere */
+    RSTORE_BUSY = 102,            /* the file is open for writing elsewhere */
     RSTORE_NOT_OPEN = 103,        /* a rollback was refused, and the store is not open since */
     RSTORE_MISUSE = 104,          /* a null pointer, an empty name, or numbers that are no box, point or query */
     RSTORE_READ_ONLY_STORE = 105, /* a change of a store that was opened with RSTORE_READ_ONLY */
@@ -130,7 +133,8 @@ const char *rstore_version(void);
 const char *rstore_errstr(int error);
 
 /* The number that came with the last error of this handle: an identifier, a page or a fault, else 0. Right after
- * rstore_open it is 1 where the last session was cut short after a commit, and 0 else. Of NULL it is the number that came
+ * rstore_open for writing it is 1 where the last session was cut short after a commit, and may have changed more since;
+ * and 0 else. Of NULL it is the number that came
  * with the last rstore_open of this thread that was refused. */
 uint64_t rstore_detail(rstore *db);
 
@@ -139,7 +143,8 @@ uint64_t rstore_detail(rstore *db);
 enum {
     RSTORE_EXISTING = 0, /* the file must be there */
     RSTORE_CREATE = 1,   /* a file that is missing or empty becomes an empty store */
-    RSTORE_READ_ONLY = 2 /* the file is only read, and may lack the right to be written; changes are refused */
+    RSTORE_READ_ONLY = 2 /* the file is only read, beside a writer too, and may lack the right to be written; changes
+                            are refused */
 };
 
 /* Opens the store in the file at `path`; with NULL and RSTORE_CREATE makes one in memory, which goes with its handle and
@@ -148,7 +153,8 @@ enum {
 int rstore_open(const char *path, int flags, uint32_t cache, rstore **db);
 
 /* Keeps all changes in the file and frees the handle, whatever it answers. RSTORE_DEVICE is answered, too, where all was
- * kept and only the end of the session failed, which the next rstore_open does. NULL is fine. */
+ * kept and only the end of the session failed, which the next rstore_open does. While somebody reads the file, what is kept
+ * stays in the journal, and RSTORE_OK is answered. NULL is fine. */
 int rstore_close(rstore *db);
 
 /* Frees the handle and keeps nothing: what was changed since the last commit is given up, as after a kill. NULL is
@@ -167,6 +173,14 @@ int rstore_commit(rstore *db);
  * Refused, by RSTORE_MEMORY or RSTORE_DEVICE, it leaves the store not open: each call answers RSTORE_NOT_OPEN, until a
  * further rstore_rollback goes well. rstore_close answers that too then, and keeps nothing that was changed. */
 int rstore_rollback(rstore *db);
+
+/* Of a store that is only read: goes on with the table that its file was closed with last. *changed (where changed is not
+ * NULL) is 0 where the handle has that table, and then nothing is done but a look at the file; else it is 1, the pages that
+ * are held in memory are forgotten, and those of the opening are read. So it is, too, where the journal was made anew, of the
+ * same table. A name that leads to another file since is followed. Rows for rstore_more are gone then. Refused, by the
+ * errors of rstore_open, it leaves the handle with the table that it had. Of any other store it does nothing, and *changed
+ * is 0. */
+int rstore_refresh(rstore *db, int *changed);
 
 /* Reads every page: RSTORE_OK only where the file is sound, RSTORE_DAMAGED where it is not. */
 int rstore_check(rstore *db);

@@ -3,9 +3,9 @@
 # errors, in C++ too, worked rows of each question and each misuse, address and undefined-behaviour sanitizers over them,
 # 2,000 allocations that fail in turn, a thread with the least stack that is promised, sessions that are stopped at each
 # call of the system, 100,000 random boxes beside plain lists, many questions in one call, changes that are given up,
-# and from Python random sessions beside dictionaries, kills, processes and threads, files exchanged with the program
-# both ways, `Index` by its documentation and beside rtree, what stops of the machine leave of the calls of a
-# session (tests/stops_of_files.py), sharded layers beside one store and what goes wrong with them (where Dask is there),
+# and from Python random sessions beside dictionaries, kills, processes and threads, readers beside a writer, files exchanged
+# with the program both ways, `Index` by its documentation and beside rtree, what stops of the machine leave of the calls of
+# a session (tests/stops_of_files.py), sharded layers beside one store and what goes wrong with them (where Dask is there),
 # the extension of SQLite (sqlite/test.sh, where libsqlite3-dev and sqlite3 are there), and what README.md shows
 # (tests/readme.py). It says what it has tried, a line each. With a word after its name it tries less; of shards and SQL
 # it always does, whose own scripts try more.
@@ -75,7 +75,7 @@ cc -std=c11 $warnings $sanitize -I"$lib" "$here/test/rollback.c" "$work/checked/
 
 # Stops, over files in memory, and many boxes.
 wrapped=""
-for call in open close flock fstat lstat rename realpath unlink fsync fdatasync pread pwrite; do wrapped="$wrapped -Wl,--wrap=$call"; done
+for call in open close flock nanosleep fstat stat lstat rename realpath unlink fsync fdatasync pread pwrite; do wrapped="$wrapped -Wl,--wrap=$call"; done
 cc -std=c11 $warnings -O2 -I"$lib" "$here/test/stops.c" "$lib/librstore.a" $wrapped -o stops
 ./stops $quick
 cc -std=c11 $warnings -O2 -I"$lib" "$here/test/boxes.c" "$lib/librstore.a" -o boxes
@@ -99,6 +99,7 @@ if /usr/bin/python3 -c 'import rtree' 2>/dev/null; then python=/usr/bin/python3;
 "$python" "$here/test/test_shell.py"
 "$python" "$here/test/test_whole.py"
 "$python" "$here/test/test_rollback.py"
+"$python" "$here/test/test_readers.py"
 "$top/tests/stops_of_files.py" "$((rounds / 60))" "$RANDOM" library
 
 # Sharded layers, where a Python has Dask.

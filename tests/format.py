@@ -190,11 +190,18 @@ class Killed(Read):
         commands = ["insert a 1000 1 1 2 2 tag 3", "move a 7 5 5 6 6", *(f"delete a {k}" for k in range(20, 30))]
         commands += [f"insert a {it}" for it in objects_of(dice, 2, range(2000, 2060))]
         self.kill("store", text_of([*commands, "reopen"]), "ok\n" * (len(commands) + 1))
-        self.new, self.journal = self.files()["store"], self.files()["store-journal"]
-        # the file of a stop behind the commit, of which no slot was copied, and the journal then
-        self.base = self.old + self.new[len(self.old) :]
-        self.complete = with_numbers(self.journal, (FLAG, 8, 1, 1))
+        store, self.complete = self.files()["store"], self.files()["store-journal"]
+        # the file of a stop behind the commit, before it had the mark
+        self.base = self.old + store[len(self.old) :]
+        self.assertTrue(store == with_numbers(self.base, (0, 8, 1, 2)))
+        # the file once all is copied home, and the journal then
+        self.new = with_numbers(self.home(self.base, self.complete), (0, 8, 1, 2))
+        self.journal = with_numbers(self.complete, (FLAG, 8, 1, 0))
         self.slots = number_at(self.journal, FLAG + 1, 8, 4)
+
+    # The file that recovery makes of both.
+    def home(self, base, journal):
+        return b"".join(format_reader.recovered(format_reader.blocks_of(base), format_reader.blocks_of(journal)))
 
     def clear(self):
         for name in self.files():
@@ -234,6 +241,7 @@ class Killed(Read):
             self.assertTrue(self.files() == before, "a file was changed, made or removed")
 
     def test_as_kills_leave_them(self):
+        self.tells(with_numbers(self.base, (0, 8, 1, 2)), self.complete)
         self.tells(self.new, self.journal)
         self.assertIn("insert a 1000 1 1 2 2 tag 3\n", self.read())
         twice = ["reopen", "delete a 1000", "reopen"]
@@ -261,10 +269,12 @@ class Killed(Read):
         old = self.store()
         moves = [f"move a {ident} {box_of(dice, 2)}" for ident in range(0, 5000, 3)]
         self.kill("store", text_of([*moves, "reopen"]), "ok\n" * (len(moves) + 1))
-        new, journal = self.files()["store"], self.files()["store-journal"]
+        base, journal = self.files()["store"], self.files()["store-journal"]
         self.assertGreater(number_at(journal, FLAG + 1, 8, 4), 1024)
-        self.tells(old + new[len(old) :], with_numbers(journal, (FLAG, 8, 1, 1)))
-        self.assertTrue(self.store() == with_numbers(new, (0, 8, 1, 1)))
+        home = self.home(base, journal)
+        for left in (base, old + base[len(old) :]):
+            self.tells(left, journal)
+            self.assertTrue(self.store() == home)
 
     def test_journals_without_a_commit(self):
         shut = with_numbers(self.new, (0, 8, 1, 1))
@@ -312,20 +322,19 @@ class Killed(Read):
             with self.subTest(why=why):
                 self.tells(base, journal, why)
 
-    # Behind a run's first commit FILE keeps the blocks of that one, and gets others behind them.
+    # FILE keeps its blocks but for the mark, and gets others behind them.
     def test_a_log_of_several_commits(self):
         self.tells(self.new, self.journal)
         idents = [3000, 3001, 3002]
         states = self.parts(*([f"insert a {it} 1 1 2 2", f"delete a {it - 3000}", "reopen"] for it in idents))
         for count, (base, journal) in enumerate(states):
             regions, behind = regions_of(journal)
-            self.assertEqual((len(regions), number_at(base, 0, 8, 1)), (count, 2))
+            self.assertEqual((len(regions), number_at(base, 0, 8, 1)), (count + 1, 2))
             self.assertTrue(base.startswith(states[0][0]))
-            if count > 0:
-                self.assertTrue(journal[SIZE * behind :].startswith(NO_FLAG + bytes(SIZE)))
+            self.assertTrue(journal[SIZE * behind :].startswith(NO_FLAG + bytes(SIZE)))
             self.tells(base, journal)
             self.has(idents[: count + 1], idents[count + 1 :])
-        self.tell_logs_that_are_cut(*states[2])
+        self.tell_logs_that_are_cut(*states[1])
 
     # The file has the first of these objects, and none of the others.
     def has(self, some, others=()):
@@ -339,11 +348,11 @@ class Killed(Read):
         torn = [with_numbers(journal, (last, *number)) for number in ((8, 1, 0), (8, 1, 7), (0, 8, 7))]
         for cut in (*torn, journal[: SIZE * last]):
             self.tells(base, cut)
-            self.has([3000, 3001], [3002])
+            self.has([3000], [3001])
         and_one_without_slots = with_numbers(journal, (behind, 8, 1, 1))
         for whole in (journal[: SIZE * behind], and_one_without_slots):
             self.tells(base, whole)
-            self.has([3000, 3001, 3002])
+            self.has([3000, 3001])
         for broken in (
             journal[: SIZE * (last + 1)],
             journal[: SIZE * (behind - 1)],
@@ -353,20 +362,18 @@ class Killed(Read):
         ):
             self.tells(base, broken, format_reader.NO_JOURNAL)
 
-    # A run that finds a commit copies nothing until it commits itself, and then all of it.
+    # A run that finds a commit copies nothing but the gate, and adds its own behind it.
     def test_a_run_goes_on_with_the_log_that_it_finds(self):
         self.puts(self.base, self.complete)
         found, (base, journal) = self.parts(["check"], ["insert a 3000 1 1 2 2", "reopen"])
         self.assertTrue(found == (self.base, self.complete))
-        self.assertEqual((number_at(base, 0, 8, 1), number_at(journal, FLAG, 8, 1)), (2, 0))
-        both = with_numbers(journal, (FLAG, 8, 1, 1))
-        self.assertEqual(len(regions_of(both)[0]), 2)
-        self.assertTrue(both[: SIZE * (self.slots + 5)] == self.complete[: SIZE * (self.slots + 5)])
+        self.assertEqual(len(regions_of(journal)[0]), 2)
+        self.assertTrue(journal[: SIZE * (self.slots + 5)] == self.complete[: SIZE * (self.slots + 5)])
         older = self.base + base[len(self.base) :]
-        for left in (older, with_numbers(older, (0, 8, 1, 2)), base):
-            for log in (both, *([journal] if left == base else [])):
-                self.tells(left, log)
-                self.has([3000])
+        self.assertTrue(base == with_numbers(older, (0, 8, 1, 2)))
+        for left in (older, base):
+            self.tells(left, journal)
+            self.has([3000])
 
     # It has another text in its title, and nothing behind its one region.
     def test_a_journal_of_an_older_program(self):

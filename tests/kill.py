@@ -5,6 +5,11 @@ What a run had answered until then has to be what a plain table answers (plain_t
 must be sound, and must hold a table that was closed, or whose closing the run may have come to: none older than that of
 the last `reopen` whose reply was read.
 
+Beside each run two readers open the file again and again. Each asks for the whole table twice, with a check between and
+some time, and is killed now and then. Both times it has to see one and the same table that was closed, or whose closing
+the run may have come to: none older than that of the last `reopen` whose reply was read before the reader began. One
+more reader of some runs stays while the file is opened again: that run must leave the journal, with all that is kept.
+
 kill.py PROGRAM KILLS SEED
 """
 import os
@@ -21,6 +26,7 @@ from plain_table import RandomText, Table
 UNENDED = "rstore: the last run did not end; what changed after its last closing is lost\n"
 SIGNALS = [signal.SIGKILL, signal.SIGINT, signal.SIGTERM]
 KILLS_OF_A_FILE = 40
+READERS = 2
 
 
 class Script:
@@ -58,40 +64,113 @@ def run(program, words, text):
     return ended.returncode, ended.stdout, ended.stderr
 
 
-def killed(program, file, text, moment):
-    """The replies of a session that is killed after so many seconds, and whether it had ended before."""
-    child = subprocess.Popen(
-        [program, file], stdin=subprocess.PIPE, stdout=subprocess.PIPE, stderr=subprocess.DEVNULL
-    )
+class Run:
+    """A session that is killed after so many seconds."""
 
-    def feed():
+    def __init__(self, program, file, text):
+        self.child = subprocess.Popen(
+            [program, file], stdin=subprocess.PIPE, stdout=subprocess.PIPE, stderr=subprocess.DEVNULL
+        )
+        self.replies = b""
+        self.threads = [threading.Thread(target=self.feed, args=[text]), threading.Thread(target=self.hear)]
+        for thread in self.threads:
+            thread.start()
+
+    def feed(self, text):
         try:
-            child.stdin.write(text.encode())
-            child.stdin.close()
+            self.child.stdin.write(text.encode())
+            self.child.stdin.close()
         except (BrokenPipeError, ValueError):
             pass
 
-    replies = []
-    threads = [
-        threading.Thread(target=feed),
-        threading.Thread(target=lambda: replies.append(child.stdout.read())),
+    def hear(self):
+        while some := os.read(self.child.stdout.fileno(), 1 << 16):
+            self.replies += some
+
+    def killed(self, moment):
+        """Its replies, and whether it had ended before."""
+        time.sleep(moment)
+        had_ended = self.child.poll() is not None
+        self.child.send_signal(random.choice(SIGNALS))
+        for thread in self.threads:
+            thread.join()
+        self.child.wait()
+        return self.replies.decode(), had_ended
+
+
+class Reader:
+    """A run that only reads, beside one that writes."""
+
+    def __init__(self, program, file, script, session):
+        self.script, self.told = script, told_before(script, len(session.replies))
+        self.child = subprocess.Popen(
+            [program, "--read-only", file], stdin=subprocess.PIPE, stdout=subprocess.PIPE, stderr=subprocess.PIPE, text=True
+        )
+
+    def sees(self, pause, is_killed):
+        """Tests what it sees, unless it is killed."""
+        self.child.stdin.write("dump\ncheck\n")
+        self.child.stdin.flush()
+        time.sleep(pause)
+        if is_killed:
+            self.child.kill()
+            self.child.communicate()
+            return False
+        rows, said = self.child.communicate("dump\n", timeout=300)
+        if self.child.returncode != 0 or said:
+            raise AssertionError(f"a reader ends with {self.child.returncode}, {rows[-200:]}{said}")
+        for _, table in self.script.closings[self.told :]:
+            dump = table.answer(iter(["dump"]))
+            if rows == dump + "ok\n" + dump:
+                return True
+        raise AssertionError(f"a reader sees a table that was not closed last, or two: {rows}")
+
+
+def told_before(script, said):
+    """The last closing whose reply stands in so many bytes of replies."""
+    return [k for k, (end, _) in enumerate(script.closings[:-1]) if end <= said][-1]
+
+
+def read_beside(program, file, script, session, dice, ended, tally, wrongs):
+    """Reads again and again until the session has ended."""
+    try:
+        while not ended.is_set():
+            reader = Reader(program, file, script, session)
+            seen = reader.sees(dice.random() * 0.02, dice.random() < 0.05)
+            tally["readings"] = tally.get("readings", 0) + seen
+    except Exception as wrong:  # of a thread: told by who waits for it
+        wrongs.append(wrong)
+
+
+def killed(program, file, script, moment, tally):
+    """The replies of a session that is killed after so many seconds beside readers, and whether it had ended before."""
+    session = Run(program, file, script.text)
+    ended, wrongs = threading.Event(), []
+    readers = [
+        threading.Thread(
+            target=read_beside,
+            args=[program, file, script, session, random.Random(random.random()), ended, tally, wrongs],
+        )
+        for _ in range(READERS)
     ]
-    for thread in threads:
-        thread.start()
-    time.sleep(moment)
-    had_ended = child.poll() is not None
-    child.send_signal(random.choice(SIGNALS))
-    for thread in threads:
-        thread.join()
-    child.wait()
-    return replies[0].decode(), had_ended
+    for reader in readers:
+        reader.start()
+    replies, had_ended = session.killed(moment)
+    ended.set()
+    for reader in readers:
+        reader.join()
+    if wrongs:
+        raise AssertionError(wrongs[0])
+    return replies, had_ended
 
 
 def found(program, file, script, replies):
     """The table that the file holds after a session with these replies, and whether it was brought back."""
     if not script.replies.startswith(replies):
         raise AssertionError(f"replies {replies!r}\nand not {script.replies[:len(replies)]!r}")
-    told = [k for k, (said, _) in enumerate(script.closings[:-1]) if said <= len(replies)][-1]
+    told = told_before(script, len(replies))
+    if random.random() < 0.2:
+        keeps_beside(program, file)
     status, rows, said = run(program, [file], "check\ndump\n")
     if status != 0 or said not in ["", UNENDED] or os.path.exists(file + "-journal"):
         raise AssertionError(f"status {status}, {rows[:200]}{said}")
@@ -99,6 +178,26 @@ def found(program, file, script, replies):
         if rows == "ok\n" + table.answer(iter(["dump"])):
             return table, said != ""
     raise AssertionError(f"a table that was not closed last: {rows}")
+
+
+def keeps_beside(program, file):
+    """Opens the file beside a reader that stays: both see one table, and the reader sees it to its end."""
+    with tempfile.TemporaryFile() as said_by_reader:
+        reader = subprocess.Popen(
+            [program, "--read-only", file],
+            bufsize=0,
+            stdin=subprocess.PIPE,
+            stdout=subprocess.PIPE,
+            stderr=said_by_reader,
+        )
+        reader.stdin.write(b"dump\n")
+        begun = reader.stdout.read(1)
+        status, rows, said = run(program, [file], "dump\n")
+        rest_of, _ = reader.communicate(b"dump\n", timeout=300)
+        if (status, reader.returncode, said_by_reader.tell()) != (0, 0, 0) or said not in ["", UNENDED]:
+            raise AssertionError(f"beside a reader: status {status}, {reader.returncode}, {said}")
+        if begun + rest_of != 2 * rows.encode():
+            raise AssertionError(f"a reader and a run beside it see two tables: {begun + rest_of}{rows}")
 
 
 def main():
@@ -116,7 +215,7 @@ def main():
                     sys.exit("tests/kill.py: a new store is refused")
             script = Script(table, random.randrange(10, 1000))
             try:
-                replies, had_ended = killed(program, file, script.text, random.random() * longest)
+                replies, had_ended = killed(program, file, script, random.random() * longest, tally)
                 table, brought_back = found(program, file, script, replies)
             except AssertionError as wrong:
                 sys.exit(f"tests/kill.py: {wrong}; seed {seed}, kill {count}")

@@ -69,11 +69,10 @@ class Session(Read):
             self.assertTrue(self.found() == told, "another table is found than the one that was closed")
             files = self.files()
             sizes.append(regions(files["store-journal"]))
-            homes.append(files["store"][2 * SIZE :])
-        # the first is copied home, and then each adds a region, up to a long log
-        self.assertEqual([len(it) for it in sizes[:4]], [0, 1, 2, 3])
-        self.assertTrue(homes[0][: len(self.base)] != self.base[2 * SIZE :])
-        self.assertTrue(homes[3][: len(homes[0])] == homes[0], "a closing has changed a block of FILE")
+            homes.append(files["store"][SIZE:])
+        # each adds a region, up to a long log, and changes no block of FILE but its gate
+        self.assertEqual([len(it) for it in sizes[:4]], [1, 2, 3, 4])
+        self.assertTrue(homes[3].startswith(self.base[SIZE:]), "a closing has changed a block of FILE")
         anew = [k for k in range(1, self.parts) if len(sizes[k]) <= len(sizes[k - 1])]
         self.assertTrue(anew, sizes)
         for k in anew:

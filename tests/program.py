@@ -57,10 +57,19 @@ def let_no_file_be_locked():
         raise OSError("the system takes no filter of calls")
 
 
-def completed(journal):
-    """A journal that a run left which was killed, with a flag that says that its first region is committed."""
-    at = 2 * 4096 + 8  # where the flag says so
-    return journal[:at] + b"\1" + journal[at + 1 :]
+def with_byte(files, block, offset, value):
+    """FILE and its journal with another byte in this block, in FILE and in each slot that the log has of it."""
+    store, journal = bytearray(files["store"]), bytearray(files["store-journal"])
+    store[4096 * block + offset] = value
+    at = 2
+    while journal[4096 * at : 4096 * at + 9] == b"RSTARJNL\1":
+        count = int.from_bytes(journal[4096 * at + 4104 : 4096 * at + 4108], "big")
+        index = 4096 * (at + 2 + count)
+        for slot in range(count):
+            if int.from_bytes(journal[index + 4 * slot : index + 4 * slot + 4], "big") == block:
+                journal[4096 * (at + 2 + slot) + offset] = value
+        at += 2 + count + -(-count // 1024)
+    return bytes(store), bytes(journal)
 
 
 def text_of(file):
@@ -197,7 +206,7 @@ class Openings(Runs):
         self.each_unopens(every, "store", "a standard stream is closed", preexec_fn=lambda: os.close(1))
         in_use = "FILE is in use: wait until the program that has it open ends"
         self.held("store", "layers\n", "ok 1\na 2 4 2\n")
-        self.each_unopens(every, "store", in_use)
+        self.each_unopens(("", "--create", "--cache 8"), "store", in_use)
 
     def test_a_file_without_permission(self):
         self.answers("--create store", FIRST, SAID)
@@ -243,6 +252,82 @@ class OnlyRead(Runs):
         self.ends(3, words, "count a\ndrop a\ncount a\n", "ok 1\n2\nfail 17 Device\n", said)
 
 
+class BesideAWriter(Runs):
+    """Runs that only read, beside one that writes: each sees one table that was closed, and nobody waits."""
+
+    def setUp(self):
+        super().setUp()
+        self.answers("--create store", FIRST, SAID)
+        self.writer = self.held("store", "layers\n", "ok 1\na 2 4 2\n")
+
+    # What a held run replies to these lines, each by one line but for the last, whose rows follow.
+    def asks(self, run, *lines):
+        run.stdin.write("".join(f"{line}\n" for line in lines).encode())
+        run.stdin.flush()
+        said = [run.stdout.readline().decode() for _ in lines]
+        rows = int(said[-1][3:]) if said[-1].startswith("ok ") else 0
+        return "".join(said + [run.stdout.readline().decode() for _ in range(rows)])
+
+    def test_each_reader_sees_the_table_that_was_closed_last(self):
+        readers = []
+        for ident in range(3, 9):
+            readers.append((self.held("--read-only store", "count a\n", f"ok 1\n{ident - 1}\n"), ident - 1))
+            self.assertEqual(self.asks(self.writer, f"insert a {ident} 0 0 1 1"), "ok\n")
+            self.answers("--read-only store", "count a\n", f"ok 1\n{ident - 1}\n")
+            self.assertEqual(self.asks(self.writer, "reopen"), "ok\n")
+            self.answers("--read-only store", "count a\ncheck\n", f"ok 1\n{ident}\nok\n")
+        for reader, count in readers:
+            asked = self.asks(reader, "check", "reopen", "count a")
+            self.assertEqual(asked, f"ok\nok\nok 1\n{count}\n")
+
+    def test_what_only_reads_writes_nothing(self):
+        self.asks(self.writer, "insert a 3 0 0 1 1", "reopen", "insert a 4 0 0 1 1")
+        before = self.files()
+        self.assertEqual(sorted(before), ["store", "store-journal"])
+        for words in ("--read-only store", "--stats store", "--draw a store"):
+            status, replies, said, _ = self.result(words, "dump\ncheck\n")
+            self.assertEqual((status, said), (0, ""))
+            self.assertTrue(replies)
+        self.ends(1, "--read-only store", "insert a 9 0 0 1 1\n", "fail 17 Device\n", "rstore: fail 17 Device\n")
+        self.assertTrue(self.files() == before, "a file was changed, made or removed")
+
+    def test_a_writer_that_ends_beside_a_reader_leaves_the_journal(self):
+        self.asks(self.writer, "insert a 3 0 0 1 1", "reopen", "insert a 4 0 0 1 1")
+        reader = self.held("--read-only store", "count a\n", "ok 1\n3\n")
+        self.writer.stdin.close()
+        self.assertEqual(self.writer.wait(60), 0)
+        kept = self.files()
+        self.assertEqual(sorted(kept), ["store", "store-journal"])
+        self.answers("--read-only store", "count a\n", "ok 1\n4\n")
+        self.answers("store", "count a\ndelete a 1\nreopen\n", "ok 1\n4\nok\nok\n")
+        self.answers("--read-only store", "count a\n", "ok 1\n3\n")
+        self.assertEqual(self.asks(reader, "count a"), "ok 1\n3\n")
+        self.assertEqual(self.asks(reader, "window a 5 5 6 6"), "ok 1\n1 0 0 10 10\n")
+        reader.stdin.close()
+        reader.wait(60)
+        self.answers("store", "count a\ncheck\n", "ok 1\n3\nok\n")
+        self.assertEqual(list(self.files()), ["store"])
+
+    def test_a_second_writer_is_refused_also_once_the_first_has_closed(self):
+        in_use = "FILE is in use: wait until the program that has it open ends"
+        self.unopens("store", in_use)
+        self.asks(self.writer, "insert a 3 0 0 1 1", "reopen")
+        self.unopens("store", in_use)
+        self.writer.kill()
+        self.writer.wait()
+        self.answers("store", "count a\n", "ok 1\n3\n")
+
+    def test_a_file_of_two_names_has_one_writer_and_no_readers_beside_it(self):
+        self.writer.kill()
+        self.writer.wait()
+        self.answers("store", "count a\n", "ok 1\n2\n")
+        os.link(self.path("store"), self.path("other"))
+        self.held("store", "count a\n", "ok 1\n2\n")
+        in_use = "FILE is in use: wait until the program that has it open ends"
+        for words in ("store", "other", "--read-only store", "--read-only other"):
+            self.unopens(words, in_use)
+
+
 class CutShort(Runs):
     """A run that is killed with one object that was closed and one that was not: what was closed is kept."""
 
@@ -261,9 +346,11 @@ class CutShort(Runs):
         self.holds_one("")
 
     def test_a_file_is_not_read_without_its_journal(self):
-        self.refuses(1, "--read-only store", READ_UNCLOSED)
+        before = self.files()
+        self.answers("--read-only store", "count a\ncheck\n", "ok 1\n1\nok\n")
+        self.assertTrue(self.files() == before, "a file that is only read was changed")
         os.rename(self.path("store-journal"), self.path("aside"))
-        self.refuses(1, "--read-only store", READ_UNCLOSED)
+        self.unopens("--read-only store", NO_JOURNAL)
         self.unopens("store", NO_JOURNAL)
         os.rename(self.path("aside"), self.path("store-journal"))
         self.holds_one(UNENDED)
@@ -276,14 +363,17 @@ class CutShort(Runs):
         self.holds_one("")
 
     def test_a_refused_start_leaves_both_files(self):
-        kept = self.files()["store"]
-        for at, refusal in ((4096 + 9, "22 WrongVersion"), (4096 + 15, "18 Damaged 1"), (8192, "18 Damaged 2")):
-            self.write("store", kept[:at] + bytes([99 if at == 4105 else 0]) + kept[at + 1 :])
+        kept = self.files()
+        for block, at, value, refusal in ((1, 9, 99, "22 WrongVersion"), (1, 15, 0, "18 Damaged 1"), (2, 0, 0, "18 Damaged 2")):
+            store, journal = with_byte(kept, block, at, value)
+            self.write("store", store)
+            self.write("store-journal", journal)
             before = self.files()
             for words, said in (("store", f"rstore: fail {refusal}\n"), ("--create store", NOT_EMPTY)):
                 self.assertEqual(self.result(words, FIRST), (1, "", said, 0))
                 self.assertTrue(self.files() == before, (words, refusal))
-        self.write("store", kept)
+        for name in kept:
+            self.write(name, kept[name])
         self.holds_one(UNENDED)
 
     # Each making of the file is refused, and what stands there stays.
@@ -296,10 +386,6 @@ class CutShort(Runs):
 
     def test_a_store_is_not_made_anew_over_one_with_a_journal(self):
         self.is_not_made()
-        kept = self.files()
-        self.write("store-journal", completed(kept["store-journal"]))
-        self.is_not_made()
-        self.write("store-journal", kept["store-journal"])
         self.holds_one(UNENDED)
         header = self.files()["store"][4104:8192]
         end = b"RSTAREND" + header
@@ -482,7 +568,7 @@ class Versions(Runs):
         self.assertEqual(sorted(before), ["store", "store-journal"])
         for word in ("", "--strict", "--cache 8"):
             self.refuses(1, f"{word} --format 2 store", WRONG_VERSION)
-        self.refuses(1, "--read-only --format 2 store", READ_UNCLOSED)
+        self.refuses(1, "--read-only --format 2 store", WRONG_VERSION)
         self.ends(1, "--import b --format 2 store", self.POINT, "", WRONG_VERSION)
         self.assertTrue(self.files() == before, "an import changed a file, made or removed one")
 
@@ -497,10 +583,9 @@ class Versions(Runs):
         old = self.files()["store"]
         self.kill("store", "create b 2 4\nreopen\n", "ok\nok\n")
         kept = self.files()
-        self.write("store-journal", completed(kept["store-journal"]))
         self.write("store", kept["store"][:4096] + old[4096:8192] + kept["store"][8192:])
         self.is_refused_unended()
-        self.ends(0, "store", self.ASKS, self.TOLD, UNENDED)
+        self.ends(0, "store", self.ASKS, self.TOLD, "")
         self.leaves(3, "store", "count b\n", "ok 1\n0\n")
 
     def test_a_version_that_no_closing_wrote_is_not_that_of_the_file(self):

@@ -188,7 +188,7 @@ for made in "$program" "$program.by-rattle"; do
     [ ! -e none ] || wrong "a file was made that takes a closed stream's place"
     ends 0 '' "$made" <<<'layers' 2>errors >/dev/null
 
-    # one writer, by whatever name the file has
+    # one writer, by whatever name the file has; and since it has two, no reader beside it
     ln store link
     ln -s store symlink
     line=$in_use status=1
@@ -204,7 +204,8 @@ for made in "$program" "$program.by-rattle"; do
     holds maker "$made" --create new
     unopens _ _ new "$made" new
     unopens _ _ new "$made" --create new
-    unopens _ _ new "$made" --read-only new
+    ends 0 '' "$made" --read-only new <<<'layers' >replies
+    grep -q '^ok 0$' replies || wrong "a reader beside the maker of a file answered: $(cat replies)"
     kills maker
     line='rstore: FILE-journal is missing, or is no journal: put back the FILE-journal of the run that was cut short'
     line+=' (docs/COMMANDS.md, "A journal that is lost", has the last resort)'
@@ -236,7 +237,7 @@ for made in "$program" "$program.by-rattle"; do
     kills writer
     ends 0 '' "$made" store <<<'window a 0 0 1 1' >/dev/null
 
-    # many readers, and no writer beside them
+    # many readers, and no writer beside them, since the file has two names
     before=$(cksum store)
     for reader in $readers; do
         holds "reader$reader" "$made" --read-only store

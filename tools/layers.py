@@ -26,7 +26,7 @@ BANDS = [
     (
         "devices",
         "a file and its journal as one device, which commits",
-        "device_pair unwritten_pair committed_log logged_pair snapshot_reader journaled_device titled_pair marked_pair journaled_file",
+        "device_pair unwritten_pair committed_log logged_pair snapshot_reader journaled_device titled_pair marked_pair journaled_file snapshot_file",
     ),
     (
         "trees",

@@ -283,7 +283,7 @@ def main() -> int:
     told = argparse.ArgumentParser("python3 -m rstore", description=__doc__)
     told.add_argument("file", nargs="?", metavar="FILE", help="the file of the store; without it the store is in memory")
     told.add_argument("--create", action="store_true", help="make FILE, which must be missing or empty")
-    told.add_argument("--read-only", action="store_true", help="only read FILE, beside other readers")
+    told.add_argument("--read-only", action="store_true", help="only read FILE, also beside a run that writes it")
     told.add_argument("--cache", type=int, default=1024, metavar="N", help="pages in memory, 8 to 4096 (%(default)s)")
     asked = told.parse_args()
     if asked.create and asked.read_only:

@@ -59,6 +59,7 @@ def _load_library() -> ctypes.CDLL:
         ("close", [at], c_int),
         ("commit", [at], c_int),
         ("rollback", [at], c_int),
+        ("refresh", [at, out], c_int),
         ("check", [at], c_int),
         ("create_layer", [at, text, c_uint32, c_uint32], c_int),
         ("drop_layer", [at, text], c_int),

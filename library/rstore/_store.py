@@ -6,7 +6,7 @@ import ctypes
 import os
 import threading
 import weakref
-from ctypes import byref, c_size_t, c_uint64, c_void_p
+from ctypes import byref, c_int, c_size_t, c_uint64, c_void_p
 from typing import Any, Callable, Iterator, Optional, Union
 
 from rstore._layer import Layer
@@ -55,7 +55,7 @@ class Store:
         if error:
             raise self._error(error, self.path)
         self._handle = handle
-        #: whether the last session was cut short after a commit, which was brought back
+        #: whether the last session was cut short after a commit, which was brought back, and may have changed more
         self.recovered: bool = self._lib.rstore_detail(handle) == 1
         _STORES.add(self)
 
@@ -127,6 +127,14 @@ class Store:
         device refuses this the store is not open, and calls raise `Closed`, until a further `rollback` goes well. Not for
         within a transaction, which an exception gives up."""
         self._end(self._lib.rstore_rollback)
+
+    def refresh(self) -> bool:
+        """Of a store that is only read: goes on with the table that its file was closed with last, and tells whether it
+        looked at it anew. Else the file is as it was, and nothing is done; so it is for a store that may be changed, too.
+        A layer that is gone since raises `NoLayer`. Where the file or memory refuses this the store keeps its table."""
+        changed = c_int()
+        self._ask(self._lib.rstore_refresh, byref(changed), what=os.fsdecode(self.path))
+        return bool(changed.value)
 
     def transaction(self) -> Transaction:
         """For a `with`: what is changed in it is committed at its end, or given up where an exception leaves it, with
@@ -269,6 +277,6 @@ def open(
     path: Union[str, os.PathLike[str], None], *, create: bool = False, read_only: bool = False, cache: int = 1024
 ) -> Store:
     """Opens the store in the file at `path`, or with None makes one in memory, which goes when it is closed. With `create`
-    a file that is missing or empty becomes an empty store; with `read_only` the file is only read, and changes are refused.
-    `cache` is how many pages of 4096 bytes are held in memory, 8 to 4096."""
+    a file that is missing or empty becomes an empty store; with `read_only` the file is only read, beside a writer too,
+    whose commits are seen after `Store.refresh`, and changes are refused. `cache` is how many pages of 4096 bytes are held in memory, 8 to 4096."""
     return Store(path, create, read_only, cache)

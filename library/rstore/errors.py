@@ -170,7 +170,7 @@ class CannotOpen(Error, OSError):
 
 
 class Busy(Error, OSError):
-    """The file is open elsewhere."""
+    """The file is open for writing elsewhere."""
 
     number = 102
 

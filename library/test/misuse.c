@@ -37,7 +37,10 @@ int main(int argc, char **argv) {
     IS(RSTORE_CANNOT_OPEN, rstore_open(".", RSTORE_READ_ONLY, 0, &db));
     IS(RSTORE_OK, rstore_open(argv[1], RSTORE_CREATE, 0, &db));
     IS(RSTORE_BUSY, rstore_open(argv[1], RSTORE_EXISTING, 0, &other));
-    IS(RSTORE_BUSY, rstore_open(argv[1], RSTORE_READ_ONLY, 0, &other));
+    IS(RSTORE_OK, rstore_open(argv[1], RSTORE_READ_ONLY, 0, &other));
+    IS(RSTORE_OK, rstore_refresh(other, NULL));
+    IS(RSTORE_NO_LAYER, rstore_count(other, "a", &count));
+    IS(RSTORE_OK, rstore_close(other));
     IS(RSTORE_OK, rstore_create_layer(db, "a", 2, 4));
     BAD(rstore_create_layer(NULL, "a", 2, 4));
     BAD(rstore_create_layer(db, NULL, 2, 4));
@@ -153,6 +156,7 @@ int main(int argc, char **argv) {
     BAD(rstore_join(db, "a", "a", 0, &pairs, NULL));
     BAD(rstore_commit(NULL));
     BAD(rstore_rollback(NULL));
+    BAD(rstore_refresh(NULL, NULL));
     BAD(rstore_check(NULL));
     IS(RSTORE_OK, rstore_check(db));
     IS(RSTORE_OK, rstore_close(db));

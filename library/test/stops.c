@@ -4,9 +4,10 @@
  * From the stop on each call fails. What it leaves of both files and of the folder is tried in 15 ways and more: each block
  * that was not synced is as it was written, as it was synced, filled with a byte or torn, appended ones are there, gone or
  * cut short, and of names that were not synced the old and the new one stand. What is left is opened to be only read, which
- * writes nothing and is refused or finds a table as it stands, and then opened for writing, which is never refused once the
- * store stood: its table is that of the last commit, or of the one in progress, all of it sound. The opening is stopped at
- * each of its calls, too. Linked with -Wl,--wrap of the calls below. */
+ * writes nothing and, once the store stood, finds a table, or a gate that was torn at the end of a session. Then it is
+ * opened for writing, which is never refused once the store stood. Each table is that of the last commit, or of the one in
+ * progress, all of it sound, and who writes finds the one that was read. The opening is stopped at each of its calls, too.
+ * Linked with -Wl,--wrap of the calls below. */
 #define _GNU_SOURCE
 #include <errno.h>
 #include <fcntl.h>
@@ -16,6 +17,7 @@
 #include <stdlib.h>
 #include <string.h>
 #include <sys/stat.h>
+#include <time.h>
 #include <unistd.h>
 
 #include "rstore.h"
@@ -108,13 +110,15 @@ static int tell(const struct file *f, struct stat *found) {
     return 0;
 }
 int __wrap_fstat(int fd, struct stat *found) { return fails() ? -1 : tell(at(fd), found); }
-int __wrap_lstat(const char *path, struct stat *found) {
+int __wrap_stat(const char *path, struct stat *found) {
     int name = name_of(path);
     if (name < 0) die("a path that is none of the three", 0);
     if (fails()) return -1;
     if (disk.now[name] < 0) { errno = ENOENT; return -1; }
     return tell(&disk.file[disk.now[name]], found);
 }
+int __wrap_lstat(const char *path, struct stat *found) { return __wrap_stat(path, found); }
+int __wrap_nanosleep(const struct timespec *time, struct timespec *left) { return (void)time, (void)left, 0; }
 int __wrap_rename(const char *from, const char *to) {
     if (name_of(from) != 2 || name_of(to) != 1 || disk.now[2] < 0) die("a name that is not the copy's", 0);
     if (fails()) return -1;
@@ -375,25 +379,29 @@ static bool refuses(int error) {
         || error == RSTORE_DAMAGED || error == RSTORE_CANNOT_OPEN;
 }
 
-/* Opens what is left to be only read, which writes nothing. */
-static void only_reads(void) {
+/* Opens what is left to be only read, which writes nothing, and tells whether a table was found. Where a store stood it is
+ * refused for a gate that was torn at the end of a session. */
+static bool only_reads(bool stood, struct table *table) {
     starts(-1);
     int error = rstore_open(names[0], RSTORE_READ_ONLY, 8, &db);
     if (error) {
         refused++;
-        if (!refuses(error)) die("a reader is refused:", error);
+        bool torn = error == RSTORE_NOT_CLOSED || error == RSTORE_NOT_A_STORE;
+        if (stood ? !torn : !refuses(error) && error != RSTORE_NO_JOURNAL) die("a reader is refused:", error);
     } else {
         answered++;
-        struct table table = found();
-        if (!same(&table, &before) && !same(&table, &kept) && !same(&table, &trying)) die("a reader finds another table", 0);
+        *table = found();
+        if (!same(table, &kept) && !same(table, &trying)) die("a reader finds another table", 0);
         if (rstore_close(db)) die("a reader's closing", 0);
     }
     if (writes) die("a reader wrote", writes);
     settled();
+    return !error;
 }
 
-/* Opens what is left, and finds one of the two tables; the file is then closed, without a journal. */
-static void finds(bool stood, int flags, long after) {
+/* Opens what is left, and finds one of the two tables, which is the one that was read; the file is then closed, without a
+ * journal. */
+static void finds(bool stood, int flags, long after, const struct table *read) {
     starts(-1);
     int error = rstore_open(names[0], flags, 8, &db);
     if (error) {
@@ -404,6 +412,7 @@ static void finds(bool stood, int flags, long after) {
     }
     struct table table = found();
     if (!same(&table, &kept) && !same(&table, &trying)) die("another table after a stop behind call", after);
+    if (read && !same(&table, read)) die("another table than was read after a stop behind call", after);
     if (rstore_close(db)) die("closing", after);
     for (int name = 1; name < NAMES; name++)
         if (disk.now[name] >= 0 || (name == 1 && disk.synced[name] >= 0)) die("the journal stays", after);
@@ -423,13 +432,14 @@ static void stops_again(const struct disk *left, bool stood, int flags, int base
         again++;
         copy_disk(&now, &disk);
         leave(&now, (int)roll(CHANCE + 1), (int)roll(CHANCE + 1), roll(2));
-        finds(stood || opened, flags, after);
+        finds(stood || opened, flags, after, NULL);
     }
 }
 
 /* Stops a session over a disk at each of its calls. */
 static void stops_of(bool (*session)(void), const struct disk *from, int flags, int chances, int every) {
     static struct disk left;
+    static struct table read;
     bool stood_before = flags == RSTORE_EXISTING;
     for (long after = 0;; after++) {
         copy_disk(&disk, from);
@@ -445,8 +455,8 @@ static void stops_of(bool (*session)(void), const struct disk *from, int flags, 
             int base = k < 9 ? k / 3 : k == 9 ? ZEROS : k == 10 ? TORN : CHANCE, journal = k < 9 ? k % 3 : base;
             for (int renamed = 0; renamed < 1 + pending; renamed++, outcomes++) {
                 leave(&left, base, journal, !renamed);
-                only_reads();
-                finds(stood, flags, after);
+                bool was_read = only_reads(stood, &read);
+                finds(stood, flags, after, was_read ? &read : NULL);
             }
         }
         if (after % every == 0) stops_again(&left, stood, flags, (int)roll(CHANCE + 1), (int)roll(CHANCE + 1));
@@ -464,7 +474,7 @@ int main(int argc, char **argv) {
     copy_disk(&made, &disk);
     stops_of(changes, &made, RSTORE_EXISTING, quick ? 1 : 4, quick ? 9 : 2);
     if (!same(&kept, &working)) die("the session did not end well", 1);
-    finds(true, RSTORE_EXISTING, -1);
+    finds(true, RSTORE_EXISTING, -1, NULL);
     printf("%ld stops over files in memory, %ld outcomes, %ld stops of openings after them: no table is lost; ", stops,
            outcomes, again);
     printf("%ld openings refused, %ld readers answered\n", refused, answered);

@@ -300,12 +300,9 @@ def kills(folder: str, rounds: int) -> None:
         told += os.read(read, 1 << 20)
         os.close(read)
         known = struct.unpack_from("Q", told, len(told) - 8)[0] if told else 0
-        if os.path.exists(path + "-journal") and turn % 3 == 0:
-            # a reader needs a file whose session has ended, or that had committed nothing
-            try:
-                rstore.open(path, read_only=True).close()
-            except rstore.NotClosed:
-                pass
+        if turn % 3 == 0:
+            with rstore.open(path, read_only=True) as db:
+                assert known <= len(db["a"]), (known, len(db["a"]))
         with rstore.open(path) as db:
             recovered += db.recovered
             count = len(db["a"])
@@ -329,7 +326,7 @@ def processes(folder: str) -> None:
     with rstore.open(path, create=True) as db:
         a = db.create_layer("a")
         a[1] = (0, 0, 1, 1)
-        assert other() == "busy" and other("reads") == "busy"
+        assert other() == "busy" and other("reads") == "opened"
         child = os.fork()
         if child == 0:
             try:
@@ -341,8 +338,10 @@ def processes(folder: str) -> None:
         assert a.window((0, 0, 1, 1)) == [(1, (0, 0, 1, 1), 0)]
     with rstore.open(path, read_only=True) as one, rstore.open(path, read_only=True) as two:
         assert len(one["a"]) == len(two["a"]) == 1
-        assert other() == "busy" and other("reads") == "opened"
-        expect(rstore.Busy, rstore.open, path)
+        assert other() == "opened" and other("reads") == "opened"
+        with rstore.open(path):
+            assert other() == "busy" and other("reads") == "opened"
+            expect(rstore.Busy, rstore.open, path)
     assert other() == "opened"
 
 
@@ -358,9 +357,11 @@ def journals(folder: str) -> None:
         os.kill(os.getpid(), signal.SIGKILL)
     os.waitpid(child, 0)
     before = Path(path).read_bytes()
-    expect(rstore.NotClosed, lambda: rstore.open(path, read_only=True))
+    with rstore.open(path, read_only=True) as db:
+        assert list(db["a"]) == [1]
     os.rename(path + "-journal", path + "-away")
     expect(rstore.NoJournal, rstore.open, path)
+    expect(rstore.NoJournal, lambda: rstore.open(path, read_only=True))
     Path(path + "-journal").write_bytes(b"something else" * 1000)
     expect(rstore.NoJournal, rstore.open, path)
     os.rename(path + "-away", path + "-journal")
@@ -374,7 +375,7 @@ def journals(folder: str) -> None:
 
 
 def exchange(folder: str, program: str) -> None:
-    """Files that the program made, and the other way round; and each keeps the other out."""
+    """Files that the program made, and the other way round; and of both one alone writes, beside whom the other reads."""
     path = os.path.join(folder, "exchanged")
     dice = random.Random(3)
 
@@ -394,8 +395,8 @@ def exchange(folder: str, program: str) -> None:
         b.load((k, (k, 0, 0, k + 1, 1, 1), 9) for k in range(1000))
         status, _, said = run([path], "layers\n")
         assert status == 1 and said.startswith("rstore: FILE is in use") and f"(FILE is {path})" in said, said
-        status, _, said = run(["--read-only", path], "layers\n")
-        assert status == 1 and said.startswith("rstore: FILE is in use") and f"(FILE is {path})" in said, said
+        status, said, _ = run(["--read-only", path], "count a\nlayers\n")
+        assert status == 0 and said == "ok 1\n500\nok 1\na 2 10 500\n", said  # what was kept last
         rows = list(a.all_rows())
     status, said, _ = run(["--read-only", path], "check\nwindow a -9 -9 999 999\ncount b\nwindow b 5 0 0 5 0 0 tag 9\n")
     assert status == 0, said

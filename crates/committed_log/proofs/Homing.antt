@@ -222,7 +222,7 @@ module _ (homes homes' : List ℕ) (base base' journal journal' : Blocks) (ml ml
 
 -- ---- a slot copied home
 
-at_home : (homes : List ℕ) (n m h : ℕ) → All (IsHome m) homes → Contains homes h → h < n → n ≤ 2 ^ 31
+pub at_home : (homes : List ℕ) (n m h : ℕ) → All (IsHome m) homes → Contains homes h → h < n → n ≤ 2 ^ 31
     → h < m
 at_home homes n m h are one lt few = ⊎_elim
     (λ (less : h < m). less)

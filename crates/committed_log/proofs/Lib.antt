@@ -5,6 +5,7 @@ mod Stood
 mod Recovering
 mod Taking
 mod Homing
+mod WritingOne
 mod Keeping
 mod Copies
 mod Opened

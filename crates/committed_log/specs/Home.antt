@@ -1,7 +1,8 @@
 -- What stands before the slots are copied home, and after.
 use Rattle.std.specs.Prelude.{◌≡◌, ◌<◌, ℕ, false, List, length, take}
 use Rattle.block_device.specs.Device.{Blocks, block_at}
-use Rattle.committed_log.specs.Committed.{base_of, homes_of, journal_of, leaves_of, seen_of}
+use Rattle.device_pair.specs.Pairs.{PairLeaves}
+use Rattle.committed_log.specs.Committed.{base_of, homes_of, journal_of, leaves_of, pair_of, seen_of}
 use Rattle.committed_log.specs.Found.{IsSlot}
 use Rattle.committed_log.specs.Log.{overlaid, recovered, says}
 use Rattle.committed_log.specs.declared.log.CommittedLog.{CommittedLog}
@@ -23,3 +24,19 @@ pub record IsCopied {P A : Type 0} {m : _} (k : ℕ) (old new : CommittedLog P A
 -- the regions of it now, as who read them before.
 abbrev pub FirstShow : List ℕ → Blocks → Blocks → Blocks → Type 0
 FirstShow homes seen a b = (recovered a (take (length homes) b) ≡ seen) × (overlaid homes b a ≡ seen)
+
+-- the same blocks, block i aside
+pub record SameBut (i : ℕ) (old new : Blocks) : Type 0 where
+  pub as_many : length new ≡ length old
+  pub others : (k : ℕ) → ¬ (k ≡ i) → block_at k new ≡ block_at k old
+
+-- a stop might have left these before, block i of the base aside
+abbrev pub LeftBut : ℕ → (Blocks → Blocks → Type 0) → Blocks → Blocks → Type 0
+LeftBut i may_leave a b = (d : Blocks) × may_leave d b × SameBut i d a
+
+-- Of the base at most block i was written: as it is read, in what a stop leaves, and at each moment within the call.
+pub record WritesOnly {P A : Type 0} {m : _} (i : ℕ) (old new : CommittedLog P A m) : Type 0 where
+  pub base : SameBut i (base_of old) (base_of new)
+  pub left : (a b : Blocks) → m.may_leave (pair_of new) a b → LeftBut i (m.may_leave (pair_of old)) a b
+  pub stops : PairLeaves m.moment m.left_since (pair_of old) (pair_of new)
+      (LeftBut i (m.may_leave (pair_of old)))

@@ -1,12 +1,11 @@
 //! The file of a journal: where it lies, how it is opened, and how it is removed.
 ghost use Rattle.std.specs.Prelude.{◌≡◌, ◌++◌, IfOk, codes, string_bytes};
 
-use crate::open::{folder_of, opened};
+use crate::open::{are_same_file, folder_of, opened};
 use crate::{FileDevice, HostFile, OpenError, open_file};
 use std::alloc::{AllocError, Allocator};
 use std::fs::{self, File, Files, OpenOptions};
 use std::io::{self, ErrorKind};
-use std::os::unix::fs::MetadataExt;
 
 /// The path of the journal of the file at `path`: it lies beside the file, by the file's name and `-journal`.
 pub fn journal_path<A: Allocator>(alloc: A, path: &str) -> Result<String<A>, AllocError>
@@ -122,8 +121,5 @@ fn lies_at<R: Files<File = File>>(
 ) -> io::Result<bool> {
     let found = fs::symlink_metadata(rt, path)?;
     let own = open.file().metadata()?;
-    if found.dev() != own.dev() {
-        return Ok(false);
-    }
-    Ok(found.ino() == own.ino())
+    Ok(are_same_file(&found, &own))
 }

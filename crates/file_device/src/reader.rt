@@ -21,6 +21,8 @@ pub struct FileReader<F: SharedFile> {
 }
 
 impl<F: SharedFile> FileReader<F> {
+    ghost use Rattle.file_device.specs.Device.{file_read};
+
     /// The reader of a file, unless the file tells no size or has more than 2^31 blocks.
     pub fn over(file: F) -> Result<FileReader<F>, DeviceError>
         ensures file { IfOk result (λ r. r.file ≡ file) }
@@ -41,6 +43,36 @@ impl<F: SharedFile> FileReader<F> {
             file,
             count: count as u32,
         })
+    }
+
+    /// The reader of the same file with as many blocks as it has now. It fails as `over` does.
+    pub fn measured(self) -> Result<FileReader<F>, DeviceError>
+        ensures file { IfOk result (λ r. file_read r ≡ file_read self) }
+        ensures shown { IfOk result (λ r. F.is_kept (file_read self) →
+            (n : ℕ) → IsCount n (length (F.bytes (file_read self))) →
+            ⟦<FileReader<F> as BlockReader>⟧.shown r ≡ blocks_of n (F.bytes (file_read self))) }
+        ensures large { IsErr result → F.is_kept (file_read self) →
+            4096 * 2 ^ 31 < length (F.bytes (file_read self)) }
+        ensures memory { IsErrOf result Memory → ⊥ }
+    {
+        FileReader::over(self.file)
+    }
+
+    /// Has the disk take what others wrote into the file before: a stop from then on takes back none of it.
+    pub fn sync(&self) -> Result<(), DeviceError>
+        ensures { IsErrOf result Memory → ⊥ }
+    {
+        match self.file.sync() {
+            Ok(()) => Ok(()),
+            Err(_) => Err(DeviceError::Failed),
+        }
+    }
+
+    // Its file.
+    pub(crate) fn file(&self) -> &F
+        ensures { result.now ≡ file_read self.now }
+    {
+        &self.file
     }
 }
 

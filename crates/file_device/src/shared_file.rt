@@ -21,6 +21,9 @@ pub trait SharedFile: Drop {
     fn read_at(&self, at: u64, into: &mut [u8; 4096]) -> io::Result<()>
         ensures { is_kept self.now → OnOk result (into.new ≡ bytes_at at (bytes self.now)) };
 
+    /// Has the disk take what others wrote before.
+    fn sync(&self) -> io::Result<()>;
+
     /// The numbers are bytes.
     ghost bytes_fit: { (f : Self) (k : ℕ) → is_kept f → slice_index (bytes f) k < 256 };
 }

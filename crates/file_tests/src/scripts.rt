@@ -7,9 +7,10 @@ use crate::turns::Turn::{Length, Opening};
 use crate::turns::{How, Opened, Part, Turn, length_of, opening, played};
 use block_device::{DeviceError, MemoryDevice};
 use file_device::{
-    BlocksFile, FileDevice, OpenError, copy_path, journal_path, make_anew, open_file,
-    remove_journal, replace_journal,
+    BlocksFile, FileDevice, OpenError, copy_path, journal_path, make_anew, open_beside, open_file,
+    open_reader, open_shared, remove_journal, replace_journal,
 };
+use read_only_device::BlockReader;
 use std::alloc::Global;
 use std::test::Fail;
 use std::{fs, io};
@@ -17,7 +18,7 @@ use std::{fs, io};
 const IN_USE: Opened = Err(OpenError::InUse);
 
 // The file at "file_tests/f" has 5000 sevens before, and the others are not there.
-const PARTS: [Part; 10] = [
+const PARTS: [Part; 13] = [
     Part {
         about: "a file is made",
         path: "file_tests_a",
@@ -74,6 +75,29 @@ const PARTS: [Part; 10] = [
         path: "file_tests/e",
         how: How::Changed,
         turns: &[Turn::Steps(&[(Blocks, Ok(1))])],
+    },
+    Part {
+        about: "a lock that is shared lets in those that share it",
+        path: "file_tests/e",
+        how: How::Shared,
+        turns: &[
+            Opening(How::Read, Ok(1)),
+            Opening(How::Shared, Ok(1)),
+            Opening(How::Changed, IN_USE),
+            Turn::Steps(&[(Read(0), Ok(1))]),
+        ],
+    },
+    Part {
+        about: "and so does a reader's",
+        path: "file_tests/e",
+        how: How::Read,
+        turns: &[Opening(How::Shared, Ok(1))],
+    },
+    Part {
+        about: "and one that is held alone does not",
+        path: "file_tests/e",
+        how: How::Changed,
+        turns: &[Opening(How::Shared, IN_USE)],
     },
     // It reads as a device that can write reads, the end of the last block too.
     Part {
@@ -242,6 +266,78 @@ fn a_copy_takes_the_place_of_the_journal_that_is_open(rt: HostRuntime) -> Result
     assert!(rt; remove_journal(&rt, "file_tests_p/c", &journal).is_err());
     assert!(rt; remove_journal(&rt, "file_tests_p/c", &copy).is_ok());
     fs::remove_dir_all(&rt, "file_tests_p")?;
+    Ok(())
+}
+
+// What a lock is asked for in turn, and what that comes to, while others open its file.
+fn lock_is_taken_and_shared(rt: &HostRuntime, path: &str) -> Result<bool, OpenError> {
+    let (_device, lock) = open_shared(rt, path, true)?;
+    let taken = lock.take_alone() && opening(rt, path, How::Read) == IN_USE;
+    lock.share();
+    let reader = open_reader(rt, path)?;
+    let refused = !lock.take_alone() && opening(rt, path, How::Shared) == Ok(0);
+    drop(reader);
+    Ok(taken && refused && lock.take_alone())
+}
+
+#[test]
+fn a_lock_is_taken_alone_where_nobody_shares_it(rt: HostRuntime) -> Result<(), Fail> {
+    let _ = fs::remove_dir_all(&rt, "file_tests_l");
+    fs::create_dir(&rt, "file_tests_l")?;
+    assert_eq!(rt; lock_is_taken_and_shared(&rt, "file_tests_l/a"), Ok(true));
+    fs::remove_dir_all(&rt, "file_tests_l")?;
+    Ok(())
+}
+
+// The lock of a file of two names is held alone, by either name, and stays so.
+fn lock_of_two_names(rt: &HostRuntime, path: &str, other: &str) -> Result<bool, OpenError> {
+    let (_device, lock) = open_shared(rt, path, false)?;
+    let alone = lock.take_alone() && opening(rt, other, How::Read) == IN_USE;
+    lock.share();
+    Ok(alone && opening(rt, other, How::Shared) == IN_USE)
+}
+
+#[test]
+fn a_file_of_several_names_is_locked_alone(rt: HostRuntime) -> Result<(), Fail> {
+    let _ = fs::remove_dir_all(&rt, "file_tests_n");
+    fs::create_dir(&rt, "file_tests_n")?;
+    fs::write(&rt, "file_tests_n/a", [7u8; 5].as_slice())?;
+    fs::hard_link(&rt, "file_tests_n/a", "file_tests_n/b")?;
+    assert_eq!(rt;
+        lock_of_two_names(&rt, "file_tests_n/a", "file_tests_n/b"),
+        Ok(true)
+    );
+    fs::remove_dir_all(&rt, "file_tests_n")?;
+    Ok(())
+}
+
+// A third block is written.
+const ONE_MORE: Steps = &[(Write(2, 3), DONE)];
+
+// How many blocks the file beside another has, None where there is none, and again once it was made longer.
+fn blocks_beside(rt: &HostRuntime, path: &str) -> Result<Option<(u32, u32)>, OpenError> {
+    let Some(reader) = open_beside(rt, path)? else {
+        return Ok(None);
+    };
+    let before = reader.blocks();
+    let mut other = open_file(rt, path, false)?;
+    if first_other(&mut other, ONE_MORE).is_some() {
+        return Ok(None);
+    }
+    reader.sync()?;
+    let again = reader.another_handle()?;
+    let measured = reader.measured()?;
+    Ok(Some((before, measured.blocks().min(again.blocks()))))
+}
+
+#[test]
+fn a_file_beside_another_is_read_without_a_lock(rt: HostRuntime) -> Result<(), Fail> {
+    let _ = fs::remove_dir_all(&rt, "file_tests_b");
+    fs::create_dir(&rt, "file_tests_b")?;
+    fs::write(&rt, "file_tests_b/a", [7u8; 5000].as_slice())?;
+    assert_eq!(rt; blocks_beside(&rt, "file_tests_b/none"), Ok(None));
+    assert_eq!(rt; blocks_beside(&rt, "file_tests_b/a"), Ok(Some((2, 3))));
+    fs::remove_dir_all(&rt, "file_tests_b")?;
     Ok(())
 }
 

@@ -2,7 +2,7 @@
 //! plays them.
 use crate::steps::{Steps, first_other};
 use block_device::BlockDevice;
-use file_device::{OpenError, open_file, open_reader};
+use file_device::{OpenError, open_file, open_reader, open_shared};
 use read_only_device::{BlockReader, ReadOnlyDevice};
 use std::fs;
 
@@ -13,6 +13,8 @@ pub enum How {
     Made,
     /// For reading and writing.
     Changed,
+    /// So, beside others.
+    Shared,
     /// For reading alone.
     Read,
 }
@@ -46,6 +48,10 @@ pub fn opening(rt: &HostRuntime, path: &str, how: How) -> Opened {
             Ok(reader) => Ok(reader.blocks()),
             Err(error) => Err(error),
         },
+        How::Shared => match open_shared(rt, path, false) {
+            Ok((device, _)) => Ok(device.blocks()),
+            Err(error) => Err(error),
+        },
         _ => match open_file(rt, path, how == How::Made) {
             Ok(device) => Ok(device.blocks()),
             Err(error) => Err(error),
@@ -58,6 +64,7 @@ pub fn opening(rt: &HostRuntime, path: &str, how: How) -> Opened {
 pub fn played(rt: &HostRuntime, part: &Part) -> Result<Option<usize>, OpenError> {
     match part.how {
         How::Read => read(rt, part),
+        How::Shared => shared(rt, part),
         _ => changed(rt, part),
     }
 }
@@ -73,6 +80,14 @@ fn read(rt: &HostRuntime, part: &Part) -> Result<Option<usize>, OpenError> {
 fn changed(rt: &HostRuntime, part: &Part) -> Result<Option<usize>, OpenError> {
     let mut device = open_file(rt, part.path, part.how == How::Made)?;
     Ok(first_other_turn(rt, part.path, &mut device, part.turns))
+}
+
+// The same of one that may be written beside others.
+fn shared(rt: &HostRuntime, part: &Part) -> Result<Option<usize>, OpenError> {
+    let (mut device, lock) = open_shared(rt, part.path, false)?;
+    let other = first_other_turn(rt, part.path, &mut device, part.turns);
+    drop(lock);
+    Ok(other)
 }
 
 // Takes turns, up to the first one that comes to something else.

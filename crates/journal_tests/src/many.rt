@@ -5,7 +5,7 @@ use crate::session::block;
 use block_bytes::write_u32;
 use block_device::{BlockDevice, DeviceError, Left};
 use device_pair::{DevicePair, MemoryPair};
-use journaled_device::JournaledDevice;
+use journaled_device::{JournaledDevice, Nobody};
 use refusing::Refusing;
 use std::alloc::{Allocator, Global};
 use std::test::Fail;
@@ -52,7 +52,7 @@ fn made<A: Allocator + Copy>(
     index: A,
     count: u32,
 ) -> Result<JournaledDevice<MemoryPair, A>, DeviceError> {
-    let mut device = match JournaledDevice::open(MemoryPair::new(alloc), index, false) {
+    let mut device = match JournaledDevice::open(MemoryPair::new(alloc), index, Nobody, false) {
         Ok(device) => device,
         Err(_) => return Err(DeviceError::Failed),
     };
@@ -105,12 +105,12 @@ fn many_changed_blocks_are_found(rt: HostRuntime) {
     }
     assert!(rt; device.sync().is_ok());
     assert!(rt; all_are(&mut device, MANY, 3));
-    let left = device.into_pair().after_stop(Left::Synced, Left::Synced);
-    let Ok(mut device) = JournaledDevice::open(left, alloc, false) else {
+    let left = device.into_parts().0.after_stop(Left::Synced, Left::Synced);
+    let Ok(mut device) = JournaledDevice::open(left, alloc, Nobody, false) else {
         panic!(rt; "the device was not opened");
     };
     assert!(rt; device.bring_home().is_ok());
-    let mut left = device.into_pair().after_stop(Left::Synced, Left::Synced);
+    let mut left = device.into_parts().0.after_stop(Left::Synced, Left::Synced);
     assert!(rt; base_is(&mut left, MANY, 3));
 }
 

@@ -4,7 +4,7 @@ ghost use Rattle.std.specs.Prelude.{◌<◌, ◌-◌, ◌^◌};
 use block_bytes::{write_u8, write_u16, write_u32, write_u64};
 use block_device::{BlockDevice, DeviceError, FuseMode};
 use device_pair::{FusePair, MemoryPair};
-use journaled_device::{GivesUp, JournaledDevice};
+use journaled_device::{GivesUp, JournaledDevice, Nobody};
 use std::alloc::Global;
 
 /// More calls than a session makes.
@@ -152,12 +152,12 @@ pub fn stopped(alloc: Global, passes: u64) -> (MemoryPair, u32, u32, bool)
     let mut begun = 0;
     let mut ended = 0;
     let pair = FusePair::new(MemoryPair::new(alloc), passes, FuseMode::Onward);
-    match JournaledDevice::open(pair, alloc, false) {
+    match JournaledDevice::open(pair, alloc, Nobody, false) {
         Err((_, pair)) => (pair.into_inner(), 0, 0, false),
         Ok(device) => {
             let mut device = device;
             let done = session(&mut device, &mut begun, &mut ended).is_ok();
-            (device.into_pair().into_inner(), begun, ended, done)
+            (device.into_parts().0.into_inner(), begun, ended, done)
         }
     }
 }

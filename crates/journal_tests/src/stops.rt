@@ -4,7 +4,7 @@ ghost use Rattle.std.specs.Prelude.{◌<◌, ◌-◌, ◌^◌};
 use crate::session::{ALL, begins, committed, stopped};
 use block_device::{FuseMode, Left};
 use device_pair::{FusePair, MemoryPair};
-use journaled_device::{JournaledDevice, OpenFault};
+use journaled_device::{JournaledDevice, Nobody, OpenFault};
 use std::alloc::Global;
 
 const KINDS: [Left; 3] = [Left::Written, Left::Synced, Left::Filled(0xEE)];
@@ -15,11 +15,11 @@ fn opened(alloc: Global, left: MemoryPair, passes: u64) -> (MemoryPair, bool, bo
     requires { passes < 2 ^ 64 - 1 }
 {
     let pair = FusePair::new(left, passes, FuseMode::Onward);
-    match JournaledDevice::open(pair, alloc, false) {
+    match JournaledDevice::open(pair, alloc, Nobody, false) {
         Ok(device) => {
             let mut device = device;
             let home = device.bring_home().is_ok();
-            (device.into_pair().into_inner(), false, home)
+            (device.into_parts().0.into_inner(), false, home)
         }
         Err((OpenFault::Malformed, pair)) => (pair.into_inner(), true, false),
         Err((OpenFault::Device(_), pair)) => (pair.into_inner(), false, false),
@@ -28,7 +28,7 @@ fn opened(alloc: Global, left: MemoryPair, passes: u64) -> (MemoryPair, bool, bo
 
 // Whether opening gives what was committed last, or by the commit in progress.
 pub fn gives_a_commit(alloc: Global, left: MemoryPair, begun: u32, ended: u32) -> bool {
-    match JournaledDevice::open(left, alloc, false) {
+    match JournaledDevice::open(left, alloc, Nobody, false) {
         Ok(device) => {
             let mut device = device;
             begins(&mut device, committed(ended)) || begins(&mut device, committed(begun))

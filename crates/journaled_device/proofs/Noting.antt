@@ -180,7 +180,7 @@ never_ok (Ok u) P is = absurd (cc)
 never_ok (Err x) P is = tt
 
 -- What a call brings.
-module _ {P A : Type 0} {m : _} (old new : JournaledDevice P A m)
+module _ {P A G : Type 0} {m : _} (old new : JournaledDevice P A G m)
     (n : IsNoted (inner_of old) old.past.taken) where
   brings_by : (C : Blocks → Type 0) (Q : Blocks → Type 0)
       → ((t : ℕ) → t ≤ moment_of old → pair_moment_of new t ≡ pair_moment_of old t)

@@ -58,7 +58,7 @@ begins_left d c few h left =
 
 -- ---- of the device
 
-module _ {P A : Type 0} {m : _} (d : JournaledDevice P A m) (h : IsHonest (inner_of d)) where
+module _ {P A G : Type 0} {m : _} (d : JournaledDevice P A G m) (h : IsHonest (inner_of d)) where
   pub shown_counts_of : may_leave_of d (shown_of (inner_of d))
   shown_counts_of = shown_left (shown_of (inner_of d)) (events_of d) (d.noted h).whole (d.noted h).leads
 
@@ -94,12 +94,12 @@ module _ {P A : Type 0} {m : _} (d : JournaledDevice P A m) (h : IsHonest (inner
       let n = d.noted h in
       n.durable (none_unsynced (shown_of (inner_of d)) (events_of d) n.whole n.leads only) taken k is
 
-pub counts_now_of : {P A : Type 0} {m : _} (d : JournaledDevice P A m) (t : ℕ) (c : Blocks)
+pub counts_now_of : {P A G : Type 0} {m : _} (d : JournaledDevice P A G m) (t : ℕ) (c : Blocks)
     → may_leave_of d c → left_since_of d t c
 counts_now_of d t c now =
     now_since (shown_of (inner_of d)) (events_of d) (events_until (moments d.past.taken) t) c now
 
-pub since_earlier_of : {P A : Type 0} {m : _} (d : JournaledDevice P A m) (t u : ℕ) (c : Blocks) → t ≤ u
+pub since_earlier_of : {P A G : Type 0} {m : _} (d : JournaledDevice P A G m) (t u : ℕ) (c : Blocks) → t ≤ u
     → left_since_of d u c → left_since_of d t c
 since_earlier_of d t u c le left =
     let ts = moments d.past.taken in

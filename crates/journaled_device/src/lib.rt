@@ -5,7 +5,9 @@
 mod device;
 mod giving_up;
 pub mod laws;
+mod readers;
 
 pub use committed_log::OpenFault;
 pub use device::JournaledDevice;
 pub use giving_up::GivesUp;
+pub use readers::{Nobody, Readers};

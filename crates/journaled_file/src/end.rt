@@ -14,11 +14,12 @@ ghost use Rattle.titled_pair.specs.Calls.{IsQuiet};
 ghost use Rattle.titled_pair.specs.Pair.{pair_of as files_of};
 
 use crate::judging::{has_entries, is_marked};
-use crate::open::{pair_under, shut_gate};
+use crate::open::{parts_under, shut_gate};
 use crate::{JournaledFile, JournaledOver};
 use block_device::{BlockDevice, DeviceError};
 use device_pair::{DevicePair, TwoDevices};
 use file_device::{FileDevice, HostFile, remove_journal};
+use journaled_device::Readers;
 use logged_pair::laws::what_is_home_is_the_base;
 use marked_pair::MarkedPair;
 use std::alloc::Allocator;
@@ -27,8 +28,9 @@ use std::io::ErrorKind;
 use titled_pair::{TitledPair, end_of_base};
 
 /// Ends a run over a file whose journal lies at `name`: what was not committed is given up, what was is copied home,
-/// the mark is taken away, and the journal is removed. Where a commit can't be finished no mark is taken away; where
-/// this is cut short, or fails, the next opening brings the same blocks back.
+/// the mark is taken away, and the journal is removed. Where somebody reads the file, nothing is copied, and the
+/// journal stays with all that was committed; where a commit can't be finished no mark is taken away. Then, and where
+/// this is cut short or fails, the next opening brings the same blocks back.
 ///
 /// A failure of a device is answered, and memory that is refused. Another journal that can't be removed is no
 /// failure: it says that the run has ended.
@@ -39,53 +41,62 @@ pub fn end_journaled<R: Files<File = File>>(
 ) -> Result<(), DeviceError> {
     // The files are locked until the journal is gone.
     match ended(device)? {
-        Some((_base, journal)) => removed(rt, name, &journal),
+        Some((_base, journal, _readers)) => removed(rt, name, &journal),
         None => Ok(()),
     }
 }
 
 // Ends the run over a device, and gives both its files where the base is then read without its journal. It stands
 // over devices of any kind, since each call over those of the system, with all that lies on them, is dear to prove.
-fn ended<B: BlockDevice + Drop, J: BlockDevice + Drop, A: Allocator + Copy>(
-    device: JournaledOver<TwoDevices<B, J>, A>,
-) -> Result<Option<(B, J)>, DeviceError> {
+fn ended<B: BlockDevice + Drop, J: BlockDevice + Drop, A: Allocator + Copy, G: Readers + Drop>(
+    device: JournaledOver<TwoDevices<B, J>, A, G>,
+) -> Result<Option<(B, J, G)>, DeviceError> {
     match end_device(device)? {
-        Some(pair) => Ok(Some(pair.into_devices())),
+        Some((pair, readers)) => {
+            let (base, journal) = pair.into_devices();
+            Ok(Some((base, journal, readers)))
+        }
         None => Ok(None),
     }
 }
 
 /// Ends the run over a device: what was not committed is given up, what was is copied home, and the session is
-/// ended as `end_session` says. The pair is given where the base is then read without its journal: its blocks begin
-/// with a commit that was there.
-pub fn end_device<P: DevicePair + Drop, A: Allocator + Copy>(
-    device: JournaledOver<P, A>,
-) -> Result<Option<P>, DeviceError>
-    ensures home { IfOk result (λ ended. IfSome ended (λ pair. IsHonest (inner_of device) →
-        BeginsOne (commits_of (inner_of device)) (unmarked (P.base pair)))) }
-    ensures honest { IfOk result (λ ended. IfSome ended (λ pair.
-        IsHonest (inner_of device) ↔ P.honest pair)) }
+/// ended as `end_session` says. The pair is given, with who keeps readers out of it, where the base is then read
+/// without its journal: its blocks begin with a commit that was there. Where somebody reads, nothing is copied and
+/// none is given.
+pub fn end_device<P: DevicePair + Drop, A: Allocator + Copy, G: Readers + Drop>(
+    device: JournaledOver<P, A, G>,
+) -> Result<Option<(P, G)>, DeviceError>
+    ensures home { IfOk result (λ ended. IfSome ended (λ parts. IsHonest (inner_of device) →
+        BeginsOne (commits_of (inner_of device)) (unmarked (P.base parts.0)))) }
+    ensures honest { IfOk result (λ ended. IfSome ended (λ parts.
+        IsHonest (inner_of device) ↔ P.honest parts.0)) }
 {
-    let mut pair = pair_under(brought_home(device)?);
+    let Some((mut pair, readers)) = brought_home(device)? else {
+        return Ok(None);
+    };
     if end_session(&mut pair)? {
-        return Ok(Some(pair));
+        return Ok(Some((pair, readers)));
     }
     Ok(None)
 }
 
-// A device whose base has what was committed, and no more.
-fn brought_home<P: DevicePair + Drop, A: Allocator + Copy>(
-    device: JournaledOver<P, A>,
-) -> Result<JournaledOver<P, A>, DeviceError>
-    ensures begins { IfOk result (λ home. IsHonest (inner_of device) → BeginsOne (commits_of (inner_of device))
-        (unmarked (P.base (files_of (titled_of (pair_of home)))))) }
-    ensures honest { IfOk result (λ home. IsHonest (inner_of device) ↔ IsHonest (inner_of home)) }
+// The pair of a device whose base has what was committed, and no more. None where somebody reads it.
+fn brought_home<P: DevicePair + Drop, A: Allocator + Copy, G: Readers + Drop>(
+    device: JournaledOver<P, A, G>,
+) -> Result<Option<(P, G)>, DeviceError>
+    ensures begins { IfOk result (λ home. IfSome home (λ parts. IsHonest (inner_of device) →
+        BeginsOne (commits_of (inner_of device)) (unmarked (P.base parts.0)))) }
+    ensures honest { IfOk result (λ home. IfSome home (λ parts.
+        IsHonest (inner_of device) ↔ P.honest parts.0)) }
 {
     let mut device = device;
     device.forget()?;
-    device.bring_home()?;
+    if !device.bring_home()? {
+        return Ok(None);
+    }
     what_is_home_is_the_base::<MarkedPair<TitledPair<P>>, A>();
-    Ok(device)
+    Ok(Some(parts_under(device)))
 }
 
 // Removes the journal, and tries it again where that is refused, since memory may be there by then.

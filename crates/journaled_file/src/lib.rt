@@ -11,6 +11,7 @@ pub mod laws;
 mod looking;
 mod open;
 mod pairing;
+mod readers;
 
 pub use end::{end_device, end_journaled, end_session};
 pub use judging::{Found, judge};
@@ -19,3 +20,4 @@ pub use open::{
     JournaledFile, JournaledOver, OpenedFile, judge_and_finish, open_journaled, open_over,
 };
 pub use pairing::{JournalSource, pair_up};
+pub use readers::FileReaders;

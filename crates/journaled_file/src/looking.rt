@@ -5,13 +5,14 @@ ghost use Rattle.journaled_file.specs.Judged.{IsJudged};
 ghost use Rattle.marked_pair.specs.Behind.{IsSynced};
 
 use crate::judging::{Found, has_entries, judge};
-use crate::open::{device_over, pair_under, sync_both};
+use crate::open::{device_over, parts_under, sync_both};
 use crate::pairing::{JournalSource, put_title};
 use block_bytes::zero_block;
 use block_device::{BlockDevice, DeviceError, MemoryDevice};
 use committed_log::{count_page, flag_page};
 use device_pair::{DevicePair, TwoDevices};
 use file_device::OpenError;
+use journaled_device::Nobody;
 use marked_pair::{SHUT, gate_page};
 use std::alloc::Global;
 use unwritten_pair::UnwrittenPair;
@@ -264,9 +265,10 @@ fn opens_unwritten<P: DevicePair + Drop, G: StoreJudge>(
 ) -> Result<(bool, P), OpenError>
     ensures honest { IfOk result (λ r. P.honest pair → P.honest r.1) }
 {
-    let device = device_over(pair, alloc)?;
+    let device = device_over(pair, alloc, Nobody)?;
     let (opens, device) = opens_device(device, commits, judge)?;
-    Ok((opens, pair_under(device)))
+    let (pair, _) = parts_under(device);
+    Ok((opens, pair))
 }
 
 // Whether a store opens over a device. One that commits has the gate that is written for a shut one.

@@ -21,12 +21,13 @@ use crate::end::put_end;
 use crate::judging::{Found, is_marked, judge};
 use crate::looking::{Looked, StoreJudge, look, stand_in};
 use crate::pairing::{JournalSource, beside_copy, pair_up};
-use block_device::DeviceError;
+use crate::readers::FileReaders;
+use block_device::{BlockDevice, DeviceError};
 use committed_log::OpenFault;
 use device_pair::{DevicePair, TwoDevices};
 use file_device::{
     FileDevice, HostFile, OpenError, copy_path, journal_path, make_anew, make_nameless, open_file,
-    open_journal, replace_journal, unlink_journal,
+    open_journal, open_shared, replace_journal, unlink_journal,
 };
 use journaled_device::JournaledDevice;
 use marked_pair::{MarkedPair, SHUT, gate_page};
@@ -35,10 +36,10 @@ use std::fs::{self, File, Files};
 use titled_pair::{TITLE_BLOCKS, TitledPair};
 
 /// A base and its journal, as a device that commits.
-pub type JournaledOver<P, A> = JournaledDevice<MarkedPair<TitledPair<P>>, A>;
+pub type JournaledOver<P, A, G> = JournaledDevice<MarkedPair<TitledPair<P>>, A, G>;
 
 /// A file with its journal, as such a device.
-pub type JournaledFile = JournaledOver<TwoDevices<SystemFile, SystemFile>, Global>;
+pub type JournaledFile = JournaledOver<TwoDevices<SystemFile, SystemFile>, Global, FileReaders>;
 
 // A file or its journal.
 type SystemFile = FileDevice<HostFile<File>>;
@@ -50,15 +51,16 @@ pub struct OpenedFile {
     pub device: JournaledFile,
     /// Where the journal lies; of a device that is only looked at none.
     pub name: Option<String>,
-    /// Whether a run that was cut short had closed anything and not ended.
+    /// Whether a run that was cut short had closed anything, and may have changed more.
     pub unended: bool,
 }
 
 /// Opens the file at `path` for reading and writing, and its journal beside it, which is made where there is
 /// none. With `create` an empty file is made where there is none.
 ///
-/// Both are locked until they are closed. What a run that was cut short had closed is brought back. A journal
-/// without entries, beside a file that needs none, is made anew. Where the journal is none or another file's,
+/// The lock of the file is shared with its readers, and the journal is locked alone, until they are closed. What a
+/// run that was cut short had closed is brought back. A journal without entries, beside a file that needs none, is
+/// made anew. Where the journal is none or another file's,
 /// nothing is written into either, and so it is where no store opens over both: the device is then only looked
 /// at, and is dropped and not ended.
 pub fn open_journaled<R: Files<File = File> + Alloc, G: StoreJudge>(
@@ -68,38 +70,47 @@ pub fn open_journaled<R: Files<File = File> + Alloc, G: StoreJudge>(
     create: bool,
     judge: &mut G,
 ) -> Result<OpenedFile, OpenError> {
-    let base = open_file(rt, path, create)?;
+    let (base, lock) = open_shared(rt, path, create)?;
+    let readers = FileReaders::of(lock);
     let name = journal_name(rt, alloc, path)?;
     let part = copy_path(alloc, name.as_str())?;
+    let blocks = base.blocks();
     let mut source = JournalAt {
         rt,
         name: name.as_str(),
         part: part.as_str(),
+        readers: &readers,
+        blocks,
     };
     let looked = look(base, create, &mut source, judge, alloc)?;
     if !looked.opens {
-        return as_it_was(looked, &source, alloc);
+        let none = source.nameless()?;
+        return as_it_was(looked, none, alloc, readers);
     }
     let Looked {
         base,
         journal,
-        found: _,
+        found,
         opens: _,
     } = looked;
     let (pair, unended) = pair_up(base, journal, &mut source)?;
+    let device = device_over(pair, alloc, readers)?;
+    // Behind commits in the log it shows whether more was begun.
+    let unended = unended && (found != Found::Own || device.has_begun());
     Ok(OpenedFile {
-        device: device_over(pair, alloc)?,
+        device,
         name: Some(name),
         unended,
     })
 }
 
-// Both files as they were found, over which no store opens. The journal is left as it is: in its place stands a file
-// without a name, with a copy of it where it has a commit to bring back.
-fn as_it_was<R: Files<File = File>>(
+// Both files as they were found, over which no store opens. The journal is left as it is: in its place stands `none`,
+// a file without a name, with a copy of it where it has a commit to bring back.
+fn as_it_was(
     looked: Looked<SystemFile, SystemFile>,
-    source: &JournalAt<'_, R>,
+    none: SystemFile,
     alloc: Global,
+    readers: FileReaders,
 ) -> Result<OpenedFile, OpenError> {
     let Looked {
         base,
@@ -107,12 +118,11 @@ fn as_it_was<R: Files<File = File>>(
         found,
         opens: _,
     } = looked;
-    let none = source.nameless()?;
     if found != Found::Own {
-        return only_read(stand_in(base, none, found)?, alloc);
+        return only_read(stand_in(base, none, found)?, alloc, readers);
     }
     match journal {
-        Some(journal) => only_read(beside_copy(base, journal, none)?, alloc),
+        Some(journal) => only_read(beside_copy(base, journal, none)?, alloc, readers),
         None => Err(OpenError::Refused),
     }
 }
@@ -121,8 +131,9 @@ fn as_it_was<R: Files<File = File>>(
 fn only_read(
     pair: TwoDevices<SystemFile, SystemFile>,
     alloc: Global,
+    readers: FileReaders,
 ) -> Result<OpenedFile, OpenError> {
-    let device = device_over(pair, alloc)?;
+    let device = device_over(pair, alloc, readers)?;
     Ok(OpenedFile {
         device,
         name: None,
@@ -150,9 +161,21 @@ struct JournalAt<'a, R> {
     name: &'a str,
     // where a copy of it is made
     part: &'a str,
+    // of the file, and how many blocks it had when it was opened
+    readers: &'a FileReaders,
+    blocks: u32,
 }
 
 impl<R: Files<File = File>> JournalAt<'_, R> {
+    // A journal that is locked. Where the file has got other blocks before that, another run has written it.
+    fn held(&self, journal: SystemFile) -> Result<SystemFile, OpenError> {
+        if self.readers.has_blocks(self.blocks) {
+            Ok(journal)
+        } else {
+            Err(OpenError::InUse)
+        }
+    }
+
     // A file that has no name, and is gone with the run.
     fn nameless(&self) -> Result<SystemFile, OpenError> {
         make_nameless(self.rt, self.part)
@@ -163,11 +186,14 @@ impl<R: Files<File = File>> JournalSource<SystemFile> for JournalAt<'_, R> {
     ghost is_honest = { ⊥ };
 
     fn open_there(&mut self) -> Result<Option<SystemFile>, OpenError> {
-        open_journal(self.rt, self.name)
+        match open_journal(self.rt, self.name)? {
+            Some(journal) => Ok(Some(self.held(journal)?)),
+            None => Ok(None),
+        }
     }
 
     fn open(&mut self, make: bool) -> Result<SystemFile, OpenError> {
-        open_file(self.rt, self.name, make)
+        self.held(open_file(self.rt, self.name, make)?)
     }
 
     fn remove(&mut self, journal: &SystemFile) -> Result<(), OpenError> {
@@ -277,13 +303,14 @@ pub(crate) fn shut_gate<P: DevicePair>(pair: &mut P) -> Result<(), DeviceError>
     pair.sync_base()
 }
 
-/// The pair that a device lies on, as it is.
-pub(crate) fn pair_under<P: DevicePair + Drop, A: Allocator + Copy>(
-    device: JournaledOver<P, A>,
-) -> P
-    ensures { result ≡ files_of (titled_of (pair_of device)) }
+/// The pair that a device lies on, as it is, and who knows of its readers.
+pub(crate) fn parts_under<P: DevicePair + Drop, A: Allocator + Copy, G: Drop>(
+    device: JournaledOver<P, A, G>,
+) -> (P, G)
+    ensures { result.0 ≡ files_of (titled_of (pair_of device)) }
 {
-    files_under(device.into_pair())
+    let (marked, readers) = device.into_parts();
+    (files_under(marked), readers)
 }
 
 // The pair under its title and its mark.
@@ -294,13 +321,14 @@ fn files_under<P: DevicePair + Drop>(marked: MarkedPair<TitledPair<P>>) -> P
 }
 
 /// `open_over`, where a pair that is refused is let go.
-pub(crate) fn device_over<P: DevicePair + Drop, A: Allocator + Copy>(
+pub(crate) fn device_over<P: DevicePair + Drop, A: Allocator + Copy, G: Drop>(
     pair: P,
     alloc: A,
-) -> Result<JournaledOver<P, A>, OpenError>
+    readers: G,
+) -> Result<JournaledOver<P, A, G>, OpenError>
     ensures honest { IfOk result (λ d. P.honest pair ↔ IsHonest (inner_of d)) }
 {
-    match open_over(pair, alloc, false) {
+    match open_over(pair, alloc, readers, false) {
         Ok(device) => Ok(device),
         Err((error, _)) => Err(error),
     }
@@ -313,11 +341,12 @@ pub(crate) fn device_over<P: DevicePair + Drop, A: Allocator + Copy>(
 /// Nothing is copied home: the base stays as it is, its mark aside, and the journal gets no more than the first
 /// blocks of a region behind those that are there. With `each_home` a sync copies each commit home, for a base that
 /// others read without its journal.
-pub fn open_over<P: DevicePair + Drop, A: Allocator + Copy>(
+pub fn open_over<P: DevicePair + Drop, A: Allocator + Copy, G: Drop>(
     pair: P,
     alloc: A,
+    readers: G,
     each_home: bool,
-) -> Result<JournaledOver<P, A>, (OpenError, P)>
+) -> Result<JournaledOver<P, A, G>, (OpenError, P)>
     ensures shown { IfOk result (λ d. P.honest pair →
         shown_of (inner_of d) ≡ read_of (P.base pair) (P.journal pair)) }
     ensures commits { IfOk result (λ d. P.honest pair → (k : Blocks) → commits_of (inner_of d) k →
@@ -350,7 +379,7 @@ pub fn open_over<P: DevicePair + Drop, A: Allocator + Copy>(
         Ok(marked) => marked,
         Err((_, titled)) => return Err((OpenError::Refused, titled.into_pair())),
     };
-    match JournaledDevice::open(marked, alloc, each_home) {
+    match JournaledDevice::open(marked, alloc, readers, each_home) {
         Ok(device) => Ok(device),
         Err((fault, left)) => Err((told(fault), left.into_pair().into_pair())),
     }

@@ -22,8 +22,8 @@ ghost use Rattle.store_law.specs.Sessions.{SessionState};
 
 use block_device::BlockDevice;
 use device_pair::DevicePair;
-use journaled_device::JournaledDevice;
 use journaled_device::laws::{recovery_gives_a_commit, stops_of_the_pair_are_found};
+use journaled_device::{JournaledDevice, Readers};
 pub use judge::OpeningJudge;
 use layer_store::laws::a_stop_is_found_to_have_left_a_closed_table;
 use marked_pair::MarkedPair;
@@ -37,27 +37,32 @@ use titled_pair::TitledPair;
 /// that was closed last, or one whose closing was tried since. Of one at any moment since the beginning, also
 /// within a call, it is one of those that were kept since. So it is, too, where the store is given up and its
 /// pair opened again.
-pub fn a_stop_leaves_a_table_that_was_closed<P: DevicePair, A: Allocator + Copy, S: Allocator>()
-    ensures now { (store : Store (Journaled P A ⟦<P as DevicePair>⟧) S
-        ⟦<JournaledDevice<P, A> as BlockDevice>⟧)
+pub fn a_stop_leaves_a_table_that_was_closed<
+    P: DevicePair,
+    A: Allocator + Copy,
+    G: Readers,
+    S: Allocator,
+>()
+    ensures now { (store : Store (Journaled P A G ⟦<P as DevicePair>⟧) S
+        ⟦<JournaledDevice<P, A, G> as BlockDevice>⟧)
         (s : SessionState) (a b : Blocks) → Represents store s → P.may_leave (pair_of (device_in store)) a b →
         IsImageOfOne s.stops.kept (recovered a b) }
-    ensures so_far { (store : Store (Journaled P A ⟦<P as DevicePair>⟧) S
-        ⟦<JournaledDevice<P, A> as BlockDevice>⟧)
+    ensures so_far { (store : Store (Journaled P A G ⟦<P as DevicePair>⟧) S
+        ⟦<JournaledDevice<P, A, G> as BlockDevice>⟧)
         (s : SessionState) (a b : Blocks) → Represents store s →
         P.left_since (pair_of (device_in store)) s.stops.since a b →
         IsImageOfOne s.stops.kept_so_far (recovered a b) }
-    ensures given_up { (store : Store (Journaled P A ⟦<P as DevicePair>⟧) S
-        ⟦<JournaledDevice<P, A> as BlockDevice>⟧)
+    ensures given_up { (store : Store (Journaled P A G ⟦<P as DevicePair>⟧) S
+        ⟦<JournaledDevice<P, A, G> as BlockDevice>⟧)
         (s : SessionState) → Represents store s → IsImageOfOne s.stops.kept
         (recovered (P.base (pair_of (device_in store))) (P.journal (pair_of (device_in store)))) }
-    ensures never_refused { (store : Store (Journaled P A ⟦<P as DevicePair>⟧) S
-        ⟦<JournaledDevice<P, A> as BlockDevice>⟧) (s : SessionState) (a b : Blocks) → Represents store s →
+    ensures never_refused { (store : Store (Journaled P A G ⟦<P as DevicePair>⟧) S
+        ⟦<JournaledDevice<P, A, G> as BlockDevice>⟧) (s : SessionState) (a b : Blocks) → Represents store s →
         P.left_since (pair_of (device_in store)) s.stops.since a b → IsRefused (recovered a b) → ⊥ }
 {
-    recovery_gives_a_commit::<P, A>();
-    stops_of_the_pair_are_found::<P, A>();
-    a_stop_is_found_to_have_left_a_closed_table::<JournaledDevice<P, A>, S>();
+    recovery_gives_a_commit::<P, A, G>();
+    stops_of_the_pair_are_found::<P, A, G>();
+    a_stop_is_found_to_have_left_a_closed_table::<JournaledDevice<P, A, G>, S>();
 }
 
 /// **The same of two files as they lie on disk, the base with its mark and the journal with its title**: what
@@ -66,21 +71,22 @@ pub fn a_stop_leaves_a_table_that_was_closed<P: DevicePair, A: Allocator + Copy,
 pub fn a_stop_of_both_files_leaves_a_table_that_was_closed<
     P: DevicePair + Drop,
     A: Allocator + Copy,
+    G: Readers,
     S: Allocator,
 >()
     ensures now { (store : Store
-        (Journaled (Marked (Titled P ⟦<P as DevicePair>⟧) ⟦<TitledPair<P> as DevicePair>⟧) A
+        (Journaled (Marked (Titled P ⟦<P as DevicePair>⟧) ⟦<TitledPair<P> as DevicePair>⟧) A G
         ⟦<MarkedPair<TitledPair<P>> as DevicePair>⟧) S
-        ⟦<JournaledDevice<MarkedPair<TitledPair<P>>, A> as BlockDevice>⟧) (s : SessionState) (a e : Blocks) →
+        ⟦<JournaledDevice<MarkedPair<TitledPair<P>>, A, G> as BlockDevice>⟧) (s : SessionState) (a e : Blocks) →
         Represents store s → P.may_leave (files_of (titled_of (pair_of (device_in store)))) a e →
         IsImageOfOne s.stops.kept (recovered (unmarked a) (untitled e)) }
     ensures so_far { (store : Store
-        (Journaled (Marked (Titled P ⟦<P as DevicePair>⟧) ⟦<TitledPair<P> as DevicePair>⟧) A
+        (Journaled (Marked (Titled P ⟦<P as DevicePair>⟧) ⟦<TitledPair<P> as DevicePair>⟧) A G
         ⟦<MarkedPair<TitledPair<P>> as DevicePair>⟧) S
-        ⟦<JournaledDevice<MarkedPair<TitledPair<P>>, A> as BlockDevice>⟧) (s : SessionState) (a e : Blocks) →
+        ⟦<JournaledDevice<MarkedPair<TitledPair<P>>, A, G> as BlockDevice>⟧) (s : SessionState) (a e : Blocks) →
         Represents store s →
         P.left_since (files_of (titled_of (pair_of (device_in store)))) s.stops.since a e →
         IsImageOfOne s.stops.kept_so_far (recovered (unmarked a) (untitled e)) }
 {
-    a_stop_leaves_a_table_that_was_closed::<MarkedPair<TitledPair<P>>, A, S>();
+    a_stop_leaves_a_table_that_was_closed::<MarkedPair<TitledPair<P>>, A, G, S>();
 }

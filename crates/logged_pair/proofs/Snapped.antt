@@ -1,23 +1,23 @@
 -- What readers see stays, through each call and through calls in turn.
-use Rattle.std.proofs.Common.{◌≡◌, ◌∙◌, ℕ, suc, ◌^◌, ◌<◌, ◌≤◌, Bool, true, false, List, [], ◌∷◌, length, set, take}
+use Rattle.std.proofs.Common.{◌≡◌, ◌∙◌, ℕ, zero, suc, ◌+◌, ◌^◌, ◌<◌, ◌≤◌, Bool, true, false, List, [], ◌∷◌, length, drop, set, take}
 use Rattle.std.proofs.Common.{refl, sym, ap, subst, arith, ⊎_elim, length-set}
 use Rattle.std.proofs.lemmas.Bool.{cases_eq}
-use Rattle.std.proofs.lemmas.List.{get_or-set_other, length-take-le, take-take, take_all}
+use Rattle.std.proofs.lemmas.List.{get_or-drop, get_or-set_other, length-drop, length-take-le, take-take, take_all}
 use Rattle.block_device.specs.Device.{Blocks, Torn, block_at}
 use Rattle.device_pair.specs.Pairs.{BaseFollows, JournalFollows, PairElapses, PairLeaves}
 use Rattle.device_pair.specs.Runs.{pair_call, pair_started, pair_then, pair_weaker}
 use Rattle.committed_log.specs.Committed as regions
 use Rattle.committed_log.specs.Committed.{KeepsFirst}
-use Rattle.committed_log.specs.Home.{FirstShow}
+use Rattle.committed_log.specs.Home.{FirstShow, LeftBut, SameBut, WritesOnly}
 use Rattle.committed_log.specs.Log.{entries_from, homes_in, overlaid, recovered, replayed}
-use Rattle.committed_log.specs.Replay.{length-overlaid}
+use Rattle.committed_log.specs.Replay.{length-overlaid, same_blocks}
 use Rattle.committed_log.specs.Torn.{torn_before, torn_longer}
 use Rattle.committed_log.specs.declared.log.CommittedLog.{CommittedLog}
 use Rattle.committed_log.proofs.Through.{regions_of}
 use Rattle.logged_pair.specs.Shown.{set_here}
 use Rattle.logged_pair.specs.SnapshotLaws.{first_same, index_seen, last_seen, last_there}
-use Rattle.logged_pair.specs.Snapshots.{IsSnapshot, KeepsSnapshots, ShowsLastOf, ShowsSame, SnapshotsStay}
-use Rattle.logged_pair.specs.Snapshots.{seen_by, snapshot}
+use Rattle.logged_pair.specs.Snapshots.{IsSnapshot, KeepsReaders, KeepsSnapshots, ShowsFrom, ShowsLastOf, ShowsSame}
+use Rattle.logged_pair.specs.Snapshots.{SnapshotsStay, seen_by, snapshot}
 use Rattle.logged_pair.specs.Stages.{IsFilling, IsStanding, shown_through}
 use Rattle.logged_pair.specs.Standing.{IsStill, LogStays, kept_of, log_of}
 use Rattle.logged_pair.specs.declared.pair.LoggedPair.{LoggedPair}
@@ -62,6 +62,43 @@ sees_base p n i a d b le there torn =
     first_overlaid n (homes_in (take p b)) (take p b) a d there (omega (arith, there, torn_longer i a d torn))
     (λ k lt. torn_before k i a d (omega (arith, lt, le)) (omega (arith, lt, there)) torn)
 
+-- where block 0 of the base is written, behind that
+drop_overlaid : (homes : List ℕ) (b a d : Blocks) → SameBut 0 a d
+    → drop 1 (overlaid homes b d) ≡ drop 1 (overlaid homes b a)
+drop_overlaid homes b a d same =
+    let size = length-overlaid homes b a in let size' = length-overlaid homes b d in
+    same_blocks (drop 1 (overlaid homes b d)) (drop 1 (overlaid homes b a))
+    (omega (
+      arith,
+      length-drop 1 (overlaid homes b d),
+      length-drop 1 (overlaid homes b a),
+      size,
+      size',
+      same.as_many,
+    ))
+    (λ k lt.
+    let less : 1 + k < length d = omega (arith, lt, length-drop 1 (overlaid homes b d), size') in
+    get_or-drop 1 (overlaid homes b d) k []
+    ∙ replayed_block 0 (1 + k) homes b a d (omega (arith, less, same.as_many)) less
+    (same.others (1 + k) (λ e. omega (arith, e)))
+    ∙ sym (get_or-drop 1 (overlaid homes b a) k []))
+
+drop_taken : (n : ℕ) (x y : Blocks) → length y ≡ length x → drop 1 y ≡ drop 1 x
+    → drop 1 (take n y) ≡ drop 1 (take n x)
+drop_taken zero x y size same = refl
+drop_taken (suc n) [] [] size same = refl
+drop_taken (suc n) [] (y ∷ ys) size same = absurd (omega (arith, size))
+drop_taken (suc n) (x ∷ xs) [] size same = absurd (omega (arith, size))
+drop_taken (suc n) (x ∷ xs) (y ∷ ys) size same = ap (take n) same
+
+sees_behind : (p n : ℕ) (a d b : Blocks) → SameBut 0 a d
+    → drop 1 (snapshot p n d b) ≡ drop 1 (snapshot p n a b)
+sees_behind p n a d b same =
+    let homes : List ℕ = homes_in (take p b) in let log : Blocks = take p b in
+    drop_taken n (overlaid homes log a) (overlaid homes log d)
+    (length-overlaid homes log d ∙ same.as_many ∙ sym (length-overlaid homes log a))
+    (drop_overlaid homes log a d same)
+
 -- where the journal is written behind the blocks that it has read
 first_less : (p s : ℕ) (b c : Blocks) → p ≤ s → take s c ≡ take s b → take p c ≡ take p b
 first_less p s b c le same = sym (take-take p s c le) ∙ ap (take p) same ∙ take-take p s b le
@@ -80,95 +117,100 @@ filled_there deciding clearing kept slots base journal ml e s v j left =
 
 module _ {P A : Type 0} {m : _} where
   -- what shows the same as what shows the same
-  same_on : (p n : ℕ) (old mid : CommittedLog P A m) (a b : Blocks)
-      → ShowsSame p n old (regions.base_of mid) (regions.journal_of mid) → ShowsSame p n mid a b
-      → ShowsSame p n old a b
-  same_on p n old mid a b x y = record { log = y.log ∙ x.log; blocks = y.blocks ∙ x.blocks }
+  same_on : (s p n : ℕ) (old mid : CommittedLog P A m) (a b : Blocks)
+      → ShowsFrom s p n old (regions.base_of mid) (regions.journal_of mid) → ShowsFrom s p n mid a b
+      → ShowsFrom s p n old a b
+  same_on s p n old mid a b x y = record { log = y.log ∙ x.log; blocks = y.blocks ∙ x.blocks }
 
-  same_back : (p n : ℕ) (old new : CommittedLog P A m) (a b : Blocks)
-      → ShowsSame p n old (regions.base_of new) (regions.journal_of new) → ShowsSame p n old a b
-      → ShowsSame p n new a b
-  same_back p n old new a b x y = record { log = y.log ∙ sym x.log; blocks = y.blocks ∙ sym x.blocks }
+  same_back : (s p n : ℕ) (old new : CommittedLog P A m) (a b : Blocks)
+      → ShowsFrom s p n old (regions.base_of new) (regions.journal_of new) → ShowsFrom s p n old a b
+      → ShowsFrom s p n new a b
+  same_back s p n old new a b x y = record { log = y.log ∙ sym x.log; blocks = y.blocks ∙ sym x.blocks }
 
   -- ---- no call, and calls in turn
 
-  pub snaps_none : (kept : ℕ) (c : CommittedLog P A m) → SnapshotsStay kept kept c c
-  snaps_none kept c = record {
-    there = λ p n s. s;
-    shown = λ p n s. record { log = refl; blocks = refl };
-    stops = λ p n s. pair_started m.moment m.left_since (regions.pair_of c) _;
+  pub snaps_none : (kept : ℕ) (c : CommittedLog P A m) (s : ℕ) → SnapshotsStay s kept kept c c
+  snaps_none kept c s = record {
+    there = λ p n x. x;
+    shown = λ p n x. record { log = refl; blocks = refl };
+    stops = λ p n x. pair_started m.moment m.left_since (regions.pair_of c) _;
   }
 
-  pub snaps_then : (kept kept' kept'' : ℕ) (old mid new : CommittedLog P A m)
-      → SnapshotsStay kept kept' old mid → SnapshotsStay kept' kept'' mid new
-      → SnapshotsStay kept kept'' old new
-  snaps_then kept kept' kept'' old mid new x y = record {
-    there = λ p n s. y.there p n (x.there p n s);
-    shown = λ p n s.
-        same_on p n old mid (regions.base_of new) (regions.journal_of new) (x.shown p n s)
-        (y.shown p n (x.there p n s));
-    stops = λ p n s.
+  pub snaps_then : (s kept kept' kept'' : ℕ) (old mid new : CommittedLog P A m)
+      → SnapshotsStay s kept kept' old mid → SnapshotsStay s kept' kept'' mid new
+      → SnapshotsStay s kept kept'' old new
+  snaps_then s kept kept' kept'' old mid new x y = record {
+    there = λ p n z. y.there p n (x.there p n z);
+    shown = λ p n z.
+        same_on s p n old mid (regions.base_of new) (regions.journal_of new) (x.shown p n z)
+        (y.shown p n (x.there p n z));
+    stops = λ p n z.
         pair_then m.moment m.left_since (regions.pair_of old) (regions.pair_of mid) (regions.pair_of new) _
-        (x.stops p n s)
+        (x.stops p n z)
         (pair_weaker m.moment m.left_since (regions.pair_of mid) (regions.pair_of new) _ _
-        (λ a b e. same_on p n old mid a b (x.shown p n s) e) (y.stops p n (x.there p n s)));
+        (λ a b e. same_on s p n old mid a b (x.shown p n z) e) (y.stops p n (x.there p n z)));
   }
 
   pub snapshots_then : (old mid new : LoggedPair P A m) → KeepsSnapshots old mid → KeepsSnapshots mid new
       → KeepsSnapshots old new
-  snapshots_then old mid new x y =
-      snaps_then (kept_of old) (kept_of mid) (kept_of new) (log_of old) (log_of mid) (log_of new) x y
+  snapshots_then old mid new x y = λ s.
+      snaps_then s (kept_of old) (kept_of mid) (kept_of new) (log_of old) (log_of mid) (log_of new) (x s) (y s)
+
+  pub readers_then : (old mid new : LoggedPair P A m) → KeepsReaders old mid → KeepsReaders mid new
+      → KeepsReaders old new
+  readers_then old mid new x y =
+      snaps_then 1 (kept_of old) (kept_of mid) (kept_of new) (log_of old) (log_of mid) (log_of new) x y
 
   -- there is none while the log is begun anew
-  pub snaps_never : (kept kept' : ℕ) (old new : CommittedLog P A m) → regions.clearing_of old ≡ true
-      → SnapshotsStay kept kept' old new
-  snaps_never kept kept' old new clearing = record {
-    there = λ p n s. absurd (never p n s);
-    shown = λ p n s. absurd (never p n s);
-    stops = λ p n s. absurd (never p n s);
+  pub snaps_never : (kept kept' : ℕ) (old new : CommittedLog P A m) → regions.clearing_of old ≡ true → (s : ℕ)
+      → SnapshotsStay s kept kept' old new
+  snaps_never kept kept' old new clearing s = record {
+    there = λ p n x. absurd (never p n x);
+    shown = λ p n x. absurd (never p n x);
+    stops = λ p n x. absurd (never p n x);
   }
     where
-      never : (p n : ℕ) → IsSnapshot p n kept old → ⊥
-      never p n s = let no : true ≡ false = sym clearing ∙ s.settled in cc
+      never : (p n : ℕ) → IsSnapshot s p n kept old → ⊥
+      never p n x = let no : true ≡ false = sym clearing ∙ x.settled in cc
 
   -- ---- one call
 
-  snaps_call : (kept kept' : ℕ) (old new : CommittedLog P A m)
+  snaps_call : (s kept kept' : ℕ) (old new : CommittedLog P A m)
       → PairElapses (m.moment (regions.pair_of old)) (m.moment (regions.pair_of new))
       (m.left_since (regions.pair_of old)) (m.left_since (regions.pair_of new))
       (m.may_leave (regions.pair_of new))
-      → ((p n : ℕ) → IsSnapshot p n kept old → IsSnapshot p n kept' new)
-      → ((p n : ℕ) → IsSnapshot p n kept old
-      → ShowsSame p n old (regions.base_of new) (regions.journal_of new))
-      → SnapshotsStay kept kept' old new
-  snaps_call kept kept' old new time there shown = record {
+      → ((p n : ℕ) → IsSnapshot s p n kept old → IsSnapshot s p n kept' new)
+      → ((p n : ℕ) → IsSnapshot s p n kept old
+      → ShowsFrom s p n old (regions.base_of new) (regions.journal_of new))
+      → SnapshotsStay s kept kept' old new
+  snaps_call s kept kept' old new time there shown = record {
     there = there;
     shown = shown;
-    stops = λ p n s.
+    stops = λ p n x.
         pair_call m.moment m.left_since (regions.pair_of old) (regions.pair_of new) _
         (m.may_leave (regions.pair_of new)) time
-        (λ a b left. same_on p n old new a b (shown p n s) ((there p n s).stays a b left));
+        (λ a b left. same_on s p n old new a b (shown p n x) ((there p n x).stays a b left));
   }
 
   -- nothing was written
-  pub snaps_still : (kept kept' : ℕ) (old new : CommittedLog P A m) → kept ≤ kept' → LogStays old new
-      → SnapshotsStay kept kept' old new
-  snaps_still kept kept' old new le still =
-      snaps_call kept kept' old new still.time
-      (λ p n s. record {
-        settled = still.clearing ∙ s.settled;
-        there = omega (arith, s.there, ap length still.homes);
-        ends = ap (λ (b : Blocks). length (homes_in (take p b))) still.journal ∙ s.ends;
-        few = omega (arith, s.few, le);
-        stays = λ a b left. same_back p n old new a b (shown p n) (s.stays a b (still.now a b left));
+  pub snaps_still : (kept kept' : ℕ) (old new : CommittedLog P A m) → kept ≤ kept' → LogStays old new → (s : ℕ)
+      → SnapshotsStay s kept kept' old new
+  snaps_still kept kept' old new le still s =
+      snaps_call s kept kept' old new still.time
+      (λ p n x. record {
+        settled = still.clearing ∙ x.settled;
+        there = omega (arith, x.there, ap length still.homes);
+        ends = ap (λ (b : Blocks). length (homes_in (take p b))) still.journal ∙ x.ends;
+        few = omega (arith, x.few, le);
+        stays = λ a b left. same_back s p n old new a b (shown p n) (x.stays a b (still.now a b left));
       })
-      (λ p n s. shown p n)
+      (λ p n x. shown p n)
     where
-      shown : (p n : ℕ) → ShowsSame p n old (regions.base_of new) (regions.journal_of new)
+      shown : (p n : ℕ) → ShowsFrom s p n old (regions.base_of new) (regions.journal_of new)
       shown p n = record {
         log = ap (take p) still.journal;
-        blocks = ap (λ (x : Blocks). snapshot p n x (regions.journal_of new)) still.base
-            ∙ ap (snapshot p n (regions.base_of old)) still.journal;
+        blocks = ap (λ (x : Blocks). drop s (snapshot p n x (regions.journal_of new))) still.base
+            ∙ ap (λ (x : Blocks). drop s (snapshot p n (regions.base_of old) x)) still.journal;
       }
 
   pub snapshots_still : (old new : LoggedPair P A m) → IsStill old new → KeepsSnapshots old new
@@ -178,26 +220,27 @@ module _ {P A : Type 0} {m : _} where
   -- a region was taken in
   pub snaps_taken : (kept kept' : ℕ) (old new : CommittedLog P A m) → kept ≤ kept'
       → regions.pair_of new ≡ regions.pair_of old → regions.clearing_of new ≡ false
-      → length (regions.homes_of old) ≤ length (regions.homes_of new) → SnapshotsStay kept kept' old new
-  snaps_taken kept kept' old new le pair settled more = record {
-    there = λ p n s. record {
+      → length (regions.homes_of old) ≤ length (regions.homes_of new) → (s : ℕ)
+      → SnapshotsStay s kept kept' old new
+  snaps_taken kept kept' old new le pair settled more s = record {
+    there = λ p n x. record {
       settled = settled;
-      there = omega (arith, s.there, more);
-      ends = ap (λ (x : P). length (homes_in (take p (m.journal x)))) pair ∙ s.ends;
-      few = omega (arith, s.few, le);
+      there = omega (arith, x.there, more);
+      ends = ap (λ (q : P). length (homes_in (take p (m.journal q)))) pair ∙ x.ends;
+      few = omega (arith, x.few, le);
       stays = λ a b left.
-          same_back p n old new a b (shown p n) (s.stays a b (subst (λ (x : P). m.may_leave x a b) pair left));
+          same_back s p n old new a b (shown p n) (x.stays a b (subst (λ (q : P). m.may_leave q a b) pair left));
     };
-    shown = λ p n s. shown p n;
-    stops = λ p n s.
-        subst (λ (x : P). PairLeaves m.moment m.left_since (regions.pair_of old) x (ShowsSame p n old)) (sym pair)
+    shown = λ p n x. shown p n;
+    stops = λ p n x.
+        subst (λ (q : P). PairLeaves m.moment m.left_since (regions.pair_of old) q (ShowsFrom s p n old)) (sym pair)
         (pair_started m.moment m.left_since (regions.pair_of old) _);
   }
     where
-      shown : (p n : ℕ) → ShowsSame p n old (regions.base_of new) (regions.journal_of new)
+      shown : (p n : ℕ) → ShowsFrom s p n old (regions.base_of new) (regions.journal_of new)
       shown p n = record {
-        log = ap (λ (x : P). take p (m.journal x)) pair;
-        blocks = ap (λ (x : P). snapshot p n (m.base x) (m.journal x)) pair;
+        log = ap (λ (q : P). take p (m.journal q)) pair;
+        blocks = ap (λ (q : P). drop s (snapshot p n (m.base q) (m.journal q))) pair;
       }
 
   -- the journal was written behind the regions
@@ -209,38 +252,37 @@ module _ {P A : Type 0} {m : _} where
       (m.may_leave (regions.pair_of new))
       → PairElapses (m.moment (regions.pair_of old)) (m.moment (regions.pair_of new))
       (m.left_since (regions.pair_of old)) (m.left_since (regions.pair_of new))
-      (m.may_leave (regions.pair_of new))
-      → SnapshotsStay kept kept old new
-  snaps_journal kept old new homes clearing base first follows time =
-      snaps_call kept kept old new time
-      (λ p n s. record {
-        settled = clearing ∙ s.settled;
-        there = omega (arith, s.there, ap length homes);
+      (m.may_leave (regions.pair_of new)) → (s : ℕ) → SnapshotsStay s kept kept old new
+  snaps_journal kept old new homes clearing base first follows time s =
+      snaps_call s kept kept old new time
+      (λ p n x. record {
+        settled = clearing ∙ x.settled;
+        there = omega (arith, x.there, ap length homes);
         ends =
             ap (λ (b : Blocks). length (homes_in b))
-            (first_less p (length (regions.homes_of old)) (regions.journal_of old) (regions.journal_of new) s.there
+            (first_less p (length (regions.homes_of old)) (regions.journal_of old) (regions.journal_of new) x.there
             first)
-            ∙ s.ends;
-        few = s.few;
+            ∙ x.ends;
+        few = x.few;
         stays = λ a b left.
             let from = follows a b left in
-            same_back p n old new a b (shown p n s) (behind p n s a from.0 b from.2 (s.stays a from.0 from.1));
+            same_back s p n old new a b (shown p n x) (behind p n x a from.0 b from.2 (x.stays a from.0 from.1));
       })
       shown
     where
-      behind : (p n : ℕ) → IsSnapshot p n kept old → (a b c : Blocks)
-          → KeepsFirst (length (regions.homes_of old)) b c → ShowsSame p n old a b → ShowsSame p n old a c
-      behind p n s a b c keeps same = record {
-        log = first_less p (length (regions.homes_of old)) b c s.there keeps ∙ same.log;
-        blocks = sees_first p (length (regions.homes_of old)) n a b c s.there keeps ∙ same.blocks;
+      behind : (p n : ℕ) → IsSnapshot s p n kept old → (a b c : Blocks)
+          → KeepsFirst (length (regions.homes_of old)) b c → ShowsFrom s p n old a b → ShowsFrom s p n old a c
+      behind p n x a b c keeps same = record {
+        log = first_less p (length (regions.homes_of old)) b c x.there keeps ∙ same.log;
+        blocks = ap (drop s) (sees_first p (length (regions.homes_of old)) n a b c x.there keeps) ∙ same.blocks;
       }
 
-      shown : (p n : ℕ) → IsSnapshot p n kept old
-          → ShowsSame p n old (regions.base_of new) (regions.journal_of new)
-      shown p n s =
-          behind p n s (regions.base_of new) (regions.journal_of old) (regions.journal_of new) first (record {
+      shown : (p n : ℕ) → IsSnapshot s p n kept old
+          → ShowsFrom s p n old (regions.base_of new) (regions.journal_of new)
+      shown p n x =
+          behind p n x (regions.base_of new) (regions.journal_of old) (regions.journal_of new) first (record {
             log = refl;
-            blocks = ap (λ (x : Blocks). snapshot p n x (regions.journal_of old)) base;
+            blocks = ap (λ (a : Blocks). drop s (snapshot p n a (regions.journal_of old))) base;
           })
 
   -- a block of the base was written behind those of the last commit
@@ -253,35 +295,70 @@ module _ {P A : Type 0} {m : _} where
       → ((a b : Blocks) → m.may_leave (regions.pair_of old) a b → kept ≤ length a)
       → PairElapses (m.moment (regions.pair_of old)) (m.moment (regions.pair_of new))
       (m.left_since (regions.pair_of old)) (m.left_since (regions.pair_of new))
-      (m.may_leave (regions.pair_of new))
-      → SnapshotsStay kept kept old new
-  snaps_base kept i old new le homes clearing journal torn follows room rooms time =
-      snaps_call kept kept old new time
-      (λ p n s. record {
-        settled = clearing ∙ s.settled;
-        there = omega (arith, s.there, ap length homes);
-        ends = ap (λ (b : Blocks). length (homes_in (take p b))) journal ∙ s.ends;
-        few = s.few;
+      (m.may_leave (regions.pair_of new)) → (s : ℕ) → SnapshotsStay s kept kept old new
+  snaps_base kept i old new le homes clearing journal torn follows room rooms time s =
+      snaps_call s kept kept old new time
+      (λ p n x. record {
+        settled = clearing ∙ x.settled;
+        there = omega (arith, x.there, ap length homes);
+        ends = ap (λ (b : Blocks). length (homes_in (take p b))) journal ∙ x.ends;
+        few = x.few;
         stays = λ a b left.
             let from = follows a b left in
-            let was = s.stays from.0 b from.1 in
-            same_back p n old new a b (shown p n s) (record {
+            let was = x.stays from.0 b from.1 in
+            same_back s p n old new a b (shown p n x) (record {
               log = was.log;
-              blocks = sees_base p n i from.0 a b (omega (arith, s.few, le))
-                  (omega (arith, s.few, rooms from.0 b from.1)) from.2
+              blocks = ap (drop s)
+                  (sees_base p n i from.0 a b (omega (arith, x.few, le))
+                  (omega (arith, x.few, rooms from.0 b from.1)) from.2)
                   ∙ was.blocks;
             });
       })
       shown
     where
-      shown : (p n : ℕ) → IsSnapshot p n kept old
-          → ShowsSame p n old (regions.base_of new) (regions.journal_of new)
-      shown p n s = record {
+      shown : (p n : ℕ) → IsSnapshot s p n kept old
+          → ShowsFrom s p n old (regions.base_of new) (regions.journal_of new)
+      shown p n x = record {
         log = ap (take p) journal;
-        blocks = sees_base p n i (regions.base_of old) (regions.base_of new) (regions.journal_of new)
-            (omega (arith, s.few, le)) (omega (arith, s.few, room)) torn
-            ∙ ap (snapshot p n (regions.base_of old)) journal;
+        blocks = ap (drop s)
+            (sees_base p n i (regions.base_of old) (regions.base_of new) (regions.journal_of new)
+            (omega (arith, x.few, le)) (omega (arith, x.few, room)) torn)
+            ∙ ap (λ (b : Blocks). drop s (snapshot p n (regions.base_of old) b)) journal;
       }
+
+  -- block 0 of the base was written, and no other
+  pub readers_first : (kept : ℕ) (old new : CommittedLog P A m)
+      → regions.homes_of new ≡ regions.homes_of old → regions.clearing_of new ≡ regions.clearing_of old
+      → regions.journal_of new ≡ regions.journal_of old → WritesOnly 0 old new
+      → SnapshotsStay 1 kept kept old new
+  readers_first kept old new homes clearing journal only = record {
+    there = λ p n x. record {
+      settled = clearing ∙ x.settled;
+      there = omega (arith, x.there, ap length homes);
+      ends = ap (λ (b : Blocks). length (homes_in (take p b))) journal ∙ x.ends;
+      few = x.few;
+      stays = λ a b left.
+          same_back 1 p n old new a b (shown p n) (behind p n x a b (only.left a b left));
+    };
+    shown = λ p n x. shown p n;
+    stops = λ p n x.
+        pair_weaker m.moment m.left_since (regions.pair_of old) (regions.pair_of new) _ _ (behind p n x) only.stops;
+  }
+    where
+      shown : (p n : ℕ) → ShowsFrom 1 p n old (regions.base_of new) (regions.journal_of new)
+      shown p n = record {
+        log = ap (take p) journal;
+        blocks = sees_behind p n (regions.base_of old) (regions.base_of new) (regions.journal_of new) only.base
+            ∙ ap (λ (b : Blocks). drop 1 (snapshot p n (regions.base_of old) b)) journal;
+      }
+
+      behind : (p n : ℕ) → IsSnapshot 1 p n kept old → (a b : Blocks)
+          → LeftBut 0 (m.may_leave (regions.pair_of old)) a b → ShowsFrom 1 p n old a b
+      behind p n x a b from =
+          let was = x.stays from.0 b from.1 in record {
+            log = was.log;
+            blocks = sees_behind p n from.0 a b from.2 ∙ was.blocks;
+          }
 
   -- ---- the last commit
 
@@ -290,7 +367,7 @@ module _ {P A : Type 0} {m : _} where
       → length (regions.base_of c) ≤ 2 ^ 31 → regions.IsHonest c → regions.clearing_of c ≡ false
       → slots ≡ [] → kept ≡ length (regions.seen_of c)
       → IsStanding deciding clearing kept slots (regions.seen_of c) (regions.behind_of c) (regions.leaves_of c)
-      → IsSnapshot (length (regions.homes_of c)) kept kept c
+      → IsSnapshot 0 (length (regions.homes_of c)) kept kept c
       × (seen_by (length (regions.homes_of c)) kept c
       ≡ shown_through slots (regions.behind_of c) (regions.seen_of c))
   last_is deciding clearing kept slots c few h settled none all s = (
@@ -318,13 +395,13 @@ module _ {P A : Type 0} {m : _} where
 
   -- and where a snapshot of the same stays
   pub last_same : (p n kept : ℕ) (c : CommittedLog P A m) → p ≡ length (regions.homes_of c)
-      → regions.IsHonest c → regions.clearing_of c ≡ false → IsSnapshot p n kept c → (a b : Blocks)
+      → regions.IsHonest c → regions.clearing_of c ≡ false → IsSnapshot 0 p n kept c → (a b : Blocks)
       → ShowsSame p n c a b → ShowsLastOf p n c a b
   last_same p n kept c all h settled s a b same = (
     same.blocks,
     ap (λ (hs : List ℕ). take n (overlaid hs b a))
         (sym (ap (λ (q : ℕ). homes_in (take q (regions.journal_of c))) all ∙ regions_of c h settled))
-        ∙ index_seen p n c a b s.ends same,
+        ∙ index_seen 0 p n c a b s.ends same,
   )
 
   -- and goes on to see it, where the regions and what is read through them are the same
@@ -333,12 +410,12 @@ module _ {P A : Type 0} {m : _} where
       → regions.homes_of new ≡ regions.homes_of old → regions.seen_of new ≡ regions.seen_of old
       → IsStanding deciding clearing kept slots (regions.seen_of new) (regions.behind_of new)
       (regions.leaves_of new)
-      → regions.clearing_of new ≡ false → (p n : ℕ) → IsSnapshot p n kept old
+      → regions.clearing_of new ≡ false → (p n : ℕ) → IsSnapshot 0 p n kept old
       → p ≡ length (regions.homes_of old)
-      → IsSnapshot p n kept new × (seen_by p n new ≡ seen_by p n old)
+      → IsSnapshot 0 p n kept new × (seen_by p n new ≡ seen_by p n old)
   last_stays deciding clearing kept slots old new few h h' homes seen stands settled p n s all =
       let end : p ≡ length (regions.homes_of new) = all ∙ sym (ap length homes) in (
-        subst (λ (q : ℕ). IsSnapshot q n kept new) (sym end)
+        subst (λ (q : ℕ). IsSnapshot 0 q n kept new) (sym end)
             (last_there deciding clearing kept n slots new few h' settled s.few stands),
         last_seen p n new end h' settled ∙ ap (take n) seen ∙ sym (last_seen p n old all h s.settled),
       )

@@ -1,5 +1,5 @@
 -- The last commit is a snapshot.
-use Rattle.std.proofs.Common.{◌≡◌, ◌∙◌, ℕ, ◌^◌, ◌<◌, ◌≤◌, Bool, true, false, List, [], length, take, refl, sym}
+use Rattle.std.proofs.Common.{◌≡◌, ◌∙◌, ℕ, ◌^◌, ◌<◌, ◌≤◌, Bool, true, false, List, [], length, drop, take, refl, sym}
 use Rattle.std.proofs.Common.{ap, arith}
 use Rattle.std.proofs.lemmas.List.{get_or-take, length-take-le, take-take}
 use Rattle.block_device.specs.Device.{Blocks, block_at}
@@ -11,7 +11,7 @@ use Rattle.committed_log.specs.Regions.{recovery_first}
 use Rattle.committed_log.specs.Replay.{length-overlaid, same_blocks}
 use Rattle.committed_log.specs.declared.log.CommittedLog.{CommittedLog}
 use Rattle.committed_log.proofs.Through.{first_of, kept_of, regions_of}
-use Rattle.logged_pair.specs.Snapshots.{IsSnapshot, ShowsSame, seen_by, snapshot}
+use Rattle.logged_pair.specs.Snapshots.{IsSnapshot, ShowsFrom, seen_by, snapshot}
 use Rattle.logged_pair.specs.Stages.{IsStanding, StopIn}
 
 pub first_same : (n : ℕ) (a d : Blocks) → n ≤ length a → n ≤ length d
@@ -64,7 +64,7 @@ module _ {P A : Type 0} {m : _} where
   pub last_there : (deciding clearing : Bool) (kept n : ℕ) (slots : List ℕ) (c : CommittedLog P A m)
       → length (regions.base_of c) ≤ 2 ^ 31 → regions.IsHonest c → regions.clearing_of c ≡ false → n ≤ kept
       → IsStanding deciding clearing kept slots (regions.seen_of c) (regions.behind_of c) (regions.leaves_of c)
-      → IsSnapshot (length (regions.homes_of c)) n kept c
+      → IsSnapshot 0 (length (regions.homes_of c)) n kept c
   last_there deciding clearing kept n slots c few h settled le s = record {
     settled = settled;
     there = omega arith;
@@ -79,12 +79,26 @@ module _ {P A : Type 0} {m : _} where
     };
   }
 
+  -- who looks at fewer blocks sees the same
+  pub seen_behind : (s p n kept : ℕ) (c : CommittedLog P A m) → IsSnapshot 0 p n kept c → IsSnapshot s p n kept c
+  seen_behind s p n kept c x = record {
+    settled = x.settled;
+    there = x.there;
+    ends = x.ends;
+    few = x.few;
+    stays = λ a b left. record {
+      log = (x.stays a b left).log;
+      blocks = ap (drop s) (x.stays a b left).blocks;
+    };
+  }
+
   -- who has read the index of the log before sees the same
-  pub index_seen : (p n : ℕ) (c : CommittedLog P A m) (a b : Blocks)
-      → length (homes_in (take p (regions.journal_of c))) ≡ p → ShowsSame p n c a b
-      → take n (overlaid (homes_in (take p (regions.journal_of c))) b a) ≡ seen_by p n c
-  index_seen p n c a b ends same =
-      ap (take n) (index_read p a b (take p (regions.journal_of c)) ends same.log) ∙ same.blocks
+  pub index_seen : (s p n : ℕ) (c : CommittedLog P A m) (a b : Blocks)
+      → length (homes_in (take p (regions.journal_of c))) ≡ p → ShowsFrom s p n c a b
+      → drop s (take n (overlaid (homes_in (take p (regions.journal_of c))) b a)) ≡ drop s (seen_by p n c)
+  index_seen s p n c a b ends same =
+      ap (λ (x : Blocks). drop s (take n x)) (index_read p a b (take p (regions.journal_of c)) ends same.log)
+      ∙ same.blocks
 
   -- and sees n blocks
   pub length-seen : (p n : ℕ) (c : CommittedLog P A m) → n ≤ length (regions.seen_of c)
@@ -104,7 +118,7 @@ module _ {P A : Type 0} {m : _} where
       → Appended base journal (regions.base_of c) (regions.journal_of c) (m.may_leave (regions.pair_of c))
       → regions.clearing_of c ≡ false → p ≤ length (regions.homes_of c) → p ≤ length journal
       → length (homes_in (take p journal)) ≡ p → n ≤ kept
-      → IsSnapshot p n kept c × (seen_by p n c ≡ snapshot p n base journal)
+      → IsSnapshot 0 p n kept c × (seen_by p n c ≡ snapshot p n base journal)
   appended_there p n kept base journal c is settled there le ends few =
       let log : take p (regions.journal_of c) ≡ take p journal = appended_log p base journal _ _ le is.now in
       let seen : seen_by p n c ≡ snapshot p n base journal = appended_seen p n base journal _ _ le is.now in (

@@ -1,12 +1,13 @@
 //! The laws of a commit and of recovery, each the contract of a function that does nothing.
-ghost use Rattle.std.specs.Prelude.{◌≡◌, ◌≤◌, ℕ, [], false, length, take};
+ghost use Rattle.std.specs.Prelude.{◌≡◌, ◌≤◌, ℕ, [], drop, false, length, take};
 ghost use Rattle.block_device.specs.Device.{BeginsOne, Blocks};
 ghost use Rattle.device_pair.specs.Pairs.{PairLeaves, PairsNoMore};
 ghost use Rattle.committed_log.specs.Appending.{IsAppended};
 ghost use Rattle.committed_log.specs.Committed as regions;
 ghost use Rattle.committed_log.specs.Log.{homes_in, overlaid, recovered};
 ghost use Rattle.committed_log.specs.Opening.{IsMalformed, LeavesOr};
-ghost use Rattle.logged_pair.specs.Snapshots.{end_of, seen_by, snapshot, HasSnapshot};
+ghost use Rattle.logged_pair.specs.Snapshots.{end_of, seen_by, snapshot, HasSnapshot, HasSnapshotBehind};
+ghost use Rattle.logged_pair.specs.Snapshots.{KeepsReaders, KeepsSnapshots};
 ghost use Rattle.logged_pair.specs.Standing.{base_of, clearing_of, commits_of, homes_of, kept_of, left_since_of};
 ghost use Rattle.logged_pair.specs.Standing.{log_of, may_leave_of, pair_of, shown_of, IsHonest};
 ghost use Rattle.logged_pair.specs.declared.pair.LoggedPair.{LoggedPair};
@@ -73,6 +74,31 @@ pub fn what_a_reader_reads_stays<P: DevicePair, A: Allocator + Copy>()
         take n (overlaid (homes_in (take p (P.journal (pair_of d)))) b a) ≡ seen_by p n (log_of d) }
     ensures blocks { (d : LoggedPair P A ⟦<P as DevicePair>⟧) (p n : ℕ) → IsHonest d → HasSnapshot p n d →
         length (seen_by p n (log_of d)) ≡ n }
+{}
+
+/// Who looks at block 0 no more has a snapshot behind it where it had one, and sees that whatever a stop now may leave
+/// of both devices, as who looks at all of them sees a snapshot.
+pub fn what_is_read_behind_the_gate_stays<P: DevicePair, A: Allocator + Copy>()
+    ensures there { (d : LoggedPair P A ⟦<P as DevicePair>⟧) (p n : ℕ) → HasSnapshot p n d →
+        HasSnapshotBehind p n d }
+    ensures log { (d : LoggedPair P A ⟦<P as DevicePair>⟧) (p n : ℕ) (a b : Blocks) → HasSnapshotBehind p n d →
+        P.may_leave (pair_of d) a b → take p b ≡ take p (P.journal (pair_of d)) }
+    ensures now { (d : LoggedPair P A ⟦<P as DevicePair>⟧) (p n : ℕ) (a b : Blocks) → HasSnapshotBehind p n d →
+        P.may_leave (pair_of d) a b → drop 1 (snapshot p n a b) ≡ drop 1 (seen_by p n (log_of d)) }
+    ensures index { (d : LoggedPair P A ⟦<P as DevicePair>⟧) (p n : ℕ) (a b : Blocks) → HasSnapshotBehind p n d →
+        P.may_leave (pair_of d) a b →
+        drop 1 (take n (overlaid (homes_in (take p (P.journal (pair_of d)))) b a)) ≡
+        drop 1 (seen_by p n (log_of d)) }
+{}
+
+/// Calls in turn keep what readers see where each of them does: all of a snapshot, or what stands behind block 0. Who
+/// keeps all of it keeps that.
+pub fn calls_in_turn_keep_what_readers_see<P: DevicePair, A: Allocator + Copy>()
+    ensures snapshots { (d e f : LoggedPair P A ⟦<P as DevicePair>⟧) → KeepsSnapshots d e →
+        KeepsSnapshots e f → KeepsSnapshots d f }
+    ensures readers { (d e f : LoggedPair P A ⟦<P as DevicePair>⟧) → KeepsReaders d e → KeepsReaders e f →
+        KeepsReaders d f }
+    ensures all { (d e : LoggedPair P A ⟦<P as DevicePair>⟧) → KeepsSnapshots d e → KeepsReaders d e }
 {}
 
 /// Who has read all regions of the log has a snapshot of the last commit, or of its first blocks.

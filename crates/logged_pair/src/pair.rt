@@ -29,10 +29,8 @@ pub struct LoggedPair<P: DevicePair, A: Allocator + Copy = Global> {
     kept: u32,
     // the region is whole and synced, and its flag says that it is committed, or not: it has been asked to
     deciding: bool,
-    // a commit of this session was copied home
-    copied: bool,
-    // each commit is
-    each_home: bool,
+    // block 0 of a commit of this session was copied home
+    marked: bool,
     ghost standing: { regions.IsHonest log → IsStanding deciding (regions.clearing_of log) kept slots.homes.items
         (regions.seen_of log) (regions.behind_of log)
         (regions.leaves_of log) } by { λ p q i h.

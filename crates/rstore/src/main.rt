@@ -4,11 +4,12 @@
 
 use command_line::{ProgressLine, ProgressReader, serve};
 use command_shell::{CountedReader, tell_refusal};
-use file_device::{OpenError, open_reader};
+use file_device::OpenError;
 use journaled_file::{JournaledFile, OpenedFile, end_journaled, open_journaled};
 use journaled_store::OpeningJudge;
 use layer_store::{Refusal, Version};
 use program_words::{greet, imports, newest_allowed};
+use snapshot_file::open_snapshot;
 use std::alloc::Global;
 use std::cell::Cell;
 use std::io::{BufWriter, IsTerminal, Stderr, Write};
@@ -75,7 +76,7 @@ fn serve_files(rt: &HostRuntime, alloc: Global, words: &[&str]) -> io::Result<u8
     let ended = Cell::new(true);
     let newest = newest_allowed(alloc, words);
     let open = |path: &str, create: bool| open_file(rt, alloc, path, create, newest, &journal);
-    let read = |path: &str| open_reader(rt, path);
+    let read = |path: &str| open_snapshot(rt, alloc, path);
     let end = |_path: &str, device| {
         if let Some(name) = journal.take() {
             ended.set(end_journaled(rt, name.as_str(), device).is_ok());

@@ -4,6 +4,7 @@ use crate::held::{ByStreams, Device};
 use block_device::{BlockDevice, DeviceError};
 use device_pair::{DevicePair, TwoDevices};
 use file_device::{FileDevice, OpenError};
+use journaled_device::Readers;
 use journaled_file::{
     Found, JournalSource, JournaledOver, Looked, end_device, judge, look, open_over, pair_up,
 };
@@ -11,7 +12,7 @@ use journaled_store::OpeningJudge;
 use layer_store::{Refusal, Store, Version, create_store, open_store};
 use std::alloc::Global;
 use std::rt::{Stdin, Stdout};
-use stream_file::{FileSide, JournalWish, StreamFile, ask_journal};
+use stream_file::{FileSide, JournalWish, LockWish, StreamFile, ask_journal, ask_lock};
 
 /// The two streams of C.
 #[derive(Drop)]
@@ -43,6 +44,37 @@ pub struct JournalStreams {
     pub anew: Streams,
 }
 
+/// Those who read the file of these streams beside its writer, as C knows by the file's lock. That nobody reads
+/// while the lock is held alone is a premise on C, and nothing is claimed of it here.
+#[derive(Drop)]
+pub struct StreamReaders {
+    streams: Streams,
+}
+
+impl StreamReaders {
+    /// Those of the file that these streams serve.
+    pub fn of(streams: Streams) -> StreamReaders {
+        StreamReaders { streams }
+    }
+
+    // Asks C for the lock.
+    fn ask(&mut self, wish: LockWish) -> Result<(), OpenError> {
+        ask_lock(&mut self.streams.input, &mut self.streams.output, wish)
+    }
+}
+
+impl Readers for StreamReaders {
+    ghost somebody_reads = { λ _. ⊥ };
+
+    fn shut_out(&mut self) -> bool {
+        self.ask(LockWish::Alone).is_ok()
+    }
+
+    fn let_in(&mut self) {
+        let _ = self.ask(LockWish::Share);
+    }
+}
+
 /// Why no store was opened.
 #[derive(Clone, Copy, PartialEq, Eq, Debug)]
 pub enum Unopened {
@@ -64,13 +96,14 @@ impl From<OpenError> for Unopened {
 }
 
 /// Opens the store in the file and its journal, or with `create` makes one where the file has no blocks.
-/// Whether the last run had closed anything and not ended is told. Where no store opens over both, nothing is
-/// written into either. With `each_home` each commit is in the file once it is answered, and not in its journal: for
-/// blocks of the caller's, whose journal is in memory.
+/// Whether the last run had closed anything and not ended, and may have changed more, is told. Where no store opens
+/// over both, nothing is written into either. With `each_home` each commit is in the file once it is answered, and
+/// not in its journal: for blocks of the caller's, whose journal is in memory.
 pub fn open(
     alloc: Global,
     base: Streams,
     journal: JournalStreams,
+    readers: Streams,
     ask: &mut Streams,
     create: bool,
     each_home: bool,
@@ -82,9 +115,11 @@ pub fn open(
         anew: Some(journal.anew),
     };
     let base = side(base, FileSide::Base)?;
-    let (pair, unended) = paired(alloc, base, &mut source, create, cache)?;
-    match store_over(alloc, pair, create, each_home, cache)? {
-        Ok(store) => Ok((store, unended)),
+    let (pair, unended, found) = paired(alloc, base, &mut source, create, cache)?;
+    let readers = StreamReaders::of(readers);
+    match store_over(alloc, pair, readers, create, each_home, cache)? {
+        // Behind commits in the log it shows whether more was begun.
+        Ok((store, begun)) => Ok((store, unended && (found != Found::Own || begun))),
         Err((refusal, device)) => {
             let _ = end(device, ask);
             Err(Unopened::Store(refusal))
@@ -92,8 +127,8 @@ pub fn open(
     }
 }
 
-// A file with its journal, once a store opens over both or is to be made, and whether the last run had closed
-// anything and not ended. This and what follows stand over devices of any kind: each call over those of C, with all
+// A file with its journal, once a store opens over both or is to be made, whether the last run had closed anything and
+// not ended, and what the journal was to the file. This and what follows stand over devices of any kind: each call over those of C, with all
 // that lies on them, is dear to prove.
 fn paired<B: BlockDevice + Drop, J: BlockDevice + Drop, S: JournalSource<J>>(
     alloc: Global,
@@ -101,7 +136,7 @@ fn paired<B: BlockDevice + Drop, J: BlockDevice + Drop, S: JournalSource<J>>(
     source: &mut S,
     create: bool,
     cache: u32,
-) -> Result<(TwoDevices<B, J>, bool), Unopened> {
+) -> Result<(TwoDevices<B, J>, bool, Found), Unopened> {
     let mut opening = OpeningJudge::of(alloc, cache, Version::Three, false);
     let looked = look(base, create, &mut *source, &mut opening, alloc);
     if let Some(refusal) = opening.refusal() {
@@ -110,26 +145,34 @@ fn paired<B: BlockDevice + Drop, J: BlockDevice + Drop, S: JournalSource<J>>(
     let Looked {
         base,
         journal,
-        found: _,
+        found,
         opens: _,
     } = looked?;
-    Ok(pair_up(base, journal, source)?)
+    let (pair, unended) = pair_up(base, journal, source)?;
+    Ok((pair, unended, found))
 }
 
-// The store over a pair, or with `create` a new one where it has no blocks. Where that is refused, the device is
-// given back.
-fn store_over<P: DevicePair + Drop>(
+// The store over a pair, or with `create` a new one where it has no blocks, and whether anything stands behind the
+// log. Where that is refused, the device is given back.
+fn store_over<P: DevicePair + Drop, G: Readers + Drop>(
     alloc: Global,
     pair: P,
+    readers: G,
     create: bool,
     each_home: bool,
     cache: u32,
 ) -> Result<
-    Result<Store<JournaledOver<P, Global>>, (Refusal, JournaledOver<P, Global>)>,
+    Result<(Store<JournaledOver<P, Global, G>>, bool), (Refusal, JournaledOver<P, Global, G>)>,
     OpenError,
 > {
-    match open_over(pair, alloc, each_home) {
-        Ok(device) => Ok(store_in(alloc, device, create, cache)),
+    match open_over(pair, alloc, readers, each_home) {
+        Ok(device) => {
+            let begun = device.has_begun();
+            match store_in(alloc, device, create, cache) {
+                Ok(store) => Ok(Ok((store, begun))),
+                Err(refused) => Ok(Err(refused)),
+            }
+        }
         Err((error, _)) => Err(error),
     }
 }
@@ -147,45 +190,74 @@ fn store_in<D: BlockDevice + Drop>(
     open_store(alloc, device, cache, Version::Three)
 }
 
-/// Opens the store in a file that is only read. It has no journal: one whose last run did not end is refused.
+/// Opens the store in a file that is only read, also beside its writer: through the commits that its journal has to
+/// bring back, of which nothing is written. C says which they are, and keeps both files as they are read.
 pub fn open_to_read(
     alloc: Global,
     base: Streams,
-    journal: Streams,
+    journal: JournalStreams,
+    readers: Streams,
+    ask: &mut Streams,
     cache: u32,
 ) -> Result<(Store<Device>, bool), Unopened> {
-    let none = StreamFile::none(journal.input, journal.output);
-    let Ok(none) = FileDevice::over(none) else {
-        return Err(Unopened::File(OpenError::Refused));
-    };
-    let pair = TwoDevices::of(side(base, FileSide::Base)?, none);
-    Ok((store_read(alloc, pair, cache)?, false))
-}
-
-// The store over a pair that is only read.
-fn store_read<P: DevicePair + Drop>(
-    alloc: Global,
-    pair: P,
-    cache: u32,
-) -> Result<Store<JournaledOver<P, Global>>, Unopened> {
-    let mut pair = pair;
-    match judge(&mut pair) {
-        Ok(Found::Fresh) => {}
-        Ok(_) => return Err(Unopened::Store(Refusal::NotClosed)),
-        Err(_) => return Err(Unopened::File(OpenError::Refused)),
-    }
-    match store_over(alloc, pair, false, false, cache)? {
-        Ok(store) => Ok(store),
+    let beside = journal_to_read(journal.first, ask)?;
+    // Its blocks are counted once those of the journal are, which name them.
+    let base = side_to_read(base, FileSide::Base)?;
+    let pair = pair_to_read(base, beside, no_journal(journal.anew)?)?;
+    let readers = StreamReaders::of(readers);
+    match store_over(alloc, pair, readers, false, false, cache)? {
+        Ok((store, _)) => Ok((store, false)),
         Err((refusal, _)) => Err(Unopened::Store(refusal)),
     }
 }
 
+// The journal that is there, or none.
+fn journal_to_read(streams: Streams, ask: &mut Streams) -> Result<ByStreams, OpenError> {
+    match ask.ask(JournalWish::Open) {
+        Ok(()) => side_to_read(streams, FileSide::Journal),
+        Err(error) if error.is_of_system() => no_journal(streams),
+        Err(error) => Err(error),
+    }
+}
+
+// A journal without a file.
+fn no_journal(streams: Streams) -> Result<ByStreams, OpenError> {
+    Ok(FileDevice::over(StreamFile::none(streams.input, streams.output))?)
+}
+
+// The device of a file that is only read.
+fn side_to_read(streams: Streams, side: FileSide) -> Result<ByStreams, OpenError> {
+    let Ok(file) = StreamFile::only_read(streams.input, streams.output, side) else {
+        return Err(OpenError::Refused);
+    };
+    Ok(FileDevice::over(file)?)
+}
+
+// A file with its journal, as both are read: beside none where its journal is needless.
+fn pair_to_read<B: BlockDevice + Drop, J: BlockDevice + Drop>(
+    base: B,
+    journal: J,
+    none: J,
+) -> Result<TwoDevices<B, J>, OpenError> {
+    let mut pair = TwoDevices::of(base, journal);
+    match judge(&mut pair)? {
+        Found::Fresh => {
+            let (base, _needless) = pair.into_devices();
+            Ok(TwoDevices::of(base, none))
+        }
+        Found::Own | Found::Unended | Found::Ended => Ok(pair),
+        Found::Missing => Err(OpenError::NoJournal),
+        Found::Foreign => Err(OpenError::OtherJournal),
+    }
+}
+
 /// Ends a run over the files: what was not committed is given up, what was is copied home, the mark is taken away, and
-/// the journal is removed. Where a device fails the next opening brings the same blocks back. A journal that can't be
+/// the journal is removed. Where somebody reads the file, nothing is copied, and the journal stays with all that was
+/// committed. Then, and where a device fails, the next opening brings the same blocks back. A journal that can't be
 /// removed is no failure: it says that the run has ended.
 pub fn end(device: Device, ask: &mut Streams) -> Result<(), DeviceError> {
-    // The files are open until the journal is gone.
-    if let Some(_pair) = end_device(device)? {
+    // The files are open, and nobody reads, until the journal is gone.
+    if let Some(_parts) = end_device(device)? {
         let _ = ask.ask(JournalWish::Remove);
     }
     Ok(())

@@ -1,5 +1,6 @@
 //! What lies behind a handle.
 
+use crate::files::StreamReaders;
 use c_session::Session;
 use device_pair::TwoDevices;
 use file_device::FileDevice;
@@ -12,7 +13,7 @@ use stream_file::StreamFile;
 pub type ByStreams = FileDevice<StreamFile<Stdin, Stdout>>;
 
 /// The device that a store lies on.
-pub type Device = JournaledOver<TwoDevices<ByStreams, ByStreams>, Global>;
+pub type Device = JournaledOver<TwoDevices<ByStreams, ByStreams>, Global, StreamReaders>;
 
 /// A session over a store in a file.
 #[derive(Drop)]

@@ -1,6 +1,7 @@
 //! A file by its streams.
-ghost use Rattle.std.specs.Prelude.{◌≡◌, ◌≤◌, ◌+◌, ◌-◌, ◌^◌, ◌∷◌, ◌++◌, [], true, false, max, min};
-ghost use Rattle.std.specs.Prelude.{IsErr, IfOk, OnOk};
+ghost use Rattle.std.specs.Prelude.{◌≡◌, ◌<◌, ◌≤◌, ◌+◌, ◌-◌, ◌^◌, ◌∷◌, ◌++◌, [], None, Some, true, false};
+ghost use Rattle.std.specs.Prelude.{max, min};
+ghost use Rattle.std.specs.Prelude.{IsErr, IfOk, IfSome, OnOk};
 ghost use Rattle.stream_file.specs.Requests.{Exchanges, TellsSize, read_letter, request_bytes, sync_letter};
 ghost use Rattle.stream_file.specs.Requests.{write_letter};
 
@@ -10,17 +11,20 @@ use std::io::{self, ErrorKind, Read, Write};
 
 /// A file of a store, or its journal, by the streams of who serves both.
 ///
-/// A file of `none` begins with two blocks of zeros, reads as zeros, and takes two blocks more, which it
-/// forgets: so a store that is only read has a journal that can be opened and have no entry, and asks no
-/// stream for it.
+/// A file of `only_read` is never written: it takes two blocks behind its end, which read as zeros and are
+/// forgotten with it. So the opening of a log finds the first blocks of a region behind it. A file of `none` is
+/// one that has two blocks of zeros, for which no stream is asked: so a store that is only read has a journal
+/// that can be opened and has no entry.
 #[derive(Drop)]
 pub struct StreamFile<I, O> {
     input: I,
     output: O,
     side: FileSide,
     size: u64,
-    // whether there is no file
-    none: bool,
+    // of a file that is only read: how many bytes are there; what is behind them reads as zeros
+    there: Option<u64>,
+    // how many blocks it takes then, and forgets
+    room: u8,
     // whether a sync has failed
     lost: bool,
     // whether nothing was written since a sync
@@ -31,7 +35,7 @@ impl<I: Read + Drop, O: Write + Drop> StreamFile<I, O> {
     /// The file that the streams serve on a side, whose size is asked for.
     pub fn over(input: I, output: O, side: FileSide) -> io::Result<StreamFile<I, O>>
         ensures begins { IfOk result (λ file.
-            (file.lost ≡ false) × (file.synced ≡ false) × (file.none ≡ false) × (file.side ≡ side)) }
+            (file.lost ≡ false) × (file.synced ≡ false) × (file.there ≡ None) × (file.side ≡ side)) }
         ensures asked { IfOk result (λ file. TellsSize side file.size (O.contents output)
             (O.contents file.output) (I.remaining input) (I.remaining file.input)) }
     {
@@ -40,7 +44,8 @@ impl<I: Read + Drop, O: Write + Drop> StreamFile<I, O> {
             output,
             side,
             size: 0,
-            none: false,
+            there: None,
+            room: 0,
             lost: false,
             synced: false,
         };
@@ -48,10 +53,24 @@ impl<I: Read + Drop, O: Write + Drop> StreamFile<I, O> {
         Ok(file)
     }
 
-    /// The journal that a store has which is only read.
+    /// The same of a file that is only read.
+    pub fn only_read(input: I, output: O, side: FileSide) -> io::Result<StreamFile<I, O>>
+        ensures begins { IfOk result (λ file.
+            (file.there ≡ Some file.size) × (file.room ≡ 2) × (file.side ≡ side)) }
+        ensures asked { IfOk result (λ file. TellsSize side file.size (O.contents output)
+            (O.contents file.output) (I.remaining input) (I.remaining file.input)) }
+    {
+        let mut file = StreamFile::over(input, output, side)?;
+        file.there = Some(file.size);
+        file.room = 2;
+        Ok(file)
+    }
+
+    /// The journal of a store that is only read and has none.
     pub fn none(input: I, output: O) -> StreamFile<I, O>
-        ensures none { result.none ≡ true }
+        ensures none { result.there ≡ Some 0 }
         ensures size { result.size ≡ 8192 }
+        ensures room { result.room ≡ 2 }
         ensures quiet { (result.input ≡ input) × (result.output ≡ output) }
     {
         StreamFile {
@@ -59,7 +78,8 @@ impl<I: Read + Drop, O: Write + Drop> StreamFile<I, O> {
             output,
             side: FileSide::Journal,
             size: 8192,
-            none: true,
+            there: Some(0),
+            room: 2,
             lost: false,
             synced: false,
         }
@@ -69,7 +89,7 @@ impl<I: Read + Drop, O: Write + Drop> StreamFile<I, O> {
     fn asked_size(&mut self) -> io::Result<u64>
         ensures lost { self.new.lost ≡ self.old.lost }
         ensures synced { self.new.synced ≡ self.old.synced }
-        ensures none { self.new.none ≡ self.old.none }
+        ensures there { self.new.there ≡ self.old.there }
         ensures side { self.new.side ≡ self.old.side }
         ensures asked { IfOk result (λ size. TellsSize self.old.side size (O.contents self.old.output)
             (O.contents self.new.output) (I.remaining self.old.input) (I.remaining self.new.input)) }
@@ -143,18 +163,38 @@ impl<I: Read + Drop, O: Write + Drop> StreamFile<I, O> {
         answer
     }
 
-    // Takes a block of a file that is none, unless it has four.
+    // Whether nothing is there of a block, in a file that is only read.
+    fn lacks(&self, at: u64) -> bool
+        ensures lacks { result ≡ true → IfSome self.now.there (λ size. size ≤ at) }
+        ensures has { result ≡ false → IfSome self.now.there (λ size. at < size) }
+    {
+        match self.there {
+            Some(size) => at >= size,
+            None => false,
+        }
+    }
+
+    // Takes a block at the end of a file that is only read, where it has room.
     fn forget(&mut self, at: u64) -> io::Result<()>
+        ensures stays { self.new.there ≡ self.old.there }
         ensures lost { self.new.lost ≡ self.old.lost }
-        ensures none { self.new.none ≡ self.old.none }
-        ensures few { self.old.size ≤ 16384 → self.new.size ≤ 16384 }
-        ensures size { OnOk result (self.new.size ≡ max self.old.size (at + 4096)) }
+        ensures at_end { OnOk result ((self.old.size ≤ at) × (at < self.old.size + 4096)) }
+        ensures size { OnOk result (self.new.size ≡ min (at + 4096) (2 ^ 64 - 1)) }
+        ensures room { OnOk result (self.new.room + 1 ≡ self.old.room) }
+        ensures refused { IsErr result → self.new ≡ self.old }
         ensures quiet { (self.new.input ≡ self.old.input) × (self.new.output ≡ self.old.output) }
     {
-        if at > 12288 {
+        if at < self.size {
             return Err(io::Error::from(ErrorKind::ReadOnlyFilesystem));
         }
-        self.size = self.size.max(at + 4096);
+        if at - self.size >= 4096 {
+            return Err(io::Error::from(ErrorKind::ReadOnlyFilesystem));
+        }
+        if self.room == 0 {
+            return Err(io::Error::from(ErrorKind::ReadOnlyFilesystem));
+        }
+        self.room -= 1;
+        self.size = at.saturating_add(4096);
         Ok(())
     }
 
@@ -206,7 +246,7 @@ impl<I: Read + Drop, O: Write + Drop> DiskFile for StreamFile<I, O> {
     }
 
     fn read_at(&mut self, at: u64, into: &mut [u8; 4096]) -> io::Result<()> {
-        if self.none {
+        if self.lacks(at) {
             *into = [0; 4096];
             return Ok(());
         }
@@ -214,14 +254,14 @@ impl<I: Read + Drop, O: Write + Drop> DiskFile for StreamFile<I, O> {
     }
 
     fn write_at(&mut self, at: u64, from: &[u8; 4096]) -> io::Result<()> {
-        if self.none {
+        if self.there.is_some() {
             return self.forget(at);
         }
         self.write_unless_lost(at, from)
     }
 
     fn sync(&mut self) -> io::Result<()> {
-        if self.none {
+        if self.there.is_some() {
             return Ok(());
         }
         self.sync_unless_lost()

@@ -12,4 +12,4 @@ mod request;
 mod tests;
 
 pub use file::StreamFile;
-pub use request::{FileSide, JournalWish, ask_journal};
+pub use request::{FileSide, JournalWish, LockWish, ask_journal, ask_lock};

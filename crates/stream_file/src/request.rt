@@ -2,8 +2,9 @@
 ghost use Rattle.std.specs.Prelude.{◌≡◌, ◌⊎◌, ◌∷◌, ℕ, [], IfErr, IfOk, OnOk, true};
 ghost use Rattle.std.specs.Io.KnownBytes.{Appends, Consumes};
 ghost use Rattle.file_device.specs.declared.open.OpenError.TheVariants as error;
-ghost use Rattle.stream_file.specs.Requests.{Exchanges, letter_of, number_of, refusal_of, request_bytes};
-ghost use Rattle.stream_file.specs.declared.request.FileSide.TheVariants.{Journal};
+ghost use Rattle.stream_file.specs.Requests.{Exchanges, letter_of, lock_letter_of, number_of, refusal_of};
+ghost use Rattle.stream_file.specs.Requests.{request_bytes};
+ghost use Rattle.stream_file.specs.declared.request.FileSide.TheVariants.{Base, Journal};
 
 use file_device::OpenError;
 use std::io::{self, ErrorKind, Read, Write};
@@ -34,6 +35,15 @@ pub enum JournalWish {
     PutCopy,
 }
 
+/// What is asked of the lock of the file.
+#[derive(Clone, Copy, Debug, PartialEq, Eq)]
+pub enum LockWish {
+    /// To hold it alone, without waiting. Where that is refused it is shared as before.
+    Alone,
+    /// To share it again.
+    Share,
+}
+
 impl FileSide {
     // Its number in a request.
     fn number(self) -> u8
@@ -58,6 +68,18 @@ impl JournalWish {
             JournalWish::Remove => b'x',
             JournalWish::MakeCopy => b'c',
             JournalWish::PutCopy => b'p',
+        }
+    }
+}
+
+impl LockWish {
+    // Its letter in a request.
+    fn letter(self) -> u8
+        ensures { result ≡ lock_letter_of self }
+    {
+        match self {
+            LockWish::Alone => b'a',
+            LockWish::Share => b'l',
         }
     }
 }
@@ -103,7 +125,39 @@ pub fn ask_journal<I: Read, O: Write>(
         × Exchanges (request_bytes (letter_of wish) Journal 0) (byte ∷ [])
         (O.contents output.old) (O.contents output.new) (I.remaining input.old) (I.remaining input.new))) }
 {
-    if send(output, wish.letter(), FileSide::Journal, 0).is_err() {
+    ask(input, output, wish.letter(), FileSide::Journal)
+}
+
+/// Asks for the lock of the file to be held alone, or to be shared again. `InUse` is the answer where others hold
+/// it, too.
+pub fn ask_lock<I: Read, O: Write>(
+    input: &mut I,
+    output: &mut O,
+    wish: LockWish,
+) -> Result<(), OpenError>
+    ensures done { OnOk result (Exchanges (request_bytes (lock_letter_of wish) Base 0) (0 ∷ [])
+        (O.contents output.old) (O.contents output.new) (I.remaining input.old) (I.remaining input.new)) }
+    ensures refused { IfErr result (λ e. (e ≡ error.Refused) ⊎ ((byte : ℕ) × (e ≡ refusal_of byte)
+        × Exchanges (request_bytes (lock_letter_of wish) Base 0) (byte ∷ [])
+        (O.contents output.old) (O.contents output.new) (I.remaining input.old) (I.remaining input.new))) }
+{
+    ask(input, output, wish.letter(), FileSide::Base)
+}
+
+// Asks for what a letter says of a file as a whole.
+fn ask<I: Read, O: Write>(
+    input: &mut I,
+    output: &mut O,
+    letter: u8,
+    side: FileSide,
+) -> Result<(), OpenError>
+    ensures done { OnOk result (Exchanges (request_bytes letter side 0) (0 ∷ [])
+        (O.contents output.old) (O.contents output.new) (I.remaining input.old) (I.remaining input.new)) }
+    ensures refused { IfErr result (λ e. (e ≡ error.Refused) ⊎ ((byte : ℕ) × (e ≡ refusal_of byte)
+        × Exchanges (request_bytes letter side 0) (byte ∷ [])
+        (O.contents output.old) (O.contents output.new) (I.remaining input.old) (I.remaining input.new))) }
+{
+    if send(output, letter, side, 0).is_err() {
         return Err(OpenError::Refused);
     }
     match answer(input) {

@@ -1,6 +1,6 @@
 //! What goes out for each call, and what is made of what comes in.
 
-use crate::{FileSide, JournalWish, StreamFile, ask_journal};
+use crate::{FileSide, JournalWish, LockWish, StreamFile, ask_journal, ask_lock};
 use file_device::{DiskFile, OpenError};
 use std::alloc::{AllocError, Global};
 use std::io::Cursor;
@@ -80,12 +80,59 @@ fn no_file_has_two_blocks_of_zeros(rt: HostRuntime) -> Result<(), Fail> {
     assert!(rt; file.size().is_ok_and(|n| n == 8192));
     assert!(rt; file.read_at(4096, &mut into).is_ok());
     assert!(rt; into == [0; 4096]);
+    assert!(rt; file.write_at(8192, &[7; 4096]).is_ok());
     assert!(rt; file.write_at(12288, &[7; 4096]).is_ok());
     assert!(rt; file.size().is_ok_and(|n| n == 16384));
     assert!(rt; file.read_at(12288, &mut into).is_ok());
     assert!(rt; into == [0; 4096]);
     assert!(rt; file.write_at(16384, &into).is_err());
     assert!(rt; file.sync().is_ok());
+    Ok(())
+}
+
+#[test]
+fn a_file_that_is_only_read_asks_for_no_write(rt: HostRuntime) -> Result<(), Fail> {
+    let alloc = rt.alloc();
+    let page = [7; 4096];
+    let size = [0, 17, 0, 0, 0, 0, 0, 0, 0];
+    let input = input_of(alloc, &[&size, &page, &[0]])?;
+    let mut output = Vec::new(alloc);
+    let mut into = [0; 4096];
+    {
+        let mut file = StreamFile::only_read(input, &mut output, FileSide::Journal)?;
+        assert!(rt; file.write_at(0, &page).is_err());
+        assert!(rt; file.write_at(12288, &page).is_err());
+        assert!(rt; file.write_at(8192, &page).is_ok());
+        assert!(rt; file.write_at(12288, &page).is_ok());
+        assert!(rt; file.write_at(16384, &page).is_err());
+        assert!(rt; file.sync().is_ok());
+        assert!(rt; file.size().is_ok_and(|n| n == 16384));
+        assert!(rt; file.read_at(4096, &mut into).is_ok());
+        assert!(rt; into == page);
+        assert!(rt; file.read_at(8192, &mut into).is_ok());
+    }
+    assert!(rt; into == [0; 4096]);
+    assert_eq!(rt; output.len(), 20);
+    assert_eq!(rt; [output[0], output[10]], [b's', b'r']);
+    Ok(())
+}
+
+#[test]
+fn a_lock_is_asked_for(rt: HostRuntime) -> Result<(), Fail> {
+    let alloc = rt.alloc();
+    let mut input = input_of(alloc, &[&[0, 2]])?;
+    let mut output = Vec::new(alloc);
+    assert_eq!(rt; ask_lock(&mut input, &mut output, LockWish::Alone), Ok(()));
+    assert_eq!(rt;
+        ask_lock(&mut input, &mut output, LockWish::Share),
+        Err(OpenError::InUse)
+    );
+    assert_eq!(rt;
+        ask_lock(&mut input, &mut output, LockWish::Share),
+        Err(OpenError::Refused)
+    );
+    assert_eq!(rt; output.len(), 30);
+    assert_eq!(rt; [output[0], output[10], output[1]], [b'a', b'l', 0]);
     Ok(())
 }
 

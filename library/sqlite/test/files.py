@@ -39,14 +39,14 @@ def files():
         sound(db, "p", "r", "o")
         cursor = db.execute("SELECT id FROM p")
         cursor.fetchone()
-        try:
-            rstore.open("there/map.rst")
-            raise AssertionError("it is open")
-        except OSError:
-            cursor.close()
         with rstore.open("there/map.rst") as store:
+            before = len(store["parks"])
             store["parks"][1000] = (7, 7, 7, 7)
-            refuses(sqlite3.OperationalError, "database is locked", db, "SELECT * FROM p")
+            store.commit()
+            assert len(cursor.fetchall()) == before - 1
+            del store["parks"][1000]
+            assert len(rows(db, "SELECT id FROM p")) == before + 1
+            store.rollback()
         assert rows(db, "SELECT id FROM p WHERE around = '7 7'") == [(1000,)]
         for words, kind, told in [
             ("'map.rst', 'lakes'", sqlite3.OperationalError, "no layer of that name"), ("'map.rst', 'parks', dims=3",
@@ -114,7 +114,8 @@ def changes():
         assert rows(db, "SELECT * FROM rstore_join('p', 'o')") == []
         refuses(sqlite3.OperationalError, "locked", db, "DROP TABLE o")
         other = connect("f.db")
-        refuses(sqlite3.OperationalError, "database is locked", other, "SELECT * FROM p")
+        refuses(sqlite3.OperationalError, "database is locked", other, "DELETE FROM p")
+        assert ids(other) == [2, 3]
         db.execute("ROLLBACK")
         assert not is_locked() and there() == [2, 3] and ids(db, "o") == [] == rows(db, "SELECT * FROM plain")
         assert ids(other) == [2, 3]
@@ -136,9 +137,11 @@ def changes():
         # a file that another has open
         with rstore.open("m.rst"):
             refuses(sqlite3.OperationalError, "database is locked", db, "DELETE FROM p")
-        with rstore.open("m.rst", read_only=True):
-            refuses(sqlite3.OperationalError, "database is locked", db, "DELETE FROM p")
-            assert ids(db) == [3]
+        with rstore.open("m.rst", read_only=True) as store:
+            db.execute("INSERT INTO p VALUES" + ROW, (4,))
+            assert list(store["p"]) == [3] and ids(db) == [3, 4] and store.refresh() and list(store["p"]) == [3, 4]
+            db.execute("DELETE FROM p WHERE id = 4")
+            assert ids(db) == [3] and list(store["p"]) == [3, 4]
         # a cursor that reads on while the file is changed
         db.execute(MANY.format(100) + "INSERT INTO p SELECT 100 + i, i, i, 0, 0, 0 FROM n")
         seen = []
@@ -259,8 +262,9 @@ def turns():
             db.execute("INSERT INTO p VALUES" + ROW, (k,))
             if gone is not None:
                 db.execute("DELETE FROM p WHERE id = ?", (gone,))
-            refuses(sqlite3.OperationalError, "database is locked", r.choice([t for t in turn if t is not db]),
-                    r.choice(["DELETE FROM p WHERE id = 0", "SELECT count(*) FROM p"]))
+            other = r.choice([t for t in turn if t is not db])
+            refuses(sqlite3.OperationalError, "database is locked", other, "DELETE FROM p WHERE id = 0")
+            assert ids(other) == sorted(wanted)
             db.execute("COMMIT" if keeps else "ROLLBACK")
             if keeps:
                 wanted = (wanted | {k}) - {gone}

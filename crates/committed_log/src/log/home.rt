@@ -1,5 +1,5 @@
 //! The slots copied home, and the log begun anew.
-ghost use Rattle.std.specs.Prelude.{◌≡◌, ◌<◌, ◌≤◌, ◌↔◌, [], length, true, false, OnErr, OnOk};
+ghost use Rattle.std.specs.Prelude.{◌≡◌, ◌<◌, ◌≤◌, ◌↔◌, [], length, slice_index, true, false, OnErr, OnOk};
 ghost use Rattle.std.specs.List.{Contains};
 ghost use Rattle.block_device.specs.Device.{Counts, block_at, written};
 ghost use Rattle.device_pair.specs.Pairs.{PairLeaves};
@@ -7,7 +7,7 @@ ghost use Rattle.committed_log.specs.Log.{flag_block, recovered};
 ghost use Rattle.committed_log.specs.Committed.{base_of, behind_of, clearing_of, homes_of, journal_of};
 ghost use Rattle.committed_log.specs.Committed.{pair_of, seen_of, IsHonest, SameLog};
 ghost use Rattle.committed_log.specs.Found.{IsSlot};
-ghost use Rattle.committed_log.specs.Home.{FirstShow, IsCopied, IsQuiet};
+ghost use Rattle.committed_log.specs.Home.{FirstShow, IsCopied, IsQuiet, WritesOnly};
 
 use crate::flag::flag_page;
 use crate::log::CommittedLog;
@@ -109,6 +109,7 @@ impl<P: DevicePair, A: Allocator + Copy> CommittedLog<P, A> {
         requires quiet { IsHonest self.old → IsQuiet self.old }
         ensures log { SameLog self.old self.new }
         ensures journal { IsHonest self.old → journal_of self.new ≡ journal_of self.old }
+        ensures only { IsHonest self.old → WritesOnly 0 self.old self.new }
         ensures seen { IsHonest self.old → seen_of self.new ≡ seen_of self.old }
         ensures quiet { IsHonest self.old → IsQuiet self.new }
         ensures stops { IsHonest self.old →
@@ -179,6 +180,7 @@ impl<P: DevicePair, A: Allocator + Copy> CommittedLog<P, A> {
         requires there { k < length (homes_of self.old) }
         ensures log { SameLog self.old self.new }
         ensures journal { IsHonest self.old → journal_of self.new ≡ journal_of self.old }
+        ensures only { IsHonest self.old → WritesOnly (slice_index (homes_of self.old) k) self.old self.new }
         ensures copied { IsHonest self.old → OnOk result (IsCopied k self.old self.new) }
         ensures seen { IsHonest self.old → seen_of self.new ≡ seen_of self.old }
         ensures quiet { IsHonest self.old → IsQuiet self.new }
@@ -221,6 +223,7 @@ impl<P: DevicePair, A: Allocator + Copy> CommittedLog<P, A> {
         requires slot { Contains (homes_of self.old) home }
         ensures log { SameLog self.old self.new }
         ensures journal { IsHonest self.old → journal_of self.new ≡ journal_of self.old }
+        ensures only { IsHonest self.old → WritesOnly home self.old self.new }
         ensures written { IsHonest self.old →
             OnOk result (base_of self.new ≡ written home bytes.now (base_of self.old)) }
         ensures seen { IsHonest self.old → seen_of self.new ≡ seen_of self.old }

@@ -9,11 +9,12 @@ ghost use Rattle.std.specs.Prelude.{◌≡◌, None, OnOk};
 ghost use Rattle.block_device.specs.Outcomes.{no_longer_left};
 
 use crate::device::JournaledDevice;
+use crate::readers::Readers;
 use block_device::{BlockDevice, DeviceError};
 use device_pair::DevicePair;
 use std::alloc::Allocator;
 
-impl<P: DevicePair, A: Allocator + Copy> BlockDevice for JournaledDevice<P, A> {
+impl<P: DevicePair, A: Allocator + Copy, G: Readers> BlockDevice for JournaledDevice<P, A, G> {
     ghost shown = { λ d. shown_of (inner_of d) };
 
     ghost honest = { λ d. IsHonest (inner_of d) };

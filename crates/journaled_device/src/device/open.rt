@@ -1,12 +1,13 @@
 //! A base and its journal opened, after a stop or not.
-ghost use Rattle.std.specs.Prelude.{◌≡◌, ◌↔◌, IfOk, IfErr, []};
+ghost use Rattle.std.specs.Prelude.{◌≡◌, ◌<◌, ◌≤◌, ◌↔◌, IfOk, IfErr, [], false, length, true};
 ghost use Rattle.block_device.specs.Device.{Blocks};
 ghost use Rattle.device_pair.specs.Pairs.{PairLeaves};
 ghost use Rattle.committed_log.specs.Log.{recovered};
 ghost use Rattle.committed_log.specs.Opening.{IsMalformed, LeavesOr};
 ghost use Rattle.committed_log.specs.declared.log.open.OpenFault.TheVariants as fault;
-ghost use Rattle.logged_pair.specs.Standing.{commits_of, homes_of, shown_of, IsHonest};
-ghost use Rattle.journaled_device.specs.Journaled.{events_of, inner_of, moment_of, pair_of};
+ghost use Rattle.logged_pair.specs.Standing.{commits_of, homes_of, journal_of, shown_of, IsHonest};
+ghost use Rattle.journaled_device.specs.Journaled.{each_home_of, events_of, inner_of, moment_of, pair_of};
+ghost use Rattle.journaled_device.specs.Journaled.{readers_of};
 
 use crate::device::JournaledDevice;
 use committed_log::OpenFault;
@@ -14,19 +15,25 @@ use device_pair::{DevicePair, Snapshots};
 use logged_pair::LoggedPair;
 use std::alloc::Allocator;
 
-impl<P: DevicePair, A: Allocator + Copy> JournaledDevice<P, A> {
+impl<P: DevicePair, A: Allocator + Copy, G: Drop> JournaledDevice<P, A, G> {
     /// Opens a base and its journal, which may be empty, and copies nothing home. It may be cut short, at any
     /// moment. With `each_home` a sync copies each commit home, for a base that others read without its journal.
     ///
     /// What is then read is what recovery makes of base and journal as they were read. It is the one commit,
     /// and as a plain disk all of it is synced.
-    pub fn open(pair: P, alloc: A, each_home: bool) -> Result<JournaledDevice<P, A>, (OpenFault, P)>
+    pub fn open(
+        pair: P,
+        alloc: A,
+        readers: G,
+        each_home: bool,
+    ) -> Result<JournaledDevice<P, A, G>, (OpenFault, P)>
         ensures shown { IfOk result (λ d. P.honest pair →
             shown_of (inner_of d) ≡ recovered (P.base pair) (P.journal pair)) }
         ensures commits { IfOk result (λ d. P.honest pair → (k : Blocks) → commits_of (inner_of d) k →
             k ≡ shown_of (inner_of d)) }
         ensures none { IfOk result (λ d. homes_of (inner_of d) ≡ []) }
         ensures synced { IfOk result (λ d. events_of d ≡ []) }
+        ensures each_home { IfOk result (λ d. each_home_of d ≡ each_home) }
         ensures moment { IfOk result (λ d. moment_of d ≡ P.moment (pair_of d)) }
         ensures base { IfOk result (λ d. P.honest pair → P.base (pair_of d) ≡ P.base pair) }
         ensures refused_base { IfErr result (λ e. P.honest pair → P.base e.1 ≡ P.base pair) }
@@ -43,17 +50,35 @@ impl<P: DevicePair, A: Allocator + Copy> JournaledDevice<P, A> {
         ensures honest { IfOk result (λ d. P.honest pair ↔ IsHonest (inner_of d)) }
         ensures refused_honest { IfErr result (λ e. P.honest pair ↔ P.honest e.1) }
     {
-        let pair = LoggedPair::open(pair, alloc, each_home)?;
+        let pair = LoggedPair::open(pair, alloc)?;
         Ok(JournaledDevice {
             pair,
             past: Snapshots::new(),
+            readers,
+            each_home,
         })
     }
 
-    /// Its pair, as it is. What was written since the last commit is given up where it is then opened again.
-    pub fn into_pair(self) -> P
-        ensures { result ≡ pair_of self }
+    /// Whether blocks stand behind the log: a commit was begun and did not end, or the log was longer once.
+    pub fn has_begun(&self) -> bool
+        ensures begun { result ≡ true → 2 < length (journal_of (inner_of self.now)) }
+        ensures none { result ≡ false → length (journal_of (inner_of self.now)) ≤ 2 }
     {
-        self.pair.into_pair()
+        self.pair.has_begun()
+    }
+
+    /// Its pair, as it is, and who knows of its readers. What was written since the last commit is given up where
+    /// the pair is then opened again.
+    pub fn into_parts(self) -> (P, G)
+        ensures pair { result.0 ≡ pair_of self }
+        ensures readers { result.1 ≡ readers_of self }
+    {
+        let JournaledDevice {
+            pair,
+            past: _,
+            readers,
+            each_home: _,
+        } = self;
+        (pair.into_pair(), readers)
     }
 }

@@ -103,7 +103,7 @@ impl<P: DevicePair, A: Allocator + Copy> LoggedPair<P, A> {
     }
 
     // Syncs the slots and their index, and the base.
-    fn sync_region(&mut self) -> Result<(), DeviceError>
+    pub(crate) fn sync_region(&mut self) -> Result<(), DeviceError>
         ensures still { IsHonest self.old → IsStill self.old self.new }
         ensures slots { SameSlots self.old self.new }
         ensures synced { IsHonest self.old → OnOk result (IsDurable (log_of self.new)) }

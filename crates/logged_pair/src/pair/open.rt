@@ -17,10 +17,9 @@ use std::alloc::Allocator;
 
 impl<P: DevicePair, A: Allocator + Copy> LoggedPair<P, A> {
     /// Opens a base and its journal, which may be empty, and copies nothing. It may be cut short, at any moment.
-    /// With `each_home` a sync copies each commit home, for a base that others read without its journal.
     ///
     /// What is then read is what recovery makes of base and journal as they were read, and is the one commit.
-    pub fn open(pair: P, alloc: A, each_home: bool) -> Result<LoggedPair<P, A>, (OpenFault, P)>
+    pub fn open(pair: P, alloc: A) -> Result<LoggedPair<P, A>, (OpenFault, P)>
         ensures shown { IfOk result (λ d. P.honest pair →
             shown_of d ≡ recovered (P.base pair) (P.journal pair)) }
         ensures commits { IfOk result (λ d. P.honest pair → (kept : Blocks) → commits_of d kept →
@@ -61,8 +60,7 @@ impl<P: DevicePair, A: Allocator + Copy> LoggedPair<P, A> {
             slots: Slots::new(alloc),
             kept,
             deciding: false,
-            copied: false,
-            each_home,
+            marked: false,
         })
     }
 }

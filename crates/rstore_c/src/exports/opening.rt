@@ -63,6 +63,8 @@ pub extern "C" fn rstore_c_open(
     journal_output: Stdout,
     anew_input: Stdin,
     anew_output: Stdout,
+    readers_input: Stdin,
+    readers_output: Stdout,
     ask_input: Stdin,
     ask_output: Stdout,
     flags: u32,
@@ -71,20 +73,20 @@ pub extern "C" fn rstore_c_open(
     detail: &mut u64,
 ) -> u32 {
     let base = Streams::of(base_input, base_output);
-    let journal = Streams::of(journal_input, journal_output);
-    let anew = Streams::of(anew_input, anew_output);
+    let journal = JournalStreams {
+        first: Streams::of(journal_input, journal_output),
+        anew: Streams::of(anew_input, anew_output),
+    };
+    let readers = Streams::of(readers_input, readers_output);
     let mut ask = Streams::of(ask_input, ask_output);
     let opened = if flags == 2 {
-        files::open_to_read(alloc, base, journal, cache)
+        files::open_to_read(alloc, base, journal, readers, &mut ask, cache)
     } else {
-        let journal = JournalStreams {
-            first: journal,
-            anew,
-        };
         files::open(
             alloc,
             base,
             journal,
+            readers,
             &mut ask,
             flags & 1 == 1,
             flags >= BLOCKS,
@@ -187,7 +189,7 @@ fn closing_number(number: u32, is_end_failed: bool) -> u32
 }
 
 /// The number that came with the last refusal; after the opening 1 where the last run had committed and not
-/// ended.
+/// ended, and may have changed more.
 #[unsafe(no_mangle)]
 pub extern "C" fn rstore_c_detail(handle: &mut Handle) -> u64
     ensures detail { result ≡ handle.old.value.session.detail }

@@ -11,7 +11,7 @@ pub returns-clause-now : goal.returns-clause-now
 returns-clause-now g c = λ d p n a b s left. (s.stays a b left).blocks
 
 pub returns-clause-index : goal.returns-clause-index
-returns-clause-index g c = λ d p n a b s left. index_seen p n (log_of d) a b s.ends (s.stays a b left)
+returns-clause-index g c = λ d p n a b s left. index_seen 0 p n (log_of d) a b s.ends (s.stays a b left)
 
 pub returns-clause-blocks : goal.returns-clause-blocks
 returns-clause-blocks g c = λ d p n h s.

@@ -6,6 +6,7 @@ use Rattle.committed_log.specs.Log.{overlaid}
 use Rattle.committed_log.specs.Stops.{IsStanding}
 use Rattle.committed_log.proofs.Homing.{Quiet, home_quiet, home_seen, quiet_first, quiet_recovers}
 use Rattle.committed_log.proofs.Stood.{base_stands, torn_of}
+use Rattle.committed_log.proofs.WritingOne.{only_written}
 use Rattle.committed_log.proofs.log.CommittedLog.put_home.Given as given
 use Rattle.committed_log.proofs.log.CommittedLog.put_home.Goals as goal
 use Rattle.committed_log.proofs.log.CommittedLog.put_home.Goals.{After-write_base}
@@ -91,3 +92,11 @@ returns-clause-last g c = λ h.
     pair_call p.moment p.left_since d.pair e _ (p.may_leave e) (c.write_base.ensures.time h)
     (quiet_first d.clearing d.slots.homes.items (p.base e) (p.journal e) _ (p.may_leave e)
     (g.met.P.DevicePair.few_blocks e).0 (stands_so g at h) (quiet_so g at h))
+
+pub returns-clause-only : goal.returns-clause-only
+returns-clause-only g c = λ h.
+    let d = c.args.self.now in
+    let at = (goal.at.returns-clause-only g c).After-write_base in
+    only_written c.args.home d _ h c.requires.settled c.requires.slot (there_so g at)
+    (g.met.P.DevicePair.few_blocks d.pair).0 (torn_so g at h) (c.write_base.ensures.stops h)
+    (c.write_base.ensures.time h)

@@ -3,8 +3,8 @@ use Rattle.std.proofs.Common.{inl}
 use Rattle.journaled_device.proofs.Noting.{noted_same}
 use Rattle.journaled_device.proofs.device.JournaledDevice.bring_home.Goals as goal
 
-pub invariant_of-self : goal.invariant_of-self
-invariant_of-self g c = record {
+pub invariant_of-self-2 : goal.invariant_of-self-2
+invariant_of-self-2 g c = record {
   noted = λ h'.
       let h = c.copy_home.ensures.honest.1 h' in
       let k = c.copy_home.ensures.keeps h in

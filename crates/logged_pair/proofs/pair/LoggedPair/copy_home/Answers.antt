@@ -25,7 +25,7 @@ returns-in_err-finish-clause-last g c = λ h fills p n s all.
     let q = g.P.DevicePair in
     let d = c.args.self.now in
     pair_weaker q.moment q.left_since (pair_of d) (pair_of c.finish.new.self) _ _
-    (last_same p n (kept_of d) (log_of d) all h s.settled s) ((c.finish.ensures.snapshots h).stops p n s)
+    (last_same p n (kept_of d) (log_of d) all h s.settled s) ((c.finish.ensures.snapshots h 0).stops p n s)
 
 pub returns-clause-last : goal.returns-clause-last
 returns-clause-last g c = λ h fills p n s all.
@@ -34,18 +34,18 @@ returns-clause-last g c = λ h fills p n s all.
     subst (λ (x : _). PairLeaves q.moment q.left_since (pair_of x) (pair_of c.copy_now.new.self)
     (ShowsLastOf p n (log_of x))) same
     (c.copy_now.ensures.last (c.finish.ensures.honest.0 h) p n
-    ((c.finish.ensures.snapshots h).there p n s)
+    ((c.finish.ensures.snapshots h 0).there p n s)
     (all ∙ ap (λ (x : _). end_of x) (sym same)))
 
 pub returns-in_err-finish-clause-last_stays : goal.returns-in_err-finish-clause-last_stays
 returns-in_err-finish-clause-last_stays g c = λ h fills.
-    let stay = c.finish.ensures.snapshots h in
+    let stay = c.finish.ensures.snapshots h 0 in
     on_any c.from_residual.result _ (λ settled p n s all. (stay.there p n s, (stay.shown p n s).blocks))
 
 pub returns-clause-last_stays : goal.returns-clause-last_stays
 returns-clause-last_stays g c = λ h fills.
     let f = c.finish.new.self in let e = c.copy_now.new.self in
-    let stay = c.finish.ensures.snapshots h in
+    let stay = c.finish.ensures.snapshots h 0 in
     on_err c.copy_now.result _ _
     (λ (stays : LastStays f e). λ settled p n s all.
     let same : f ≡ c.args.self.now = c.finish.ensures.still fills s.settled in

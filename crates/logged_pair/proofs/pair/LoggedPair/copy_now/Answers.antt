@@ -133,13 +133,13 @@ returns-clause-keeps g c = λ h.
 
 -- the sync before the copies
 synced_last : (g : given.Over) (c : After-sync_base g) → regions.IsHonest c.args.self.now.log → (p n : ℕ)
-    → IsSnapshot p n c.args.self.now.kept c.args.self.now.log
+    → IsSnapshot 0 p n c.args.self.now.kept c.args.self.now.log
     → p ≡ length (regions.homes_of c.args.self.now.log)
     → PairLeaves g.P.DevicePair.moment g.P.DevicePair.left_since (regions.pair_of c.args.self.now.log)
     (regions.pair_of c.sync_base.new.self) (ShowsLastOf p n c.args.self.now.log)
 synced_last g c h p n s all =
     let q = g.P.DevicePair in let d = c.args.self.now in let m = c.sync_base.new.self in
-    let stay = snaps_still d.kept d.kept d.log m (omega arith) (stays_of (c.sync_base.ensures.still h)) in
+    let stay = snaps_still d.kept d.kept d.log m (omega arith) (stays_of (c.sync_base.ensures.still h)) 0 in
     pair_weaker q.moment q.left_since (regions.pair_of d.log) (regions.pair_of m) _ _
     (last_same p n d.kept d.log all h c.requires.settled s) (stay.stops p n s)
 
@@ -161,7 +161,7 @@ returns-clause-last g c = λ h p n s all.
 pub returns-in_err-sync_base-clause-last_stays : goal.returns-in_err-sync_base-clause-last_stays
 returns-in_err-sync_base-clause-last_stays g c = λ h.
     let d = c.args.self.now in let m = c.sync_base.new.self in
-    let stay = snaps_still d.kept d.kept d.log m (omega arith) (stays_of (c.sync_base.ensures.still h)) in
+    let stay = snaps_still d.kept d.kept d.log m (omega arith) (stays_of (c.sync_base.ensures.still h)) 0 in
     on_any c.from_residual.result _
     (λ settled p n s all. (stay.there p n s, (stay.shown p n s).blocks))
 

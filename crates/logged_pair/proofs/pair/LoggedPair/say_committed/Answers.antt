@@ -61,8 +61,8 @@ returns-clause-keeps g c = λ h.
     (log_commits m.deciding m.kept m.slots.homes.items m.log e (stays_of (c.sync_journal.ensures.still h2))))
 
 pub returns-clause-snapshots : goal.returns-clause-snapshots
-returns-clause-snapshots g c = λ h.
+returns-clause-snapshots g c = λ h s.
     let d = c.args.self.now in let m = c.put_flag.new.self in let e = c.sync_journal.new.self in
-    snaps_then d.kept m.kept m.kept d.log m.log e (c.put_flag.ensures.snapshots h)
+    snaps_then s d.kept m.kept m.kept d.log m.log e (c.put_flag.ensures.snapshots h s)
     (snaps_still m.kept m.kept m.log e (omega arith)
-    (stays_of (c.sync_journal.ensures.still (c.put_flag.ensures.honest.0 h))))
+    (stays_of (c.sync_journal.ensures.still (c.put_flag.ensures.honest.0 h))) s)
