@@ -120,6 +120,11 @@ def filters(calls):
         others = calls[:there] + calls[there + 1 :]
         return others[:to] + [calls[there]] + others[to:]
 
+    def all_moved(test, begin, end, to):
+        them = [call for k, call in enumerate(calls) if begin <= k < end and test(call)]
+        others = without(test, begin, end)
+        return others[:to] + them + others[to:]
+
     def last(test, end):
         return max(k for k in range(end) if test(calls[k]))
 
@@ -127,6 +132,7 @@ def filters(calls):
     added = place(calls, writes(FILE))
     flag = place(calls, commits)
     entry = last(writes(JOURNAL), flag)
+    first = place(calls, syncs_of(JOURNAL), flag)
     mark = place(calls, writes(FILE, 0, 2))
     told = place(calls, is_reply, max(flag, mark))
     yield "no sync of the folder with the journal", without(lambda call: call.word == "folder", 0, flag)
@@ -153,7 +159,7 @@ def filters(calls):
     gone = place(calls, lambda call: call.word == "remove", shut)
     yield "no sync of the mark", without(syncs_of(FILE), mark, home)
     yield "no sync of the flag of a third region", without(syncs_of(JOURNAL), flag, home)
-    yield "a copy before the sync of the flag", moved(home, commit)
+    yield "copies before the sync of a flag", all_moved(writes(FILE), home, clear, first)
     yield "no sync of what is copied", without(syncs_of(FILE), home, clear)
     yield "the flag is cleared before the sync of what is copied", moved(clear, place(calls, syncs_of(FILE), home))
     yield "no sync of the end", without(syncs_of(JOURNAL), end, shut)
