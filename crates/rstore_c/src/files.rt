@@ -127,9 +127,9 @@ pub fn open(
     }
 }
 
-// A file with its journal, once a store opens over both or is to be made, whether the last run had closed anything and
-// not ended, and what the journal was to the file. This and what follows stand over devices of any kind: each call over those of C, with all
-// that lies on them, is dear to prove.
+// A file with its journal, once a store opens over both or is to be made, whether the last run had closed anything
+// and not ended, and what the journal was to the file. This and what follows stand over devices of any kind: each
+// call over those of C, with all that lies on them, is dear to prove.
 fn paired<B: BlockDevice + Drop, J: BlockDevice + Drop, S: JournalSource<J>>(
     alloc: Global,
     base: B,
