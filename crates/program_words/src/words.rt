@@ -233,7 +233,11 @@ fn with_flags<'a>(alloc: Global, words: Command<'a>) -> Result<Command<'a>, Allo
 {
     words
         .arg(flag(alloc, "create", "Make FILE, which must be missing or empty"))?
-        .arg(flag(alloc, "read-only", "Only read FILE, also beside a run that writes it"))?
+        .arg(flag(
+            alloc,
+            "read-only",
+            "Only read FILE, also beside a run that writes it",
+        ))?
         .arg(flag(
             alloc,
             "strict",
