@@ -399,10 +399,11 @@ static int end(rstore *db) {
     return error ? error : failed;
 }
 
-/* Has the disk take the log that a reader shows, so that no stop takes it back. A file system that takes nothing has no
- * more to lose. */
-static int sync_log(rstore *db) {
-    bool done = db->end <= LOG || !fdatasync(db->fd[1]) || errno == EINVAL || errno == EROFS;
+/* Has the disk take what a reader shows and a writer may not have synced yet, so that no stop takes it back: the log, and
+ * where that has no commit beside a journal the file. A file system that takes nothing has no more to lose. */
+static int sync_shown(rstore *db) {
+    int fd = db->fd[1] < 0 ? -1 : db->fd[db->end > LOG ? 1 : 0];
+    bool done = fd < 0 || !fdatasync(fd) || errno == EINVAL || errno == EROFS;
     return done ? RSTORE_OK : RSTORE_DEVICE;
 }
 
@@ -414,7 +415,7 @@ static int open_reader(const char *path, uint32_t cache, rstore **opened) {
         if (!db) return RSTORE_MEMORY;
         db->cache = cache;
         int error = open_store(db, open_files(db, path, RSTORE_READ_ONLY), RSTORE_READ_ONLY, cache, opened);
-        if (!error && (error = sync_log(*opened))) end(*opened), *opened = NULL;
+        if (!error && (error = sync_shown(*opened))) end(*opened), *opened = NULL;
         bool anew = error == RSTORE_NO_JOURNAL || error == RSTORE_OTHER_JOURNAL || error == RSTORE_NOT_CLOSED;
         if (!anew || !tries) return error;
         wait_a_moment();
