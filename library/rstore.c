@@ -28,6 +28,8 @@ struct rstore {
     uint64_t told;  /* the file's size, as it was told last */
     off_t end;      /* of a reader: where the flag lies behind the regions of the log that it reads */
     uint32_t cache;
+    uint64_t begun_with; /* how many blocks the journal had once it was opened */
+    bool rolls;     /* the journal is opened already, and locked */
     bool unsure;    /* the folder of a journal that was opened could not be synced */
     bool half;      /* a change was half done, and is to be rolled back */
     bool abandoned; /* nothing is read or written any more */
@@ -121,6 +123,7 @@ static int open_journal(rstore *db, int side, const char *path, int how) {
     int fd = -1, error = REFUSED;
     if (db->reads) return side == 1 && !how && db->fd[1] >= 0 ? DONE : REFUSED;
     if (db->unsure) return error;
+    if (side == 1 && db->rolls) return !how && db->fd[1] >= 0 ? DONE : REFUSED;
     if (path) error = open_file(path, O_RDWR | how, ALONE, side == 1, &fd, NULL);
     else if (db->memory && how & O_CREAT) error = open_memory(&fd);
     db->unsure = fd == UNSURE;
@@ -384,11 +387,18 @@ static rstore *new_handle(void) {
     return db;
 }
 
+/* The journal, and how many blocks it has. */
+static int journal_of(rstore *db) { return db->fd[2] < 0 ? db->fd[1] : db->fd[2]; }
+static uint64_t journal_blocks(rstore *db) {
+    struct stat found;
+    return fstat(journal_of(db), &found) ? 0 : (uint64_t)found.st_size / BLOCK;
+}
+
 /* Opens the store over the files, or hands out why not. */
 static int open_store(rstore *db, int error, int flags, uint32_t cache, rstore **opened) {
     if (!error) error = DO(rstore_c_open((uint32_t)flags, cache ? cache : 1024, &db->session, &refused_detail));
     if (error) let_go(db);
-    else *opened = db;
+    else *opened = db, db->cache = cache, db->begun_with = journal_blocks(db);
     return error;
 }
 
@@ -490,7 +500,53 @@ int rstore_refresh(rstore *db, int *changed) {
     return RSTORE_OK;
 }
 
-int rstore_commit(rstore *db) CALL(db, rstore_c_commit(db))
+/* ---- a log beside readers that stay (docs/LIBRARY.md, "Readers beside a writer") */
+/* Whether the log is to be written anew: it has grown to twice what it was, and more, and readers keep it from being copied
+ * into the file. */
+static bool has_outgrown(rstore *db) {
+    if (db->memory || db->alone || journal_blocks(db) <= 2 * db->begun_with + 4096) return false;
+    if (take_lock(db, true)) return !db->abandoned;
+    take_lock(db, false);
+    return false;
+}
+
+/* A handle over the same files, with the locks that they have. */
+static rstore *handle_beside(rstore *db) {
+    rstore *made = new_handle();
+    if (!made) return NULL;
+    made->rolls = true, made->cache = db->cache, made->told = db->told;
+    made->fd[0] = fcntl(db->fd[0], F_DUPFD_CLOEXEC, 3), made->fd[1] = fcntl(journal_of(db), F_DUPFD_CLOEXEC, 3);
+    made->real = strdup(db->real), made->journal = strdup(db->journal), made->part = strdup(db->part);
+    if (made->fd[0] >= 0 && made->fd[1] >= 0 && made->real && made->journal && made->part) return made;
+    let_go(made);
+    return NULL;
+}
+
+/* Opens the store anew, which writes the log anew with the newest slot of each block alone; who reads the older one goes on
+ * with it. Where that is refused the handle goes on as it was, unless the older log has no name any more. */
+static void roll_over(rstore *db) {
+    uint64_t detail = refused_detail;
+    rstore *made = handle_beside(db), *opened = NULL;
+    int error = made ? open_store(made, RSTORE_OK, RSTORE_EXISTING, db->cache, &opened) : RSTORE_MEMORY;
+    refused_detail = detail;
+    if (error) {
+        db->begun_with = journal_blocks(db); /* it is tried again once it has doubled */
+        db->abandoned = !leads_to(db->journal, journal_of(db));
+        return;
+    }
+    rstore older = *db;
+    *db = *opened, *opened = older;
+    db->rolls = false;
+    opened->abandoned = true; /* all that it kept is in the log */
+    end(opened);
+}
+
+int rstore_commit(rstore *db) {
+    ASK(db);
+    int error = DO(rstore_c_commit(db));
+    if (!error && has_outgrown(db)) roll_over(db);
+    return error;
+}
 int rstore_rollback(rstore *db) {
     ASK(db);
     db->half = false; /* what is half done was changed since */

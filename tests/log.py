@@ -26,6 +26,16 @@ def regions(journal):
     return found
 
 
+def homes(journal):
+    """The blocks of FILE that the slots of its committed regions are of."""
+    found, at = [], 2
+    for size in regions(journal):
+        slots = number_at(journal, at + 1, 8, 4)
+        found += [number_at(journal, at + 2 + slots + k // 1024, 4 * (k % 1024), 4) for k in range(slots)]
+        at += size
+    return found
+
+
 class Session(Read):
     """A session over 12,000 objects, each part of which moves 400 of them and closes."""
 
@@ -96,6 +106,24 @@ class Session(Read):
             self.session = self.held(self.words, "count a\n", "ok 1\n12000\n")
             for _ in range(part):
                 self.closes()
+
+    # An opening writes the log anew, as one region that has the newest slot of each block.
+    def test_an_opening_leaves_one_region(self):
+        for _ in range(5):
+            self.closes()
+        told = self.dumped()
+        self.session.kill()
+        self.session.wait()
+        was = self.files()["store-journal"]
+        self.assertEqual(len(regions(was)), 5)
+        self.session = self.held(self.words, "count a\n", "ok 1\n12000\n")
+        now = self.files()["store-journal"]
+        self.assertEqual(len(regions(now)), 1)
+        self.assertEqual(homes(now), sorted(set(homes(was))))
+        self.assertTrue(self.found() == told)
+        self.closes()
+        self.assertEqual(len(regions(self.files()["store-journal"])), 2)
+        self.assertTrue(self.found() == self.dumped())
 
     def test_the_end_copies_all_home(self):
         for _ in range(3):

@@ -1,6 +1,6 @@
 """test_readers.py: readers beside one writer. Readers in this process and in others keep their table while a writer commits,
 until they refresh; readers of a file whose writer was killed, at any moment, find its last commit and write nothing; a writer
-that closes beside a reader leaves its journal, which the next one ends; a long log stays as long as it is read; two writers
+that closes beside a reader leaves its journal, which the next one ends; a long log is written anew; two writers
 exclude one another, also by a journal that was just removed, and by two names of one file. RSTORE_LIBRARY names librstore.so.
 """
 
@@ -299,19 +299,33 @@ def before_any(folder: str) -> None:
         has(one, 80)
 
 
+def turn(db: rstore.Store, number: int) -> int:
+    """One object more, and a hundred put anew, committed: how many blocks the journal has then."""
+    db["a"].insert(10000 + number, (number, 0, number, 0))
+    for k in range(0, 1000, 10):
+        del db["a"][k]
+        put(db["a"], k, k + 1)
+    db.commit()
+    return os.path.getsize(db.path + "-journal") // 4096
+
+
 def long_log(folder: str) -> None:
-    """4096 blocks of log and more stay beside a reader, and are copied home once it has gone, by the writer that goes on."""
+    """Beside a reader that stays, a log that has grown long is written anew, with what changed alone, and the reader keeps
+    its table. Once nobody reads, it is copied home by the writer that goes on."""
     path = os.path.join(folder, "long")
     make(path, 1000)
     with rstore.open(path, cache=8) as db:
-        one, turns = reader(path), 0
-        while os.path.getsize(path + "-journal") < 4096 * 4800:
-            db["a"].insert(10000 + turns, (turns, 0, turns, 0))
-            for k in range(0, 1000, 10):
-                del db["a"][k]
-                put(db["a"], k, k + 1)
-            db.commit()
-            turns += 1
+        one, two, sizes = reader(path), reader(path), [0]
+        while sum(now < before for before, now in zip(sizes, sizes[1:])) < 2:
+            sizes.append(turn(db, len(sizes)))
+        assert max(sizes) <= 4096 + 2 * (os.path.getsize(path) // 4096) + 400, max(sizes)
+        has(one, 1000)
+        assert two.refresh()
+        has(two, 1000 + len(sizes) - 1)
+        two.close()
+        while sizes[-1] < 4110:
+            sizes.append(turn(db, len(sizes)))
+        turns = len(sizes) - 1
         log = Path(path + "-journal").read_bytes()
         assert log[8192:8201] == b"RSTARJNL\1"
         has(one, 1000)

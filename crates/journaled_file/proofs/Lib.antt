@@ -1,2 +1,2 @@
-pub mod Copying
+pub mod Anew
 pub mod OpeningStops

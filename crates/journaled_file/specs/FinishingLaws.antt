@@ -1,17 +1,18 @@
 -- Laws of an end that is finished over files that are synced, and of a mark that is written again.
 use Rattle.std.proofs.Common.{◌≡◌, ◌∙◌, ◌≤◌, ◌⊎◌, List, ℕ, length, ap, sym, subst}
 use Rattle.std.proofs.Common.{true, [], ◌∷◌, ◌<◌, inl, inr, ⊎_elim, arith}
-use Rattle.block_device.specs.Device.{Blocks, IsBlock, Torn, written}
+use Rattle.block_device.specs.Device.{Blocks, IsBlock, Torn, block_at, written}
 use Rattle.block_device.specs.Written.{length-written_within, torn_length, torn_other}
 use Rattle.committed_log.specs.Log.{says}
 use Rattle.journaled_file.specs.Ending.{AreRead, EndTorn, GateTorn, IsEnding}
 use Rattle.journaled_file.specs.EndingLaws.{torn_end, torn_header}
 use Rattle.journaled_file.specs.Judged.{HasEnded, HasEntries, IsJudged, IsOf}
+use Rattle.journaled_file.specs.Paired.{IsAnew}
 use Rattle.journaled_file.specs.declared.judging.Found.TheVariants.{Own, Unended}
 use Rattle.marked_pair.specs.Behind.{IsSynced}
 use Rattle.marked_pair.specs.Mark.{reads_as, unmarked, IsMarked}
 use Rattle.marked_pair.specs.MarkLaws.{unmarked_marked}
-use Rattle.titled_pair.specs.Title.{end_text, reads_title, retitled, title_text, with_text}
+use Rattle.titled_pair.specs.Title.{end_text, reads_title, title_text, with_text}
 use Rattle.titled_pair.specs.TitleLaws.{reads_retitled, with_text_twice}
 
 -- a gate that is written once the end is there
@@ -80,15 +81,22 @@ unmarked_again b [] m is = absurd (omega (arith, m.there))
 unmarked_again b (x ∷ a) m is =
     ap (λ (gate : List ℕ). gate ∷ a) (unmarked_marked b is ∙ sym (unmarked_marked x m.mark))
 
--- a journal with the text of today is what it was
-pub retitled_own : (a e : Blocks) → IsJudged Own a e → IsJudged Own a (retitled e)
-retitled_own a [] own = own
-retitled_own a (t ∷ e) own = (
-  record { room = own.0.room; title = reads_retitled t },
-  own.1,
-  record { room = own.2.room; complete = own.2.complete },
-  ⊎_elim
-      (λ (m : IsMarked a). inl m)
-      (λ (of : (2 ≤ length a) × IsOf a (t ∷ e)). inr (of.0, with_text_twice title_text title_text t ∙ of.1))
-      own.3,
-)
+-- a journal that is written anew, with the text of today, is what it was
+pub anew_own : (a e new : Blocks) (title end : List ℕ) → title ≡ with_text title_text (block_at 0 e)
+    → end ≡ block_at 1 e → IsAnew title end new → IsJudged Own a e → IsJudged Own a new
+anew_own a e new title end title_was end_was is own =
+    let head : block_at 0 new ≡ with_text title_text (block_at 0 e) = is.title_is ∙ title_was in (
+      record {
+        room = omega (arith, is.room);
+        title = ap reads_title head ∙ reads_retitled (block_at 0 e);
+      },
+      λ (ended : HasEnded a new). own.1 (sym (is.end_is ∙ end_was) ∙ ended),
+      record { room = is.room; complete = is.complete },
+      ⊎_elim
+          (λ (m : IsMarked a). inl m)
+          (λ (of : (2 ≤ length a) × IsOf a e). inr (
+            of.0,
+            ap (with_text title_text) head ∙ with_text_twice title_text title_text (block_at 0 e) ∙ of.1,
+          ))
+          own.3,
+    )

@@ -1,10 +1,12 @@
 -- What a base and its journal are once they were paired for a run (our format, docs/FORMAT.md, "The journal",
 -- "Files").
-use Rattle.std.specs.Prelude.{◌≡◌, ◌≤◌, ◌⊎◌, ◌↔◌, ℕ, Bool, true, [], length}
+use Rattle.std.specs.Prelude.{◌≡◌, ◌<◌, ◌≤◌, ◌⊎◌, ◌↔◌, ℕ, Bool, true, List, [], length}
 use Rattle.block_bytes.specs.Numbers.{zeros}
 use Rattle.block_device.specs.Device.{Blocks, block_at}
+use Rattle.committed_log.specs.Log.{says}
 use Rattle.journaled_file.specs.Ending.{GateTorn}
 use Rattle.journaled_file.specs.Judged.{IsJudged, IsOf}
+use Rattle.journaled_file.specs.Opened.{read_of}
 use Rattle.journaled_file.specs.declared.judging.Found.TheVariants.{Own}
 use Rattle.marked_pair.specs.Mark.{unmarked, IsMarked}
 use Rattle.titled_pair.specs.Title.{title_of}
@@ -23,6 +25,13 @@ pub record HasBegunEmpty (now : ℕ) (left_since : ℕ → Blocks → Blocks →
   pub base : Blocks
   pub left : left_since moment base []
 
+-- a journal with this title and this end, and a region behind them that is committed
+pub record IsAnew (title end : List ℕ) (e : Blocks) : Type 0 where
+  pub title_is : block_at 0 e ≡ title
+  pub end_is : block_at 1 e ≡ end
+  pub room : 4 < length e
+  pub complete : says (block_at 2 e) ≡ true
+
 -- of a base that had the mark, and beside a journal whose title is of it, the gate is another block than it was
 abbrev pub IsMarkedAnew : Blocks → Blocks → Blocks → Type 0
 IsMarkedAnew was a e = IsMarked was → 2 ≤ length was → IsOf was e → ¬ (block_at 0 a ≡ block_at 0 was)
@@ -38,6 +47,10 @@ pub record IsRewritten (was a e : Blocks) : Type 0 where
 abbrev pub IsPaired : Blocks → Blocks → Blocks → Bool → Type 0
 IsPaired was a e unended =
     (IsRewritten was a e × ((unended ≡ true) ↔ IsMarked was)) ⊎ (IsNew a e × (unended ≡ true → IsMarked was))
+
+-- What is read of it is what was read of the base and the journal that it had; or its journal is new.
+abbrev pub IsReadAgain : Blocks → Blocks → Blocks → Blocks → Type 0
+IsReadAgain was journal a e = (read_of a e ≡ read_of was journal) ⊎ IsNew a e
 
 -- what a stop left before; or both as they were but for the gate, where the title is of the base
 abbrev pub LeavesOwnGate : (Blocks → Blocks → Type 0) → Blocks → Blocks → Blocks → Blocks → Type 0

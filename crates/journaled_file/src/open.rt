@@ -20,7 +20,7 @@ ghost use Rattle.titled_pair.specs.Title.{untitled};
 use crate::end::put_end;
 use crate::judging::{Found, is_marked, judge};
 use crate::looking::{Looked, StoreJudge, look, stand_in};
-use crate::pairing::{JournalSource, beside_copy, pair_up};
+use crate::pairing::{JournalSource, beside_anew, pair_up};
 use crate::readers::FileReaders;
 use block_device::{BlockDevice, DeviceError};
 use committed_log::OpenFault;
@@ -90,22 +90,19 @@ pub fn open_journaled<R: Files<File = File> + Alloc, G: StoreJudge>(
     let Looked {
         base,
         journal,
-        found,
+        found: _,
         opens: _,
     } = looked;
-    let (pair, unended) = pair_up(base, journal, &mut source)?;
-    let device = device_over(pair, alloc, readers)?;
-    // Behind commits in the log it shows whether more was begun.
-    let unended = unended && (found != Found::Own || device.has_begun());
+    let (pair, unended, begun) = pair_up(base, journal, &mut source, alloc)?;
     Ok(OpenedFile {
-        device,
+        device: device_over(pair, alloc, readers)?,
         name: Some(name),
-        unended,
+        unended: unended && begun,
     })
 }
 
-// Both files as they were found, over which no store opens. The journal is left as it is: in its place stands `none`,
-// a file without a name, with a copy of it where it has a commit to bring back.
+// Both files as they were found, over which no store opens. The journal stays: in its place stands `none`, a file
+// without a name, into which it is written anew where it has commits to bring back.
 fn as_it_was(
     looked: Looked<SystemFile, SystemFile>,
     none: SystemFile,
@@ -122,7 +119,10 @@ fn as_it_was(
         return only_read(stand_in(base, none, found)?, alloc, readers);
     }
     match journal {
-        Some(journal) => only_read(beside_copy(base, journal, none)?, alloc, readers),
+        Some(journal) => {
+            let (pair, _journal, _) = beside_anew(TwoDevices::of(base, journal), none, alloc)?;
+            only_read(pair, alloc, readers)
+        }
         None => Err(OpenError::Refused),
     }
 }
@@ -385,8 +385,8 @@ pub fn open_over<P: DevicePair + Drop, A: Allocator + Copy, G: Drop>(
     }
 }
 
-// What is told of a fault of the journal's opening.
-fn told(fault: OpenFault) -> OpenError
+/// What is told of a fault of the journal's opening.
+pub(crate) fn told(fault: OpenFault) -> OpenError
     ensures is { (result ≡ error.NoJournal) ⊎ (result ≡ error.Refused) }
     ensures malformed { result ≡ error.NoJournal → fault ≡ Malformed }
     ensures no_journal { fault ≡ Malformed → result ≡ error.NoJournal }

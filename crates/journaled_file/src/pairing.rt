@@ -1,24 +1,31 @@
 //! How a file gets its journal: the one that is there, or a new one.
 ghost use Rattle.std.specs.Prelude.{◌≡◌, ◌<◌, ◌≤◌, ◌^◌, ◌↔◌, ℕ, List, true, false, length, IfOk, IfSome, OnOk};
 ghost use Rattle.block_device.specs.Device.{Blocks, block_at, written};
+ghost use Rattle.committed_log.specs.Log.{overlaid, recovered};
+ghost use Rattle.committed_log.specs.Room.{blocks_of};
 ghost use Rattle.device_pair.specs.Pairs.{PairLeaves};
 ghost use Rattle.journaled_file.specs.Ending.{GateTorn};
 ghost use Rattle.journaled_file.specs.Judged.{IsJudged, IsOf};
-ghost use Rattle.journaled_file.specs.Paired.{HasBegunEmpty, IsMarkedAnew, IsNew, IsPaired, IsRewritten};
-ghost use Rattle.journaled_file.specs.Paired.{LeavesOwnGate};
+ghost use Rattle.journaled_file.specs.Opened.{read_of};
+ghost use Rattle.journaled_file.specs.Paired.{HasBegunEmpty, IsAnew, IsMarkedAnew, IsNew, IsPaired, IsReadAgain};
+ghost use Rattle.journaled_file.specs.Paired.{IsRewritten, LeavesOwnGate};
 ghost use Rattle.journaled_file.specs.declared.judging.Found.TheVariants.{Own};
 ghost use Rattle.marked_pair.specs.Mark.{reads_as, unmarked, IsMarked};
 ghost use Rattle.titled_pair.specs.Calls.{IsQuiet};
-ghost use Rattle.titled_pair.specs.Title.{retitled};
+ghost use Rattle.titled_pair.specs.Title.{title_text, untitled, with_text};
 
 use crate::judging::{Found, is_marked};
-use crate::open::judge_and_finish;
+use crate::open::{judge_and_finish, told};
 use block_bytes::{write_u8, zero_block};
 use block_device::{BlockDevice, DeviceError};
+use committed_log::laws::the_index_is_that_of_the_journal;
+use committed_log::{CommittedLog, Slots};
 use device_pair::{DevicePair, TwoDevices};
 use file_device::OpenError;
+use logged_pair::write_newest;
 use marked_pair::{MARKED, gate_page, reads_as};
-use titled_pair::{make_title, retitled_page, title_of_base};
+use std::alloc::Global;
+use titled_pair::{TITLE_BLOCKS, TitledPair, make_title, retitled_page, title_of_base};
 
 /// Who opens the journal of a file, locks it and removes it.
 pub trait JournalSource<J: BlockDevice> {
@@ -47,9 +54,10 @@ pub trait JournalSource<J: BlockDevice> {
 }
 
 /// Gives a file its journal, which may be open, and tells whether the last run over it had closed anything and
-/// not ended. The journal that is there is judged with it (`judge_and_finish`); one that is needless is removed,
-/// and made anew. One that has a commit to bring back is copied into a new file: what is read of it may have
-/// been lost by a sync that failed, and all that is brought back rests on it.
+/// not ended; and whether it had begun more than it had committed, where that stands in the journal. The journal that
+/// is there is judged with it (`judge_and_finish`); one that is needless is removed, and made anew. One that has commits
+/// to bring back is written anew, with the newest slot of each block alone, into a new file, which takes its place: what
+/// is read of it may have been lost by a sync that failed, and all that is brought back rests on it.
 ///
 /// `NoJournal` and `OtherJournal` come where the journal is none, or another file's: then nothing is written
 /// into either. Any other error is one of the source or of the devices.
@@ -57,10 +65,14 @@ pub fn pair_up<B: BlockDevice + Drop, J: BlockDevice + Drop, S: JournalSource<J>
     base: B,
     there: Option<J>,
     source: &mut S,
-) -> Result<(TwoDevices<B, J>, bool), OpenError>
+    alloc: Global,
+) -> Result<(TwoDevices<B, J>, bool, bool), OpenError>
     ensures paired { IfOk result (λ r. B.honest base → S.is_honest → IfSome there (λ j. J.honest j)
         → IsPaired (B.shown base) (⟦<TwoDevices<B, J> as DevicePair>⟧.base r.0)
         (⟦<TwoDevices<B, J> as DevicePair>⟧.journal r.0) r.1) }
+    ensures read { IfOk result (λ r. B.honest base → S.is_honest → IfSome there (λ j. J.honest j
+        → IsReadAgain (B.shown base) (J.shown j) (⟦<TwoDevices<B, J> as DevicePair>⟧.base r.0)
+        (⟦<TwoDevices<B, J> as DevicePair>⟧.journal r.0))) }
     ensures anew { IfOk result (λ r. ⟦<TwoDevices<B, J> as DevicePair>⟧.honest r.0
         → HasBegunEmpty (⟦<TwoDevices<B, J> as DevicePair>⟧.moment r.0)
         (⟦<TwoDevices<B, J> as DevicePair>⟧.left_since r.0)) }
@@ -72,9 +84,12 @@ pub fn pair_up<B: BlockDevice + Drop, J: BlockDevice + Drop, S: JournalSource<J>
     let journal = journal_of(there, marked, source)?;
     let mut pair = TwoDevices::of(base, journal);
     match judge_and_finish(&mut pair)? {
-        Found::Own => Ok((rewritten(pair, source)?, marked)),
-        Found::Unended => Ok((renewed(pair, source)?, true)),
-        Found::Fresh | Found::Ended => Ok((renewed(pair, source)?, false)),
+        Found::Own => {
+            let (pair, begun) = rewritten(pair, source, alloc)?;
+            Ok((pair, marked, begun))
+        }
+        Found::Unended => Ok((renewed(pair, source)?, true, true)),
+        Found::Fresh | Found::Ended => Ok((renewed(pair, source)?, false, false)),
         Found::Missing => Err(OpenError::NoJournal),
         Found::Foreign => Err(OpenError::OtherJournal),
     }
@@ -87,6 +102,7 @@ fn journal_of<J: BlockDevice + Drop, S: JournalSource<J>>(
     marked: bool,
     source: &mut S,
 ) -> Result<J, OpenError>
+    ensures same { IfOk result (λ journal. IfSome there (λ j. journal ≡ j)) }
     ensures honest { IfOk result (λ journal. S.is_honest → IfSome there (λ j. J.honest j) → J.honest journal) }
 {
     if let Some(journal) = there {
@@ -151,128 +167,158 @@ pub(crate) fn put_title<P: DevicePair>(pair: &mut P) -> Result<(), DeviceError>
     make_title(pair)
 }
 
-// The pair with its journal, which has a commit, written anew, and with a mark that is on disk.
+// The pair with its journal, which has commits, written anew, and with a mark that is on disk; and whether more was
+// begun than was committed.
 fn rewritten<B: BlockDevice + Drop, J: BlockDevice + Drop, S: JournalSource<J>>(
     pair: TwoDevices<B, J>,
     source: &mut S,
-) -> Result<TwoDevices<B, J>, OpenError>
-    ensures honest { IfOk result (λ new. ⟦<TwoDevices<B, J> as DevicePair>⟧.honest pair → S.is_honest
-        → ⟦<TwoDevices<B, J> as DevicePair>⟧.honest new) }
-    ensures own { IfOk result (λ new. ⟦<TwoDevices<B, J> as DevicePair>⟧.honest pair → S.is_honest
+    alloc: Global,
+) -> Result<(TwoDevices<B, J>, bool), OpenError>
+    ensures honest { IfOk result (λ r. ⟦<TwoDevices<B, J> as DevicePair>⟧.honest pair → S.is_honest
+        → ⟦<TwoDevices<B, J> as DevicePair>⟧.honest r.0) }
+    ensures own { IfOk result (λ r. ⟦<TwoDevices<B, J> as DevicePair>⟧.honest pair → S.is_honest
         → IsJudged Own (⟦<TwoDevices<B, J> as DevicePair>⟧.base pair) (⟦<TwoDevices<B, J> as DevicePair>⟧.journal pair)
-        → IsRewritten (⟦<TwoDevices<B, J> as DevicePair>⟧.base pair) (⟦<TwoDevices<B, J> as DevicePair>⟧.base new)
-        (⟦<TwoDevices<B, J> as DevicePair>⟧.journal new)) }
-    ensures anew { IfOk result (λ new. ⟦<TwoDevices<B, J> as DevicePair>⟧.honest new
-        → HasBegunEmpty (⟦<TwoDevices<B, J> as DevicePair>⟧.moment new)
-        (⟦<TwoDevices<B, J> as DevicePair>⟧.left_since new)) }
+        → IsRewritten (⟦<TwoDevices<B, J> as DevicePair>⟧.base pair) (⟦<TwoDevices<B, J> as DevicePair>⟧.base r.0)
+        (⟦<TwoDevices<B, J> as DevicePair>⟧.journal r.0)) }
+    ensures read { IfOk result (λ r. ⟦<TwoDevices<B, J> as DevicePair>⟧.honest pair → S.is_honest
+        → read_of (⟦<TwoDevices<B, J> as DevicePair>⟧.base r.0) (⟦<TwoDevices<B, J> as DevicePair>⟧.journal r.0)
+        ≡ read_of (⟦<TwoDevices<B, J> as DevicePair>⟧.base pair)
+        (⟦<TwoDevices<B, J> as DevicePair>⟧.journal pair)) }
+    ensures anew { IfOk result (λ r. ⟦<TwoDevices<B, J> as DevicePair>⟧.honest r.0
+        → HasBegunEmpty (⟦<TwoDevices<B, J> as DevicePair>⟧.moment r.0)
+        (⟦<TwoDevices<B, J> as DevicePair>⟧.left_since r.0)) }
 {
-    let mut pair = copied(pair, source)?;
+    let (pair, old, begun) = beside_anew(pair, source.make_copy()?, alloc)?;
+    source.put_copy(&old)?;
+    drop(old);
+    let mut pair = pair;
     renew_mark(&mut pair)?;
-    Ok(pair)
+    Ok((pair, begun))
 }
 
-// The pair with a copy of its journal, which was written whole and synced, in the journal's place. Its title has the
-// text of today: programs that write another know a journal of one region alone.
-fn copied<B: BlockDevice + Drop, J: BlockDevice + Drop, S: JournalSource<J>>(
+/// A base beside its journal written anew into one without blocks: the title, with the text of today, since programs
+/// that write another know a journal of one region alone; the end; and the newest slot of each block, as one region. It
+/// is written whole and synced. With it comes the journal that it had, and whether more was begun there than was
+/// committed.
+pub(crate) fn beside_anew<B: BlockDevice + Drop, J: BlockDevice + Drop, K: BlockDevice + Drop>(
     pair: TwoDevices<B, J>,
-    source: &mut S,
-) -> Result<TwoDevices<B, J>, OpenError>
-    ensures honest { IfOk result (λ new. ⟦<TwoDevices<B, J> as DevicePair>⟧.honest pair → S.is_honest
-        → ⟦<TwoDevices<B, J> as DevicePair>⟧.honest new) }
-    ensures base { IfOk result (λ new. ⟦<TwoDevices<B, J> as DevicePair>⟧.honest new
-        → ⟦<TwoDevices<B, J> as DevicePair>⟧.base new ≡ ⟦<TwoDevices<B, J> as DevicePair>⟧.base pair) }
-    ensures journal { IfOk result (λ new. ⟦<TwoDevices<B, J> as DevicePair>⟧.honest pair
-        → ⟦<TwoDevices<B, J> as DevicePair>⟧.honest new
-        → ⟦<TwoDevices<B, J> as DevicePair>⟧.journal new
-        ≡ retitled (⟦<TwoDevices<B, J> as DevicePair>⟧.journal pair)) }
-    ensures synced { IfOk result (λ new. ⟦<TwoDevices<B, J> as DevicePair>⟧.honest new → (a e : Blocks)
-        → ⟦<TwoDevices<B, J> as DevicePair>⟧.may_leave new a e
-        → e ≡ ⟦<TwoDevices<B, J> as DevicePair>⟧.journal new) }
-    ensures anew { IfOk result (λ new. ⟦<TwoDevices<B, J> as DevicePair>⟧.honest new
-        → HasBegunEmpty (⟦<TwoDevices<B, J> as DevicePair>⟧.moment new)
-        (⟦<TwoDevices<B, J> as DevicePair>⟧.left_since new)) }
+    copy: K,
+    alloc: Global,
+) -> Result<(TwoDevices<B, K>, J, bool), OpenError>
+    ensures honest { IfOk result (λ r. ⟦<TwoDevices<B, J> as DevicePair>⟧.honest pair → K.honest copy
+        → ⟦<TwoDevices<B, K> as DevicePair>⟧.honest r.0) }
+    ensures base { IfOk result (λ r. ⟦<TwoDevices<B, J> as DevicePair>⟧.honest pair → K.honest copy
+        → ⟦<TwoDevices<B, K> as DevicePair>⟧.base r.0 ≡ ⟦<TwoDevices<B, J> as DevicePair>⟧.base pair) }
+    ensures read { IfOk result (λ r. ⟦<TwoDevices<B, J> as DevicePair>⟧.honest pair → K.honest copy
+        → (a : Blocks) → length a ≡ length (⟦<TwoDevices<B, J> as DevicePair>⟧.base pair)
+        → recovered a (untitled (⟦<TwoDevices<B, K> as DevicePair>⟧.journal r.0))
+        ≡ recovered a (untitled (⟦<TwoDevices<B, J> as DevicePair>⟧.journal pair))) }
+    ensures own { IfOk result (λ r. ⟦<TwoDevices<B, J> as DevicePair>⟧.honest pair → K.honest copy → (a : Blocks)
+        → IsJudged Own a (⟦<TwoDevices<B, J> as DevicePair>⟧.journal pair)
+        → IsJudged Own a (⟦<TwoDevices<B, K> as DevicePair>⟧.journal r.0)) }
+    ensures synced { IfOk result (λ r. ⟦<TwoDevices<B, K> as DevicePair>⟧.honest r.0 → (a e : Blocks)
+        → ⟦<TwoDevices<B, K> as DevicePair>⟧.may_leave r.0 a e
+        → e ≡ ⟦<TwoDevices<B, K> as DevicePair>⟧.journal r.0) }
+    ensures anew { IfOk result (λ r. ⟦<TwoDevices<B, K> as DevicePair>⟧.honest r.0
+        → HasBegunEmpty (⟦<TwoDevices<B, K> as DevicePair>⟧.moment r.0)
+        (⟦<TwoDevices<B, K> as DevicePair>⟧.left_since r.0)) }
 {
-    let (base, old) = pair.into_devices();
-    let mut old = old;
-    let mut pair = TwoDevices::of(base, source.make_copy()?);
+    let mut pair = pair;
+    let front = front_of(&mut pair)?;
+    let (pair, slots) = indexed(pair, alloc)?;
+    let begun = pair.journal_blocks() as usize > slots.len() + 4;
+    let (base, mut old) = pair.into_devices();
+    let mut pair = TwoDevices::of(base, copy);
     if pair.journal_blocks() != 0 {
         return Err(OpenError::Refused); // another program made it meanwhile
     }
-    copy_blocks(&mut old, &mut pair)?;
-    source.put_copy(&old)?;
-    drop(old);
-    Ok(pair)
+    put_anew(&mut old, &slots, &front, &mut pair)?;
+    Ok((pair, old, begun))
 }
 
-/// A file beside a copy of its journal, which is written into one without blocks.
-pub(crate) fn beside_copy<B: BlockDevice + Drop, J: BlockDevice + Drop, K: BlockDevice + Drop>(
-    base: B,
-    journal: J,
-    copy: K,
-) -> Result<TwoDevices<B, K>, OpenError>
-    ensures honest { IfOk result (λ pair. B.honest base → K.honest copy
-        → ⟦<TwoDevices<B, K> as DevicePair>⟧.honest pair) }
+// Title, with the text of today, and end of a journal.
+#[derive(Drop)]
+struct Front {
+    title: [u8; 4096],
+    end: [u8; 4096],
+}
+
+// Those of the journal of a pair.
+fn front_of<P: DevicePair>(pair: &mut P) -> Result<Front, OpenError>
+    ensures room { P.honest pair.old → OnOk result (2 ≤ length (P.journal pair.old)) }
+    ensures title { P.honest pair.old →
+        IfOk result (λ front. front.title ≡ with_text title_text (block_at 0 (P.journal pair.old))) }
+    ensures end { P.honest pair.old → IfOk result (λ front. front.end ≡ block_at 1 (P.journal pair.old)) }
+    ensures quiet { P.honest pair.old → IsQuiet P.DevicePair pair.old pair.new }
+    ensures honest { P.honest pair.old ↔ P.honest pair.new }
 {
-    let mut journal = journal;
-    let mut pair = TwoDevices::of(base, copy);
-    if pair.journal_blocks() != 0 {
-        return Err(OpenError::Refused);
+    if pair.journal_blocks() < TITLE_BLOCKS {
+        return Err(OpenError::NoJournal);
     }
-    copy_blocks(&mut journal, &mut pair)?;
-    Ok(pair)
+    let mut title = zero_block();
+    pair.read_journal(0, &mut title)?;
+    if pair.journal_blocks() < TITLE_BLOCKS {
+        return Err(OpenError::NoJournal);
+    }
+    let mut end = zero_block();
+    pair.read_journal(1, &mut end)?;
+    Ok(Front {
+        title: retitled_page(&title),
+        end,
+    })
 }
 
-// Copies all blocks of a device into a journal without blocks, with the text of today in the title, and syncs it.
-fn copy_blocks<J: BlockDevice, P: DevicePair>(from: &mut J, pair: &mut P) -> Result<(), DeviceError>
+// The index of the log of a pair's journal, which opening may append to.
+fn indexed<P: DevicePair + Drop>(pair: P, alloc: Global) -> Result<(P, Slots<Global>), OpenError>
+    ensures base { IfOk result (λ r. P.honest pair → P.base r.0 ≡ P.base pair) }
+    ensures read { IfOk result (λ r. P.honest pair → (a : Blocks) →
+        overlaid (blocks_of r.1) (untitled (P.journal r.0)) a ≡ recovered a (untitled (P.journal pair))) }
+    ensures honest { IfOk result (λ r. P.honest pair ↔ P.honest r.0) }
+{
+    let blocks = pair.journal_blocks();
+    if blocks < TITLE_BLOCKS {
+        return Err(OpenError::NoJournal);
+    }
+    let titled = match TitledPair::over(pair) {
+        Ok(titled) => titled,
+        Err((fault, _)) => return Err(fault.into()),
+    };
+    let log = match CommittedLog::open(titled, alloc) {
+        Ok(log) => log,
+        Err((fault, _)) => return Err(told(fault)),
+    };
+    let (titled, slots) = log.into_parts();
+    if slots.len() + 2 > blocks as usize {
+        return Err(OpenError::NoJournal);
+    }
+    the_index_is_that_of_the_journal::<TitledPair<P>, Global>();
+    Ok((titled.into_pair(), slots))
+}
+
+// Writes title, end and the newest slots of a journal into one without blocks, and syncs it.
+fn put_anew<J: BlockDevice, P: DevicePair>(
+    from: &mut J,
+    slots: &Slots<Global>,
+    front: &Front,
+    pair: &mut P,
+) -> Result<(), DeviceError>
     requires none { length (P.journal pair.old) ≡ 0 }
-    ensures copied { J.honest from.old → P.honest pair.old → OnOk result
-        (P.journal pair.new ≡ retitled (J.shown from.old)) }
+    ensures read { J.honest from.old → P.honest pair.old → OnOk result ((a : Blocks) →
+        length a ≡ length (P.base pair.old) → recovered a (untitled (P.journal pair.new))
+        ≡ overlaid (blocks_of slots.now) (untitled (J.shown from.old)) a) }
+    ensures front { P.honest pair.old → OnOk result (IsAnew front.now.title front.now.end (P.journal pair.new)) }
     ensures base { P.honest pair.old → P.base pair.new ≡ P.base pair.old }
     ensures synced { P.honest pair.old → OnOk result ((a e : Blocks) → P.may_leave pair.new a e →
         e ≡ P.journal pair.new) }
-    ensures anew { P.honest pair.old → HasBegunEmpty (P.moment pair.new) (P.left_since pair.new) }
+    ensures anew { P.honest pair.old → OnOk result (HasBegunEmpty (P.moment pair.new) (P.left_since pair.new)) }
     ensures honest { P.honest pair.old ↔ P.honest pair.new }
 {
-    for k in 0..from.blocks() {
-        copy_block(from, pair, k)?;
+    pair.write_journal(0, &front.title)?;
+    if pair.journal_blocks() != 1 {
+        return Err(DeviceError::Memory);
     }
-    pair.sync_journal()
-}
-
-// Copies a block; block 0 with the text of today.
-fn copy_block<J: BlockDevice, P: DevicePair>(
-    from: &mut J,
-    pair: &mut P,
-    k: u32,
-) -> Result<(), DeviceError>
-    requires small { k < 2 ^ 31 }
-    ensures there { J.honest from.old → OnOk result (k < length (J.shown from.old)) }
-    ensures copied { J.honest from.old → P.honest pair.old → OnOk result
-        (P.journal pair.new ≡ written k (block_at k (retitled (J.shown from.old))) (P.journal pair.old)) }
-    ensures from { J.honest from.old → J.shown from.new ≡ J.shown from.old }
-    ensures from_honest { J.honest from.old ↔ J.honest from.new }
-    ensures base { P.honest pair.old → P.base pair.new ≡ P.base pair.old }
-    ensures keeps { P.honest pair.old → HasBegunEmpty (P.moment pair.old) (P.left_since pair.old) →
-        HasBegunEmpty (P.moment pair.new) (P.left_since pair.new) }
-    ensures honest { P.honest pair.old ↔ P.honest pair.new }
-{
-    if k >= from.blocks() {
-        return Err(DeviceError::Failed);
-    }
-    if k > pair.journal_blocks() {
-        return Err(DeviceError::Failed);
-    }
-    let mut page = zero_block();
-    from.read(k, &mut page)?;
-    pair.write_journal(k, &as_titled(k, &page))
-}
-
-// Block k of a journal, where it is the title with the text of today.
-fn as_titled(k: u32, page: &[u8; 4096]) -> [u8; 4096]
-    ensures { (blocks : Blocks) → k < length blocks → page.now ≡ block_at k blocks →
-        result ≡ block_at k (retitled blocks) }
-{
-    if k == 0 { retitled_page(page) } else { *page }
+    pair.write_journal(1, &front.end)?;
+    write_newest(from, slots, pair)
 }
 
 // Writes the mark again, with other bytes, where the base's header is as its journal's title has it. There no

@@ -174,7 +174,7 @@ next_written homes n at to x b b' b'' n_is at_is to_is w w' i =
 
 -- ---- what is recorded
 
-slots_tail : (n k : ℕ) (hs : List ℕ) (b : Blocks)
+pub slots_tail : (n k : ℕ) (hs : List ℕ) (b : Blocks)
     → ((j : ℕ) → j < length hs → home_in n (k + j) b ≡ slice_index hs j)
     → slot_homes n k (length hs) b ≡ hs
 slots_tail n k [] b homes = refl

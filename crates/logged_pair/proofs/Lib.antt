@@ -8,3 +8,4 @@ mod GivingUp
 pub mod Snapped
 mod Calling
 mod Indexing
+mod Newest

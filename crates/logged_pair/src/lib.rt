@@ -3,7 +3,9 @@
 //! A commit writes its blocks into a region of the log, behind those of earlier commits, and copies nothing.
 #![tactic(auto)]
 
+mod compaction;
 pub mod laws;
 mod pair;
 
+pub use compaction::write_newest;
 pub use pair::LoggedPair;

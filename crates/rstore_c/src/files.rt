@@ -115,11 +115,10 @@ pub fn open(
         anew: Some(journal.anew),
     };
     let base = side(base, FileSide::Base)?;
-    let (pair, unended, found) = paired(alloc, base, &mut source, create, cache)?;
+    let (pair, unended) = paired(alloc, base, &mut source, create, cache)?;
     let readers = StreamReaders::of(readers);
     match store_over(alloc, pair, readers, create, each_home, cache)? {
-        // Behind commits in the log it shows whether more was begun.
-        Ok((store, begun)) => Ok((store, unended && (found != Found::Own || begun))),
+        Ok(store) => Ok((store, unended)),
         Err((refusal, device)) => {
             let _ = end(device, ask);
             Err(Unopened::Store(refusal))
@@ -127,16 +126,16 @@ pub fn open(
     }
 }
 
-// A file with its journal, once a store opens over both or is to be made, whether the last run had closed anything
-// and not ended, and what the journal was to the file. This and what follows stand over devices of any kind: each
-// call over those of C, with all that lies on them, is dear to prove.
+// A file with its journal, once a store opens over both or is to be made, and whether the last run had closed anything
+// and not ended, and may have changed more. This and what follows stand over devices of any kind: each call over those
+// of C, with all that lies on them, is dear to prove.
 fn paired<B: BlockDevice + Drop, J: BlockDevice + Drop, S: JournalSource<J>>(
     alloc: Global,
     base: B,
     source: &mut S,
     create: bool,
     cache: u32,
-) -> Result<(TwoDevices<B, J>, bool, Found), Unopened> {
+) -> Result<(TwoDevices<B, J>, bool), Unopened> {
     let mut opening = OpeningJudge::of(alloc, cache, Version::Three, false);
     let looked = look(base, create, &mut *source, &mut opening, alloc);
     if let Some(refusal) = opening.refusal() {
@@ -145,15 +144,15 @@ fn paired<B: BlockDevice + Drop, J: BlockDevice + Drop, S: JournalSource<J>>(
     let Looked {
         base,
         journal,
-        found,
+        found: _,
         opens: _,
     } = looked?;
-    let (pair, unended) = pair_up(base, journal, source)?;
-    Ok((pair, unended, found))
+    let (pair, unended, begun) = pair_up(base, journal, source, alloc)?;
+    Ok((pair, unended && begun))
 }
 
-// The store over a pair, or with `create` a new one where it has no blocks, and whether anything stands behind the
-// log. Where that is refused, the device is given back.
+// The store over a pair, or with `create` a new one where it has no blocks. Where that is refused, the device is given
+// back.
 fn store_over<P: DevicePair + Drop, G: Readers + Drop>(
     alloc: Global,
     pair: P,
@@ -162,17 +161,11 @@ fn store_over<P: DevicePair + Drop, G: Readers + Drop>(
     each_home: bool,
     cache: u32,
 ) -> Result<
-    Result<(Store<JournaledOver<P, Global, G>>, bool), (Refusal, JournaledOver<P, Global, G>)>,
+    Result<Store<JournaledOver<P, Global, G>>, (Refusal, JournaledOver<P, Global, G>)>,
     OpenError,
 > {
     match open_over(pair, alloc, readers, each_home) {
-        Ok(device) => {
-            let begun = device.has_begun();
-            match store_in(alloc, device, create, cache) {
-                Ok(store) => Ok(Ok((store, begun))),
-                Err(refused) => Ok(Err(refused)),
-            }
-        }
+        Ok(device) => Ok(store_in(alloc, device, create, cache)),
         Err((error, _)) => Err(error),
     }
 }
@@ -206,7 +199,7 @@ pub fn open_to_read(
     let pair = pair_to_read(base, beside, no_journal(journal.anew)?)?;
     let readers = StreamReaders::of(readers);
     match store_over(alloc, pair, readers, false, false, cache)? {
-        Ok((store, _)) => Ok((store, false)),
+        Ok(store) => Ok((store, false)),
         Err((refusal, _)) => Err(Unopened::Store(refusal)),
     }
 }

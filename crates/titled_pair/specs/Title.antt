@@ -35,11 +35,6 @@ end_of a = with_text end_text (header_in a)
 abbrev pub reads_title : List ℕ → Bool
 reads_title block = (number_at 8 0 block == title_text) || (number_at 8 0 block == older_text)
 
--- the same journal, with the text of a title that is not an older one
-abbrev pub retitled : Blocks → Blocks
-retitled [] = []
-retitled (t ∷ blocks) = with_text title_text t ∷ blocks
-
 -- a journal behind its title
 abbrev pub untitled : Blocks → Blocks
 untitled [] = []

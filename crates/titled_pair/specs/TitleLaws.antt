@@ -10,7 +10,7 @@ use Rattle.block_bytes.specs.Numbers.{number_at, put_number}
 use Rattle.block_device.specs.Device.{Blocks, IsBlock, Torn, block_at, written}
 use Rattle.block_device.specs.Written.{torn_length, torn_other}
 use Rattle.device_pair.specs.Pairs.{BaseFollows, JournalFollows, PairElapses, PairsNoMore}
-use Rattle.titled_pair.specs.Title.{older_text, reads_title, retitled, title_text, untitled, with_text, HasTitle}
+use Rattle.titled_pair.specs.Title.{older_text, reads_title, title_text, untitled, with_text, HasTitle}
 use Rattle.titled_pair.specs.Titled.{Untitled, HasRoom, IsOf, StaysTitled}
 
 pub length-untitled : (e : Blocks) → length (untitled e) ≡ length e - 2
@@ -186,16 +186,3 @@ number_at-text text h small = big_number-reads_back 8 text (drop 8 h) small
 pub reads_retitled : (h : List ℕ) → reads_title (with_text title_text h) ≡ true
 reads_retitled h =
     ap (λ (n : ℕ). (n == title_text) || (n == older_text)) (number_at-text title_text h (lit< tt))
-
-pub length-retitled : (e : Blocks) → length (retitled e) ≡ length e
-length-retitled [] = refl
-length-retitled (t ∷ e) = refl
-
-pub retitled_first : (e : Blocks) → 0 < length e → block_at 0 (retitled e) ≡ with_text title_text (block_at 0 e)
-retitled_first [] lt = absurd (omega (arith, lt))
-retitled_first (t ∷ e) lt = refl
-
-pub retitled_behind : (k : ℕ) (e : Blocks) → 0 < k → block_at k (retitled e) ≡ block_at k e
-retitled_behind k [] lt = refl
-retitled_behind zero (t ∷ e) lt = absurd (omega (arith, lt))
-retitled_behind (suc k) (t ∷ e) lt = refl

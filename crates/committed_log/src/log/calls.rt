@@ -5,10 +5,11 @@ ghost use Rattle.block_device.specs.Device.{Blocks, Torn, Counts, block_at, writ
 ghost use Rattle.device_pair.specs.Pairs.{BaseFollows, JournalFollows, PairElapses, PairsNoMore};
 ghost use Rattle.committed_log.specs.Appending.{AppendsOnly};
 ghost use Rattle.committed_log.specs.Committed.{base_of, behind_of, clearing_of, homes_of, journal_of};
-ghost use Rattle.committed_log.specs.Committed.{leaves_of, pair_of, seen_of, IsHonest, IsStill, KeepsFirst};
-ghost use Rattle.committed_log.specs.Committed.{SameLog};
+ghost use Rattle.committed_log.specs.Committed.{leaves_of, pair_of, seen_of, slots_of, IsHonest, IsStill};
+ghost use Rattle.committed_log.specs.Committed.{KeepsFirst, SameLog};
 
 use crate::log::CommittedLog;
+use crate::slots::Slots;
 use block_device::DeviceError;
 use device_pair::DevicePair;
 use std::alloc::Allocator;
@@ -194,11 +195,19 @@ impl<P: DevicePair, A: Allocator + Copy> CommittedLog<P, A> {
     pub fn into_pair(self) -> P
         ensures { result ≡ pair_of self }
     {
+        self.into_parts().0
+    }
+
+    /// Its pair and the index of its regions, as they are.
+    pub fn into_parts(self) -> (P, Slots<A>)
+        ensures pair { result.0 ≡ pair_of self }
+        ensures slots { result.1 ≡ slots_of self }
+    {
         let CommittedLog {
             pair,
-            slots: _,
+            slots,
             clearing: _,
         } = self;
-        pair
+        (pair, slots)
     }
 }

@@ -1,11 +1,11 @@
 //! A base and its journal opened, after a stop or not.
-ghost use Rattle.std.specs.Prelude.{◌≡◌, ◌<◌, ◌≤◌, ◌↔◌, IfOk, IfErr, [], false, length, true};
+ghost use Rattle.std.specs.Prelude.{◌≡◌, ◌↔◌, IfOk, IfErr, []};
 ghost use Rattle.block_device.specs.Device.{Blocks};
 ghost use Rattle.device_pair.specs.Pairs.{PairLeaves};
 ghost use Rattle.committed_log.specs.Log.{recovered};
 ghost use Rattle.committed_log.specs.Opening.{IsMalformed, LeavesOr};
 ghost use Rattle.committed_log.specs.declared.log.open.OpenFault.TheVariants as fault;
-ghost use Rattle.logged_pair.specs.Standing.{commits_of, homes_of, journal_of, shown_of, IsHonest};
+ghost use Rattle.logged_pair.specs.Standing.{commits_of, homes_of, shown_of, IsHonest};
 ghost use Rattle.journaled_device.specs.Journaled.{each_home_of, events_of, inner_of, moment_of, pair_of};
 ghost use Rattle.journaled_device.specs.Journaled.{readers_of};
 
@@ -57,14 +57,6 @@ impl<P: DevicePair, A: Allocator + Copy, G: Drop> JournaledDevice<P, A, G> {
             readers,
             each_home,
         })
-    }
-
-    /// Whether blocks stand behind the log: a commit was begun and did not end, or the log was longer once.
-    pub fn has_begun(&self) -> bool
-        ensures begun { result ≡ true → 2 < length (journal_of (inner_of self.now)) }
-        ensures none { result ≡ false → length (journal_of (inner_of self.now)) ≤ 2 }
-    {
-        self.pair.has_begun()
     }
 
     /// Its pair, as it is, and who knows of its readers. What was written since the last commit is given up where

@@ -91,15 +91,6 @@ impl<P: DevicePair, A: Allocator + Copy> LoggedPair<P, A> {
         self.log.region_blocks() >= LONG_LOG
     }
 
-    /// Whether blocks stand behind the regions that are committed, but for the first two that a commit adds: a region
-    /// that was begun, or what is left of a longer log.
-    pub fn has_begun(&self) -> bool
-        ensures begun { result ≡ true → 2 < length (journal_of self.now) }
-        ensures none { result ≡ false → length (journal_of self.now) ≤ 2 }
-    {
-        self.log.behind_blocks() > 2
-    }
-
     /// Commits what is read: after an `Ok` it is the only commit, after an `Err` it may be one more.
     pub fn commit(&mut self) -> Result<(), DeviceError>
         ensures durable { IsHonest self.old →

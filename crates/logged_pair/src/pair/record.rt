@@ -19,7 +19,7 @@ use std::alloc::Allocator;
 pub const HOMES: usize = 1024;
 
 // The index block of the homes from number `from` on, at most 1024 of them.
-fn index_page(homes: &[u32], from: usize) -> [u8; 4096]
+pub(crate) fn index_page(homes: &[u32], from: usize) -> [u8; 4096]
     requires { from ≤ length homes.now }
     ensures { (m : ℕ) → m < 1024 → from + m < length homes.now →
         number_at 4 (4 * m) result ≡ slice_index homes.now (from + m) }

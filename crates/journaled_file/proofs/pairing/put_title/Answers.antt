@@ -1,6 +1,6 @@
 -- A stop before the title was made left a journal without blocks.
 use Rattle.std.proofs.Common.{arith}
-use Rattle.journaled_file.proofs.Copying.{begun_on}
+use Rattle.journaled_file.proofs.Anew.{begun_on}
 use Rattle.titled_pair.specs.Calls.{LeavesItsBase}
 use Rattle.journaled_file.proofs.pairing.put_title.Goals as goal
 
