@@ -250,10 +250,10 @@ module _ (homes : List ℕ) (slots index : Blocks) (count : List ℕ) (n_is : le
       ∙ append-nil (region_of homes)
 
 -- what was added in turn
-pub joined : (start a b c d e head slots index end : Blocks) → a ≡ start ++ head → b ≡ a ++ slots → c ≡ b ++ index
-    → d ≡ c ++ end → e ≡ d → e ≡ start ++ (head ++ (slots ++ (index ++ end)))
-joined start a b c d e head slots index end is_a is_b is_c is_d is_e =
-    is_e ∙ is_d
+pub joined : (start a b c d head slots index end : Blocks) → a ≡ start ++ head → b ≡ a ++ slots → c ≡ b ++ index
+    → d ≡ c ++ end → d ≡ start ++ (head ++ (slots ++ (index ++ end)))
+joined start a b c d head slots index end is_a is_b is_c is_d =
+    is_d
     ∙ ap (λ (x : Blocks). x ++ end)
     (is_c ∙ ap (λ (x : Blocks). x ++ index) (is_b ∙ ap (λ (x : Blocks). x ++ slots) is_a))
     ∙ append_assoc (start ++ head ++ slots) index end

@@ -41,8 +41,7 @@ pub fn write_newest<J: BlockDevice, P: DevicePair, A: Allocator + Copy>(
     put_head(pair, homes.len())?;
     put_slots(from, slots, &homes, front, pair)?;
     put_index(&homes, pair)?;
-    put_end(pair)?;
-    pair.sync_journal()
+    put_end(pair)
 }
 
 // The blocks, of so many, that have a slot, in order.
@@ -163,13 +162,16 @@ fn put_index<P: DevicePair>(homes: &[u32], pair: &mut P) -> Result<(), DeviceErr
     Ok(())
 }
 
-// Adds flag and count of a region that is not committed.
+// Adds flag and count of a region that is not committed, and syncs the journal.
 fn put_end<P: DevicePair>(pair: &mut P) -> Result<(), DeviceError>
     ensures added { P.honest pair.old → OnOk result ((count : List ℕ)
         × (P.journal pair.new ≡ P.journal pair.old ++ flag_block 0 ∷ count ∷ [])) }
+    ensures synced { P.honest pair.old → OnOk result ((a b : Blocks) → P.may_leave pair.new a b →
+        b ≡ P.journal pair.new) }
     ensures writes { P.honest pair.old → WritesJournal P.DevicePair pair.old pair.new }
     ensures honest { P.honest pair.old ↔ P.honest pair.new }
 {
     append(pair, &flag_page(0))?;
-    append(pair, &zero_block())
+    append(pair, &zero_block())?;
+    pair.sync_journal()
 }
