@@ -504,7 +504,9 @@ int rstore_refresh(rstore *db, int *changed) {
 /* Whether the log is to be written anew: it has grown to twice what it was, and more, and readers keep it from being copied
  * into the file. */
 static bool has_outgrown(rstore *db) {
-    if (db->memory || db->alone || journal_blocks(db) <= 2 * db->begun_with + 4096) return false;
+    off_t most = (off_t)(2 * db->begun_with + 4096) * BLOCK;
+    if (db->memory || db->alone || (off_t)journal_blocks(db) * BLOCK <= most) return false;
+    if (end_of_log(journal_of(db)) <= most) return false; /* what lies behind it is of a log that was copied home */
     if (take_lock(db, true)) return !db->abandoned;
     take_lock(db, false);
     return false;

@@ -3,14 +3,14 @@ ghost use Rattle.committed_log.specs.Committed as regions;
 ghost use Rattle.logged_pair.specs.Stages.{IsStanding};
 ghost use Rattle.logged_pair.specs.StagesFact.{standing_fact};
 
-mod alone;
 mod calls;
 mod commit;
 mod filling;
 mod giving_up;
+mod home;
 mod open;
 mod record;
-mod sync;
+mod taken;
 
 use committed_log::{CommittedLog, Slots};
 use device_pair::DevicePair;

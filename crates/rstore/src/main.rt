@@ -2,6 +2,8 @@
 //! with `--draw LAYER`, `--stats` or `--import LAYER` in place of lines (docs/COMMANDS.md, "The program").
 #![tactic(auto)]
 
+mod laws;
+
 use command_line::{ProgressLine, ProgressReader, serve};
 use command_shell::{CountedReader, tell_refusal};
 use file_device::OpenError;

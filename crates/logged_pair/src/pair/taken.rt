@@ -1,12 +1,8 @@
-//! A sync, which commits what opening takes.
-ghost use Rattle.std.specs.Prelude.{◌≡◌, ◌<◌, ◌↔◌, [], None, IfOk, OnOk, false, is_none, length, true};
-ghost use Rattle.block_device.specs.Device.{Blocks, Counts, block_at};
+//! Whether opening takes what is read.
+ghost use Rattle.std.specs.Prelude.{◌≡◌, ◌<◌, ◌↔◌, IfOk, false, is_none, length, true};
+ghost use Rattle.block_device.specs.Device.{Counts, block_at};
 ghost use Rattle.page_file.specs.Opening.{failed_check};
-ghost use Rattle.logged_pair.specs.Snapshots.{KeepsSnapshots};
-ghost use Rattle.logged_pair.specs.Standing.{IsStill};
-ghost use Rattle.logged_pair.specs.Commits.{OrOpened};
-ghost use Rattle.logged_pair.specs.Standing.{commits_of, homes_of, pair_of, shown_of, IsHonest, IsSettled};
-ghost use Rattle.logged_pair.specs.Standing.{KeepsTo};
+ghost use Rattle.logged_pair.specs.Standing.{pair_of, shown_of, IsHonest, IsStill};
 
 use crate::pair::LoggedPair;
 use block_bytes::zero_block;
@@ -50,27 +46,5 @@ impl<P: DevicePair, A: Allocator + Copy> LoggedPair<P, A> {
         }
         let fault = opening_fault(&gate, &header, self.blocks());
         Ok(fault.is_none())
-    }
-
-    /// Commits what is read where opening takes it, and makes no call but reads where it does not. After an
-    /// `Ok` what opening takes is the only commit, after an `Err` it may be one more.
-    pub fn sync(&mut self) -> Result<(), DeviceError>
-        ensures shown { IsHonest self.old → shown_of self.new ≡ shown_of self.old }
-        ensures durable { IsHonest self.old → failed_check (shown_of self.old) ≡ None →
-            OnOk result ((kept : Blocks) → commits_of self.new kept → kept ≡ shown_of self.old) }
-        ensures settled { IsHonest self.old → failed_check (shown_of self.old) ≡ None →
-            OnOk result (IsSettled self.new) }
-        ensures emptied { IsHonest self.old → failed_check (shown_of self.old) ≡ None →
-            OnOk result (homes_of self.new ≡ []) }
-        ensures keeps { IsHonest self.old →
-            KeepsTo (OrOpened (commits_of self.old) (shown_of self.old)) self.old self.new }
-        ensures snapshots { IsHonest self.old → KeepsSnapshots self.old self.new }
-        ensures honest { IsHonest self.old ↔ IsHonest self.new }
-        ensures faults { Counts (P.faults (pair_of self.old)) (P.faults (pair_of self.new)) result }
-    {
-        if !self.is_taken()? {
-            return Ok(());
-        }
-        self.commit()
     }
 }
