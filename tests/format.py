@@ -179,6 +179,21 @@ def regions_of(journal):
     return found, at
 
 
+def anew(journal):
+    """The journal that an opening writes anew of this one: one region, with the last slot of each block."""
+    newest = {}
+    for at, slots in regions_of(journal)[0]:
+        for k in range(slots):
+            home = number_at(journal, at + 2 + slots + k // 1024, 4 * (k % 1024), 4)
+            newest[home] = block_of(journal, at + 2 + k)
+    homes = sorted(newest)
+    count = b"RSTARJNL" + len(homes).to_bytes(4, "big")
+    index = b"".join(home.to_bytes(4, "big") for home in homes)
+    region = [b"RSTARJNL\1", count, *(newest[home] for home in homes), index]
+    padded = b"".join(part.ljust(-(-len(part) // SIZE) * SIZE, b"\0") for part in region)
+    return b"RSTARLOG" + journal[8 : FLAG * SIZE] + padded + NO_FLAG + bytes(SIZE)
+
+
 class Killed(Read):
     """Files whose run was killed, with their journal: as the kill left them, and as stops at other moments would."""
 
@@ -362,20 +377,20 @@ class Killed(Read):
         ):
             self.tells(base, broken, format_reader.NO_JOURNAL)
 
-    # A run that finds a commit copies nothing but the gate, and adds its own behind it.
+    # A run that finds a commit writes its journal anew, copies nothing home but the gate, and adds its own commit behind.
     def test_a_run_goes_on_with_the_log_that_it_finds(self):
         self.puts(self.base, self.complete)
         found, (base, journal) = self.parts(["check"], ["insert a 3000 1 1 2 2", "reopen"])
-        self.assertTrue(found == (self.base, self.complete))
+        self.assertTrue(found == (self.base, anew(self.complete)))
         self.assertEqual(len(regions_of(journal)[0]), 2)
-        self.assertTrue(journal[: SIZE * (self.slots + 5)] == self.complete[: SIZE * (self.slots + 5)])
+        self.assertTrue(journal[: SIZE * (self.slots + 5)] == found[1][: SIZE * (self.slots + 5)])
         older = self.base + base[len(self.base) :]
         self.assertTrue(base == with_numbers(older, (0, 8, 1, 2)))
         for left in (older, base):
             self.tells(left, journal)
             self.has([3000])
 
-    # It has another text in its title, and nothing behind its one region.
+    # It has another text in its title, and nothing behind its one region: it is written anew, as those of today.
     def test_a_journal_of_an_older_program(self):
         older = b"RSTARTTL" + self.journal[8 : -2 * SIZE]
         complete = with_numbers(older, (FLAG, 8, 1, 1))
@@ -385,7 +400,7 @@ class Killed(Read):
         self.puts(self.base, complete)
         [(base, journal)] = self.parts(["check"])
         self.assertTrue(base == self.base)
-        self.assertTrue(journal == b"RSTARLOG" + complete[8:] + NO_FLAG + bytes(SIZE))
+        self.assertTrue(journal == anew(complete))
         self.tells(base, journal)
         self.assertIn("insert a 1000 1 1 2 2 tag 3\n", self.read())
 
