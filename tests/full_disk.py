@@ -3,7 +3,8 @@
 
 A session changes and reopens a store until something is refused, and some more. At once, at its end, and once there is
 room again the file has to hold the table of the last `reopen` that answered `ok`, or of a closing that was tried since.
-Then it is sound, and the work goes on. The disk fills in one of these ways:
+Then it is sound, and the work goes on. In every other trial somebody reads the file from the beginning to the end of the
+session, and keeps the table that there was. The disk fills in one of these ways:
 
     disk    it is a file system in memory of some size, with a filler that is taken away when there is to be room
     limit   no file may get more than some bytes (RLIMIT_FSIZE), so the last write may be made in part
@@ -54,10 +55,12 @@ class Hindrance:
 class Session:
     """A run of the program that is asked line by line."""
 
+    begun = []  # all of them
+
     def __init__(self, words, hindrance):
         pipes = {"stdin": subprocess.PIPE, "stdout": subprocess.PIPE, "stderr": subprocess.PIPE}
         self.process = subprocess.Popen([*hindrance.before, *words], text=True, preexec_fn=hindrance.begin, **pipes)
-        Session.latest = self.process
+        Session.begun.append(self.process)
 
     def ask(self, command):
         """The reply's lines, or none where the program has ended."""
@@ -233,6 +236,23 @@ class Trial:
             raise Wrong(f"{when}: a run that ended left its journal")
         return said, dump[1:]
 
+    def reader(self):
+        """Somebody who reads from now on, and the rows that are read; or in every other trial nobody."""
+        if random.random() < 0.5:
+            return None
+        session = Session([self.program, "--cache", "8", "--read-only", self.file], Hindrance())
+        rows = session.ask("dump")[1:]
+        if rows not in self.plain.kept:
+            raise Wrong(f"a reader beside a writer has {len(rows)} rows: {rows[:9]}")
+        return session, rows
+
+    def still_has(self, session, rows):
+        """The reader goes, who has what it had."""
+        dump = session.ask("dump")
+        ended = session.end()
+        if dump[1:] != rows or ended != (0, ""):
+            raise Wrong(f"a reader of {len(rows)} rows has {len(dump) - 1} beside a full disk, and ends with {ended}")
+
     def fill(self, session):
         """Works until the disk is full, and on, and ends the session. What stands there at once is looked at too."""
         goes_on = self.work(session, 3000)
@@ -312,7 +332,10 @@ class Trial:
         session = self.begin() if os.path.exists(self.file) else self.make()
         if not session:
             return self.make_again(free)
+        reader = self.reader()
         self.fill(session)
+        if reader:
+            self.still_has(*reader)
         if not self.refused:
             return "never full"
         for _ in range(random.randrange(3)):
@@ -350,8 +373,10 @@ def on_disk(program, folder, room, size):
         trial = Trial(program, folder, room)
         return trial, trial.run(lambda: os.remove(filler))
     finally:
-        Session.latest.kill()  # where the trial went wrong it may still run
-        Session.latest.wait()
+        for process in Session.begun:
+            process.kill()  # where the trial went wrong it may still run
+            process.wait()
+        Session.begun.clear()
         subprocess.run(["umount", folder], check=True)
 
 
