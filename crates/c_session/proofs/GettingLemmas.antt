@@ -34,7 +34,7 @@ pub got_next : {D A : Type 0} {m : _} (s t u : Store D A m) (name : List ℕ) (n
     (d : ℕ × ℕ) (objects : List (ℕ × AnyBox × ℕ)) (o : ℕ × AnyBox × ℕ) → n < length near
     → GetsAll s t name (take n near) objects → o.0 ≡ (slice_index_or near n d).0
     → Answers t u (Get name (slice_index_or near n d).0) (object_answer (slice_index_or near n d).0)
-      (Ok (o.1, o.2))
+    (Ok (o.1, o.2))
     → GetsAll s u name (take (n + 1) near) (objects ++ o ∷ [])
 got_next s t u name near n d objects o within got same answers =
     subst (λ ids. GetsAll s u name ids (objects ++ o ∷ [])) (sym (take_more near n d within))

@@ -47,7 +47,14 @@ impl<D: BlockDevice, A: Allocator + Copy> Session<D, A> {
 
     /// The greatest identifier that is at most this, if there is one, of the objects of a layer of so many axes, 2
     /// or 3: all of them are asked for. The rows that were answered last stay.
-    pub fn last(&mut self, layer: &[u8], axes: u32, most: u64, id: &mut u64, found: &mut bool) -> u32
+    pub fn last(
+        &mut self,
+        layer: &[u8],
+        axes: u32,
+        most: u64,
+        id: &mut u64,
+        found: &mut bool,
+    ) -> u32
         ensures { TellsLast self.old self.new layer.now axes most id.old id.new found.old found.new result }
     {
         let Some(store) = &mut self.store else {
@@ -66,7 +73,14 @@ impl<D: BlockDevice, A: Allocator + Copy> Session<D, A> {
 
     /// Asks for the k objects that are nearest to a point, and gets each of them. It keeps the former, and of the
     /// latter, where it is tagged, those that have the tag, in the same order.
-    pub fn nearest_rows(&mut self, layer: &[u8], k: u64, numbers: &[i32], tagged: bool, tag: u32) -> u32
+    pub fn nearest_rows(
+        &mut self,
+        layer: &[u8],
+        k: u64,
+        numbers: &[i32],
+        tagged: bool,
+        tag: u32,
+    ) -> u32
         ensures { AsksNearRows self.old self.new layer.now k (raw_point numbers.now) (tag_of tagged tag)
             result }
     {

@@ -15,13 +15,13 @@ returns-in-Ok g c =
       Ok c.in-Ok.rows,
       c.in-Some.is,
       subst (λ box. Answers c.in-Some.store c.range.new.self
-      (Range c.args.layer.now (query.Window box) None) boxes_answer (Ok c.in-Ok.rows)) c.everywhere.ensures
-      c.in-Ok.ensures.answers,
+          (Range c.args.layer.now (query.Window box) None) boxes_answer (Ok c.in-Ok.rows)) c.everywhere.ensures
+          c.in-Ok.ensures.answers,
       refl,
       (
         c.last_of-last.result,
         subst (λ rows. IsLast c.args.most rows c.last_of-last.result) c.as_slice.ensures.value
-        c.last_of-last.ensures,
+            c.last_of-last.ensures,
         c.is_some.ensures,
         c.unwrap_or.ensures,
       ),
@@ -36,8 +36,8 @@ returns-in-Err g c =
       Err c.in-Err.refusal,
       c.in-Some.is,
       subst (λ box. Answers c.in-Some.store c.range.new.self
-      (Range c.args.layer.now (query.Window box) None) boxes_answer (Err c.in-Err.refusal))
-      c.everywhere.ensures c.in-Err.ensures.answers,
+          (Range c.args.layer.now (query.Window box) None) boxes_answer (Err c.in-Err.refusal))
+          c.everywhere.ensures c.in-Err.ensures.answers,
       ap (at c.args.self.now c.range.new.self) c.tell.ensures.detail,
       (refl, refl),
       c.tell.ensures.number,

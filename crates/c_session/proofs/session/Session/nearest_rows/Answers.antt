@@ -33,9 +33,9 @@ returns-in-Ok-get_near g c =
         c.in-Some-store.is,
         c.in-Ok.ensures.answers,
         subst (λ tag. GetsNear c.nearest.new.self c.get_near.new.store c.args.layer.now c.in-Ok.near.items tag
-        (Ok c.in-Ok-get_near.objects)) c.tag_of.ensures
-        (subst (λ near. GetsNear c.nearest.new.self c.get_near.new.store c.args.layer.now near
-        c.tag_of.result (Ok c.in-Ok-get_near.objects)) c.as_slice.ensures.value c.in-Ok-get_near.ensures),
+            (Ok c.in-Ok-get_near.objects)) c.tag_of.ensures
+            (subst (λ near. GetsNear c.nearest.new.self c.get_near.new.store c.args.layer.now near
+            c.tag_of.result (Ok c.in-Ok-get_near.objects)) c.as_slice.ensures.value c.in-Ok-get_near.ensures),
         refl,
         refl,
       )),
@@ -55,9 +55,9 @@ returns-in-Err-get_near g c =
         c.in-Some-store.is,
         c.in-Ok.ensures.answers,
         subst (λ tag. GetsNear c.nearest.new.self c.get_near.new.store c.args.layer.now c.in-Ok.near.items tag
-        (Err c.in-Err-get_near.refusal)) c.tag_of.ensures
-        (subst (λ near. GetsNear c.nearest.new.self c.get_near.new.store c.args.layer.now near
-        c.tag_of.result (Err c.in-Err-get_near.refusal)) c.as_slice.ensures.value c.in-Err-get_near.ensures),
+            (Err c.in-Err-get_near.refusal)) c.tag_of.ensures
+            (subst (λ near. GetsNear c.nearest.new.self c.get_near.new.store c.args.layer.now near
+            c.tag_of.result (Err c.in-Err-get_near.refusal)) c.as_slice.ensures.value c.in-Err-get_near.ensures),
         ap (at c.args.self.now c.get_near.new.store) c.tell-in-Err-get_near.ensures.detail,
         c.tell-in-Err-get_near.ensures.number,
       )),

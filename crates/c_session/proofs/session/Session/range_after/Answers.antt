@@ -16,8 +16,8 @@ returns-in-Ok g c =
         Ok c.in-Ok.rows,
         c.in-Some-store.is,
         subst (λ tag. Answers c.in-Some-store.store c.range.new.self
-        (Range c.args.layer.now c.in-Some.query tag) boxes_answer (Ok c.in-Ok.rows)) c.tag_of.ensures
-        c.in-Ok.ensures.answers,
+            (Range c.args.layer.now c.in-Some.query tag) boxes_answer (Ok c.in-Ok.rows)) c.tag_of.ensures
+            c.in-Ok.ensures.answers,
         (c.keep_after.new.objects, c.keep_after.ensures, refl),
         refl,
       ),
@@ -34,8 +34,8 @@ returns-in-Err g c =
         Err c.in-Err.refusal,
         c.in-Some-store.is,
         subst (λ tag. Answers c.in-Some-store.store c.range.new.self
-        (Range c.args.layer.now c.in-Some.query tag) boxes_answer (Err c.in-Err.refusal)) c.tag_of.ensures
-        c.in-Err.ensures.answers,
+            (Range c.args.layer.now c.in-Some.query tag) boxes_answer (Err c.in-Err.refusal)) c.tag_of.ensures
+            c.in-Err.ensures.answers,
         ap (at c.args.self.now c.range.new.self) c.tell.ensures.detail,
         c.tell.ensures.number,
       ),

@@ -20,9 +20,9 @@ returns-in_err-push g c =
 pub loop-k-preserved : goal.loop-k-preserved
 loop-k-preserved g c = record {
   done =
-    subst (λ objects. GetsAll c.args.store.now c.get.new.self c.args.layer.now
-    (take (c.loop-k.k + 1) c.args.near.now) objects) (sym c.in_ok-push.ensures.items)
-    (got_next c.args.store.now c.loop-k.store c.get.new.self c.args.layer.now c.args.near.now c.loop-k.k _
-    c.loop-k.objects.items (_, c.in_ok-bounds.bounds, c.in_ok-bounds.tag) c.loop-k-test.true
-    c.loop-k.invariant.done refl c.in_ok-bounds.ensures.answers);
+      subst (λ objects. GetsAll c.args.store.now c.get.new.self c.args.layer.now
+      (take (c.loop-k.k + 1) c.args.near.now) objects) (sym c.in_ok-push.ensures.items)
+      (got_next c.args.store.now c.loop-k.store c.get.new.self c.args.layer.now c.args.near.now c.loop-k.k _
+      c.loop-k.objects.items (_, c.in_ok-bounds.bounds, c.in_ok-bounds.tag) c.loop-k-test.true
+      c.loop-k.invariant.done refl c.in_ok-bounds.ensures.answers);
 }
