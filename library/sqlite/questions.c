@@ -406,9 +406,11 @@ static void read_plan(Cursor *c, const char *plan, int argc) {
     c->plan = plan;
     for (int k = 0; k < argc; k++) {
         plan = strchr(plan, ' ') + 1;
-        size_t length = strcspn(plan, "<=> ");
+        size_t length = 0;
         int what = ID;
-        while (strncmp(column_names[what], plan, length) || column_names[what][length]) what++;
+        while (plan[length] > '>') length++; /* up to an operator, a blank or the end */
+        while (*column_names[what] != *plan || strncmp(column_names[what], plan, length) || column_names[what][length])
+            what++;
         c->asks[k] = (Ask){ what, plan + length };
     }
 }
