@@ -2,6 +2,7 @@
 #![tactic(auto)]
 
 mod boxes;
+pub mod laws;
 mod layers;
 mod nodes;
 mod numbers;
