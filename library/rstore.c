@@ -605,28 +605,40 @@ int rstore_count(rstore *db, const char *layer, uint64_t *count)
     CALL(db && NAMED(layer) && count, rstore_c_count(db, TEXT(layer), count))
 int rstore_get(rstore *db, const char *layer, uint64_t id, rstore_row *row)
     CALL(db && NAMED(layer) && row, rstore_c_get(db, TEXT(layer), id, row))
-/* A range query, whose rows are then fetched. */
+int rstore_last(rstore *db, const char *layer, uint64_t most, uint64_t *id, int *found) {
+    ASK(db && NAMED(layer) && id && found);
+    bool is_there = false;
+    int error = DO(rstore_c_last(db, TEXT(layer), 2, most, id, &is_there));
+    if (error == RSTORE_WRONG_DIMS) error = DO(rstore_c_last(db, TEXT(layer), 3, most, id, &is_there));
+    if (!error) *found = is_there;
+    return error;
+}
+/* A range query, of what is behind an identifier where one is given, whose rows are then fetched. */
 static int ask_one(rstore *db, const char *layer, int kind, const int32_t *numbers, uint32_t axes, const uint32_t *tag,
-                   size_t *found) {
+                   const uint64_t *after, size_t *found) {
     ASK(db && NAMED(layer) && numbers && AXES(axes) && kind >= RSTORE_WINDOW && kind <= RSTORE_POINT);
     size_t length = kind == RSTORE_POINT ? axes : 2 * (size_t)axes;
+    uint32_t how = (uint32_t)kind, wanted = tag ? *tag : 0;
     *found = 0;
-    return DO(rstore_c_range(db, TEXT(layer), (uint32_t)kind, numbers, length, tag, tag ? *tag : 0, found));
+    if (after) return DO(rstore_c_range_after(db, TEXT(layer), how, numbers, length, tag, wanted, *after, found));
+    return DO(rstore_c_range(db, TEXT(layer), how, numbers, length, tag, wanted, found));
 }
 /* The same with the first results fetched into the caller's room. */
-#define INTO(out, fetch) { \
+#define INTO(out, fetch, after) { \
         size_t found; \
         ASK(count && (out || room == 0) && room <= PTRDIFF_MAX / sizeof *out); \
-        int error = ask_one(db, layer, kind, numbers, axes, tag, &found); \
+        int error = ask_one(db, layer, kind, numbers, axes, tag, after, &found); \
         if (error) return error; \
         if (room && found) fetch(db, 0, out, found < room ? found : room); \
         *count = found; \
         return RSTORE_OK; \
     }
 int rstore_range_into(rstore *db, const char *layer, int kind, const int32_t *numbers, uint32_t axes,
-                      const uint32_t *tag, rstore_row *rows, size_t room, size_t *count) INTO(rows, rstore_c_rows)
+                      const uint32_t *tag, rstore_row *rows, size_t room, size_t *count) INTO(rows, rstore_c_rows, NULL)
 int rstore_ids_into(rstore *db, const char *layer, int kind, const int32_t *numbers, uint32_t axes,
-                    const uint32_t *tag, uint64_t *ids, size_t room, size_t *count) INTO(ids, rstore_c_ids)
+                    const uint32_t *tag, uint64_t *ids, size_t room, size_t *count) INTO(ids, rstore_c_ids, NULL)
+int rstore_range_after(rstore *db, const char *layer, int kind, const int32_t *numbers, uint32_t axes, const uint32_t *tag,
+                       const uint64_t *after, rstore_row *rows, size_t room, size_t *count) INTO(rows, rstore_c_rows, after)
 size_t rstore_more(rstore *db, size_t from, rstore_row *rows, size_t room) {
     return db && rows && room && room <= PTRDIFF_MAX / sizeof *rows ? rstore_c_rows(db, from, rows, room) : 0;
 }
@@ -665,6 +677,38 @@ int rstore_nearest(rstore *db, const char *layer, uint64_t k, const int32_t *poi
     int error = DO(rstore_c_nearest(db, TEXT(layer), k, point, axes, &found));
     if (error) return error;
     HAND_OUT(rstore_c_near_rows);
+}
+/* Finds the distances of the rows, which are some of the near ones, in their order: they move to the front. */
+static void pair_up(rstore_near *near, const rstore_row *rows, size_t count) {
+    for (size_t k = 0, at = 0; k < count; k++, at++) {
+        while (near[at].id != rows[k].id) at++;
+        near[k] = near[at];
+    }
+}
+/* Hands out the objects that were got, k of them at most, of so many near ones. */
+static int near_rows(rstore *db, size_t asked, size_t found, rstore_near **near, rstore_row **rows, size_t *count) {
+    rstore_near *distances = found ? calloc(asked, sizeof *distances) : NULL;
+    rstore_row *objects = found ? calloc(found, sizeof *objects) : NULL;
+    if (found && !(distances && objects)) return free(distances), free(objects), RSTORE_MEMORY;
+    if (found) {
+        rstore_c_near_rows(db, 0, distances, asked);
+        rstore_c_rows(db, 0, objects, found);
+        pair_up(distances, objects, found);
+    }
+    *near = distances, *rows = objects, *count = found;
+    return RSTORE_OK;
+}
+int rstore_nearest_rows(rstore *db, const char *layer, uint64_t k, const int32_t *point, uint32_t axes,
+                        const uint32_t *tag, rstore_near **near, rstore_row **rows, size_t *count) {
+    enum { MOST = 1000000 };
+    ASK(db && NAMED(layer) && point && AXES(axes) && near && rows && count);
+    for (uint64_t asked = k;; asked = asked < MOST / 8 ? 8 * asked : MOST) {
+        size_t there = 0, found = 0;
+        int error = DO(rstore_c_nearest_rows(db, TEXT(layer), asked, point, axes, tag, tag ? *tag : 0, &there, &found));
+        if (error) return error;
+        if (found >= k || there < asked) return near_rows(db, there, found < k ? found : (size_t)k, near, rows, count);
+        if (asked >= MOST) return RSTORE_BAD_COUNT;
+    }
 }
 int rstore_join(rstore *db, const char *first, const char *second, uint64_t squared_distance, rstore_pair **rows,
                 size_t *count) {

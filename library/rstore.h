@@ -268,9 +268,27 @@ int rstore_ids_into(rstore *db, const char *layer, int kind, const int32_t *numb
                     const uint32_t *tag, uint64_t *ids, size_t room, size_t *count);
 size_t rstore_more_ids(rstore *db, size_t from, uint64_t *ids, size_t room);
 
+/* A piece of an answer, for pages: as rstore_range_into, of the objects whose identifiers are greater than *after; NULL
+ * asks for all. *count says how many these are, so that more follow where *count > room. The next piece is asked for with
+ * the identifier of the last row. Each piece takes the time and the memory of the whole answer, in the store; of the
+ * caller's memory it takes `room` rows. */
+int rstore_range_after(rstore *db, const char *layer, int kind, const int32_t *numbers, uint32_t axes,
+                       const uint32_t *tag, const uint64_t *after, rstore_row *rows, size_t room, size_t *count);
+
+/* The greatest identifier of a layer that is at most `most` (UINT64_MAX: of all); *found is 0, and *id stays, where there
+ * is none. It asks for all objects, and takes time and memory for them. Rows for rstore_more stay. */
+int rstore_last(rstore *db, const char *layer, uint64_t most, uint64_t *id, int *found);
+
 /* The k nearest to the point (1 to 1,000,000), by squared distance and then by identifier. */
 int rstore_nearest(rstore *db, const char *layer, uint64_t k, const int32_t *point, uint32_t axes, rstore_near **rows,
                    size_t *count);
+
+/* The same with the objects themselves, and with a tag that is not NULL the k nearest of those that have it: near[q] is the
+ * distance of rows[q]. Both are arrays of *count, NULL if there are none; free each by rstore_free. The tag is looked at
+ * behind the distance: where few objects have it, eight times as many are asked for in turn, up to 1,000,000, and
+ * RSTORE_BAD_COUNT is answered where k are not among these. Rows for rstore_more are gone then. */
+int rstore_nearest_rows(rstore *db, const char *layer, uint64_t k, const int32_t *point, uint32_t axes,
+                        const uint32_t *tag, rstore_near **near, rstore_row **rows, size_t *count);
 
 /* All pairs of an object of each layer whose boxes have at most this squared distance (0: that meet), ascending by first
  * and then by second. */

@@ -5,7 +5,7 @@ from __future__ import annotations
 import ctypes
 import math
 import struct
-from ctypes import byref, c_size_t, c_uint32, c_uint64
+from ctypes import byref, c_int, c_size_t, c_uint32, c_uint64
 from typing import TYPE_CHECKING, Any, Iterable, Iterator, Optional, Sequence
 
 from rstore._arrays import ArrayQuestions
@@ -342,6 +342,33 @@ class Layer(ArrayQuestions, WholeLayer):
             raise self._store._error(error, self.name)
         return Rows(made.array(CRow, count.value), self.dims, self.scale)
 
+    def window_page(
+        self, box: Box, limit: int, after: Optional[int] = None, tag: Optional[int] = None
+    ) -> "list[tuple[int, tuple[Number, ...], int]]":
+        """A page of `window`: the first `limit` of its objects whose identifiers are greater than `after`, or of all. The
+        store makes the whole answer for each page; only the page is copied."""
+        numbers, most = self._box(box), whole(limit, 32, "a limit")
+        behind = None if after is None else byref(c_uint64(whole(after, 64, "an identifier")))
+        room, count = (CRow * most)(), c_size_t()
+        with self._lock:
+            error = self._lib.rstore_range_after(
+                self._store._open, self._c_name, WINDOW, numbers, self.dims, tag_at(tag), behind, room, most, byref(count)
+            )
+            if error:
+                raise self._store._error(error, self.name)
+        return Rows(room, self.dims, self.scale)[: min(count.value, most)]
+
+    def last(self) -> Optional[int]:
+        """The greatest identifier, or None where there is no object. It asks for all objects."""
+        id, found = c_uint64(), c_int()
+        with self._lock:
+            error = self._lib.rstore_last(
+                self._store._open, self._c_name, c_uint64((1 << 64) - 1), byref(id), byref(found)
+            )
+            if error:
+                raise self._store._error(error, self.name)
+        return id.value if found.value else None
+
     # Nearest and joins.
 
     def nearest(self, point: Point, k: int = 1) -> "list[tuple[int, Number]]":
@@ -368,6 +395,26 @@ class Layer(ArrayQuestions, WholeLayer):
 
     def _nearest_ids(self, numbers: bytes, k: int) -> "list[int]":
         return [id for id, _, _ in self._near(numbers, k)]
+
+    def nearest_rows(
+        self, point: Point, k: int = 1, tag: Optional[int] = None
+    ) -> "list[tuple[int, tuple[Number, ...], int, Number]]":
+        """The k nearest as `nearest` orders them, with a tag only of those that have it: tuples of an identifier, a box, a
+        tag and the squared distance."""
+        numbers, near, rows, count = self._point(point), Made(self._lib), Made(self._lib), c_size_t()
+        with self._lock:
+            error = self._lib.rstore_nearest_rows(
+                self._store._open, self._c_name, c_uint64(whole(k, 64, "a count")), numbers, self.dims, tag_at(tag),
+                byref(near.address), byref(rows.address), byref(count),
+            )
+            if error:
+                raise self._store._error(error, self.name)
+        found = NEAR.iter_unpack(near.array(ctypes.c_char, count.value * NEAR.size))
+        squares = [high << 64 | low for _, low, high in found]
+        objects = Rows(rows.array(CRow, count.value), self.dims, self.scale)
+        if self.scale is not None:
+            squares = [square / (self.scale * self.scale) for square in squares]
+        return [(*row, square) for row, square in zip(objects, squares)]
 
     def join(self, other: Layer, within: Number = 0) -> "list[tuple[int, int]]":
         """All pairs of an object of this layer and one of the other whose boxes are at most so far apart (0: that meet),

@@ -38,8 +38,11 @@ typedef struct Cursor {
     rstore_row *held; /* which stays from one question to the next */
     size_t room;      /* of `held` */
     size_t count, at, split;
+    const rstore_row *now, *end; /* the row `at`, which is none of the nearest; behind all rows */
     bool had;         /* the statement has read the table, so no other connection has changed it since */
     bool down, near, first, has_row, below; /* the last: only what is nearer than `far` */
+    bool is_after;    /* only identifiers behind `after` are asked for */
+    uint64_t after;
     rstore_near *found, last;        /* of the nearest: what was answered, and from where to go on */
     uint64_t ask, left;
     double far;
@@ -97,7 +100,7 @@ static bool takes(sqlite3_index_info *info, int k, int what, int plan, const cha
     if (what == DISTANCE) return plan == NEAR && *op == '<';
     if (what >= LIMIT) return plan >= NEAR;
     if (what == K) return plan == NEAR;
-    if (what == ID) return *op == '=' && plan == GET;
+    if (what == ID) return plan == GET ? *op == '=' : plan == RANGE && *op == '>';
     if (what == TAG) return *op == '=' && !sqlite3_vtab_in(info, k, -1); /* one question, and not one for each value */
     return *op == '=';
 }
@@ -111,7 +114,7 @@ static void take_all(const Table *t, sqlite3_index_info *info, int plan, sqlite3
     for (int k = 0; k < info->nConstraint; k++) {
         int what = what_of(t, &info->aConstraint[k]);
         const char *op = operator_of(info->aConstraint[k].op);
-        bool bounds = what >= MINX && what <= MAXZ, hint = what >= LIMIT;
+        bool bounds = what >= MINX && what <= MAXZ, hint = what >= LIMIT || (what == ID && *op == '>');
         if (taken == MOST_TAKEN || !takes(info, k, what, plan, op) || (seen[what] && !bounds)) continue;
         seen[what] = true;
         info->aConstraintUsage[k].argvIndex = ++taken;
@@ -120,6 +123,7 @@ static void take_all(const Table *t, sqlite3_index_info *info, int plan, sqlite3
         if (bounds) *cost = *rows /= *op == '=' ? 64 : 4;
         else if (what >= MEETS && !hint) *cost = *rows /= 256;
         else if (what == TAG) *rows /= 16;
+        else if (what == ID) *rows /= 2;
     }
 }
 
@@ -159,7 +163,7 @@ int open_cursor(sqlite3_vtab *v, sqlite3_vtab_cursor **out) {
 static void clear(Cursor *c) {
     rstore_free(c->found);
     c->rows = c->few, c->found = NULL;
-    c->count = c->at = c->split = 0, c->near = c->first = c->below = false;
+    c->count = c->at = c->split = 0, c->near = c->first = c->below = c->is_after = false;
 }
 
 int close_cursor(sqlite3_vtab_cursor *cursor) {
@@ -280,7 +284,8 @@ static int search(Cursor *c, Table *t) {
     int kind = query_of(b, t->axes, &exact);
     if (kind < 0) return RSTORE_OK;
     box_within(b, t->axes, kind, box);
-    int error = rstore_range_into(db, t->layer, kind, box, t->axes, b->tagged ? &b->tag : NULL, c->few, ROOM, &count);
+    int error = rstore_range_after(db, t->layer, kind, box, t->axes, b->tagged ? &b->tag : NULL,
+                                   c->is_after ? &c->after : NULL, c->few, ROOM, &count);
     if (error) return error;
     if (count > ROOM && !has_room(c, count)) return RSTORE_MEMORY;
     if (count > ROOM) rstore_more(db, 0, c->rows, count);
@@ -306,7 +311,7 @@ static int ask_more(Cursor *c, Table *t) {
     uint64_t there = 0, asked = c->ask < MOST_NEAREST ? c->ask : MOST_NEAREST;
     bool first = !c->found;
     int error = need_still(t, true);
-    if (!error) error = rstore_count(t->store->db, t->layer, &there);
+    if (!error && !first) error = rstore_count(t->store->db, t->layer, &there);
     if (error || (!first && c->count >= there)) return error; /* all were told */
     if (!first && c->count == MOST_NEAREST) return RSTORE_BAD_COUNT;
     rstore_free(c->found), c->found = NULL, c->count = c->at = 0;
@@ -316,12 +321,21 @@ static int ask_more(Cursor *c, Table *t) {
     return error;
 }
 
-static const rstore_row *current(const Cursor *c) {
-    size_t at = (c->down ? c->count - 1 - c->at : c->at) + c->split;
-    return &c->rows[at < c->count ? at : at - c->count];
+/* Stands at the first row: SQL's negative identifiers, which come first, are behind the others. */
+static void stand(Cursor *c) {
+    c->end = c->rows + c->count;
+    if (!c->count) return;
+    if (c->down) c->now = (c->split ? c->rows + c->split : c->end) - 1;
+    else c->now = c->rows + c->split;
 }
 
-static sqlite3_int64 id_now(const Cursor *c) { return (sqlite3_int64)(c->near ? c->last.id : current(c)->id); }
+/* Goes on to the row behind it, and behind the last one of the array to the other end. */
+static void step(Cursor *c) {
+    if (!c->down) c->now = c->now + 1 == c->end ? c->rows : c->now + 1;
+    else c->now = (c->now == c->rows ? c->end : c->now) - 1;
+}
+
+static sqlite3_int64 id_now(const Cursor *c) { return (sqlite3_int64)(c->near ? c->last.id : c->now->id); }
 
 static int get_row(Cursor *c, Table *t) {
     int error = need_still(t, true);
@@ -356,11 +370,20 @@ typedef struct Asked { /* what is kept in no cursor */
     bool all; /* there is no limit, or one too great for the nearest */
 } Asked;
 
+/* Leaves out what can't be behind an identifier, which SQLite looks at again. */
+static void read_after(Cursor *c, const char *op, sqlite3_value *value) {
+    bool strict = op[1] != '=';
+    sqlite3_int64 n = sqlite3_value_type(value) == SQLITE_INTEGER ? sqlite3_value_int64(value) : -1;
+    c->is_after = strict ? n >= 0 : n > 0; /* behind a negative one all others come */
+    c->after = (uint64_t)n - !strict;
+}
+
 static int read_argument(Cursor *c, Table *t, int what, const char *op, sqlite3_value *value, Asked *asked) {
     Bounds *b = &c->bounds;
     sqlite3_int64 n = 0;
     const char *text;
     if (what >= MINX && what <= MAXZ) compare(b, what - MINX, op, value, t->scale);
+    else if (what == ID && *op == '>') read_after(c, op, value);
     else if (what == ID) b->none |= !whole(value, &asked->id);
     else if (what == TAG)
         b->none |= !whole(value, &n) || n < 0 || n > UINT32_MAX, b->tagged = true, b->tag = (uint32_t)n;
@@ -383,9 +406,11 @@ static void read_plan(Cursor *c, const char *plan, int argc) {
     c->plan = plan;
     for (int k = 0; k < argc; k++) {
         plan = strchr(plan, ' ') + 1;
-        size_t length = strcspn(plan, "<=> ");
+        size_t length = 0;
         int what = ID;
-        while (strncmp(column_names[what], plan, length) || column_names[what][length]) what++;
+        while (plan[length] > '>') length++; /* up to an operator, a blank or the end */
+        while (*column_names[what] != *plan || strncmp(column_names[what], plan, length) || column_names[what][length])
+            what++;
         c->asks[k] = (Ask){ what, plan + length };
     }
 }
@@ -429,14 +454,17 @@ int filter(sqlite3_vtab_cursor *cursor, int number, const char *plan, int argc, 
     if (code || c->bounds.none) return code;
     int error = need_still(t, c->had);
     c->had = !error;
-    return tell(t, error ? error : answer(c, t, number & 3, &asked));
+    if (!error) error = answer(c, t, number & 3, &asked);
+    if (!c->near) stand(c);
+    return tell(t, error);
 }
 
 /* ---- rows */
 int next(sqlite3_vtab_cursor *cursor) {
     Cursor *c = (Cursor *)cursor;
     c->at++;
-    return c->near ? tell((Table *)cursor->pVtab, go_on(c, (Table *)cursor->pVtab)) : SQLITE_OK;
+    if (c->near) return tell((Table *)cursor->pVtab, go_on(c, (Table *)cursor->pVtab));
+    return step(c), SQLITE_OK;
 }
 
 int eof(sqlite3_vtab_cursor *cursor) { return ((Cursor *)cursor)->at >= ((Cursor *)cursor)->count; }
@@ -445,25 +473,31 @@ int row_id(sqlite3_vtab_cursor *cursor, sqlite3_int64 *id) {
     return *id = id_now((Cursor *)cursor), SQLITE_OK;
 }
 
-/* A number of the box, or the tag. */
-static int stored_column(Cursor *c, Table *t, sqlite3_context *to, int what) {
-    int error = c->near && !c->has_row ? get_row(c, t) : RSTORE_OK;
-    if (error) return error == RSTORE_NO_OBJECT ? SQLITE_OK : tell(t, error); /* it was deleted since */
-    const rstore_row *row = c->near ? &c->row : current(c);
-    int32_t at = what == TAG ? 0 : what & 1 ? row->low[(what - MINX) / 2] : row->high[(what - MINX) / 2];
-    if (what == TAG) sqlite3_result_int64(to, row->tag);
-    else if (t->scale == 1) sqlite3_result_int(to, at);
+/* A number of the box, or behind these the tag. */
+static int stored_column(const Table *t, sqlite3_context *to, const rstore_row *row, int number) {
+    if (number > 2 * (int)t->axes) return sqlite3_result_int64(to, row->tag), SQLITE_OK;
+    int32_t at = (number & 1 ? row->low : row->high)[(number - 1) / 2];
+    if (t->scale == 1) sqlite3_result_int(to, at);
     else sqlite3_result_double(to, at / t->scale);
     return SQLITE_OK;
+}
+
+/* A column of the nearest, or one that no row of the store has. It stays apart, so that the others need no frame. */
+__attribute__((noinline)) static int other_column(Cursor *c, Table *t, sqlite3_context *to, int number) {
+    int what = column_of(t, number);
+    if (what == ID) return sqlite3_result_int64(to, id_now(c)), SQLITE_OK;
+    if (what >= COLUMNS) return get_more(t, id_now(c), what - COLUMNS, to);
+    if (what == DISTANCE && c->near && !c->first) sqlite3_result_double(to, distance_of(&c->last, t->scale));
+    if (what >= DISTANCE) return SQLITE_OK;
+    int error = c->has_row ? RSTORE_OK : get_row(c, t);
+    if (error) return error == RSTORE_NO_OBJECT ? SQLITE_OK : tell(t, error); /* it was deleted since */
+    return stored_column(t, to, &c->row, number);
 }
 
 int column(sqlite3_vtab_cursor *cursor, sqlite3_context *to, int number) {
     Cursor *c = (Cursor *)cursor;
     Table *t = (Table *)cursor->pVtab;
-    int what = column_of(t, number);
-    if (what == ID) sqlite3_result_int64(to, id_now(c));
-    else if (what == DISTANCE && c->near && !c->first) sqlite3_result_double(to, distance_of(&c->last, t->scale));
-    else if (what >= COLUMNS) return get_more(t, id_now(c), what - COLUMNS, to);
-    else if (what < DISTANCE) return stored_column(c, t, to, what);
-    return SQLITE_OK;
+    if (c->near || number > 2 * (int)t->axes + 1) return other_column(c, t, to, number);
+    if (number <= 0) return sqlite3_result_int64(to, (sqlite3_int64)c->now->id), SQLITE_OK;
+    return stored_column(t, to, c->now, number);
 }

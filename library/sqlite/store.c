@@ -311,23 +311,14 @@ void finish(Table *t) {
 #define EVERYWHERE { INT32_MIN, INT32_MIN, INT32_MIN, INT32_MAX, INT32_MAX, INT32_MAX }
 const int32_t everywhere[2][6] = { { INT32_MIN, INT32_MIN, INT32_MAX, INT32_MAX }, EVERYWHERE };
 
-/* The identifier behind the greatest one. */
+/* The identifier behind the greatest one; those from 2^63 on are SQL's negative ones. */
 int next_id(Table *t, sqlite3_int64 *id) {
-    rstore_row row = { .id = 0 };
-    size_t count = 0, low = 0;
     if (!t->knows_last) {
-        rstore *db = t->store->db;
-        const int32_t *all = everywhere[t->axes - 2];
-        int error = rstore_range_into(db, t->layer, RSTORE_WINDOW, all, t->axes, NULL, NULL, 0, &count);
+        uint64_t last = 0;
+        int found = 0, error = rstore_last(t->store->db, t->layer, INT64_MAX, &last, &found);
+        if (!error && !found) error = rstore_last(t->store->db, t->layer, UINT64_MAX, &last, &found);
         if (error) return error;
-        for (size_t high = count; low < high;) { /* those from 2^63 on are SQL's negative ones */
-            size_t middle = low + (high - low) / 2;
-            rstore_more(db, middle, &row, 1);
-            if (row.id > INT64_MAX) high = middle;
-            else low = middle + 1;
-        }
-        if (count) rstore_more(db, low ? low - 1 : count - 1, &row, 1);
-        t->last = (sqlite3_int64)row.id, t->knows_last = true;
+        t->last = (sqlite3_int64)last, t->knows_last = true;
     }
     if (t->last == INT64_MAX) return RSTORE_TOO_MANY_OBJECTS;
     return *id = t->last + 1, RSTORE_OK;

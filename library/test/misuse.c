@@ -19,7 +19,8 @@ int main(int argc, char **argv) {
     rstore_node *nodes;
     rstore_layer *layers;
     size_t n;
-    uint64_t id = 0;
+    uint64_t id = 0, after = 0;
+    int found;
     uint64_t count;
     const int32_t box[6] = {0, 0, 1, 1, 2, 2};
     if (argc != 2) return 2;
@@ -109,6 +110,14 @@ int main(int argc, char **argv) {
         BAD(rstore_range_into(db, "a", kind, box, 2, NULL, &row, 1, NULL));
         BAD(rstore_range_into(db, "a", kind, box, 2, NULL, &row, (size_t)-1, &n));
         IS(RSTORE_OK, rstore_range_into(db, "a", kind, box, 2, NULL, NULL, 0, &n));
+        BAD(rstore_range_after(NULL, "a", kind, box, 2, NULL, &after, &row, 1, &n));
+        BAD(rstore_range_after(db, NULL, kind, box, 2, NULL, &after, &row, 1, &n));
+        BAD(rstore_range_after(db, "", kind, box, 2, NULL, &after, &row, 1, &n));
+        BAD(rstore_range_after(db, "a", kind, NULL, 2, NULL, &after, &row, 1, &n));
+        BAD(rstore_range_after(db, "a", kind, box, 0, NULL, &after, &row, 1, &n));
+        BAD(rstore_range_after(db, "a", kind, box, 2, NULL, &after, NULL, 1, &n));
+        BAD(rstore_range_after(db, "a", kind, box, 2, NULL, &after, &row, 1, NULL));
+        BAD(rstore_range_after(db, "a", kind, box, 2, NULL, &after, &row, (size_t)-1, &n));
         BAD(rstore_ids_into(NULL, "a", kind, box, 2, NULL, &id, 1, &n));
         BAD(rstore_ids_into(db, "", kind, box, 2, NULL, &id, 1, &n));
         BAD(rstore_ids_into(db, "a", kind, NULL, 2, NULL, &id, 1, &n));
@@ -119,6 +128,8 @@ int main(int argc, char **argv) {
     }
     BAD(rstore_range_into(db, "a", 4, box, 2, NULL, &row, 1, &n));
     BAD(rstore_range_into(db, "a", -1, box, 2, NULL, &row, 1, &n));
+    BAD(rstore_range_after(db, "a", 4, box, 2, NULL, &after, &row, 1, &n));
+    BAD(rstore_range_after(db, "a", -1, box, 2, NULL, &after, &row, 1, &n));
     IS(0, rstore_more(NULL, 0, &row, 1) != 0);
     IS(0, rstore_more(db, 0, NULL, 1) != 0);
     IS(0, rstore_more(db, 99, &row, 1) != 0);
@@ -136,6 +147,19 @@ int main(int argc, char **argv) {
     BAD(rstore_nearest(db, "a", 1, box, 2, NULL, &n));
     BAD(rstore_nearest(db, "a", 1, box, 2, &near, NULL));
     IS(RSTORE_BAD_COUNT, rstore_nearest(db, "a", 0, box, 2, &near, &n));
+    BAD(rstore_nearest_rows(NULL, "a", 1, box, 2, NULL, &near, &rows, &n));
+    BAD(rstore_nearest_rows(db, NULL, 1, box, 2, NULL, &near, &rows, &n));
+    BAD(rstore_nearest_rows(db, "", 1, box, 2, NULL, &near, &rows, &n));
+    BAD(rstore_nearest_rows(db, "a", 1, NULL, 2, NULL, &near, &rows, &n));
+    BAD(rstore_nearest_rows(db, "a", 1, box, 9, NULL, &near, &rows, &n));
+    BAD(rstore_nearest_rows(db, "a", 1, box, 2, NULL, NULL, &rows, &n));
+    BAD(rstore_nearest_rows(db, "a", 1, box, 2, NULL, &near, NULL, &n));
+    BAD(rstore_nearest_rows(db, "a", 1, box, 2, NULL, &near, &rows, NULL));
+    BAD(rstore_last(NULL, "a", 1, &id, &found));
+    BAD(rstore_last(db, NULL, 1, &id, &found));
+    BAD(rstore_last(db, "", 1, &id, &found));
+    BAD(rstore_last(db, "a", 1, NULL, &found));
+    BAD(rstore_last(db, "a", 1, &id, NULL));
     BAD(rstore_nodes(NULL, "a", &nodes, &n));
     BAD(rstore_nodes(db, NULL, &nodes, &n));
     BAD(rstore_nodes(db, "", &nodes, &n));

@@ -40,8 +40,11 @@ int main(int argc, char **argv) {
         rstore_pair *pairs;
         rstore_layer *layers;
         rstore_node *nodes;
-        uint64_t pages;
+        rstore_row row;
+        uint64_t pages, id, after = 50;
+        uint32_t tag = 6;
         size_t count;
+        int found;
         int committed = 0, error;
         unlink(argv[1]);
         failed = 0;
@@ -55,6 +58,12 @@ int main(int argc, char **argv) {
             for (int k = 50; k < 60; k++) told(rstore_move(db, "a", (uint64_t)k, (int32_t[]){0, 0, 1, 1}, 2));
             if (!told(rstore_window(db, "b", (int32_t[]){0, 0, 99, 99}, 2, NULL, &rows, &count))) rstore_free(rows);
             if (!told(rstore_nearest(db, "b", 9, (int32_t[]){7, 7}, 2, &near, &count))) rstore_free(near);
+            if (!told(rstore_nearest_rows(db, "b", 9, (int32_t[]){7, 7}, 2, NULL, &near, &rows, &count)))
+                rstore_free(near), rstore_free(rows);
+            if (!told(rstore_nearest_rows(db, "a", 2, (int32_t[]){7, 7}, 2, &tag, &near, &rows, &count)))
+                rstore_free(near), rstore_free(rows);
+            told(rstore_range_after(db, "b", RSTORE_WINDOW, (int32_t[]){0, 0, 99, 99}, 2, NULL, &after, &row, 1, &count));
+            told(rstore_last(db, "b", 200, &id, &found));
             if (!told(rstore_join(db, "a", "b", 9, &pairs, &count))) rstore_free(pairs);
             if (!told(rstore_layers(db, &layers, &count))) rstore_free(layers);
             if (!told(rstore_nodes(db, "b", &nodes, &count))) rstore_free(nodes);

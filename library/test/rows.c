@@ -54,6 +54,74 @@ static void questions(rstore *db) {
     rstore_free(pairs);
 }
 
+/* Pages of an answer: the rows behind an identifier, of which one has room; and behind the last. */
+static void pages(rstore *db) {
+    rstore_row row = {.id = 99};
+    uint32_t seven = 7;
+    uint64_t one = 1, three = 3;
+    size_t count;
+    static const int32_t all[4] = {0, 0, 99, 99};
+    OK(rstore_range_after(db, "a", RSTORE_WINDOW, all, 2, NULL, NULL, &row, 1, &count));
+    IS(1, count == 3 && row.id == 1);
+    OK(rstore_range_after(db, "a", RSTORE_WINDOW, all, 2, NULL, &one, &row, 1, &count));
+    IS(1, count == 2 && is_row(&row, (rstore_row){2, {20, 20, 0}, {30, 30, 0}, 8, 2}));
+    IS(1, rstore_more(db, 1, &row, 1));
+    IS(3, row.id);
+    OK(rstore_range_after(db, "a", RSTORE_WINDOW, all, 2, &seven, &one, NULL, 0, &count));
+    IS(1, count);
+    row.id = 99;
+    OK(rstore_range_after(db, "a", RSTORE_POINT, (int32_t[]){9, 9}, 2, NULL, &three, &row, 1, &count));
+    IS(1, count == 0 && row.id == 99);
+    IS(RSTORE_NO_LAYER, rstore_range_after(db, "b", RSTORE_WINDOW, all, 2, NULL, &one, &row, 1, &count));
+    IS(RSTORE_BAD_BOX, rstore_range_after(db, "a", RSTORE_INSIDE, (int32_t[]){1, 3, 2, 2}, 2, NULL, &one, &row, 1, &count));
+}
+
+/* The greatest identifier: of all, at most some, and none; the rows of a query before stay. */
+static void last(rstore *db) {
+    rstore_row row;
+    uint64_t id = 99;
+    size_t count;
+    int found = 7;
+    OK(rstore_range_into(db, "a", RSTORE_WINDOW, (int32_t[]){0, 0, 9, 9}, 2, NULL, NULL, 0, &count));
+    OK(rstore_last(db, "a", UINT64_MAX, &id, &found));
+    IS(1, found == 1 && id == 3);
+    OK(rstore_last(db, "a", 2, &id, &found));
+    IS(1, found == 1 && id == 2);
+    OK(rstore_last(db, "a", 0, &id, &found));
+    IS(1, found == 0 && id == 2);
+    IS(1, count == 2 && rstore_more(db, 1, &row, 1) == 1 && row.id == 3);
+    found = 7;
+    IS(RSTORE_NO_LAYER, rstore_last(db, "b", UINT64_MAX, &id, &found));
+    IS(7, found);
+    OK(rstore_create_layer(db, "b", 3, 4));
+    OK(rstore_last(db, "b", UINT64_MAX, &id, &found));
+    IS(1, found == 0 && id == 2);
+    OK(rstore_insert(db, "b", UINT64_MAX, (int32_t[]){INT32_MIN, 1, INT32_MAX, INT32_MIN, 1, INT32_MAX}, 3, 0));
+    OK(rstore_last(db, "b", UINT64_MAX, &id, &found));
+    IS(1, found == 1 && id == UINT64_MAX);
+    OK(rstore_drop_layer(db, "b"));
+}
+
+/* The nearest with their objects: all, those with a tag, for which it looks further, and none. */
+static void near_rows(rstore *db) {
+    rstore_near *near;
+    rstore_row *rows;
+    size_t count;
+    uint32_t seven = 7, nine = 9;
+    OK(rstore_nearest_rows(db, "a", 2, (int32_t[]){19, 19}, 2, NULL, &near, &rows, &count));
+    IS(1, count == 2 && near[0].id == 2 && near[0].distance == 2 && near[1].id == 3 && near[1].distance == 98);
+    IS(1, is_row(&rows[0], (rstore_row){2, {20, 20, 0}, {30, 30, 0}, 8, 2}) && rows[1].id == 3 && rows[1].tag == 7);
+    rstore_free(near), rstore_free(rows);
+    OK(rstore_nearest_rows(db, "a", 1, (int32_t[]){19, 19}, 2, &seven, &near, &rows, &count));
+    IS(1, count == 1 && near[0].id == 3 && near[0].distance == 98 && rows[0].id == 3 && rows[0].high[1] == 12);
+    rstore_free(near), rstore_free(rows);
+    OK(rstore_nearest_rows(db, "a", 5, (int32_t[]){19, 19}, 2, &nine, &near, &rows, &count));
+    IS(1, count == 0 && !near && !rows);
+    IS(RSTORE_BAD_COUNT, rstore_nearest_rows(db, "a", 0, (int32_t[]){19, 19}, 2, NULL, &near, &rows, &count));
+    IS(RSTORE_BAD_COUNT, rstore_nearest_rows(db, "a", 1000001, (int32_t[]){19, 19}, 2, &nine, &near, &rows, &count));
+    IS(RSTORE_WRONG_DIMS, rstore_nearest_rows(db, "a", 1, (int32_t[]){1, 2, 3}, 3, NULL, &near, &rows, &count));
+}
+
 static void refusals(rstore *db) {
     rstore_row row = {.id = 5}, twice[2] = {{.id = 5}, {.id = 5}};
     uint64_t count = 0;
@@ -112,6 +180,9 @@ int main(int argc, char **argv) {
     OK(rstore_open(argv[1], RSTORE_CREATE, 8, &db));
     fill(db);
     questions(db);
+    pages(db);
+    last(db);
+    near_rows(db);
     refusals(db);
     far(db);
     OK(rstore_commit(db));

@@ -91,6 +91,9 @@ def session(path: str, seed: int, steps: int) -> None:
             assert layer.window(asked, tag) == model.those(lambda b: model.meet(b, asked), tag)
             assert layer.window_count(asked, tag) == len(model.those(lambda b: model.meet(b, asked), tag))
             assert layer.window_ids(asked, tag) == [row[0] for row in model.those(lambda b: model.meet(b, asked), tag)]
+            after, limit = dice.choice([None, id, 0, (1 << 64) - 1]), dice.choice([0, 1, 5, 1000])
+            behind = [row for row in model.those(lambda b: model.meet(b, asked), tag) if after is None or row[0] > after]
+            assert layer.window_page(asked, limit, after, tag) == behind[:limit]
         elif turn == 9:
             assert layer.inside(asked, tag) == model.those(lambda b: model.within(b, asked), tag)
         elif turn == 10:
@@ -101,6 +104,10 @@ def session(path: str, seed: int, steps: int) -> None:
             k = dice.choice([1, 7, 1000])
             near = sorted((model.squared(b, point + point), i) for i, (b, _) in model.rows.items())[:k]
             assert layer.nearest(point, k) == [(i, d) for d, i in near]
+            those = sorted(
+                (model.squared(b, point + point), i) for i, (b, t) in model.rows.items() if tag is None or t == tag
+            )
+            assert layer.nearest_rows(point, k, tag) == [(i, *model.rows[i], d) for d, i in those[:k]]
         elif turn == 13:
             other, within = dice.choice(list(plain)), dice.choice([0, 0, 2, 9])
             if plain[other].dims != model.dims:
@@ -115,6 +122,7 @@ def session(path: str, seed: int, steps: int) -> None:
                 assert layer.join(layers[other], within) == pairs
         elif turn == 14:
             assert (id in layer) == (id in model.rows) and len(layer) == len(model.rows)
+            assert layer.last() == max(model.rows, default=None)
             if id in model.rows:
                 assert layer.row(id) == (id, *model.rows[id]) and layer[id] == model.rows[id][0]
             else:

@@ -1,2 +1,3 @@
 -- The lemma files.
 mod Arrays
+mod PageLemmas

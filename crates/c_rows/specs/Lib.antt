@@ -4,3 +4,4 @@ pub mod Numbers
 pub mod Rows
 pub mod Layers
 pub mod Nodes
+pub mod Parts

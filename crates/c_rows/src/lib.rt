@@ -2,10 +2,12 @@
 #![tactic(auto)]
 
 mod boxes;
+pub mod laws;
 mod layers;
 mod nodes;
 mod numbers;
 mod objects;
+mod parts;
 mod rows;
 
 pub use boxes::{raw_box, raw_point, raw_query};
@@ -13,6 +15,7 @@ pub use layers::{Layer, layer_row, write_layers};
 pub use nodes::{NodeRow, write_three, write_two};
 pub use numbers::{number_of, tell};
 pub use objects::objects_of;
+pub use parts::{keep_after, keep_with, last_of};
 pub use rows::{
     Near, Pair, Row, near_row, object_row, write_ids, write_nearest, write_objects, write_pairs,
 };

@@ -1,3 +1,4 @@
 -- The lemma files.
 mod Steps
+mod GettingLemmas
 mod RollingBack

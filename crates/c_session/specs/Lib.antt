@@ -3,4 +3,5 @@ pub mod Keeping
 pub mod Calls
 pub mod Fetching
 pub mod Outlining
+pub mod Parts
 pub mod RollingBack

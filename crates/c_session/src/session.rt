@@ -5,6 +5,7 @@ ghost use Rattle.c_session.specs.Outlining.{nodes_of};
 mod changes;
 mod fetching;
 mod outlining;
+mod parts;
 mod questions;
 mod rolling_back;
 mod whole;

@@ -5,4 +5,5 @@ mod changes;
 mod giving_up;
 mod opening;
 mod outlining;
+mod parts;
 mod questions;

@@ -150,6 +150,8 @@ def joins():
             ("SELECT * FROM parks WHERE id = 7", (), "VIRTUAL TABLE INDEX 1:get: id="),
             ("SELECT * FROM parks LIMIT ? OFFSET 3", (5,), "VIRTUAL TABLE INDEX 3:first: limit offset"),
             ("SELECT * FROM parks ORDER BY id LIMIT 3", (), "VIRTUAL TABLE INDEX 0:range:"),
+            (f"SELECT * FROM parks WHERE id > 7 AND {window} ORDER BY id LIMIT 3", (9, 1, 9, 1),
+             "VIRTUAL TABLE INDEX 0:range: id> minx<= maxx>= miny<= maxy>="),
             ("SELECT * FROM parks WHERE nearest = '1 1' ORDER BY distance LIMIT 3", (),
              "VIRTUAL TABLE INDEX 2:nearest: nearest= limit"),
             ("SELECT * FROM parks WHERE inside = '1 1 9 9'", (), "VIRTUAL TABLE INDEX 0:range: inside="),
@@ -247,6 +249,13 @@ def numbers():
         ids = [-(2**63), -5, -1, 0, 3, 2**63 - 1]
         for id in r.sample(ids, len(ids)):
             db.execute("INSERT INTO n VALUES(?, 0, 0, 0, 0, 0)", (id,))
+        for value in (*ids, -3, 1, 2.5, "NULL", "'x'"):  # the rows behind an identifier, for pages
+            for op in (">", ">="):
+                where = f"WHERE id {op} {value}"
+                wanted = sorted(id for id, in rows(db, f"SELECT id FROM n WHERE +id {op} {value}"))
+                assert [id for id, in rows(db, f"SELECT id FROM n {where} AND minx <= 0 ORDER BY id")] == wanted
+                assert [id for id, in rows(db, f"SELECT id FROM n {where} ORDER BY id DESC LIMIT 2")] == wanted[:-3:-1]
+                tried("rows behind an identifier")
         for where in ("", "WHERE minx <= 1", "WHERE id > -3"):
             up = rows(db, f"SELECT id FROM n {where} ORDER BY id")
             assert up == sorted(up) and up == rows(db, f"SELECT rowid FROM n {where} ORDER BY rowid DESC")[::-1]

@@ -98,7 +98,8 @@ class Run:
             parts = [f"{r.choice(self.names)} {r.choice(['<', '<=', '>', '>=', '='])} {self.value()}"
                      for _ in range(r.randint(0, 6))]
         if r.random() < 0.15:
-            parts.append(f"id {r.choice(['=', '=', '=', '<', '>='])} {r.randint(1, 60)}")
+            id = r.choice([r.randint(1, 60), r.randint(1, 60), r.randint(-3, 3), "2.5", "'x'", "NULL", "9223372036854775807"])
+            parts.append(f"id {r.choice(['=', '=', '=', '<', '<=', '>', '>='])} {id}")
         if r.random() < 0.1:
             parts.append("id IN (1, 3, 5, 7, 11, 13, '17', 19.0, 'x', NULL, 2.5)")
         if r.random() < 0.15:

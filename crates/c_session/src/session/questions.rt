@@ -13,7 +13,7 @@ use c_rows::{Row, object_row, raw_point, raw_query, tell};
 use std::alloc::Allocator;
 
 // The tag that a query asks for, if it asks for one.
-fn tag_of(tagged: bool, tag: u32) -> Option<u32>
+pub(super) fn tag_of(tagged: bool, tag: u32) -> Option<u32>
     ensures { result ≡ tag_of tagged tag }
 {
     if tagged { Some(tag) } else { None }
