@@ -1,7 +1,7 @@
 -- What holds at each turn of the loop of `answer_lines`.
 use Rattle.std.proofs.Common.{[], true, false}
 use Rattle.layer_store.specs.Calls.{Calls}
-use Rattle.command_shell.specs.Pending.{AreCounted, pending, work_left}
+use Rattle.command_language.specs.Pending.{AreCounted, pending, work_left}
 use Rattle.command_shell.specs.Serving.{ServesBy}
 use Rattle.command_shell.proofs.StrictLemmas.{Goes}
 use Rattle.command_shell.proofs.session.answer_lines.Given as goal
