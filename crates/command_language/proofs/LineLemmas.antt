@@ -1,7 +1,7 @@
 -- Where the first newline stands, and how the bytes of a buffer move.
 use Rattle.std.proofs.Common.{◌≡◌, ℕ, suc, add-suc, true, ◌+◌, ◌-◌, ◌<◌, ◌≤◌, ◌==◌, List, [], ◌∷◌, ◌++◌}
-use Rattle.std.proofs.Common.{length, take, drop, get_or, Option, Some, None, MatchOption, Result, Ok, Err}
-use Rattle.std.proofs.Common.{OnErr, is_err, refl, sym, ap, ◌∙◌, arith}
+use Rattle.std.proofs.Common.{length, take, drop, get_or, Option, Some, None, MatchOption}
+use Rattle.std.proofs.Common.{refl, sym, ap, ◌∙◌, arith}
 use Rattle.std.proofs.lemmas.Bool.Decides.{nat_tests}
 use Rattle.std.proofs.lemmas.List.{take-append-drop, drop-take, drop-drop, get_or-take, take-append-le}
 use Rattle.std.proofs.lemmas.List.{length-take-le, length-drop}
@@ -29,12 +29,6 @@ newline_found xs (Some n) h = record {
       h.0.before k (omega arith) below (ap (λ y. y == newline) (sym (get_or-take n xs k 0 below) ∙ e)));
   ends = drop-cons xs n 0 h.0.high ∙ ap (λ y. y ∷ drop (suc n) xs) (is_newline (get_or xs n 0) h.1);
 }
-
--- where none was found
-pub none_found : (xs : List ℕ) (r : Option ℕ) → MatchOption r (IsOneLine xs) (BeginsLine xs) → r ≡ None
-    → IsOneLine xs
-none_found xs None h e = h
-none_found xs (Some n) h e = absurd (cc)
 
 pub lines_join : (x y : List ℕ) → IsOneLine x → IsOneLine y → IsOneLine (x ++ y)
 lines_join [] y p q = q
@@ -68,8 +62,3 @@ filled buffer new post s e n z h k =
     let a : e + n - 0 ≡ length (take e buffer) + n = omega (arith, l) in
     let b : e - 0 ≡ e = omega arith in
     rw (z, a, take-append-add (take e buffer) (new ++ post) n, take-append-le n new post k, b) refl
-
--- what a refusal says
-pub of_err : {T E : Type 0} (r : Result T E) (X : Type 0) → OnErr r X → true ≡ is_err r → X
-of_err (Ok v) X h e = absurd (cc)
-of_err (Err x) X h e = h

@@ -1,8 +1,9 @@
--- The lines of texts, and the commands of lines, one text after another.
+-- The commands of lines, one text after another.
 use Rattle.std.proofs.Common.{◌≡◌, ℕ, Bool, false, List, [], ◌∷◌, ◌++◌}
 use Rattle.std.proofs.Common.{length-append, take, sym, arith, append_assoc, subst}
 use Rattle.std.proofs.lemmas.List.{drop-append-le, take-append-le}
 use Rattle.store_law.specs.States.{Request}
+use Rattle.command_language.proofs.TextLemmas.{append_none}
 use Rattle.command_language.specs.Entries.{objects_in}
 use Rattle.command_shell.specs.TextCommands.{AsksAlone, AreCommands, load_request}
 use Rattle.command_shell.specs.TextCommands.AreCommands.{load, none, one, short}

@@ -21,6 +21,7 @@ use Rattle.command_language.specs.Meanings.Meaning.{Blank}
 use Rattle.command_shell.specs.Runs.{FoundSince, LeavesTablesOf, RunsFrom, with_last}
 use Rattle.command_shell.specs.Serving.{IsSession, ServesBy}
 use Rattle.command_shell.specs.TextCommands.{AreCommands}
+use Rattle.reply_texts.specs.Refused.{IsFrontOf, most_lines, told_stop}
 use Rattle.reply_texts.specs.Texts.{told_fault, told_refusal}
 use Rattle.reply_texts.specs.Writing.{AppendsSome}
 use Rattle.reply_texts.specs.declared.refused.LineFront.{LineFront}

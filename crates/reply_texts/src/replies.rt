@@ -4,7 +4,7 @@
 ghost use Rattle.std.specs.Prelude.{◌++◌, map};
 ghost use Rattle.plain_table.specs.Answers.{line_of_layer};
 ghost use Rattle.plain_table.specs.Step.Answer.{Listed};
-ghost use Rattle.reply_texts.specs.Texts.{refusal_text, count_text, number_text};
+ghost use Rattle.reply_texts.specs.Texts.{refusal_text, count_text, number_text, told_refusal};
 ghost use Rattle.reply_texts.specs.Texts.{answer_text, reply_answer};
 ghost use Rattle.reply_texts.specs.Writing.{Writes};
 

@@ -18,8 +18,8 @@ joins : {D A : Type 0} {m : _} (old mid new : Store D A m)
     → JoinsCalls (Calls old mid) (Calls mid new) (Calls old new)
 joins old mid new rs ss xs ys p q = steps_join IsAsked old mid new rs ss xs ys p q
 
-pub loop-lines-init : goal.loop-lines-init
-loop-lines-init g c =
+pub loop-line-init : goal.loop-line-init
+loop-line-init g c =
     let r = g.R.Read.remaining c.args.input.now in
     let w = g.W.Write.contents c.args.output.now in
     let So = Goes c.args.strict 0 (Calls c.args.store.now c.args.store.now) in (
@@ -33,68 +33,68 @@ pub returns-in_default-clause-runs : goal.returns-in_default-clause-runs
 returns-in_default-clause-runs g c =
     let remaining = g.R.Read.remaining in
     let contents = g.W.Write.contents in
-    let unread = pending c.loop-lines.lines in
+    let unread = pending c.loop-line.lines in
     inr (
       unread,
       in_line c.in_default.ensures.none,
       serves_so _ _ (λ text rs xs goes. (goes.lawful, λ strict. all_but_last xs (goes.none_refused strict)))
-          false true (remaining c.args.input.now) (remaining c.loop-lines.input)
+          false true (remaining c.args.input.now) (remaining c.loop-line.input)
           (contents c.args.output.now) (contents c.line_or_flush.new.output) [] unread
-          (serves_kept _ false true (remaining c.args.input.now) (remaining c.loop-lines.input)
-          (contents c.args.output.now) (contents c.loop-lines.output) (contents c.line_or_flush.new.output) []
-          unread c.loop-lines.invariant.0 c.line_or_flush.ensures.kept),
+          (serves_kept _ false true (remaining c.args.input.now) (remaining c.loop-line.input)
+          (contents c.args.output.now) (contents c.loop-line.output) (contents c.line_or_flush.new.output) []
+          unread c.loop-line.invariant.0 c.line_or_flush.ensures.kept),
     )
 
 pub returns-in-Err-clause-runs : goal.returns-in-Err-clause-runs
 returns-in-Err-clause-runs g c =
     let remaining = g.R.Read.remaining in
     let contents = g.W.Write.contents in
-    let unread = pending c.loop-lines.lines in
+    let unread = pending c.loop-line.lines in
     let old = c.args.store.now in
-    let mid = c.loop-lines.store in
+    let mid = c.loop-line.store in
     let new = c.step.new.store in
     rw c.in-Err.is at
-    (step_follows (Calls old mid) (Calls mid new) (Calls old new) (joins old mid new) c.loop-lines.taken
-    (remaining c.args.input.now) (remaining c.loop-lines.input) (remaining c.step.new.input)
+    (step_follows (Calls old mid) (Calls mid new) (Calls old new) (joins old mid new) c.loop-line.taken
+    (remaining c.args.input.now) (remaining c.loop-line.input) (remaining c.step.new.input)
     (contents c.args.output.now) (contents c.line_or_flush.new.output) (contents c.step.new.output) unread
     (pending c.step.new.lines) c.args.strict c.step.result c.follow.result c.follow.ensures
-    (serves_kept (Goes c.args.strict c.loop-lines.taken (Calls old mid)) false true
-    (remaining c.args.input.now) (remaining c.loop-lines.input)
-    (contents c.args.output.now) (contents c.loop-lines.output) (contents c.line_or_flush.new.output) [] unread
-    c.loop-lines.invariant.0 c.line_or_flush.ensures.kept)
+    (serves_kept (Goes c.args.strict c.loop-line.taken (Calls old mid)) false true
+    (remaining c.args.input.now) (remaining c.loop-line.input)
+    (contents c.args.output.now) (contents c.loop-line.output) (contents c.line_or_flush.new.output) [] unread
+    c.loop-line.invariant.0 c.line_or_flush.ensures.kept)
     c.step.ensures.steps)
 
 pub returns-in-Err-clause-blamed : goal.returns-in-Err-clause-blamed
 returns-in-Err-clause-blamed g c = λ is.
-    c.step.ensures.blamed c.loop-lines.invariant.1
-    (ends_as_step c.args.strict c.loop-lines.taken c.step.result
-    (subst (Follows c.args.strict c.loop-lines.taken c.step.result) (c.in-Err.is ∙ ap Err is)
+    c.step.ensures.blamed c.loop-line.invariant.1
+    (ends_as_step c.args.strict c.loop-line.taken c.step.result
+    (subst (Follows c.args.strict c.loop-line.taken c.step.result) (c.in-Err.is ∙ ap Err is)
     c.follow.ensures))
 
-pub loop-lines-preserved : goal.loop-lines-preserved
-loop-lines-preserved g c =
+pub loop-line-preserved : goal.loop-line-preserved
+loop-line-preserved g c =
     let remaining = g.R.Read.remaining in
     let contents = g.W.Write.contents in
-    let unread = pending c.loop-lines.lines in
+    let unread = pending c.loop-line.lines in
     let old = c.args.store.now in
-    let mid = c.loop-lines.store in
+    let mid = c.loop-line.store in
     let new = c.step.new.store in (
-      rw c.in-Ok.is at
+      rw c.in-Ok-follow.is at
           (step_follows (Calls old mid) (Calls mid new) (Calls old new) (joins old mid new)
-          c.loop-lines.taken
-          (remaining c.args.input.now) (remaining c.loop-lines.input) (remaining c.step.new.input)
+          c.loop-line.taken
+          (remaining c.args.input.now) (remaining c.loop-line.input) (remaining c.step.new.input)
           (contents c.args.output.now) (contents c.line_or_flush.new.output) (contents c.step.new.output) unread
           (pending c.step.new.lines) c.args.strict c.step.result c.follow.result c.follow.ensures
-          (serves_kept (Goes c.args.strict c.loop-lines.taken (Calls old mid)) false true
-          (remaining c.args.input.now) (remaining c.loop-lines.input)
-          (contents c.args.output.now) (contents c.loop-lines.output) (contents c.line_or_flush.new.output) []
-          unread c.loop-lines.invariant.0 c.line_or_flush.ensures.kept)
+          (serves_kept (Goes c.args.strict c.loop-line.taken (Calls old mid)) false true
+          (remaining c.args.input.now) (remaining c.loop-line.input)
+          (contents c.args.output.now) (contents c.loop-line.output) (contents c.line_or_flush.new.output) []
+          unread c.loop-line.invariant.0 c.line_or_flush.ensures.kept)
           c.step.ensures.steps),
-      c.step.ensures.counted c.loop-lines.invariant.1,
+      c.step.ensures.counted c.loop-line.invariant.1,
     )
 
-pub loop-lines-smaller : goal.loop-lines-smaller
-loop-lines-smaller g c =
-    goes_on_so c.args.strict c.loop-lines.taken c.step.result c.in-Ok.more _
-    (subst (Follows c.args.strict c.loop-lines.taken c.step.result) c.in-Ok.is c.follow.ensures)
+pub loop-line-smaller : goal.loop-line-smaller
+loop-line-smaller g c =
+    goes_on_so c.args.strict c.loop-line.taken c.step.result c.in-Ok-follow.more _
+    (subst (Follows c.args.strict c.loop-line.taken c.step.result) c.in-Ok-follow.is c.follow.ensures)
     c.step.ensures.fewer
