@@ -47,7 +47,7 @@ BANDS = [
     (
         "language",
         "commands, imports, pictures, the program's words, and the program",
-        "box_import tree_statistics layer_import command_shell program_words tree_picture command_line rstore",
+        "box_import command_language reply_texts tree_statistics layer_import command_shell program_words tree_picture command_line rstore",
     ),
 ]
 TESTS = (

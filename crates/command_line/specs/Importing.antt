@@ -12,8 +12,8 @@ use Rattle.live_layers.specs.Image.{IsImage, IsRefusedOrImageOf, OpeningRefuses}
 use Rattle.plain_table.specs.Loads.{GivenObjects}
 use Rattle.plain_table.specs.Table.{Table}
 use Rattle.plain_table.specs.declared.refusal.Refusal.TheVariants as refusal
-use Rattle.command_shell.specs.Texts.{told_refusal}
-use Rattle.command_shell.specs.Writing.{AppendsSome}
+use Rattle.reply_texts.specs.Texts.{told_refusal}
+use Rattle.reply_texts.specs.Writing.{AppendsSome}
 use Rattle.layer_import.specs.Imports.{HasImported, import_commands}
 use Rattle.program_words.specs.Targets.{IsTargetOf}
 use Rattle.command_line.specs.Serving.{IsMisused}

@@ -24,8 +24,8 @@ use Rattle.plain_table.specs.declared.refusal.Refusal.TheVariants as refusal
 use Rattle.command_shell.specs.Runs.{ChecksToClose, FoundSince, LeavesTablesOf, Runs, RunsOnceChecked}
 use Rattle.command_shell.specs.Runs.{RunsToClose, TellsEnd, with_last}
 use Rattle.command_shell.specs.Serving.{run_state}
-use Rattle.command_shell.specs.Texts.{told_refusal}
-use Rattle.command_shell.specs.Writing.{AppendsSome}
+use Rattle.reply_texts.specs.Texts.{told_refusal}
+use Rattle.reply_texts.specs.Writing.{AppendsSome}
 use Rattle.command_shell.specs.declared.session.RunEnd.{RunEnd}
 use Rattle.command_shell.specs.declared.session.RunEnd.TheVariants.{Finished}
 use Rattle.command_line.specs.declared.program.Served.{Served}

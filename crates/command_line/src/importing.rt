@@ -7,8 +7,8 @@ ghost use Rattle.std.specs.declared.alloc.Global.{Global};
 ghost use Rattle.plain_table.specs.Table.{Table};
 ghost use Rattle.plain_table.specs.declared.refusal.Refusal.TheVariants as refusal;
 ghost use Rattle.layer_store.specs.Representation.{BeginsWith, device_in};
-ghost use Rattle.command_shell.specs.Texts.{told_refusal};
-ghost use Rattle.command_shell.specs.Writing.{AppendsSome};
+ghost use Rattle.reply_texts.specs.Texts.{told_refusal};
+ghost use Rattle.reply_texts.specs.Writing.{AppendsSome};
 ghost use Rattle.command_line.specs.Importing.{HasImportedOn, IntoLayerOf, IsRefusedText, OpensAndImports};
 ghost use Rattle.command_line.specs.Importing.{PutsInto};
 ghost use Rattle.command_line.specs.Serving.{HasStarted};
@@ -22,11 +22,13 @@ use box_import::{
     Axes, ColumnFault, Columns, CsvRows, FeatureLines, ImportError, ImportedObject, Properties,
     Scale, Why,
 };
-use command_shell::{CountedRead, FlushedWrite, Reply, tell_refusal, write_reply};
+use command_language::CountedRead;
+use command_shell::FlushedWrite;
 use file_device::OpenError;
 use layer_import::{Import, PutProgress, Unimported, import_and_close};
 use layer_store::{Refusal, Store, create_store, open_store};
 use program_words::{ImportForm, ImportMisuse, ImportTask, Options, import_task, tell_misuse};
+use reply_texts::{Reply, tell_refusal, write_reply};
 use std::alloc::Global;
 use std::io::{BufRead, BufReader, Read, Write};
 

@@ -7,11 +7,13 @@ ghost use Rattle.command_line.specs.Strict.{OpensAndReads, ReadsAs};
 
 use crate::program::{FAILED, status_of, tell_unopened};
 use crate::strict::settle_reader;
-use command_shell::{CountedRead, FlushedWrite, run_and_close, tell_refusal};
+use command_language::CountedRead;
+use command_shell::{FlushedWrite, run_and_close};
 use file_device::OpenError;
 use layer_store::{Refusal, open_store};
 use program_words::{Limits, Options};
 use read_only_device::{BlockReader, ReadOnlyDevice};
+use reply_texts::tell_refusal;
 use std::alloc::{Allocator, Global};
 use std::io::Write;
 

@@ -21,7 +21,8 @@ ghost use Rattle.command_line.specs.Strict.{HasServedStrictlyOnceChecked, status
 use crate::program::{FAILED, Served, WENT_WELL, tell_no_store, tell_not_empty};
 use crate::reading::tell_unread;
 use block_device::BlockDevice;
-use command_shell::{CountedRead, FlushedWrite, Outcome, run_strictly_and_close};
+use command_language::CountedRead;
+use command_shell::{FlushedWrite, Outcome, run_strictly_and_close};
 use layer_store::{Refusal, Store, create_store, open_store};
 use program_words::{Limits, Options};
 use read_only_device::{BlockReader, ReadOnlyDevice};

@@ -12,13 +12,13 @@ use Rattle.plain_table.specs.declared.refusal.Refusal.{Refusal}
 use Rattle.plain_table.specs.declared.refusal.Refusal.TheVariants as refusal
 use Rattle.command_shell.specs.Answering.{AnswersLine, Replies}
 use Rattle.command_shell.specs.TextCommands.{AsksAlone, load_request}
-use Rattle.command_shell.specs.Meanings.{Meaning}
-use Rattle.command_shell.specs.Meanings.Meaning.{Means, Bad, Blank}
+use Rattle.command_language.specs.Meanings.{Meaning}
+use Rattle.command_language.specs.Meanings.Meaning.{Means, Bad, Blank}
 use Rattle.command_shell.specs.Serving.{WroteAs}
 use Rattle.command_shell.specs.Strict.{TellsCalls, TellsRefusal}
-use Rattle.command_shell.specs.Texts.{answer_text}
-use Rattle.command_shell.specs.Writing.{Writes}
-use Rattle.command_shell.proofs.CommandLemmas.{append_none}
+use Rattle.reply_texts.specs.Texts.{answer_text}
+use Rattle.reply_texts.specs.Writing.{Writes}
+use Rattle.command_language.proofs.TextLemmas.{append_none}
 use Rattle.command_shell.proofs.SessionLemmas.{appends_none}
 
 -- a command that a line asks was answered

@@ -6,7 +6,7 @@ use Rattle.std.proofs.lemmas.Bool.Decides.{nat_tests}
 use Rattle.std.specs.Prelude.{option_and_then, option_map, is_none, is_some, unwrap_or}
 use Rattle.plain_table.specs.Loads.{GivenObjects}
 use Rattle.plain_table.specs.declared.boxes.RawBox.{RawBox}
-use Rattle.command_shell.specs.Entries.{entry_in, first_bad, objects_in}
+use Rattle.command_language.specs.Entries.{entry_in, first_bad, objects_in}
 use Rattle.command_shell.specs.Gathering.{Tells}
 
 abbrev Object : Type 0

@@ -1,10 +1,5 @@
 -- The files of lemmas.
-pub mod WordLemmas
-pub mod NumberLemmas
-pub mod LineLemmas
 pub mod CommandLemmas
-pub mod WriteLemmas
-pub mod ReadLemmas
 pub mod GatherLemmas
 pub mod SessionLemmas
 pub mod StrictLemmas

@@ -9,30 +9,32 @@ use Rattle.plain_table.specs.Step.{Answer}
 use Rattle.plain_table.specs.declared.refusal.Refusal.{Refusal}
 use Rattle.store_law.specs.States.{Request}
 use Rattle.store_law.specs.States.Request.{BadCommand}
-use Rattle.command_shell.specs.Entries.{objects_in}
+use Rattle.command_language.specs.Entries.{objects_in}
 use Rattle.command_shell.specs.Gathering.{TakesPart}
-use Rattle.command_shell.specs.Lines.{IsOneLine, lines_of, newline}
-use Rattle.command_shell.specs.Lines.IsWhole.{none as whole_none, ends}
-use Rattle.command_shell.specs.Meanings.{meaning_of}
-use Rattle.command_shell.specs.Meanings.Meaning.{Blank, Loads}
-use Rattle.command_shell.specs.Reading.{Reads}
+use Rattle.command_language.specs.Lines.{IsOneLine, lines_of, newline}
+use Rattle.command_language.specs.Lines.IsWhole.{none as whole_none, ends}
+use Rattle.command_language.specs.Meanings.{meaning_of}
+use Rattle.command_language.specs.Meanings.Meaning.{Blank, Loads}
+use Rattle.command_language.specs.Reading.{Reads}
 use Rattle.command_shell.specs.Runs.{AnswersAllLines, StepsTo}
 use Rattle.command_shell.specs.TextCommands.{AreCommands, load_request}
 use Rattle.command_shell.specs.TextCommands.AreCommands.{load, none, short}
 use Rattle.command_shell.specs.TextCommands.IsUnfinished.{in_load}
-use Rattle.command_shell.specs.Texts.{answer_text, reply_answer}
-use Rattle.command_shell.specs.Writing.{Writes}
-use Rattle.command_shell.specs.declared.replies.Reply.{Reply}
-use Rattle.command_shell.specs.Strict.{AreTakenAt, IsFrontOf, MakesStep, TellsRefusal, line_count}
-use Rattle.command_shell.specs.Strict.{most_lines, step_of}
-use Rattle.command_shell.specs.declared.refused.LineFront.{LineFront}
+use Rattle.reply_texts.specs.Texts.{answer_text, reply_answer}
+use Rattle.reply_texts.specs.Writing.{Writes}
+use Rattle.reply_texts.specs.declared.replies.Reply.{Reply}
+use Rattle.command_shell.specs.Strict.{AreTakenAt, MakesStep, TellsRefusal, line_count}
+use Rattle.reply_texts.specs.Refused.{IsFrontOf}
+use Rattle.reply_texts.specs.Refused.{most_lines}
+use Rattle.command_shell.specs.Strict.{step_of}
+use Rattle.reply_texts.specs.declared.refused.LineFront.{LineFront}
 use Rattle.command_shell.specs.declared.session.RunEnd.{RunEnd}
 use Rattle.command_shell.specs.declared.session.RunEnd.TheVariants.{Finished, ReadFault, WriteFault}
 use Rattle.command_shell.specs.declared.session.Stepped.{Stepped}
 use Rattle.command_shell.specs.declared.session.Stepped.TheVariants.{End}
 use Rattle.command_shell.proofs.AnswerLemmas.{wrote_answer}
-use Rattle.command_shell.proofs.CommandLemmas.{lines_of-line, lines_of-whole}
-use Rattle.command_shell.proofs.ReadLemmas.{reads_more}
+use Rattle.command_language.proofs.TextLemmas.{lines_of-line, lines_of-whole}
+use Rattle.command_language.proofs.ReadLemmas.{reads_more}
 use Rattle.command_shell.proofs.SessionLemmas.{IsOneWhereRefused, serves_kept, serves_none, steps_after}
 
 -- the lines of a load

@@ -19,14 +19,14 @@ use Rattle.plain_table.specs.declared.refusal.Refusal.TheVariants as refusal
 use Rattle.command_shell.specs.TextCommands.{AreCommands}
 use Rattle.command_shell.specs.TextCommands.AreCommands.{none, one}
 use Rattle.command_shell.specs.TextCommands.IsUnfinished.{in_line}
-use Rattle.command_shell.specs.Lines.{lines_of, IsWhole}
-use Rattle.command_shell.specs.Lines.IsWhole.{none as nothing, ends}
+use Rattle.command_language.specs.Lines.{lines_of, IsWhole}
+use Rattle.command_language.specs.Lines.IsWhole.{none as nothing, ends}
 use Rattle.command_shell.specs.Runs.{Runs}
 use Rattle.command_shell.specs.Serving.{BreaksOff, RunState, run_state}
 use Rattle.command_shell.specs.TextAnswers.{AnswersText}
-use Rattle.command_shell.specs.Texts.{texts_of}
+use Rattle.reply_texts.specs.Texts.{texts_of}
 use Rattle.command_shell.specs.declared.session.RunEnd.TheVariants.{Finished, ReadFault, WriteFault}
-use Rattle.command_shell.proofs.CommandLemmas.{append_none}
+use Rattle.command_language.proofs.TextLemmas.{append_none}
 use Rattle.command_shell.proofs.Examples.{one_reading}
 
 abbrev Bytes : Type 0

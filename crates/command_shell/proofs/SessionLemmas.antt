@@ -11,24 +11,26 @@ use Rattle.plain_table.specs.declared.refusal.Refusal.{Refusal}
 use Rattle.command_shell.specs.Answering.{AnswersLine}
 use Rattle.command_shell.specs.TextCommands.{AreCommands, AsksAlone, IsUnfinished}
 use Rattle.command_shell.specs.TextCommands.AreCommands.{load, none, one, short}
-use Rattle.command_shell.specs.Lines.{IsWhole, lines_of}
-use Rattle.command_shell.specs.Meanings.{Meaning, meaning_of}
-use Rattle.command_shell.specs.Meanings.Meaning.{Blank}
-use Rattle.command_shell.specs.Reading.{Reads}
+use Rattle.command_language.specs.Lines.{IsWhole, lines_of}
+use Rattle.command_language.specs.Meanings.{Meaning, meaning_of}
+use Rattle.command_language.specs.Meanings.Meaning.{Blank}
+use Rattle.command_language.specs.Reading.{Reads}
 use Rattle.command_shell.specs.Runs.{AnswersAllLines, BreaksOffAnswer, IfOn, RunsFrom, StepsTo}
 use Rattle.command_shell.specs.Serving.{ServesBy, Wrote, WroteAs}
-use Rattle.command_shell.specs.Texts.{answer_text, texts_of}
-use Rattle.command_shell.specs.Strict.{IsFrontOf, IsRefusedCommand, MakesStep, Notes, NotesStep, TellsCalls}
+use Rattle.reply_texts.specs.Texts.{answer_text, texts_of}
+use Rattle.reply_texts.specs.Refused.{IsFrontOf}
+use Rattle.command_shell.specs.Strict.{IsRefusedCommand, MakesStep, Notes, NotesStep, TellsCalls}
 use Rattle.command_shell.specs.Strict.{TellsRefusal, line_count, step_of}
-use Rattle.command_shell.specs.declared.refused.LineFront.{LineFront}
-use Rattle.command_shell.specs.declared.refused.RefusedLine.{RefusedLine}
+use Rattle.reply_texts.specs.declared.refused.LineFront.{LineFront}
+use Rattle.reply_texts.specs.declared.refused.RefusedLine.{RefusedLine}
 use Rattle.command_shell.specs.declared.session.RunEnd.{RunEnd}
 use Rattle.command_shell.specs.declared.session.RunEnd.TheVariants.{Finished, ReadFault, WriteFault}
 use Rattle.command_shell.specs.declared.session.Stepped.{Stepped}
 use Rattle.command_shell.specs.declared.session.Stepped.TheVariants.{On, Last, End}
-use Rattle.command_shell.proofs.CommandLemmas.{append_none, lines_of-whole, commands_more, asks_line}
-use Rattle.command_shell.proofs.ReadLemmas.{reads_more}
-use Rattle.command_shell.proofs.WriteLemmas.{appends_more}
+use Rattle.command_language.proofs.TextLemmas.{append_none, lines_of-whole}
+use Rattle.command_shell.proofs.CommandLemmas.{commands_more, asks_line}
+use Rattle.command_language.proofs.ReadLemmas.{reads_more}
+use Rattle.reply_texts.proofs.WriteLemmas.{appends_more}
 
 pub appends_none : (a : Option (List ℕ)) → Appends a a []
 appends_none None = tt

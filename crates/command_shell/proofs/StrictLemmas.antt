@@ -6,20 +6,21 @@ use Rattle.plain_table.specs.Step.{Answer}
 use Rattle.layer_store.specs.Calls.{Calls}
 use Rattle.layer_store.specs.declared.store.Store.{Store}
 use Rattle.store_law.specs.States.{Request}
-use Rattle.command_shell.specs.Lines.{IsWhole, lines_of}
+use Rattle.command_language.specs.Lines.{IsWhole, lines_of}
 use Rattle.command_shell.specs.Runs.{IfOn, StepsTo}
 use Rattle.command_shell.specs.Serving.{ServesBy}
 use Rattle.command_shell.specs.Strict.{AreTaken, AreTakenAt, AreTakenBefore, Follows, IsStop}
-use Rattle.command_shell.specs.Strict.{MakesStep, RunsAs, line_count, most_lines}
+use Rattle.command_shell.specs.Strict.{MakesStep, RunsAs, line_count}
+use Rattle.reply_texts.specs.Refused.{most_lines}
 use Rattle.command_shell.specs.Strict.{stop_at}
-use Rattle.command_shell.specs.declared.refused.RefusedLine.{RefusedLine}
+use Rattle.reply_texts.specs.declared.refused.RefusedLine.{RefusedLine}
 use Rattle.command_shell.specs.declared.session.LinesEnd.{LinesEnd}
 use Rattle.command_shell.specs.declared.session.LinesEnd.TheVariants.{Ran}
 use Rattle.command_shell.specs.declared.session.RunEnd.{RunEnd}
 use Rattle.command_shell.specs.declared.session.RunEnd.TheVariants.{Finished, ReadFault, WriteFault}
 use Rattle.command_shell.specs.declared.session.Stepped.{Stepped}
 use Rattle.command_shell.specs.declared.session.Stepped.TheVariants.{On, Last, End}
-use Rattle.command_shell.proofs.CommandLemmas.{lines_of-whole}
+use Rattle.command_language.proofs.TextLemmas.{lines_of-whole}
 use Rattle.command_shell.proofs.SessionLemmas.{Joins, ends_run, serves_more}
 
 -- one answer is that to one request

@@ -7,11 +7,11 @@ use Rattle.plain_table.specs.Step.Answer.{Done}
 use Rattle.layer_store.specs.Representation.{BeginsWithSome, IsAliveWithSome, IsSettled, device_in}
 use Rattle.layer_store.specs.declared.store.Store.{Store}
 use Rattle.command_shell.specs.TextCommands.{AreCommands, AsksAlone}
-use Rattle.command_shell.specs.Meanings.{Meaning}
-use Rattle.command_shell.specs.Meanings.Meaning.{Loads, Means}
+use Rattle.command_language.specs.Meanings.{Meaning}
+use Rattle.command_language.specs.Meanings.Meaning.{Loads, Means}
 use Rattle.command_shell.specs.Serving.{WroteAs}
-use Rattle.command_shell.specs.Texts.{reply_answer}
-use Rattle.command_shell.specs.declared.replies.Reply.{Reply}
+use Rattle.reply_texts.specs.Texts.{reply_answer}
+use Rattle.reply_texts.specs.declared.replies.Reply.{Reply}
 
 -- the line asks by itself, with no further lines
 abbrev pub IsPlain : Meaning → Type 0

@@ -2,9 +2,9 @@
 use Rattle.std.specs.Prelude.{ℕ, ◌≡◌, ◌+◌, ◌<◌, Bool, true, false, List, [], ◌∷◌, ◌++◌, length, Option, Some, None}
 use Rattle.std.specs.Prelude.{IsSome, Result, Ok, Err, is_none}
 use Rattle.plain_table.specs.Loads.{GivenObjects}
-use Rattle.command_shell.specs.Entries.{first_bad, objects_in}
-use Rattle.command_shell.specs.Lines.{IsOneLine, lines_of}
-use Rattle.command_shell.specs.Reading.{Reads}
+use Rattle.command_language.specs.Entries.{first_bad, objects_in}
+use Rattle.command_language.specs.Lines.{IsOneLine, lines_of}
+use Rattle.command_language.specs.Reading.{Reads}
 use Rattle.command_shell.specs.declared.loading.Gathered.{Gathered}
 use Rattle.command_shell.specs.declared.loading.Gathering.{Gathering}
 use Rattle.command_shell.specs.declared.loading.Gathering.TheVariants.{Full, Short, Broken}

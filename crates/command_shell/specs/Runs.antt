@@ -12,8 +12,8 @@ use Rattle.plain_table.specs.Table.{Table}
 use Rattle.plain_table.specs.declared.refusal.Refusal.{Refusal}
 use Rattle.command_shell.specs.TextCommands.{IsUnfinished}
 use Rattle.command_shell.specs.Serving.{IsSession, RunState, ServesBy, of_any_text}
-use Rattle.command_shell.specs.Texts.{told_fault, told_refusal}
-use Rattle.command_shell.specs.Writing.{AppendsSome}
+use Rattle.reply_texts.specs.Texts.{told_fault, told_refusal}
+use Rattle.reply_texts.specs.Writing.{AppendsSome}
 use Rattle.command_shell.specs.declared.session.RunEnd.{RunEnd}
 use Rattle.command_shell.specs.declared.session.RunEnd.TheVariants.{Finished, ReadFault, WriteFault}
 use Rattle.command_shell.specs.declared.session.Stepped.{Stepped}

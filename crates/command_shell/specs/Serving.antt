@@ -6,9 +6,9 @@ use Rattle.store_law.specs.Sessions.{SessionState, Session}
 use Rattle.store_law.specs.States.{Request}
 use Rattle.plain_table.specs.Step.{Answer}
 use Rattle.command_shell.specs.TextCommands.{AreCommands}
-use Rattle.command_shell.specs.Lines.{lines_of}
-use Rattle.command_shell.specs.Reading.{Reads}
-use Rattle.command_shell.specs.Texts.{answer_text, texts_of}
+use Rattle.command_language.specs.Lines.{lines_of}
+use Rattle.command_language.specs.Reading.{Reads}
+use Rattle.reply_texts.specs.Texts.{answer_text, texts_of}
 
 -- the answers were written, but of the last one only a front
 pub record BreaksOff (old new : Option (List ℕ)) (answers : List Answer) : Type 0 where

@@ -1,7 +1,7 @@
 -- Refused lines, and a strict run, which stops at the first of them. Our rule, docs/COMMANDS.md.
-use Rattle.std.specs.Prelude.{ℕ, ◌≡◌, ◌+◌, ◌-◌, ◌^◌, Bool, true, false, List, [], ◌∷◌, ◌++◌, length, take, map}
-use Rattle.std.specs.Prelude.{Option, Some, None, Result, Ok, Err, if◌then◌else◌, ◌||◌, codes, decimal, min}
-use Rattle.std.specs.Prelude.{◌≤◌, ◌&&◌, ◌==◌, nat_lt, option_map}
+use Rattle.std.specs.Prelude.{ℕ, ◌≡◌, ◌+◌, Bool, true, false, List, [], ◌∷◌, ◌++◌, length}
+use Rattle.std.specs.Prelude.{Option, Some, None, Result, Ok, Err, if◌then◌else◌, min}
+use Rattle.std.specs.Prelude.{◌≤◌, option_map}
 use Rattle.std.specs.Io.KnownBytes.{Keeps}
 use Rattle.std.specs.List.{AllByRecursion}
 use Rattle.block_device.specs.Device.{Blocks, Only}
@@ -12,23 +12,21 @@ use Rattle.plain_table.specs.Table.{Table}
 use Rattle.plain_table.specs.Step.{Answer}
 use Rattle.plain_table.specs.Step.Answer.{Refused}
 use Rattle.plain_table.specs.declared.refusal.Refusal.{Refusal}
-use Rattle.plain_table.specs.declared.refusal.Refusal.TheVariants as refusal
 use Rattle.store_law.specs.Sessions.{SessionState}
 use Rattle.store_law.specs.States.{Request}
 use Rattle.store_law.specs.States.StoreState.{Alive}
-use Rattle.command_shell.specs.Entries.{first_bad}
-use Rattle.command_shell.specs.Lines.{IsWhole, lines_of, newline, words_of}
-use Rattle.command_shell.specs.Meanings.{longest_line, meaning_of}
-use Rattle.command_shell.specs.Meanings.Meaning.{Blank}
+use Rattle.command_language.specs.Lines.{IsWhole, lines_of}
+use Rattle.command_language.specs.Meanings.{meaning_of}
+use Rattle.command_language.specs.Meanings.Meaning.{Blank}
 use Rattle.command_shell.specs.Runs.{FoundSince, LeavesTablesOf, RunsFrom, with_last}
 use Rattle.command_shell.specs.Serving.{IsSession, ServesBy}
 use Rattle.command_shell.specs.TextCommands.{AreCommands}
-use Rattle.command_shell.specs.Texts.{refusal_text, told_fault, told_refusal}
-use Rattle.command_shell.specs.Usages.{usage_in}
-use Rattle.command_shell.specs.Writing.{AppendsSome}
-use Rattle.command_shell.specs.declared.refused.LineFront.{LineFront}
-use Rattle.command_shell.specs.declared.refused.RefusedLine.{RefusedLine}
-use Rattle.command_shell.specs.declared.refused.Stop.{Stop}
+use Rattle.reply_texts.specs.Refused.{IsFrontOf, most_lines, told_stop}
+use Rattle.reply_texts.specs.Texts.{told_fault, told_refusal}
+use Rattle.reply_texts.specs.Writing.{AppendsSome}
+use Rattle.reply_texts.specs.declared.refused.LineFront.{LineFront}
+use Rattle.reply_texts.specs.declared.refused.RefusedLine.{RefusedLine}
+use Rattle.reply_texts.specs.declared.refused.Stop.{Stop}
 use Rattle.command_shell.specs.declared.session.LinesEnd.{LinesEnd}
 use Rattle.command_shell.specs.declared.session.LinesEnd.TheVariants.{Ran, Stopped}
 use Rattle.command_shell.specs.declared.session.RunEnd.{RunEnd}
@@ -83,26 +81,8 @@ pub record TellsCalls {E : Type 0} (told : Result (Option Refusal) E)
 -- ---- lines
 
 -- how many lines a text has, at 2^64 - 1 where there are more
-abbrev pub most_lines : ℕ
-most_lines = 2 ^ 64 - 1
-
 abbrev pub line_count : List ℕ → ℕ
 line_count text = min (length (lines_of text)) most_lines
-
--- how many bytes of a line are told at most
-abbrev pub told_bytes : ℕ
-told_bytes = 60
-
--- the bytes of a line that are told: its first ones, and none where it is too long
-abbrev pub front_of : List ℕ → List ℕ
-front_of line = if nat_lt longest_line (length line) then [] else take told_bytes line
-
--- they are these, it is said whether there are more, and which is the first bad one of these entry lines
-abbrev pub IsFrontOf : LineFront → List ℕ → List (List ℕ) → Type 0
-IsFrontOf front line entries =
-    (front.bytes.items ≡ front_of line)
-    × (front.is_cut ≡ nat_lt told_bytes (length line))
-    × (front.bad_entry ≡ first_bad entries)
 
 -- The text is one command, whose first line is told so, with the first bad one of its entry lines, and it was
 -- refused.
@@ -199,43 +179,6 @@ Follows strict taken (Last None) next = next ≡ Err (Ran Finished)
 Follows strict taken (Last (Some it)) next =
     next ≡ Err (if strict then Stopped (stop_at taken it) else Ran Finished)
 Follows strict taken (End end) next = next ≡ Err (Ran end)
-
--- ---- what is said of a stop
-
--- a byte as it is told: one that can be printed, and a question mark for any other
-abbrev pub told_byte : ℕ → ℕ
-told_byte b = if nat_lt b 32 || nat_lt 126 b then 63 else b
-
--- the bytes of a line that are told, and `..` where there are more
-abbrev pub told_front : LineFront → List ℕ
-told_front front = map told_byte front.bytes.items ++ (if front.is_cut then codes ".." else [])
-
--- What is wrong with a bad line that is told so: it is too long, and then no byte is told; or how the command
--- is written whose name is the first word that is told, if there is one.
-abbrev pub line_fault : LineFront → List ℕ
-line_fault front =
-    if front.is_cut && (length front.bytes.items == 0) then codes "a line has at most 4096 bytes"
-    else usage_in (words_of front.bytes.items)
-
--- what is wrong with a bad line of this number, of whose entry lines this is the first bad one
-abbrev pub entry_fault : ℕ → Option ℕ → List ℕ → List ℕ
-entry_fault number (Some place) other =
-    codes "line " ++ decimal (min (number + place) most_lines) ++ codes " is no entry"
-entry_fault number None other = other
-
-abbrev pub fault_text : ℕ → LineFront → List ℕ
-fault_text number front = entry_fault number front.bad_entry (line_fault front)
-
--- why the line of this number was refused: the reply; and of a bad line what is wrong with it
-abbrev pub reason_of : Refusal → ℕ → LineFront → List ℕ
-reason_of refusal.BadLine number front =
-    codes "fail 24 BadLine: " ++ fault_text number front ++ newline ∷ []
-reason_of r number front = refusal_text r
-
--- the line that says where a run stopped, and why
-abbrev pub told_stop : Stop → List ℕ
-told_stop it = codes "rstore: line " ++ decimal it.line ++ codes ": " ++ told_front it.refused.front ++ codes ": "
-    ++ reason_of it.refused.refusal it.line it.refused.front
 
 -- ---- what a strict run of the program leaves
 

@@ -4,9 +4,9 @@ use Rattle.std.specs.FinMap.{empty}
 use Rattle.plain_table.specs.Step.{Answer}
 use Rattle.store_law.specs.Sessions.{IsSessionFrom}
 use Rattle.store_law.specs.States.{Request}
-use Rattle.command_shell.specs.Lines.{lines_of}
+use Rattle.command_language.specs.Lines.{lines_of}
 use Rattle.command_shell.specs.TextCommands.{AreCommands}
-use Rattle.command_shell.specs.Texts.{texts_of}
+use Rattle.reply_texts.specs.Texts.{texts_of}
 
 -- All commands of the text were answered, each by a lawful step of a store that began without layers, and the
 -- replies are the texts of the answers. The count of faults never rose from 0, so no answer blames the

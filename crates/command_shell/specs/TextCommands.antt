@@ -5,10 +5,10 @@ use Rattle.plain_table.specs.Commands.Command.{Load}
 use Rattle.plain_table.specs.Loads.{GivenObjects}
 use Rattle.store_law.specs.States.{Request}
 use Rattle.store_law.specs.States.Request.{BadCommand, Asks}
-use Rattle.command_shell.specs.Entries.{objects_in}
-use Rattle.command_shell.specs.Lines.{IsOneLine, IsWhole, lines_of, newline}
-use Rattle.command_shell.specs.Meanings.{Meaning, meaning_of}
-use Rattle.command_shell.specs.Meanings.Meaning.{Blank, Bad, Loads, Means}
+use Rattle.command_language.specs.Entries.{objects_in}
+use Rattle.command_language.specs.Lines.{IsOneLine, IsWhole, lines_of, newline}
+use Rattle.command_language.specs.Meanings.{Meaning, meaning_of}
+use Rattle.command_language.specs.Meanings.Meaning.{Blank, Bad, Loads, Means}
 
 -- what a line asks by itself: nothing, or one request; the first line of a load asks nothing by itself
 abbrev pub AsksAlone : Meaning → List Request → Type 0

@@ -3,9 +3,9 @@
 ghost use Rattle.std.specs.Prelude.{IfSome};
 ghost use Rattle.command_shell.specs.TextAnswers.{AnswersText};
 
-use crate::counted::CountedReader;
 use crate::session::{RunEnd, run};
 use block_device::MemoryDevice;
+use command_language::CountedReader;
 use layer_store::{Version, create_store};
 use std::alloc::Global;
 

@@ -1,18 +1,16 @@
 //! The entry lines of a load, read and gathered one after the other.
 
-ghost use Rattle.std.specs.Prelude.{◌≡◌, ℕ, ◌+◌, ◌<◌, ◌≤◌, ◌++◌, ◌∷◌, [], false, List, OnOk, OnErr, IfErr};
+ghost use Rattle.std.specs.Prelude.{◌≡◌, ℕ, ◌+◌, ◌<◌, ◌≤◌, ◌++◌, ◌∷◌, [], false, List, OnOk, IfErr};
 ghost use Rattle.std.specs.Prelude.{Some, length, unwrap_or};
 ghost use Rattle.std.specs.Io.KnownBytes.{Keeps};
 ghost use Rattle.command_shell.specs.Gathering.{GathersTo, IsGathered, TakesEntry};
-ghost use Rattle.command_shell.specs.Pending.{AreCounted, pending, work_left};
-ghost use Rattle.command_shell.specs.Reading.{IsReadersFault};
+ghost use Rattle.command_language.specs.Pending.{AreCounted, pending, work_left};
+ghost use Rattle.command_language.specs.Reading.{IsReadersFault};
 ghost use Rattle.command_shell.specs.declared.session.RunEnd.TheVariants as run_end;
 
-use crate::counted::CountedRead;
-use crate::lines::{Found, LineReader};
-use crate::parse::parse_entry;
-use crate::session::{RunEnd, hand_on};
-use layer_store::RawBox;
+use crate::session::RunEnd;
+use command_language::{CountedRead, Found, LineReader, parse_entry};
+use plain_table::RawBox;
 use std::alloc::Allocator;
 use std::io::Write;
 
@@ -119,10 +117,9 @@ fn take_entry<A: Allocator + Copy, R: CountedRead, W: Write>(
     ensures blamed { AreCounted lines.old (R.calls input.old) → IfErr result (λ end. end ≡ run_end.ReadFault
         → IsReadersFault (R.is_failing input.new) (R.calls input.new)) }
 {
-    let line = lines.line();
-    if hand_on(line, output).is_err() {
+    let Ok(line) = lines.line_or_flush(output) else {
         return Err(RunEnd::WriteFault);
-    }
+    };
     match lines.find(line, input) {
         Ok(Found::Line(len)) => {
             gathered.add(lines.front(len), place);

@@ -1,5 +1,4 @@
 //! A run of the program: its session, the closing of its store, and whether it went well.
-#![tactic(auto, using(crate::proofs::WriteLemmas::front_more, crate::proofs::WriteLemmas::writes_then))]
 
 ghost use Rattle.std.specs.Prelude.{◌≡◌, IsOk, true};
 ghost use Rattle.block_device.specs.Device.{Only};
@@ -7,17 +6,14 @@ ghost use Rattle.store_law.specs.Sessions.{SessionState};
 ghost use Rattle.layer_store.specs.Representation.{Represents, device_in};
 ghost use Rattle.command_shell.specs.Runs.{ChecksToClose, FoundSince, LeavesTablesOf, RunsToClose, TellsEnd};
 ghost use Rattle.command_shell.specs.Serving.{run_state};
-ghost use Rattle.command_shell.specs.Texts.{told_refusal};
-ghost use Rattle.command_shell.specs.Writing.{Writes};
 
-use crate::counted::CountedRead;
 use crate::flushing::FlushedWrite;
-use crate::replies::{Reply, write_reply};
-use crate::reply_line::put;
 use crate::session::{RunEnd, run};
 use block_device::BlockDevice;
-use layer_store::{Refusal, Store};
-use std::alloc::{Allocator, Global};
+use command_language::CountedRead;
+use layer_store::Store;
+use reply_texts::{put, tell_refusal};
+use std::alloc::Allocator;
 use std::io;
 use std::io::Write;
 
@@ -92,12 +88,4 @@ fn is_whole(end: RunEnd, flushed: &io::Result<()>) -> bool
         RunEnd::Finished => flushed.is_ok(),
         RunEnd::ReadFault | RunEnd::WriteFault => false,
     }
-}
-
-/// Says in a line why a store was refused.
-pub fn tell_refusal<E: Write>(refusal: Refusal, errors: &mut E) -> io::Result<()>
-    ensures { Writes (E.contents errors.old) (E.contents errors.new) result (told_refusal refusal) }
-{
-    put(errors, b"rstore: ")?;
-    write_reply(&Reply::<Global>::Refused(refusal), errors)
 }

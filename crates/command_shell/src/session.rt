@@ -1,8 +1,7 @@
 //! The session of a reader's lines with a store, and how it ends.
 
 ghost use Rattle.std.specs.Prelude.{◌≡◌, ◌≢◌, ◌<◌, ◌≤◌, ◌++◌, ◌∷◌, [], ℕ, false, List, Option, None};
-ghost use Rattle.std.specs.Prelude.{MatchResult, OnErr, IfSome};
-ghost use Rattle.std.specs.Io.KnownBytes.{Keeps};
+ghost use Rattle.std.specs.Prelude.{MatchResult, IfSome};
 ghost use Rattle.plain_table.specs.Answers.{done_answer, object_answer, boxes_answer, count_answer};
 ghost use Rattle.plain_table.specs.Answers.{distances_answer};
 ghost use Rattle.plain_table.specs.Answers.{dump_answer, layers_answer, pairs_answer};
@@ -15,33 +14,31 @@ ghost use Rattle.layer_store.specs.Checked.{LawfulOnceChecked};
 ghost use Rattle.layer_store.specs.Representation.{Represents, StandsAs, StopsLeave, device_in};
 ghost use Rattle.command_shell.specs.Answering.{AnswersLast, AnswersLine, IsPlain, Replies, RepliesLast};
 ghost use Rattle.command_shell.specs.Answering.{SaysChecked, reply_answers};
-ghost use Rattle.command_shell.specs.Entries.{objects_in};
+ghost use Rattle.command_language.specs.Entries.{objects_in};
 ghost use Rattle.command_shell.specs.Gathering.{IsGathered};
-ghost use Rattle.command_shell.specs.Lines.{IsOneLine, newline};
-ghost use Rattle.command_shell.specs.Meanings.{meaning_of};
-ghost use Rattle.command_shell.specs.Meanings.Meaning.{Loads, Means};
+ghost use Rattle.command_language.specs.Lines.{IsOneLine, newline};
+ghost use Rattle.command_language.specs.Meanings.{meaning_of};
+ghost use Rattle.command_language.specs.Meanings.Meaning.{Loads, Means};
 ghost use Rattle.plain_table.specs.Commands.Command.{Layers};
-ghost use Rattle.command_shell.specs.Pending.{AreCounted, pending, work_left};
-ghost use Rattle.command_shell.specs.Reading.{BeginsLine, IsReadersFault, Reads, ReadsTo};
+ghost use Rattle.command_language.specs.Pending.{AreCounted, pending, work_left};
+ghost use Rattle.command_language.specs.Reading.{BeginsLine, IsReadersFault, Reads, ReadsTo};
 ghost use Rattle.command_shell.specs.Runs.{IfOn, Runs, RunsOnceChecked, StepsTo};
-ghost use Rattle.command_shell.specs.Said.{said};
+ghost use Rattle.command_language.specs.Said.{said};
 ghost use Rattle.command_shell.specs.Serving.{IsSession, run_state};
-ghost use Rattle.command_shell.specs.Strict.{Follows, IsFrontOf, IsRefusalIn, MakesStep, RunsAs};
+ghost use Rattle.command_shell.specs.Strict.{Follows, IsRefusalIn, MakesStep, RunsAs};
+ghost use Rattle.reply_texts.specs.Refused.{IsFrontOf};
 ghost use Rattle.command_shell.specs.Strict.{RunsStrictly, TellsCalls, TellsRefusal, step_of, stop_at};
 ghost use Rattle.command_shell.specs.TextCommands.{load_request};
-ghost use Rattle.command_shell.specs.Texts.{answer_text, reply_answer};
-ghost use Rattle.command_shell.specs.Writing.{Writes};
+ghost use Rattle.reply_texts.specs.Texts.{answer_text, reply_answer};
+ghost use Rattle.reply_texts.specs.Writing.{Writes};
 
-use crate::counted::CountedRead;
-use crate::lines::{Found, LineReader};
 use crate::loading::{Gathered, Gathering, gather};
-use crate::parse::{Line, parse_line};
-use crate::refused::{LineFront, RefusedLine, Stop};
-use crate::replies::{Reply, write_layers, write_reply};
 use arrayvec::ArrayVec;
 use block_device::BlockDevice;
-use layer_store::{AnyBox, Refusal, Store};
-use plain_table::{DumpRow, LayerInfo, MOST_LAYERS};
+use command_language::{CountedRead, Found, Line, LineReader, parse_line};
+use layer_store::Store;
+use plain_table::{AnyBox, DumpRow, LayerInfo, MOST_LAYERS, Refusal};
+use reply_texts::{LineFront, RefusedLine, Reply, Stop, write_layers, write_reply};
 use std::alloc::{Allocator, Global};
 use std::io;
 use std::io::Write;
@@ -154,10 +151,9 @@ fn answer_lines<D: BlockDevice, A: Allocator + Copy, R: CountedRead, W: Write>(
     let mut lines = LineReader::new();
     let mut taken = 0;
     loop {
-        let line = lines.line();
-        if hand_on(line, output).is_err() {
+        let Ok(line) = lines.line_or_flush(output) else {
             return LinesEnd::Ran(RunEnd::WriteFault);
-        }
+        };
         match follow(strict, taken, step(store, &mut lines, line, input, output)) {
             Ok(more) => taken = more,
             Err(end) => return end,
@@ -190,18 +186,6 @@ fn stop_at(taken: u64, refused: RefusedLine) -> Stop
     Stop {
         line: taken.saturating_add(1),
         refused,
-    }
-}
-
-// Flushes the replies so far where no line is pending, so that who waits for one before the next line is sent
-// has it.
-pub(crate) fn hand_on<W: Write>(line: Option<usize>, output: &mut W) -> io::Result<()>
-    ensures kept { Keeps (W.contents output.old) (W.contents output.new) }
-    ensures none { OnErr result (line ≡ None) }
-{
-    match line {
-        Some(_) => Ok(()),
-        None => output.flush(),
     }
 }
 

@@ -1,5 +1,4 @@
 //! A strict run of the program: it stops at the first refused line, and then closes nothing.
-#![tactic(auto, using(crate::proofs::WriteLemmas::front_more, crate::proofs::WriteLemmas::writes_then))]
 
 ghost use Rattle.std.specs.Prelude.{◌≡◌, ◌⊎◌};
 ghost use Rattle.block_device.specs.Device.{LeavesOnly};
@@ -13,14 +12,12 @@ ghost use Rattle.command_shell.specs.declared.session.LinesEnd.{LinesEnd};
 ghost use Rattle.command_shell.specs.declared.session.LinesEnd.TheVariants.{Ran, Stopped};
 ghost use Rattle.command_shell.specs.declared.session.RunEnd.TheVariants.{Finished};
 
-use crate::counted::CountedRead;
 use crate::flushing::FlushedWrite;
-use crate::program::tell_refusal;
-use crate::refused::{Stop, tell_stop};
-use crate::reply_line::put;
 use crate::session::{LinesEnd, RunEnd, run_strictly};
 use block_device::BlockDevice;
+use command_language::CountedRead;
 use layer_store::Store;
+use reply_texts::{Stop, put, tell_refusal, tell_stop};
 use std::alloc::Allocator;
 use std::io::Write;
 

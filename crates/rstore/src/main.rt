@@ -5,12 +5,13 @@
 mod laws;
 
 use command_line::{ProgressLine, ProgressReader, serve};
-use command_shell::{CountedReader, tell_refusal};
+use command_language::CountedReader;
 use file_device::OpenError;
 use journaled_file::{JournaledFile, OpenedFile, end_journaled, open_journaled};
 use journaled_store::OpeningJudge;
 use layer_store::{Refusal, Version};
 use program_words::{greet, imports, newest_allowed};
+use reply_texts::tell_refusal;
 use snapshot_file::open_snapshot;
 use std::alloc::Global;
 use std::cell::Cell;

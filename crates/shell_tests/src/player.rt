@@ -2,7 +2,8 @@
 
 use crate::fakes::{Part, Room, Sink, Source};
 use crate::stores::{FrailStore, Heap, Kept, NEVER, kept_on, new_store};
-use command_shell::{CountedReader, Outcome, RunEnd, run, run_and_close, run_strictly_and_close};
+use command_language::CountedReader;
+use command_shell::{Outcome, RunEnd, run, run_and_close, run_strictly_and_close};
 use refusing::Refusing;
 use std::alloc::Global;
 use std::cell::Cell;

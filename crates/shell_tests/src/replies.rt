@@ -1,8 +1,8 @@
 //! The texts of replies that no line is answered: of refusals, and of numbers that no store reaches.
 
-use command_shell::{Reply, write_layers, write_reply};
 use layer_store::Refusal;
 use plain_table::{LayerInfo, LayerName};
+use reply_texts::{Reply, write_layers, write_reply};
 use std::alloc::Global;
 use std::test::Fail;
 

@@ -1,7 +1,8 @@
 //! Stores over devices and memory that may be refused, and runs of texts on them.
 
 use block_device::{BlockDevice, FuseDevice, FuseMode, MemoryDevice};
-use command_shell::{CountedReader, run};
+use command_language::CountedReader;
+use command_shell::run;
 use layer_store::{Refusal, Store, Version, create_store, open_store};
 use refusing::Refusing;
 use std::alloc::Global;

@@ -2,8 +2,8 @@
 use Rattle.std.proofs.Common.{◌≡◌, ◌⊎◌, ℕ, Bool, true, List, Option, None, Some, inl, inr, refl, subst, sym}
 use Rattle.std.specs.Prelude.{IfSome}
 use Rattle.plain_table.specs.declared.refusal.Refusal.TheVariants as refusal
-use Rattle.command_shell.specs.Texts.{told_refusal}
-use Rattle.command_shell.specs.Writing.{AppendsSome}
+use Rattle.reply_texts.specs.Texts.{told_refusal}
+use Rattle.reply_texts.specs.Writing.{AppendsSome}
 use Rattle.command_line.specs.Importing.{IsRefusedText, IsUnread}
 use Rattle.command_line.proofs.importing.import_asked.Goals as goal
 

@@ -1,6 +1,6 @@
 -- Where there was no memory for the objects, the refusal is told.
 use Rattle.std.proofs.Common.{inr, refl}
-use Rattle.command_shell.proofs.WriteLemmas.{some_written}
+use Rattle.reply_texts.proofs.WriteLemmas.{some_written}
 use Rattle.command_line.proofs.importing.tell_error.Goals as goal
 
 pub returns-in-Memory : goal.returns-in-Memory

@@ -1,5 +1,5 @@
 -- What was written of the line.
-use Rattle.command_shell.proofs.WriteLemmas.{some_written}
+use Rattle.reply_texts.proofs.WriteLemmas.{some_written}
 use Rattle.command_line.proofs.program.tell_no_store.Goals as goal
 
 pub returns-clause-told : goal.returns-clause-told

@@ -1,9 +1,9 @@
 -- A store in memory represents the empty table; a run of it that finished read the whole text.
 use Rattle.std.proofs.Common.{◌≡◌, ◌∙◌, ℕ, true, List, [], ◌++◌, sym, ap, subst, append-nil}
 use Rattle.layer_store.proofs.StopLemmas.{session_state_is}
-use Rattle.command_shell.specs.Lines.{lines_of}
+use Rattle.command_language.specs.Lines.{lines_of}
 use Rattle.command_shell.specs.TextCommands.{AreCommands}
-use Rattle.command_shell.specs.Texts.{texts_of}
+use Rattle.reply_texts.specs.Texts.{texts_of}
 use Rattle.command_shell.proofs.in_memory.answers_to.Goals as goal
 
 -- where nothing is left, what was taken is the text

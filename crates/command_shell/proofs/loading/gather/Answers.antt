@@ -3,11 +3,11 @@ use Rattle.std.proofs.Common.{◌≡◌, ◌∙◌, ℕ, ◌+◌, List, [], ◌�
 use Rattle.std.proofs.Common.{refl, subst, sym, arith}
 use Rattle.std.proofs.KnownBytes.{Keeps-refl, Keeps-trans}
 use Rattle.command_shell.specs.Gathering.{IsGathered}
-use Rattle.command_shell.specs.Lines.{IsWhole, lines_of}
-use Rattle.command_shell.specs.Pending.{pending}
-use Rattle.command_shell.specs.Reading.{Reads}
-use Rattle.command_shell.proofs.CommandLemmas.{append_none, lines_of-whole}
-use Rattle.command_shell.proofs.ReadLemmas.{reads_more, reads_none}
+use Rattle.command_language.specs.Lines.{IsWhole, lines_of}
+use Rattle.command_language.specs.Pending.{pending}
+use Rattle.command_language.specs.Reading.{Reads}
+use Rattle.command_language.proofs.TextLemmas.{append_none, lines_of-whole}
+use Rattle.command_language.proofs.ReadLemmas.{reads_more, reads_none}
 use Rattle.command_shell.proofs.loading.gather.Goals as goal
 
 -- a line after whole lines

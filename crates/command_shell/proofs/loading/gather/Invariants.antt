@@ -2,7 +2,7 @@
 use Rattle.std.proofs.Common.{◌≤◌, false}
 use Rattle.std.specs.Io.KnownBytes.{Keeps}
 use Rattle.command_shell.specs.Gathering.{TakesAll}
-use Rattle.command_shell.specs.Pending.{AreCounted, pending, work_left}
+use Rattle.command_language.specs.Pending.{AreCounted, pending, work_left}
 use Rattle.command_shell.proofs.loading.gather.Given as goal
 
 -- so many entry lines were taken so far, and gathered

@@ -2,23 +2,20 @@
 use Rattle.std.proofs.Common.{◌∙◌, ℕ, List, [], ◌∷◌, ◌++◌, take, subst}
 use Rattle.std.specs.Io.KnownBytes.{IsAtEnd}
 use Rattle.command_shell.specs.Gathering.{IsGathered}
-use Rattle.command_shell.specs.Lines.{newline}
-use Rattle.command_shell.specs.Pending.{pending}
-use Rattle.command_shell.proofs.CommandLemmas.{lines_of-line}
+use Rattle.command_language.specs.Lines.{newline}
+use Rattle.command_language.specs.Pending.{pending}
+use Rattle.command_language.proofs.TextLemmas.{lines_of-line}
 use Rattle.command_shell.proofs.GatherLemmas.{long_entry, spoiled}
-use Rattle.command_shell.proofs.LineLemmas.{none_found, of_err}
-use Rattle.command_shell.proofs.ReadLemmas.{begun_read, last_front, last_left, last_line, last_read}
-use Rattle.command_shell.proofs.ReadLemmas.{line_read, long_last_line, long_last_read, long_read, one_line}
-use Rattle.command_shell.proofs.ReadLemmas.{reads_none}
+use Rattle.command_language.proofs.ReadLemmas.{begun_read, last_front, last_left, last_line, last_read}
+use Rattle.command_language.proofs.ReadLemmas.{line_read, long_last_line, long_last_read, long_read, one_line}
+use Rattle.command_language.proofs.ReadLemmas.{reads_none}
 use Rattle.command_shell.proofs.loading.take_entry.Goals as goal
 
-pub returns-then-is_err-clause-takes : goal.returns-then-is_err-clause-takes
-returns-then-is_err-clause-takes g c =
+pub returns-in_default-clause-takes : goal.returns-in_default-clause-takes
+returns-in_default-clause-takes g c =
     let unread = pending c.args.lines.now in record {
       unread = unread;
-      one_line =
-          none_found unread c.line-line.result c.line-line.ensures
-          (of_err c.hand_on.result _ c.hand_on.ensures.none c.if-is_err.ensures.value);
+      one_line = c.in_default.ensures.none;
       reads = reads_none (g.R.Read.remaining c.args.input.now) unread;
     }
 

@@ -10,14 +10,14 @@ use Rattle.live_layers.specs.Image.{IsRefusedOrImageOf, IsImageOfOne}
 use Rattle.layer_store.proofs.SessionLemmas.{once_checked_so}
 use Rattle.command_shell.specs.Runs.{TellsEnd, with_last}
 use Rattle.command_shell.specs.Serving.{run_state}
-use Rattle.command_shell.specs.Texts.{told_fault}
-use Rattle.command_shell.specs.Writing.{Writes}
+use Rattle.reply_texts.specs.Texts.{told_fault}
+use Rattle.reply_texts.specs.Writing.{Writes}
 use Rattle.command_shell.proofs.CloseLemmas.{closed_in_image, false_is_not_true, found_when_refused}
 use Rattle.command_shell.proofs.CloseLemmas.{has_table}
 use Rattle.command_shell.proofs.CloseLemmas.{left_when_refused, ok_is_no_refusal, refused_device}
 use Rattle.command_shell.proofs.CloseLemmas.{refused_leaves, run_leaves, same_beginning}
 use Rattle.command_shell.proofs.SessionLemmas.{runs_kept, runs_so}
-use Rattle.command_shell.proofs.WriteLemmas.{some_written}
+use Rattle.reply_texts.proofs.WriteLemmas.{some_written}
 use Rattle.command_shell.proofs.program.run_and_close.Goals.{then-not-went_well, else-not-went_well}
 use Rattle.command_shell.proofs.program.run_and_close.Goals as goal
 

@@ -3,8 +3,8 @@ use Rattle.std.proofs.Common.{ap, refl}
 use Rattle.plain_table.specs.Answers.{layers_answer}
 use Rattle.plain_table.specs.Commands.Command.{Layers}
 use Rattle.layer_store.proofs.CallLemmas.{asked_by_question}
-use Rattle.command_shell.specs.Said.{said}
-use Rattle.command_shell.specs.Texts.{reply_answer}
+use Rattle.command_language.specs.Said.{said}
+use Rattle.reply_texts.specs.Texts.{reply_answer}
 use Rattle.command_shell.proofs.AnswerLemmas.{replied, unwritten, written}
 use Rattle.command_shell.proofs.session.answer.Goals as goal
 

@@ -1,12 +1,12 @@
 -- The goals of `answer_last` that are proved by hand.
 use Rattle.std.proofs.Common.{◌∙◌, [], ◌∷◌, true, ap, refl, subst, sym}
-use Rattle.command_shell.specs.Meanings.{Meaning}
-use Rattle.command_shell.specs.Said.{said}
+use Rattle.command_language.specs.Meanings.{Meaning}
+use Rattle.command_language.specs.Said.{said}
 use Rattle.command_shell.specs.TextCommands.{AreCommands, AsksAlone}
 use Rattle.command_shell.specs.TextCommands.AreCommands.{none, one}
-use Rattle.command_shell.specs.Texts.{reply_answer}
+use Rattle.reply_texts.specs.Texts.{reply_answer}
 use Rattle.command_shell.proofs.AnswerLemmas.{wrote_answer}
-use Rattle.command_shell.proofs.CommandLemmas.{append_none}
+use Rattle.command_language.proofs.TextLemmas.{append_none}
 use Rattle.command_shell.proofs.session.answer_last.Goals as goal
 
 pub returns-in-Load : goal.returns-in-Load

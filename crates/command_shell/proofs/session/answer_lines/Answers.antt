@@ -3,12 +3,11 @@ use Rattle.std.proofs.Common.{◌∙◌, ℕ, List, [], true, false, inr, refl, 
 use Rattle.layer_store.proofs.SessionLemmas.{steps_join}
 use Rattle.layer_store.specs.Calls.{Calls, IsAsked}
 use Rattle.layer_store.specs.declared.store.Store.{Store}
-use Rattle.command_shell.specs.Pending.{pending}
+use Rattle.command_language.specs.Pending.{pending}
 use Rattle.command_shell.specs.Serving.{ServesBy}
 use Rattle.command_shell.specs.Strict.{Follows}
 use Rattle.command_shell.specs.TextCommands.IsUnfinished.{in_line}
-use Rattle.command_shell.proofs.LineLemmas.{none_found, of_err}
-use Rattle.command_shell.proofs.ReadLemmas.{reads_none}
+use Rattle.command_language.proofs.ReadLemmas.{reads_none}
 use Rattle.command_shell.proofs.SessionLemmas.{serves_kept, serves_none, serves_so}
 use Rattle.command_shell.proofs.StrictLemmas.{Goes, JoinsCalls, all_but_last, ends_as_step, goes_on_so}
 use Rattle.command_shell.proofs.StrictLemmas.{step_follows}
@@ -19,8 +18,8 @@ joins : {D A : Type 0} {m : _} (old mid new : Store D A m)
     → JoinsCalls (Calls old mid) (Calls mid new) (Calls old new)
 joins old mid new rs ss xs ys p q = steps_join IsAsked old mid new rs ss xs ys p q
 
-pub loop-lines-init : goal.loop-lines-init
-loop-lines-init g c =
+pub loop-line-init : goal.loop-line-init
+loop-line-init g c =
     let r = g.R.Read.remaining c.args.input.now in
     let w = g.W.Write.contents c.args.output.now in
     let So = Goes c.args.strict 0 (Calls c.args.store.now c.args.store.now) in (
@@ -30,75 +29,72 @@ loop-lines-init g c =
       omega (arith, c.new-lines.ensures.uncounted),
     )
 
-pub returns-then-is_err-clause-runs : goal.returns-then-is_err-clause-runs
-returns-then-is_err-clause-runs g c =
+pub returns-in_default-clause-runs : goal.returns-in_default-clause-runs
+returns-in_default-clause-runs g c =
     let remaining = g.R.Read.remaining in
     let contents = g.W.Write.contents in
-    let unread = pending c.loop-lines.lines in
-    let unfinished =
-    none_found unread c.line-line.result c.line-line.ensures
-    (of_err c.hand_on.result _ c.hand_on.ensures.none c.if-is_err.ensures.value) in
+    let unread = pending c.loop-line.lines in
     inr (
       unread,
-      in_line unfinished,
+      in_line c.in_default.ensures.none,
       serves_so _ _ (λ text rs xs goes. (goes.lawful, λ strict. all_but_last xs (goes.none_refused strict)))
-          false true (remaining c.args.input.now) (remaining c.loop-lines.input)
-          (contents c.args.output.now) (contents c.hand_on.new.output) [] unread
-          (serves_kept _ false true (remaining c.args.input.now) (remaining c.loop-lines.input)
-          (contents c.args.output.now) (contents c.loop-lines.output) (contents c.hand_on.new.output) []
-          unread c.loop-lines.invariant.0 c.hand_on.ensures.kept),
+          false true (remaining c.args.input.now) (remaining c.loop-line.input)
+          (contents c.args.output.now) (contents c.line_or_flush.new.output) [] unread
+          (serves_kept _ false true (remaining c.args.input.now) (remaining c.loop-line.input)
+          (contents c.args.output.now) (contents c.loop-line.output) (contents c.line_or_flush.new.output) []
+          unread c.loop-line.invariant.0 c.line_or_flush.ensures.kept),
     )
 
 pub returns-in-Err-clause-runs : goal.returns-in-Err-clause-runs
 returns-in-Err-clause-runs g c =
     let remaining = g.R.Read.remaining in
     let contents = g.W.Write.contents in
-    let unread = pending c.loop-lines.lines in
+    let unread = pending c.loop-line.lines in
     let old = c.args.store.now in
-    let mid = c.loop-lines.store in
+    let mid = c.loop-line.store in
     let new = c.step.new.store in
     rw c.in-Err.is at
-    (step_follows (Calls old mid) (Calls mid new) (Calls old new) (joins old mid new) c.loop-lines.taken
-    (remaining c.args.input.now) (remaining c.loop-lines.input) (remaining c.step.new.input)
-    (contents c.args.output.now) (contents c.hand_on.new.output) (contents c.step.new.output) unread
+    (step_follows (Calls old mid) (Calls mid new) (Calls old new) (joins old mid new) c.loop-line.taken
+    (remaining c.args.input.now) (remaining c.loop-line.input) (remaining c.step.new.input)
+    (contents c.args.output.now) (contents c.line_or_flush.new.output) (contents c.step.new.output) unread
     (pending c.step.new.lines) c.args.strict c.step.result c.follow.result c.follow.ensures
-    (serves_kept (Goes c.args.strict c.loop-lines.taken (Calls old mid)) false true
-    (remaining c.args.input.now) (remaining c.loop-lines.input)
-    (contents c.args.output.now) (contents c.loop-lines.output) (contents c.hand_on.new.output) [] unread
-    c.loop-lines.invariant.0 c.hand_on.ensures.kept)
+    (serves_kept (Goes c.args.strict c.loop-line.taken (Calls old mid)) false true
+    (remaining c.args.input.now) (remaining c.loop-line.input)
+    (contents c.args.output.now) (contents c.loop-line.output) (contents c.line_or_flush.new.output) [] unread
+    c.loop-line.invariant.0 c.line_or_flush.ensures.kept)
     c.step.ensures.steps)
 
 pub returns-in-Err-clause-blamed : goal.returns-in-Err-clause-blamed
 returns-in-Err-clause-blamed g c = λ is.
-    c.step.ensures.blamed c.loop-lines.invariant.1
-    (ends_as_step c.args.strict c.loop-lines.taken c.step.result
-    (subst (Follows c.args.strict c.loop-lines.taken c.step.result) (c.in-Err.is ∙ ap Err is)
+    c.step.ensures.blamed c.loop-line.invariant.1
+    (ends_as_step c.args.strict c.loop-line.taken c.step.result
+    (subst (Follows c.args.strict c.loop-line.taken c.step.result) (c.in-Err.is ∙ ap Err is)
     c.follow.ensures))
 
-pub loop-lines-preserved : goal.loop-lines-preserved
-loop-lines-preserved g c =
+pub loop-line-preserved : goal.loop-line-preserved
+loop-line-preserved g c =
     let remaining = g.R.Read.remaining in
     let contents = g.W.Write.contents in
-    let unread = pending c.loop-lines.lines in
+    let unread = pending c.loop-line.lines in
     let old = c.args.store.now in
-    let mid = c.loop-lines.store in
+    let mid = c.loop-line.store in
     let new = c.step.new.store in (
-      rw c.in-Ok.is at
+      rw c.in-Ok-follow.is at
           (step_follows (Calls old mid) (Calls mid new) (Calls old new) (joins old mid new)
-          c.loop-lines.taken
-          (remaining c.args.input.now) (remaining c.loop-lines.input) (remaining c.step.new.input)
-          (contents c.args.output.now) (contents c.hand_on.new.output) (contents c.step.new.output) unread
+          c.loop-line.taken
+          (remaining c.args.input.now) (remaining c.loop-line.input) (remaining c.step.new.input)
+          (contents c.args.output.now) (contents c.line_or_flush.new.output) (contents c.step.new.output) unread
           (pending c.step.new.lines) c.args.strict c.step.result c.follow.result c.follow.ensures
-          (serves_kept (Goes c.args.strict c.loop-lines.taken (Calls old mid)) false true
-          (remaining c.args.input.now) (remaining c.loop-lines.input)
-          (contents c.args.output.now) (contents c.loop-lines.output) (contents c.hand_on.new.output) []
-          unread c.loop-lines.invariant.0 c.hand_on.ensures.kept)
+          (serves_kept (Goes c.args.strict c.loop-line.taken (Calls old mid)) false true
+          (remaining c.args.input.now) (remaining c.loop-line.input)
+          (contents c.args.output.now) (contents c.loop-line.output) (contents c.line_or_flush.new.output) []
+          unread c.loop-line.invariant.0 c.line_or_flush.ensures.kept)
           c.step.ensures.steps),
-      c.step.ensures.counted c.loop-lines.invariant.1,
+      c.step.ensures.counted c.loop-line.invariant.1,
     )
 
-pub loop-lines-smaller : goal.loop-lines-smaller
-loop-lines-smaller g c =
-    goes_on_so c.args.strict c.loop-lines.taken c.step.result c.in-Ok.more _
-    (subst (Follows c.args.strict c.loop-lines.taken c.step.result) c.in-Ok.is c.follow.ensures)
+pub loop-line-smaller : goal.loop-line-smaller
+loop-line-smaller g c =
+    goes_on_so c.args.strict c.loop-line.taken c.step.result c.in-Ok-follow.more _
+    (subst (Follows c.args.strict c.loop-line.taken c.step.result) c.in-Ok-follow.is c.follow.ensures)
     c.step.ensures.fewer

@@ -1,9 +1,9 @@
 -- The goals of `last_load_reply` that are proved by hand.
 use Rattle.std.proofs.Common.{◌≡◌, ℕ, List, [], ◌∷◌, true, refl, subst, arith}
 use Rattle.store_law.specs.States.Request.{BadCommand}
-use Rattle.command_shell.specs.Entries.{objects_in}
-use Rattle.command_shell.specs.Meanings.{meaning_of}
-use Rattle.command_shell.specs.Meanings.Meaning.{Loads}
+use Rattle.command_language.specs.Entries.{objects_in}
+use Rattle.command_language.specs.Meanings.{meaning_of}
+use Rattle.command_language.specs.Meanings.Meaning.{Loads}
 use Rattle.command_shell.specs.TextCommands.{AreCommands, load_request}
 use Rattle.command_shell.specs.TextCommands.AreCommands.{load, none, short}
 use Rattle.layer_store.specs.Representation.{device_in}

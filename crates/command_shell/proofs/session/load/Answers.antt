@@ -2,8 +2,8 @@
 use Rattle.std.proofs.Common.{ap, refl}
 use Rattle.layer_store.specs.Representation.{device_in}
 use Rattle.layer_store.proofs.CallLemmas.{asked_badly}
-use Rattle.command_shell.specs.Lines.{lines_of}
-use Rattle.command_shell.specs.Pending.{pending}
+use Rattle.command_language.specs.Lines.{lines_of}
+use Rattle.command_language.specs.Pending.{pending}
 use Rattle.command_shell.specs.declared.loading.Gathering.TheVariants.{Broken}
 use Rattle.command_shell.proofs.LoadLemmas.{loads_broken, loads_full, loads_short}
 use Rattle.command_shell.proofs.session.load.Goals as goal

@@ -10,9 +10,9 @@ use Rattle.store_law.specs.States.Request.{Asks}
 use Rattle.layer_store.specs.Calls.{IsAsked}
 use Rattle.layer_store.specs.Representation.{device_in}
 use Rattle.layer_store.proofs.CallLemmas.{asked_badly, asked_by_change, asked_in_want}
-use Rattle.command_shell.specs.Entries.{objects_in}
+use Rattle.command_language.specs.Entries.{objects_in}
 use Rattle.command_shell.specs.TextCommands.{load_request}
-use Rattle.command_shell.specs.Texts.{reply_answer}
+use Rattle.reply_texts.specs.Texts.{reply_answer}
 use Rattle.command_shell.proofs.AnswerLemmas.{out_of_room}
 use Rattle.command_shell.proofs.GatherLemmas.{told_all, told_bad, told_room}
 use Rattle.command_shell.proofs.session.load_reply.Goals as goal

@@ -11,7 +11,7 @@ use Rattle.layer_store.specs.Representation.{device_in}
 use Rattle.layer_store.proofs.CallLemmas.{asked_badly, asked_by_change, asked_by_check, asked_by_question}
 use Rattle.layer_store.proofs.CallLemmas.{asked_by_reopening}
 use Rattle.command_shell.specs.Answering.{IsPlain}
-use Rattle.command_shell.specs.Said.{said}
+use Rattle.command_language.specs.Said.{said}
 use Rattle.command_shell.proofs.AnswerLemmas.{replied, replied_bad, replied_blank}
 use Rattle.command_shell.proofs.session.reply_to.Goals as goal
 

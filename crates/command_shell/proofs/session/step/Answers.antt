@@ -2,17 +2,17 @@
 use Rattle.std.proofs.Common.{◌≡◌, ℕ, List, Option, [], ◌∷◌, ◌++◌, true, false, refl, subst, ap, sym, ◌∙◌}
 use Rattle.std.specs.Io.KnownBytes.{IsAtEnd}
 use Rattle.layer_store.specs.Calls.{Calls}
-use Rattle.command_shell.specs.Lines.{newline}
-use Rattle.command_shell.specs.Meanings.{meaning_of}
-use Rattle.command_shell.specs.Pending.{Finds, pending}
-use Rattle.command_shell.specs.Reading.{BeginsLine, Reads, ReadsTo}
-use Rattle.command_shell.specs.Strict.{IsFrontOf}
+use Rattle.command_language.specs.Lines.{newline}
+use Rattle.command_language.specs.Meanings.{meaning_of}
+use Rattle.command_language.specs.Pending.{Finds, pending}
+use Rattle.command_language.specs.Reading.{BeginsLine, Reads, ReadsTo}
+use Rattle.reply_texts.specs.Refused.{IsFrontOf}
 use Rattle.command_shell.specs.TextCommands.{AreCommands}
-use Rattle.command_shell.specs.declared.lines.Found.TheVariants as Found
+use Rattle.command_language.specs.declared.lines.Found.TheVariants as Found
 use Rattle.command_shell.specs.TextCommands.IsUnfinished.{in_line}
-use Rattle.command_shell.proofs.CommandLemmas.{lines_of-line, long_meaning}
-use Rattle.command_shell.proofs.ReadLemmas.{begun_read, last_read, last_front, last_left, last_line}
-use Rattle.command_shell.proofs.ReadLemmas.{long_read, long_last_read, long_last_line, end_read}
+use Rattle.command_language.proofs.TextLemmas.{lines_of-line, long_meaning}
+use Rattle.command_language.proofs.ReadLemmas.{begun_read, last_read, last_front, last_left, last_line}
+use Rattle.command_language.proofs.ReadLemmas.{long_read, long_last_read, long_last_line, end_read}
 use Rattle.command_shell.proofs.SessionLemmas.{ends_there, fails_there, last_refused, steps_after, steps_line}
 use Rattle.command_shell.proofs.StrictLemmas.{one_request}
 use Rattle.command_shell.proofs.session.step.Goals as goal

@@ -1,15 +1,15 @@
 -- The goals of `step_line` that are proved by hand.
 use Rattle.std.proofs.Common.{◌≡◌, ◌∙◌, ℕ, Option, List, [], ◌∷◌, ◌++◌, take, false, ap, subst, sym}
 use Rattle.std.specs.Io.KnownBytes.{IsAtEnd}
-use Rattle.command_shell.specs.Lines.{newline}
-use Rattle.command_shell.specs.Meanings.{Loads, meaning_of}
-use Rattle.command_shell.specs.Pending.{Finds, pending}
-use Rattle.command_shell.specs.Reading.{BeginsLine, ReadsTo}
-use Rattle.command_shell.specs.Said.{said}
-use Rattle.command_shell.specs.Strict.{IsFrontOf}
-use Rattle.command_shell.specs.declared.lines.Found.TheVariants as Found
-use Rattle.command_shell.proofs.CommandLemmas.{lines_of-line}
-use Rattle.command_shell.proofs.ReadLemmas.{line_read, one_line}
+use Rattle.command_language.specs.Lines.{newline}
+use Rattle.command_language.specs.Meanings.{Loads, meaning_of}
+use Rattle.command_language.specs.Pending.{Finds, pending}
+use Rattle.command_language.specs.Reading.{BeginsLine, ReadsTo}
+use Rattle.command_language.specs.Said.{said}
+use Rattle.reply_texts.specs.Refused.{IsFrontOf}
+use Rattle.command_language.specs.declared.lines.Found.TheVariants as Found
+use Rattle.command_language.proofs.TextLemmas.{lines_of-line}
+use Rattle.command_language.proofs.ReadLemmas.{line_read, one_line}
 use Rattle.command_shell.proofs.SessionLemmas.{steps_line}
 use Rattle.command_shell.proofs.StrictLemmas.{one_request}
 use Rattle.command_shell.proofs.session.step_line.Goals as goal

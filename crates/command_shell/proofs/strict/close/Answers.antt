@@ -9,7 +9,7 @@ use Rattle.command_shell.specs.Runs.{with_last}
 use Rattle.command_shell.proofs.CloseLemmas.{closed_in_image, found_when_refused, has_table}
 use Rattle.command_shell.proofs.CloseLemmas.{left_when_refused}
 use Rattle.command_shell.proofs.CloseLemmas.{ok_is_no_refusal, refused_device, refused_leaves, run_leaves}
-use Rattle.command_shell.proofs.WriteLemmas.{some_written}
+use Rattle.reply_texts.proofs.WriteLemmas.{some_written}
 use Rattle.command_shell.proofs.strict.close.Goals as goal
 
 pub returns-in-Ok-clause-left : goal.returns-in-Ok-clause-left

@@ -1,7 +1,7 @@
 -- A store that is given up leaves its device as it is.
 use Rattle.std.proofs.Common.{refl}
 use Rattle.command_shell.proofs.CloseLemmas.{leaves_when_given_up, left_when_given_up}
-use Rattle.command_shell.proofs.WriteLemmas.{some_written}
+use Rattle.reply_texts.proofs.WriteLemmas.{some_written}
 use Rattle.command_shell.proofs.strict.give_up.Goals as goal
 
 pub returns-clause-left : goal.returns-clause-left
