@@ -18,7 +18,7 @@ use Rattle.node_page.proofs.PartLemmas.{moves_from}
 use Rattle.id_tree.specs.Cutting.{Cuts, SpellsNode}
 use Rattle.id_tree.specs.Joining.{AreApart, AreNeighbours, AtPair, HasSpare, HaveRoom, IsBalanced, IsPair}
 use Rattle.id_tree.specs.Joining.{Joins, MakesSpare, MayJoin, MayMeet, MayShare, PutsAndFrees, PutsBoth}
-use Rattle.id_tree.specs.Joining.{Shares, met}
+use Rattle.id_tree.specs.Joining.{Shares, SharesOut, met}
 use Rattle.id_tree.specs.Rows.{NodeStands, joined, part_at}
 use Rattle.id_tree.specs.Steps.{Keeps, MakesRoom}
 use Rattle.id_tree.specs.Tree.{HasNode, Row, end, more, child, RowStands, at_edge, fork_in, links_of}
@@ -32,7 +32,8 @@ use Rattle.id_tree.proofs.ObjectLemmas.{keeps_equal, keeps_within}
 use Rattle.id_tree.proofs.PairLemmas.{neighbours, pages_apart, pair_links, pair_long, pair_objects}
 use Rattle.id_tree.proofs.PairLemmas.{second_link, tail_stands}
 use Rattle.id_tree.proofs.RowLemmas.{joined-joined, links-joined, objects-joined, passes-more}
-use Rattle.id_tree.proofs.SplitLemmas.{node_of_bytes}
+use Rattle.id_tree.proofs.SplitLemmas.{makes_from, node_of_bytes}
+use Rattle.id_tree.proofs.TidyLemmas.{as_tidy_on, fork_as_tidy}
 use Rattle.id_tree.proofs.SwapLemmas.{KeepsBounds, Renamed, Swapped, Swaps, swapped, swapped_written}
 
 -- without one of two links, and with another one for it
@@ -591,58 +592,49 @@ module _ (dims : ℕ) (old : PageMap) (page level : ℕ) (edge : Bool) (row : Ro
 
 -- ---- the same pages, and the pair as the code names it
 
-pub spare_from : (dims : ℕ) (old mid new : PageMap) (page level : ℕ) (edge : Bool) (row : Row) (id below : ℕ)
-    (last : Bool) → ((n : ℕ) → mid n ≡ old n) → MakesSpare dims mid new page level edge row id below last
-    → MakesSpare dims old new page level edge row id below last
-spare_from dims old mid new page level edge row id below last same m = record {
-  now = m.now;
-  stands = m.stands;
-  keeps = m.keeps;
-  wide = m.wide;
-  moves = moves_from old mid new (part_at page row) (part_at page m.now) same m.moves;
-  way = m.way;
-  spare = m.spare;
-  last_is = m.last_is;
-}
+module _ {dims : ℕ} {old mid new : PageMap} {page level : ℕ} {edge : Bool} {row : Row} {id below : ℕ}
+    {last : Bool} where
+  pub spare_from : MakesSpare dims mid new page level edge row id below last → ((n : ℕ) → mid n ≡ old n)
+      → MakesSpare dims old new page level edge row id below last
+  spare_from m same = record {
+    now = m.now;
+    stands = m.stands;
+    keeps = m.keeps;
+    wide = m.wide;
+    moves = moves_from old mid new (part_at page row) (part_at page m.now) same m.moves;
+    way = m.way;
+    spare = m.spare;
+    last_is = m.last_is;
+  }
 
 -- with the same pair, as it computes
-abbrev pub join_same : (dims : ℕ) (old new : PageMap) (page level : ℕ) (edge : Bool) (row : Row) (id : ℕ)
-    (fork : List ℕ) (left first second key : ℕ) (last : Bool) → ((n : ℕ) → new n ≡ old n)
-    → MayJoin dims old page level edge row id fork left first second key last
-    → MayJoin dims new page level edge row id fork left first second key last
-join_same dims old new page level edge row id fork left first second key last same may = record {
+module _ {dims : ℕ} {old new : PageMap} {page level : ℕ} {edge : Bool} {row : Row} {id : ℕ} {fork : List ℕ}
+    {left first second key : ℕ} {last : Bool} where
+  abbrev pub join_same : MayJoin dims old page level edge row id fork left first second key last
+      → ((n : ℕ) → new n ≡ old n) → MayJoin dims new page level edge row id fork left first second key last
+  join_same may same = record {
+    stands = stands_same dims old new page level edge row same may.stands;
+    high = may.high;
+    single = may.single;
+    pair = may.pair;
+    tidy = as_tidy_on dims old new fork same may.tidy;
+  }
+
+pub pair_may_join : {dims : ℕ} {old new : PageMap} {page level : ℕ} {edge : Bool} {row : Row} {id q place : ℕ}
+    {fork : List ℕ} {left first second key : ℕ} {last : Bool} → MayMeet dims old page level edge row id q place
+    → IsPair dims level edge row id fork left first second key last → old page ≡ Some fork
+    → ((n : ℕ) → new n ≡ old n) → MayJoin dims new page level edge row id fork left first second key last
+pair_may_join {dims} {old} {new} {page} {level} {edge} {row} {fork = fork} may pair there same = record {
   stands = stands_same dims old new page level edge row same may.stands;
   high = may.high;
   single = may.single;
-  pair = may.pair;
+  pair = pair;
+  tidy = as_tidy_on dims old new fork same
+      (fork_as_tidy dims old page fork (record { level = level; links = links_of row }) there pair.fork_is);
 }
 
-abbrev pub share_same : (dims : ℕ) (old new : PageMap) (page level : ℕ) (edge : Bool) (row : Row) (id : ℕ)
-    (fork : List ℕ) (left first second key : ℕ) (last : Bool) → ((n : ℕ) → new n ≡ old n)
-    → MayShare dims old page level edge row id fork left first second key last
-    → MayShare dims new page level edge row id fork left first second key last
-share_same dims old new page level edge row id fork left first second key last same may = record {
-  join = join_same dims old new page level edge row id fork left first second key last same may.join;
-  many = may.many;
-  room = may.room;
-}
-
-pub pair_may_join : (dims : ℕ) (old new : PageMap) (page level : ℕ) (edge : Bool) (row : Row) (id q place : ℕ)
-    (fork : List ℕ) (left first second key : ℕ) (last : Bool) → ((n : ℕ) → new n ≡ old n)
-    → MayMeet dims old page level edge row id q place
-    → IsPair dims level edge row id fork left first second key last
-    → MayJoin dims new page level edge row id fork left first second key last
-pair_may_join dims old new page level edge row id q place fork left first second key last same may pair =
-    record {
-      stands = stands_same dims old new page level edge row same may.stands;
-      high = may.high;
-      single =
-          may.single;
-      pair = pair;
-    }
-
-module _ (dims : ℕ) (old : PageMap) (page level : ℕ) (edge : Bool) (row : Row) (id : ℕ) (fork : List ℕ)
-    (left first second key : ℕ) (last : Bool)
+module _ {dims : ℕ} {old : PageMap} {page level : ℕ} {edge : Bool} {row : Row} {id : ℕ} {fork : List ℕ}
+    {left first second key : ℕ} {last : Bool}
     (may : MayJoin dims old page level edge row id fork left first second key last) where
   pub one_node : HasNode dims old first (level - 1) may.pair.at.one
   one_node = (tail_stands dims old page level edge row id first second may.high may.stands may.pair.at).3
@@ -662,7 +654,7 @@ module _ (dims : ℕ) (old : PageMap) (page level : ℕ) (edge : Bool) (row : Ro
       may.pair.at.one may.pair.at.two) (sym may.pair.key_is)
       (neighbours dims old page level edge row id first second may.high may.stands may.pair.at may.single))
 
-  second_in : left + 1 < length (links_of row)
+  pub second_in : left + 1 < length (links_of row)
   second_in =
       omega (
         arith,
@@ -711,22 +703,31 @@ module _ (dims : ℕ) (old : PageMap) (page level : ℕ) (edge : Bool) (row : Ro
         ∙ ap (λ k. Some (record { level = level; links = set (links_of row) (k + 1) (middle, second) }))
         may.pair.left_is
 
-    pub shared_left : id < middle → MakesSpare dims old new page level edge row id first false
-    shared_left = made_left dims old page level edge row id first second may.high may.stands may.pair.at
-        may.single sh.mid new middle less more_of sh.puts cut_here balanced sh.rest named_here
+    module _ (AreFew : Type 0) (few : AreFew → HaveRoom dims less more_of × (level - 1 ≡ 0)) where
+      pub shares_left : id < middle → SharesOut dims old new page level edge row id AreFew first false
+      shares_left lt = record {
+        spare = made_left dims old page level edge row id first second may.high may.stands may.pair.at
+            may.single sh.mid new middle less more_of sh.puts cut_here balanced sh.rest named_here lt;
+        room = λ are. roomy_left dims old page level edge row id first second may.high may.stands may.pair.at
+            may.single sh.mid new middle less more_of sh.puts cut_here balanced sh.rest named_here
+            (few are).0 (few are).1 lt;
+      }
 
-    pub shared_right : middle ≤ id → MakesSpare dims old new page level edge row id second last
-    shared_right le = made_right dims old page level edge row id first second may.high may.stands may.pair.at
-        may.single sh.mid new middle less more_of sh.puts cut_here balanced sh.rest named_here le last
-        may.pair.last_is
+      pub shares_right : middle ≤ id → SharesOut dims old new page level edge row id AreFew second last
+      shares_right le = record {
+        spare = made_right dims old page level edge row id first second may.high may.stands may.pair.at
+            may.single sh.mid new middle less more_of sh.puts cut_here balanced sh.rest named_here le last
+            may.pair.last_is;
+        room = λ are. roomy_right dims old page level edge row id first second may.high may.stands may.pair.at
+            may.single sh.mid new middle less more_of sh.puts cut_here balanced sh.rest named_here
+            (few are).0 (few are).1 le last may.pair.last_is;
+      }
 
-    pub sharing_left : HaveRoom dims less more_of → level - 1 ≡ 0 → id < middle
-        → MakesRoom dims old new page level edge row id first false
-    sharing_left = roomy_left dims old page level edge row id first second may.high may.stands may.pair.at
-        may.single sh.mid new middle less more_of sh.puts cut_here balanced sh.rest named_here
-
-    pub sharing_right : HaveRoom dims less more_of → level - 1 ≡ 0 → middle ≤ id
-        → MakesRoom dims old new page level edge row id second last
-    sharing_right few low le = roomy_right dims old page level edge row id first second may.high may.stands
-        may.pair.at may.single sh.mid new middle less more_of sh.puts cut_here balanced sh.rest named_here
-        few low le last may.pair.last_is
+module _ {dims : ℕ} {old mid new : PageMap} {page level : ℕ} {edge : Bool} {row : Row} {id below : ℕ}
+    {AreFew : Type 0} {last : Bool} where
+  pub shares_from : SharesOut dims mid new page level edge row id AreFew below last
+      → ((n : ℕ) → mid n ≡ old n) → SharesOut dims old new page level edge row id AreFew below last
+  shares_from s same = record {
+    spare = spare_from s.spare same;
+    room = λ few. makes_from dims old mid new page level edge row id below last same (s.room few);
+  }

@@ -2,6 +2,7 @@
 pub mod ObjectLemmas
 pub mod ResultLemmas
 pub mod TidyLemmas
+pub mod WorksLemmas
 pub mod RowLemmas
 pub mod NodeLemmas
 pub mod SwapLemmas

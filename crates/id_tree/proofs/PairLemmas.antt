@@ -351,10 +351,10 @@ place_under dims pages page level edge row id q place may =
     )
 
 -- the child in a place and the one before it, or behind it where it is the first one
-pub beside_left : (dims : ℕ) (pages : PageMap) (page level : ℕ) (edge : Bool) (row : Row)
-    (id q place left : ℕ) → MayMeet dims pages page level edge row id q place → (place ≡ 0 → left ≡ 0)
+pub beside_left : {dims : ℕ} {pages : PageMap} {page level : ℕ} {edge : Bool} {row : Row}
+    {id q place left : ℕ} → MayMeet dims pages page level edge row id q place → (place ≡ 0 → left ≡ 0)
     → (0 < place → left + 1 ≡ place) → IsBeside left place row
-beside_left dims pages page level edge row id q place left may first later =
+beside_left {dims} {pages} {page} {level} {edge} {row} {id} {q} {place} {left} may first later =
     let within = place_under dims pages page level edge row id q place may in
     ⊎_elim
     (λ (none : place ≡ 0). let zero = first none in

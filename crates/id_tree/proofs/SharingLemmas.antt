@@ -1,6 +1,6 @@
 -- A full leaf and a neighbour with which it shares.
-use Rattle.std.proofs.Common.{◌≡◌, ℕ, zero, suc, ◌+◌, ◌-◌, ◌<◌, ◌≤◌, Bool, Option, Some, List, length}
-use Rattle.std.proofs.Common.{arith}
+use Rattle.id_tree.specs.Tidy.{IsAsTidy}
+use Rattle.std.proofs.Common.{◌≡◌, ℕ, zero, suc, ◌+◌, ◌-◌, ◌<◌, ◌≤◌, Bool, Option, Some, List, length, arith}
 use Rattle.std.specs.Prelude.{IfSome}
 use Rattle.std.proofs.lemmas.Bool.Decides.{nat_tests}
 use Rattle.block_bytes.specs.Numbers.{number_at}
@@ -52,14 +52,15 @@ split_meets dims old new page level edge row id p place last left same may besid
 abbrev pub split_joins : (dims : ℕ) (old new : PageMap) (page level : ℕ) (edge : Bool) (row : Row)
     (id p place : ℕ) (last : Bool) (fork : List ℕ) (left first second key : ℕ) (second_last : Bool)
     → ((n : ℕ) → new n ≡ old n) → MaySplit dims old page level edge row id p place last
-    → IsPair dims level edge row id fork left first second key second_last
+    → IsPair dims level edge row id fork left first second key second_last → IsAsTidy dims new fork
     → MayJoin dims new page level edge row id fork left first second key second_last
 split_joins dims old new page level edge row id p place last fork left first second key second_last same may
-    pair = record {
+    pair tidy = record {
       stands = stands_same dims old new page level edge row same may.stands;
       high = may.high;
       single = may.single;
       pair = pair;
+      tidy = tidy;
     }
 
 -- the emptier one of both neighbours

@@ -1,4 +1,7 @@
 -- A full child cut in two has room.
+use Rattle.id_tree.specs.Cutting.{Plans, Cuts, SpellsNode}
+use Rattle.id_tree.proofs.TidyLemmas.{as_tidy_on, both_tidy_on}
+use Rattle.id_tree.proofs.SwapLemmas.{KeepsBounds, Renamed, Swapped, Swaps, swapped, swapped_written}
 use Rattle.std.proofs.Common.{◌≡◌, ◌∙◌, ℕ, ◌+◌, ◌-◌, ◌<◌, ◌≤◌, Bool, false, cond, eqb, Some, IsSome, List}
 use Rattle.std.proofs.Common.{◌∷◌, ◌++◌, length, All, refl, sym, ap, subst, ⊎_elim, arith, append_assoc}
 use Rattle.std.proofs.Common.{length-append}
@@ -12,7 +15,6 @@ use Rattle.page_file.specs.Pages.{SameBut}
 use Rattle.node_page.specs.Parts.{Moves}
 use Rattle.node_page.specs.Standing.{PageMap}
 use Rattle.node_page.proofs.PartLemmas.{moves_from, there_not_missing}
-use Rattle.id_tree.specs.Cutting.{Cuts, SpellsNode}
 use Rattle.id_tree.specs.Rows.{NodeStands, joined, part_at}
 use Rattle.id_tree.specs.Steps.{Keeps, MakesHalves, MakesRoom, MayHalve, MaySplit}
 use Rattle.id_tree.specs.Writes.{GivesAndPuts}
@@ -23,7 +25,6 @@ use Rattle.id_tree.proofs.NodeLemmas.{below_there, is_there, node_there, not_the
 use Rattle.id_tree.proofs.NodeLemmas.{stands_same}
 use Rattle.id_tree.proofs.ObjectLemmas.{keeps_within}
 use Rattle.id_tree.proofs.RowLemmas.{joined-joined, links-joined, objects-joined, passes-more}
-use Rattle.id_tree.proofs.SwapLemmas.{KeepsBounds, Renamed, Swapped, Swaps, swapped, swapped_written}
 use Rattle.id_tree.proofs.WayLemmas.{child_stands, links_here, objects_here, on_tail, place_here, times_below}
 
 -- a child more after one of a list
@@ -413,3 +414,14 @@ halves_from dims old mid new page level edge row id below last same m = record {
   room = makes_from dims old mid new page level edge row id below last same m.room;
   wider = m.wider;
 }
+
+module _ {dims : ℕ} {old new : PageMap} {level : ℕ} {last : Bool} {row below : Row} {fork : List ℕ} {key : ℕ}
+    {first second : List ℕ} where
+  pub plans_same : Plans dims old level last row below fork key first second → ((n : ℕ) → new n ≡ old n)
+      → Plans dims new level last row below fork key first second
+  plans_same p same = record {
+    fork_is = p.fork_is;
+    fork_tidy = as_tidy_on dims old new fork same p.fork_tidy;
+    cuts = p.cuts;
+    cut_tidy = both_tidy_on dims old new first second same p.cut_tidy;
+  }

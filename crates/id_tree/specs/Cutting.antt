@@ -1,5 +1,5 @@
 -- Nodes cut in two, as bytes of pages.
-use Rattle.std.specs.Prelude.{◌≡◌, ℕ, ◌+◌, ◌<◌, ◌≤◌, Bool, false, List, ◌++◌, length, take, drop}
+use Rattle.std.specs.Prelude.{◌≡◌, ℕ, ◌+◌, ◌-◌, ◌<◌, ◌≤◌, Bool, false, List, ◌++◌, length, take, drop}
 use Rattle.std.specs.Prelude.{slice_index_or, insert, All, Some}
 use Rattle.bucket_page.specs.Layout.{Entry}
 use Rattle.id_page.specs.Fork.{ForkContent, Link, fork_at, with_links}
@@ -9,6 +9,7 @@ use Rattle.node_page.specs.Standing.{PageMap}
 use Rattle.id_tree.specs.Halving.{from_key, under_key}
 use Rattle.id_tree.specs.Rows.{HasRoom}
 use Rattle.id_tree.specs.Steps.{Keeps}
+use Rattle.id_tree.specs.Tidy.{AreAsTidy, IsAsTidy}
 use Rattle.id_tree.specs.Writes.{GivesAndPuts}
 use Rattle.id_tree.specs.Tree.{IsFilled, IsLarge, IsParted, Row, RowStands, fork_in, least_objects, links_of}
 use Rattle.id_tree.specs.Tree.{objects_in, occurs}
@@ -65,6 +66,14 @@ pub record Cuts (dims level : ℕ) (edge : Bool) (row : Row) (key : ℕ) (first 
   pub from : All (λ o. key ≤ o.0) (objects_in right)
   pub keeps : Keeps (objects_in row) (objects_in left ++ objects_in right)
   pub counts : (n : ℕ) → occurs n left + occurs n right ≡ occurs n row
+
+-- a fork as its page is, and the cut that was looked out for one of its children, in tidy pages where all are
+pub record Plans (dims : ℕ) (pages : PageMap) (level : ℕ) (last : Bool) (row below : Row) (fork : List ℕ)
+    (key : ℕ) (first second : List ℕ) : Type 0 where
+  pub fork_is : fork_at dims fork ≡ Some (record { level = level; links = links_of row })
+  pub fork_tidy : IsAsTidy dims pages fork
+  pub cuts : Cuts dims (level - 1) last below key first second
+  pub cut_tidy : AreAsTidy dims pages first second
 
 -- A page that was not live has the second half and the page of the node the first, and then its fork names
 -- both.

@@ -10,7 +10,9 @@ use Rattle.page_file.specs.Pages.{SameBut}
 use Rattle.node_page.specs.Parts.{Moves}
 use Rattle.node_page.specs.Standing.{PageMap}
 use Rattle.id_tree.specs.Rows.{At, NodeStands, Passes, Stops, joined, part_at}
-use Rattle.id_tree.specs.Steps.{Keeps}
+use Rattle.id_tree.specs.Steps.{Keeps, MakesRoom}
+use Rattle.id_tree.specs.Tidy.{AreAsTidy, IsAsTidy}
+use Rattle.id_tree.specs.Cutting.{Cuts}
 use Rattle.id_tree.specs.Tree.{IdTree, IsLarge, Row, TreeStands, end, more, object, child, at_edge, fork_in}
 use Rattle.id_tree.specs.Tree.{least_children, least_objects, links_of, objects_in}
 
@@ -70,6 +72,7 @@ pub record MayJoin (dims : ℕ) (pages : PageMap) (page level : ℕ) (edge : Boo
   pub high : 0 < level
   pub single : (q : ℕ) → times_in q (objects_in row) ≤ 1
   pub pair : IsPair dims level edge row id fork left first second key last
+  pub tidy : IsAsTidy dims pages fork
 
 -- a fork of two children or more, and the page and the place of the one where an identifier is
 pub record MayMeet (dims : ℕ) (pages : PageMap) (page level : ℕ) (edge : Bool) (row : Row)
@@ -171,6 +174,14 @@ pub record IsBalanced (dims level : ℕ) (first second : List ℕ) : Type 0 wher
   pub second_leaf : level ≡ 0 → least_objects dims < number_at 2 2 second
   pub second_fork : 0 < level → least_children < number_at 2 2 second
 
+-- what both have was cut in two, with more in each half than has to be, and room where they had few enough
+pub record CutsBoth (dims : ℕ) (pages : PageMap) (level : ℕ) (edge : Bool) (key : ℕ) (one two : Row)
+    (middle : ℕ) (first second : List ℕ) : Type 0 where
+  pub cuts : Cuts dims level edge (met key one two) middle first second
+  pub balanced : IsBalanced dims level first second
+  pub roomy : LeaveRoom dims level one two → HaveRoom dims first second
+  pub tidy : AreAsTidy dims pages first second
+
 -- ---- what is written
 
 -- two live pages, of which the second one is no page that is never freed
@@ -229,6 +240,12 @@ pub record MakesSpare (dims : ℕ) (old new : PageMap) (page level : ℕ) (edge 
   pub way : At id below now
   pub spare : HasSpare dims (level - 1) last way.below
   pub last_is : last ≡ at_edge edge way.rest
+
+-- and room in it too, where both children had few enough
+pub record SharesOut (dims : ℕ) (old new : PageMap) (page level : ℕ) (edge : Bool) (row : Row) (id : ℕ)
+    (AreFew : Type 0) (below : ℕ) (last : Bool) : Type 0 where
+  pub spare : MakesSpare dims old new page level edge row id below last
+  pub room : AreFew → MakesRoom dims old new page level edge row id below last
 
 -- ---- the root
 

@@ -1,6 +1,7 @@
 -- The files of definitions.
 pub mod Tree
 pub mod Tidy
+pub mod Works
 pub mod Changes
 pub mod Rows
 pub mod Runs

@@ -1,10 +1,8 @@
 //! An object added.
 
 ghost use Rattle.std.specs.Prelude.{◌≡◌, ◌<◌, ◌⊎◌, ℕ, None, false, IfErr, OnOk};
-ghost use Rattle.std.specs.FinMap as map;
 ghost use Rattle.box_math.specs.Bounds.{IsDims};
 ghost use Rattle.page_file.specs.Fault.{IsDamage, IsOfDevice};
-ghost use Rattle.page_file.specs.declared.fault.Fault.TheVariants as fault;
 ghost use Rattle.page_cache.specs.Cache.{Grows, IsHonest, IsPageMap, given, pages, touched_of};
 ghost use Rattle.page_cache.specs.Calls.{Changes};
 ghost use Rattle.node_page.specs.Faults.{IsNoDamage};
@@ -17,6 +15,9 @@ ghost use Rattle.id_tree.specs.Steps.{Becomes, IsFullBelow, IsFullTree, MayGrow,
 ghost use Rattle.id_tree.specs.Steps.Step.{adds};
 ghost use Rattle.id_tree.specs.Tidy.{KeepsTidy};
 ghost use Rattle.id_tree.specs.Tree.{IdTree, Row, TreeStands, objects_in, objects_of};
+ghost use Rattle.id_tree.specs.Works.{Works};
+ghost use Rattle.std.specs.FinMap as map;
+ghost use Rattle.page_file.specs.declared.fault.Fault.TheVariants as fault;
 
 use crate::below::{Below, has_room, look_below};
 use crate::looks::step;
@@ -93,16 +94,10 @@ pub(crate) fn add_object<const D: usize, B: BlockDevice, A: Allocator + Copy>(
 ) -> Result<(), Fault>
     requires dims { IsDims D }
     ensures changes { Changes cache.old cache.new result }
-    ensures sound { IsPageMap cache.old → (t : IdTree) → t.page ≡ root → TreeStands D (pages cache.old) t
-        → IsPageMap cache.new }
-    ensures tidy { IsPageMap cache.old → (t : IdTree) → t.page ≡ root → TreeStands D (pages cache.old) t
-        → OnOk result (KeepsTidy D (pages cache.old) (pages cache.new)) }
-    ensures added { IsPageMap cache.old → (t : IdTree) → t.page ≡ root → TreeStands D (pages cache.old) t
-        → map.contains_key (objects_of t) object.now.0 ≡ false
-        → OnOk result (Sets D (pages cache.old) (pages cache.new) t object.now.0 object.now.1) }
+    ensures takes { IsPageMap cache.old → (t : IdTree) → t.page ≡ root → TreeStands D (pages cache.old) t
+        → Works D cache.old cache.new result (λ u. map.contains_key (objects_of t) object.now.0 ≡ false
+        → Sets D (pages cache.old) (pages cache.new) t object.now.0 object.now.1) (IsNoDamage cache.new) }
     ensures grows { Grows most_added_pages cache.old cache.new }
-    ensures faults { IsPageMap cache.old → (t : IdTree) → t.page ≡ root → TreeStands D (pages cache.old) t
-        → IfErr result (IsNoDamage cache.new) }
     ensures damage { IsHonest cache.old → touched_of cache.new ≡ false
         → IfErr result (λ f. (n : ℕ) → f ≡ fault.Damaged n
         → ComesInTree D (given cache.old) root n ⊎ MayBreakAt cache.old n) }
@@ -130,20 +125,11 @@ fn add_deeper<const D: usize, B: BlockDevice, A: Allocator + Copy>(
 ) -> Result<(), Fault>
     requires dims { IsDims D }
     ensures changes { Changes cache.old cache.new result }
-    ensures sound { IsPageMap cache.old → (t : IdTree) → t.page ≡ root
-        → IsFullTree D (pages cache.old) t level
-        → IsPageMap cache.new }
-    ensures tidy { IsPageMap cache.old → (t : IdTree) → t.page ≡ root
-        → IsFullTree D (pages cache.old) t level
-        → OnOk result (KeepsTidy D (pages cache.old) (pages cache.new)) }
-    ensures added { IsPageMap cache.old → (t : IdTree) → t.page ≡ root
-        → IsFullTree D (pages cache.old) t level
-        → map.contains_key (objects_of t) object.now.0 ≡ false
-        → OnOk result (Sets D (pages cache.old) (pages cache.new) t object.now.0 object.now.1) }
+    ensures takes { IsPageMap cache.old → (t : IdTree) → t.page ≡ root
+        → IsFullTree D (pages cache.old) t level → Works D cache.old cache.new result
+        (λ u. map.contains_key (objects_of t) object.now.0 ≡ false
+        → Sets D (pages cache.old) (pages cache.new) t object.now.0 object.now.1) (IsNoDamage cache.new) }
     ensures grows { Grows most_added_pages cache.old cache.new }
-    ensures faults { IsPageMap cache.old → (t : IdTree) → t.page ≡ root
-        → IsFullTree D (pages cache.old) t level
-        → IfErr result (IsNoDamage cache.new) }
     ensures damage { IsHonest cache.old → touched_of cache.new ≡ false
         → IfErr result (λ f. (n : ℕ) → f ≡ fault.Damaged n → (n ≡ root) ⊎ MayBreakAt cache.old n) }
     ensures other_faults { IfErr result (λ f. IsNoDamage cache.new f ⊎ IsDamage f) }
@@ -166,21 +152,12 @@ fn add_split<const D: usize, B: BlockDevice, A: Allocator + Copy>(
     requires dims { IsDims D }
     requires high { 0 < level }
     ensures changes { Changes cache.old cache.new result }
-    ensures grown { IsPageMap cache.old → (row : Row)
+    ensures takes { IsPageMap cache.old → (row : Row)
         → IsFullBelow D (pages cache.old) root level row object.now.0 child
-        → kept_in object.now.0 (objects_in row) ≡ None
-        → OnOk result (Widens D (pages cache.old) (pages cache.new) root level row object.now.0
-        (adds object.now.1)) }
-    ensures tidy { IsPageMap cache.old → (row : Row)
-        → IsFullBelow D (pages cache.old) root level row object.now.0 child
-        → OnOk result (KeepsTidy D (pages cache.old) (pages cache.new)) }
-    ensures sound { IsPageMap cache.old → (row : Row)
-        → IsFullBelow D (pages cache.old) root level row object.now.0 child
-        → IsPageMap cache.new }
+        → Works D cache.old cache.new result (λ u. kept_in object.now.0 (objects_in row) ≡ None
+        → Widens D (pages cache.old) (pages cache.new) root level row object.now.0 (adds object.now.1))
+        (IsNoDamage cache.new) }
     ensures grows { Grows level cache.old cache.new }
-    ensures faults { IsPageMap cache.old → (row : Row)
-        → IsFullBelow D (pages cache.old) root level row object.now.0 child
-        → IfErr result (IsNoDamage cache.new) }
     ensures other_faults { IfErr result (λ f. IsNoDamage cache.new f ⊎ IsDamage f) }
 {
     let below = Below {
@@ -204,21 +181,11 @@ pub(crate) fn add_below<const D: usize, B: BlockDevice, A: Allocator + Copy>(
 ) -> Result<(), Fault>
     requires dims { IsDims D }
     ensures changes { Changes cache.old cache.new result }
-    ensures grown { IsPageMap cache.old → (row : Row)
-        → MayGrow D (pages cache.old) page level edge row
-        → kept_in object.now.0 (objects_in row) ≡ None
-        → OnOk result (Becomes D (pages cache.old) (pages cache.new) page level edge row object.now.0
-        (adds object.now.1)) }
-    ensures tidy { IsPageMap cache.old → (row : Row)
-        → MayGrow D (pages cache.old) page level edge row
-        → OnOk result (KeepsTidy D (pages cache.old) (pages cache.new)) }
-    ensures sound { IsPageMap cache.old → (row : Row)
-        → MayGrow D (pages cache.old) page level edge row
-        → IsPageMap cache.new }
+    ensures takes { IsPageMap cache.old → (row : Row) → MayGrow D (pages cache.old) page level edge row
+        → Works D cache.old cache.new result (λ u. kept_in object.now.0 (objects_in row) ≡ None
+        → Becomes D (pages cache.old) (pages cache.new) page level edge row object.now.0
+        (adds object.now.1)) (IsNoDamage cache.new) }
     ensures grows { Grows level cache.old cache.new }
-    ensures faults { IsPageMap cache.old → (row : Row)
-        → MayGrow D (pages cache.old) page level edge row
-        → IfErr result (IsNoDamage cache.new) }
     ensures damage { IsHonest cache.old → touched_of cache.new ≡ false
         → IfErr result (λ f. (n : ℕ) → f ≡ fault.Damaged n
         → ComesInTree D (given cache.old) page n ⊎ MayBreakAt cache.old n) }
@@ -245,21 +212,11 @@ fn push_in<const D: usize, B: BlockDevice, A: Allocator + Copy>(
 ) -> Result<(), Fault>
     requires dims { IsDims D }
     ensures changes { Changes cache.old cache.new result }
-    ensures grown { IsPageMap cache.old → (row : Row)
-        → MayGrow D (pages cache.old) page 0 edge row
-        → kept_in object.now.0 (objects_in row) ≡ None
-        → OnOk result (Becomes D (pages cache.old) (pages cache.new) page 0 edge row object.now.0
-        (adds object.now.1)) }
-    ensures tidy { IsPageMap cache.old → (row : Row)
-        → MayGrow D (pages cache.old) page 0 edge row
-        → OnOk result (KeepsTidy D (pages cache.old) (pages cache.new)) }
-    ensures sound { IsPageMap cache.old → (row : Row)
-        → MayGrow D (pages cache.old) page 0 edge row
-        → IsPageMap cache.new }
+    ensures takes { IsPageMap cache.old → (row : Row) → MayGrow D (pages cache.old) page 0 edge row
+        → Works D cache.old cache.new result (λ u. kept_in object.now.0 (objects_in row) ≡ None
+        → Becomes D (pages cache.old) (pages cache.new) page 0 edge row object.now.0 (adds object.now.1))
+        IsOfDevice }
     ensures grows { Grows 0 cache.old cache.new }
-    ensures faults { IsPageMap cache.old → (row : Row)
-        → MayGrow D (pages cache.old) page 0 edge row
-        → IfErr result IsOfDevice }
     ensures damage { IsHonest cache.old → IfErr result (λ f. IsOfDevice f ⊎ (f ≡ fault.Damaged page)) }
     ensures other_faults { IfErr result (λ f. IsOfDevice f ⊎ IsDamage f) }
 {

@@ -1,11 +1,9 @@
 //! Many objects added.
 
-ghost use Rattle.std.specs.Prelude.{◌≡◌, ◌⊎◌, ◌+◌, ◌*◌, ◌/◌, ℕ, false, length, IfErr, IfOk, OnOk};
-ghost use Rattle.std.specs.Prelude.{◌<◌, ◌≤◌, take};
-ghost use Rattle.std.specs.FinMap as map;
+ghost use Rattle.std.specs.Prelude.{◌≡◌, ◌⊎◌, ◌+◌, ◌*◌, ◌/◌, ℕ, false, length, IfErr, IfOk, OnOk, ◌<◌, ◌≤◌};
+ghost use Rattle.std.specs.Prelude.{take};
 ghost use Rattle.box_math.specs.Bounds.{IsDims};
 ghost use Rattle.page_file.specs.Fault.{IsDamage};
-ghost use Rattle.page_file.specs.declared.fault.Fault.TheVariants as fault;
 ghost use Rattle.page_cache.specs.Cache.{Grows, IsHonest, IsPageMap, given, pages, touched_of};
 ghost use Rattle.page_cache.specs.Calls.{Changes};
 ghost use Rattle.node_page.specs.Faults.{IsNoDamage};
@@ -15,6 +13,9 @@ ghost use Rattle.id_tree.specs.Changes.{Fills, most_added_pages};
 ghost use Rattle.id_tree.specs.Checked.{ComesInTree};
 ghost use Rattle.id_tree.specs.Tidy.{KeepsTidy};
 ghost use Rattle.id_tree.specs.Tree.{IdTree, TreeStands, objects_of};
+ghost use Rattle.id_tree.specs.Works.{Works};
+ghost use Rattle.std.specs.FinMap as map;
+ghost use Rattle.page_file.specs.declared.fault.Fault.TheVariants as fault;
 
 use crate::adding::add_object;
 use crate::runs::{count_of_run, push_all, run_from};
@@ -85,17 +86,11 @@ fn fill_run<const D: usize, B: BlockDevice, A: Allocator + Copy>(
     ensures changes { Changes cache.old cache.new result }
     ensures some { IfOk result (λ count. 0 < count) }
     ensures within { IfOk result (λ count. count ≤ length objects.now) }
-    ensures sound { IsPageMap cache.old → (t : IdTree) → t.page ≡ root → TreeStands D (pages cache.old) t
-        → AreNew (objects_of t) objects.now → IsPageMap cache.new }
-    ensures tidy { IsPageMap cache.old → (t : IdTree) → t.page ≡ root → TreeStands D (pages cache.old) t
-        → AreNew (objects_of t) objects.now
-        → OnOk result (KeepsTidy D (pages cache.old) (pages cache.new)) }
-    ensures filled { IsPageMap cache.old → (t : IdTree) → t.page ≡ root → TreeStands D (pages cache.old) t
-        → AreNew (objects_of t) objects.now
-        → IfOk result (λ count. Fills D (pages cache.old) (pages cache.new) t (take count objects.now)) }
+    ensures fills { IsPageMap cache.old → (t : IdTree) → t.page ≡ root → TreeStands D (pages cache.old) t
+        → AreNew (objects_of t) objects.now → Works D cache.old cache.new result
+        (λ count. Fills D (pages cache.old) (pages cache.new) t (take count objects.now))
+        (IsNoDamage cache.new) }
     ensures grows { Grows most_added_pages cache.old cache.new }
-    ensures faults { IsPageMap cache.old → (t : IdTree) → t.page ≡ root → TreeStands D (pages cache.old) t
-        → AreNew (objects_of t) objects.now → IfErr result (IsNoDamage cache.new) }
     ensures damage { IsHonest cache.old → touched_of cache.new ≡ false
         → IfErr result (λ f. (n : ℕ) → f ≡ fault.Damaged n
         → ComesInTree D (given cache.old) root n ⊎ MayBreakAt cache.old n) }

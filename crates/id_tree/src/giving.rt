@@ -2,14 +2,15 @@
 
 ghost use Rattle.std.specs.Prelude.{◌≡◌, ◌<◌, ◌≤◌, ◌⊎◌, IfErr, IfOk, ℕ, OnOk, true, false};
 ghost use Rattle.page_file.specs.Fault.{IsDamage};
-ghost use Rattle.page_file.specs.declared.fault.Fault.TheVariants as fault;
-ghost use Rattle.page_cache.specs.Cache.{Grows, IsLive, IsPageMap, next_of, pages, BreaksAt};
-ghost use Rattle.page_cache.specs.Cache.{IsHonest, touched_of};
+ghost use Rattle.page_cache.specs.Cache.{Grows, IsLive, IsPageMap, next_of, pages, BreaksAt, IsHonest};
+ghost use Rattle.page_cache.specs.Cache.{touched_of};
 ghost use Rattle.page_cache.specs.Calls.{Changes};
 ghost use Rattle.node_page.specs.Faults.{IsNoDamage};
 ghost use Rattle.id_tree.specs.Writes.{Gives, GivesAndPuts};
 ghost use Rattle.id_tree.specs.Tidy.{AreAsTidy, IsAsTidy, KeepsTidy};
 ghost use Rattle.id_words.specs.Damage.{MayBreakAt};
+ghost use Rattle.id_tree.specs.Works.{Works};
+ghost use Rattle.page_file.specs.declared.fault.Fault.TheVariants as fault;
 
 use block_device::BlockDevice;
 use page_cache::PageCache;
@@ -51,14 +52,12 @@ pub(crate) fn give_and_put<B: BlockDevice, A: Allocator + Copy>(
     second: &[u8; 4096],
 ) -> Result<u32, Fault>
     ensures changes { Changes cache.old cache.new result }
-    ensures given { IsPageMap cache.old → IsLive cache.old page → IfOk result (λ number.
-        GivesAndPuts (pages cache.old) (pages cache.new) page number first.now second.now) }
-    ensures sound { IsPageMap cache.old → IsLive cache.old page → IsPageMap cache.new }
-    ensures tidy { IsPageMap cache.old → IsLive cache.old page → (dims : ℕ)
+    ensures gives { IsPageMap cache.old → IsLive cache.old page → (dims : ℕ)
         → AreAsTidy dims (pages cache.old) first.now second.now
-        → OnOk result (KeepsTidy dims (pages cache.old) (pages cache.new)) }
+        → Works dims cache.old cache.new result (λ number.
+        GivesAndPuts (pages cache.old) (pages cache.new) page number first.now second.now)
+        (IsNoDamage cache.new) }
     ensures grows { Grows 1 cache.old cache.new }
-    ensures faults { IsPageMap cache.old → IsLive cache.old page → IfErr result (IsNoDamage cache.new) }
     ensures touched { OnOk result (touched_of cache.new ≡ true) }
     ensures damage { IsHonest cache.old → touched_of cache.new ≡ false
         → IfErr result (λ f. (n : ℕ) → f ≡ fault.Damaged n → MayBreakAt cache.old n) }

@@ -5,16 +5,15 @@ ghost use Rattle.std.specs.Prelude.{◌≡◌, ◌<◌, ◌≤◌, ◌⊎◌, �
 ghost use Rattle.std.specs.Prelude.{Some, false};
 ghost use Rattle.block_bytes.specs.Numbers.{number_at};
 ghost use Rattle.page_file.specs.Fault.{IsDamage, IsOfDevice};
-ghost use Rattle.page_file.specs.declared.fault.Fault.TheVariants as fault;
 ghost use Rattle.page_cache.specs.Cache.{Grows, IsHonest, IsPageMap, pages, given, touched_of};
 ghost use Rattle.page_cache.specs.Calls.{Asks, Changes};
 ghost use Rattle.id_tree.specs.Joining.{AreTooMany, FitTogether, HasSpare, IsAmple, MakesSpare, MayJoin};
-ghost use Rattle.id_tree.specs.Joining.{MayMeet, MayShare};
-ghost use Rattle.id_tree.specs.Steps.{MakesRoom};
+ghost use Rattle.id_tree.specs.Joining.{MayMeet, LeaveRoom, SharesOut};
 ghost use Rattle.id_tree.specs.Tree.{HasNode, Row, fork_in};
-ghost use Rattle.id_tree.specs.Tidy.{IsAsTidy, KeepsTidy};
 ghost use Rattle.id_tree.specs.Checked.{ComesInTree};
 ghost use Rattle.id_page.specs.Fork.{ForkContent};
+ghost use Rattle.id_tree.specs.Works.{Works};
+ghost use Rattle.page_file.specs.declared.fault.Fault.TheVariants as fault;
 
 use crate::looks::count_in;
 use crate::meeting::{fit_together, joined, shared};
@@ -75,17 +74,11 @@ pub(crate) fn join<const D: usize, B: BlockDevice, A: Allocator + Copy>(
 ) -> Result<(u32, bool), Fault>
     requires high { 0 < level }
     ensures changes { Changes cache.old cache.new result }
-    ensures made { IsPageMap cache.old → (child : ℕ) (row : Row)
-        → MayMeet D (pages cache.old) page level edge row id child place → IfOk result (λ r.
-        MakesSpare D (pages cache.old) (pages cache.new) page level edge row id r.0 r.1) }
-    ensures tidy { IsPageMap cache.old → (child : ℕ) (row : Row)
+    ensures joins { IsPageMap cache.old → (child : ℕ) (row : Row)
         → MayMeet D (pages cache.old) page level edge row id child place
-        → OnOk result (KeepsTidy D (pages cache.old) (pages cache.new)) }
-    ensures sound { IsPageMap cache.old → (child : ℕ) (row : Row)
-        → MayMeet D (pages cache.old) page level edge row id child place → IsPageMap cache.new }
+        → Works D cache.old cache.new result (λ r.
+        MakesSpare D (pages cache.old) (pages cache.new) page level edge row id r.0 r.1) IsOfDevice }
     ensures grows { Grows 0 cache.old cache.new }
-    ensures faults { IsPageMap cache.old → (child : ℕ) (row : Row)
-        → MayMeet D (pages cache.old) page level edge row id child place → IfErr result IsOfDevice }
     ensures touched { OnOk result (touched_of cache.new ≡ true) }
     ensures damage { IsHonest cache.old → touched_of cache.new ≡ false → (c : ForkContent)
         → fork_in D (given cache.old page) ≡ Some c
@@ -120,21 +113,11 @@ fn join_pair<const D: usize, B: BlockDevice, A: Allocator + Copy>(
     requires within { pair.now.left + 1 < number_at 2 2 pair.now.fork }
     requires few { number_at 2 2 pair.now.fork ≤ 340 }
     ensures changes { Changes cache.old cache.new result }
-    ensures made { IsPageMap cache.old → (edge : Bool) (row : Row)
+    ensures joins { IsPageMap cache.old → (edge : Bool) (row : Row)
         → MayJoin D (pages cache.old) page level edge row id pair.now.fork pair.now.left pair.now.first
-        pair.now.second pair.now.key pair.now.last → IfOk result (λ r.
-        MakesSpare D (pages cache.old) (pages cache.new) page level edge row id r.0 r.1) }
-    ensures tidy { IsPageMap cache.old → (edge : Bool) (row : Row)
-        → MayJoin D (pages cache.old) page level edge row id pair.now.fork pair.now.left pair.now.first
-        pair.now.second pair.now.key pair.now.last → IsAsTidy D (pages cache.old) pair.now.fork
-        → OnOk result (KeepsTidy D (pages cache.old) (pages cache.new)) }
-    ensures sound { IsPageMap cache.old → (edge : Bool) (row : Row)
-        → MayJoin D (pages cache.old) page level edge row id pair.now.fork pair.now.left pair.now.first
-        pair.now.second pair.now.key pair.now.last → IsPageMap cache.new }
+        pair.now.second pair.now.key pair.now.last → Works D cache.old cache.new result (λ r.
+        MakesSpare D (pages cache.old) (pages cache.new) page level edge row id r.0 r.1) IsOfDevice }
     ensures grows { Grows 0 cache.old cache.new }
-    ensures faults { IsPageMap cache.old → (edge : Bool) (row : Row)
-        → MayJoin D (pages cache.old) page level edge row id pair.now.fork pair.now.left pair.now.first
-        pair.now.second pair.now.key pair.now.last → IfErr result IsOfDevice }
     ensures touched { OnOk result (touched_of cache.new ≡ true) }
     ensures damage { IsHonest cache.old → touched_of cache.new ≡ false
         → IfErr result (λ f. (n : ℕ) → f ≡ fault.Damaged n
@@ -160,25 +143,13 @@ fn make_one<const D: usize, B: BlockDevice, A: Allocator + Copy>(
     requires within { pair.now.left + 1 < number_at 2 2 pair.now.fork }
     requires few { number_at 2 2 pair.now.fork ≤ 340 }
     ensures changes { Changes cache.old cache.new result }
-    ensures made { IsPageMap cache.old → (id : ℕ) (edge : Bool) (row : Row)
-        → (may : MayJoin D (pages cache.old) page level edge row id pair.now.fork pair.now.left pair.now.first
-        pair.now.second pair.now.key pair.now.last)
-        → FitTogether D (level - 1) may.pair.at.one may.pair.at.two → IfOk result (λ r.
-        MakesSpare D (pages cache.old) (pages cache.new) page level edge row id r.0 r.1) }
-    ensures tidy { IsPageMap cache.old → (id : ℕ) (edge : Bool) (row : Row)
+    ensures joins { IsPageMap cache.old → (id : ℕ) (edge : Bool) (row : Row)
         → (may : MayJoin D (pages cache.old) page level edge row id pair.now.fork pair.now.left pair.now.first
         pair.now.second pair.now.key pair.now.last)
         → FitTogether D (level - 1) may.pair.at.one may.pair.at.two
-        → IsAsTidy D (pages cache.old) pair.now.fork
-        → OnOk result (KeepsTidy D (pages cache.old) (pages cache.new)) }
-    ensures sound { IsPageMap cache.old → (id : ℕ) (edge : Bool) (row : Row)
-        → MayJoin D (pages cache.old) page level edge row id pair.now.fork pair.now.left pair.now.first
-        pair.now.second pair.now.key pair.now.last → IsPageMap cache.new }
+        → Works D cache.old cache.new result (λ r.
+        MakesSpare D (pages cache.old) (pages cache.new) page level edge row id r.0 r.1) IsOfDevice }
     ensures grows { Grows 0 cache.old cache.new }
-    ensures faults { IsPageMap cache.old → (id : ℕ) (edge : Bool) (row : Row)
-        → (may : MayJoin D (pages cache.old) page level edge row id pair.now.fork pair.now.left pair.now.first
-        pair.now.second pair.now.key pair.now.last)
-        → FitTogether D (level - 1) may.pair.at.one may.pair.at.two → IfErr result IsOfDevice }
     ensures touched { OnOk result (touched_of cache.new ≡ true) }
     ensures damage { IsHonest cache.old → touched_of cache.new ≡ false
         → IfErr result (λ f. (n : ℕ) → f ≡ fault.Damaged n
@@ -204,29 +175,14 @@ pub(crate) fn share<const D: usize, B: BlockDevice, A: Allocator + Copy>(
     requires within { pair.now.left + 1 < number_at 2 2 pair.now.fork }
     requires few { number_at 2 2 pair.now.fork ≤ 340 }
     ensures changes { Changes cache.old cache.new result }
-    ensures made { IsPageMap cache.old → (edge : Bool) (row : Row)
-        → (may : MayJoin D (pages cache.old) page level edge row id pair.now.fork pair.now.left pair.now.first
-        pair.now.second pair.now.key pair.now.last)
-        → AreTooMany D (level - 1) may.pair.at.one may.pair.at.two → IfOk result (λ r.
-        MakesSpare D (pages cache.old) (pages cache.new) page level edge row id r.0 r.1) }
-    ensures roomy { IsPageMap cache.old → (edge : Bool) (row : Row)
-        → MayShare D (pages cache.old) page level edge row id pair.now.fork pair.now.left pair.now.first
-        pair.now.second pair.now.key pair.now.last → IfOk result (λ r.
-        MakesRoom D (pages cache.old) (pages cache.new) page level edge row id r.0 r.1) }
-    ensures tidy { IsPageMap cache.old → (edge : Bool) (row : Row)
+    ensures shares { IsPageMap cache.old → (edge : Bool) (row : Row)
         → (may : MayJoin D (pages cache.old) page level edge row id pair.now.fork pair.now.left pair.now.first
         pair.now.second pair.now.key pair.now.last)
         → AreTooMany D (level - 1) may.pair.at.one may.pair.at.two
-        → IsAsTidy D (pages cache.old) pair.now.fork
-        → OnOk result (KeepsTidy D (pages cache.old) (pages cache.new)) }
-    ensures sound { IsPageMap cache.old → (edge : Bool) (row : Row)
-        → MayJoin D (pages cache.old) page level edge row id pair.now.fork pair.now.left pair.now.first
-        pair.now.second pair.now.key pair.now.last → IsPageMap cache.new }
+        → Works D cache.old cache.new result (λ r.
+        SharesOut D (pages cache.old) (pages cache.new) page level edge row id
+        (LeaveRoom D (level - 1) may.pair.at.one may.pair.at.two) r.0 r.1) IsOfDevice }
     ensures grows { Grows 0 cache.old cache.new }
-    ensures faults { IsPageMap cache.old → (edge : Bool) (row : Row)
-        → (may : MayJoin D (pages cache.old) page level edge row id pair.now.fork pair.now.left pair.now.first
-        pair.now.second pair.now.key pair.now.last)
-        → AreTooMany D (level - 1) may.pair.at.one may.pair.at.two → IfErr result IsOfDevice }
     ensures touched { OnOk result (touched_of cache.new ≡ true) }
     ensures damage { IsHonest cache.old → touched_of cache.new ≡ false
         → IfErr result (λ f. (n : ℕ) → f ≡ fault.Damaged n

@@ -1,13 +1,13 @@
 //! The root on a lower level.
 
-ghost use Rattle.std.specs.Prelude.{◌≡◌, ◌<◌, ◌⊎◌, length, IfErr, OnOk, ℕ, Some};
+ghost use Rattle.std.specs.Prelude.{◌≡◌, ◌⊎◌, IfErr, ℕ, Some};
 ghost use Rattle.page_file.specs.Fault.{IsDamage, IsOfDevice};
 ghost use Rattle.page_cache.specs.Cache.{Grows, IsPageMap, pages};
 ghost use Rattle.page_cache.specs.Calls.{Changes};
 ghost use Rattle.id_tree.specs.Joining.{Lifts, Lowers, MayFree, MayLower};
 ghost use Rattle.id_tree.specs.Tree.{Row, fork_in};
 ghost use Rattle.id_page.specs.Fork.{ForkContent};
-ghost use Rattle.id_tree.specs.Tidy.{KeepsTidy};
+ghost use Rattle.id_tree.specs.Works.{Works};
 
 use crate::looks::{copy_page, step};
 use crate::pairs::put_and_free;
@@ -24,15 +24,10 @@ pub(crate) fn lower<const D: usize, B: BlockDevice, A: Allocator + Copy>(
     level: u8,
 ) -> Result<(), Fault>
     ensures changes { Changes cache.old cache.new result }
-    ensures lowered { IsPageMap cache.old → (row : Row) → MayLower D (pages cache.old) root level row
-        → OnOk result (Lowers D (pages cache.old) (pages cache.new) root level row) }
-    ensures tidy { IsPageMap cache.old → (row : Row) → MayLower D (pages cache.old) root level row
-        → OnOk result (KeepsTidy D (pages cache.old) (pages cache.new)) }
-    ensures sound { IsPageMap cache.old → (row : Row) → MayLower D (pages cache.old) root level row
-        → IsPageMap cache.new }
+    ensures lowers { IsPageMap cache.old → (row : Row) → MayLower D (pages cache.old) root level row
+        → Works D cache.old cache.new result
+        (λ u. Lowers D (pages cache.old) (pages cache.new) root level row) IsOfDevice }
     ensures grows { Grows 0 cache.old cache.new }
-    ensures faults { IsPageMap cache.old → (row : Row) → MayLower D (pages cache.old) root level row
-        → IfErr result IsOfDevice }
     ensures other_faults { IfErr result (λ f. IsOfDevice f ⊎ IsDamage f) }
 {
     if level <= 1 {
@@ -57,14 +52,11 @@ fn lift<B: BlockDevice, A: Allocator + Copy>(
     child: u32,
 ) -> Result<(), Fault>
     ensures changes { Changes cache.old cache.new result }
-    ensures lifted { IsPageMap cache.old → MayFree (pages cache.old) root child
-        → OnOk result (Lifts (pages cache.old) (pages cache.new) root child) }
-    ensures tidy { IsPageMap cache.old → MayFree (pages cache.old) root child → (dims : ℕ) (c : ForkContent)
+    ensures lifts { IsPageMap cache.old → MayFree (pages cache.old) root child → (dims : ℕ) (c : ForkContent)
         → fork_in dims (pages cache.old child) ≡ Some c
-        → OnOk result (KeepsTidy dims (pages cache.old) (pages cache.new)) }
-    ensures sound { IsPageMap cache.old → MayFree (pages cache.old) root child → IsPageMap cache.new }
+        → Works dims cache.old cache.new result
+        (λ u. Lifts (pages cache.old) (pages cache.new) root child) IsOfDevice }
     ensures grows { Grows 0 cache.old cache.new }
-    ensures faults { IsPageMap cache.old → MayFree (pages cache.old) root child → IfErr result IsOfDevice }
     ensures other_faults { IfErr result (λ f. IsOfDevice f ⊎ IsDamage f) }
 {
     let bytes = copy_page(cache, child)?;

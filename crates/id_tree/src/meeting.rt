@@ -1,23 +1,23 @@
 //! What two neighbouring nodes have, as one page or as two shares of it.
 
 ghost use Rattle.std.specs.Prelude.{◌≡◌, ◌<◌, ◌≤◌, ◌+◌, ◌-◌, ◌⊎◌, ℕ, Bool, true, false, Some, List, ◌++◌};
-ghost use Rattle.std.specs.Prelude.{All};
-ghost use Rattle.std.specs.Prelude.{length, take, drop, slice_index_or, IfErr, IfOk};
+ghost use Rattle.std.specs.Prelude.{All, length, take, drop, slice_index_or, IfErr};
 ghost use Rattle.block_bytes.specs.Numbers.{number_at};
 ghost use Rattle.bucket_page.specs.Layout.{Entry};
 ghost use Rattle.page_file.specs.Fault.{IsDamage, IsOfDevice};
-ghost use Rattle.page_file.specs.declared.fault.Fault.TheVariants as fault;
 ghost use Rattle.page_cache.specs.Cache.{IsHonest, pages};
 ghost use Rattle.page_cache.specs.Calls.{Asks};
 ghost use Rattle.id_page.specs.Fork.{ForkContent, Link, fork_at, with_links, IsTidyFork};
 ghost use Rattle.id_page.specs.Leaf.{leaf_at, most_objects, IsTidyLeaf};
 ghost use Rattle.id_words.specs.Objects.{times_in};
-ghost use Rattle.id_tree.specs.Cutting.{Cuts, CutsFork, CutsLeaf, SpellsNode};
+ghost use Rattle.id_tree.specs.Cutting.{CutsFork, CutsLeaf, SpellsNode};
 ghost use Rattle.id_tree.specs.Halving.{from_key, under_key};
-ghost use Rattle.id_tree.specs.Joining.{AreNeighbours, AreTooMany, FitTogether, HaveRoom, IsBalanced};
-ghost use Rattle.id_tree.specs.Joining.{LeaveRoom, met, with_key};
+ghost use Rattle.id_tree.specs.Joining.{AreNeighbours, AreTooMany, FitTogether, HaveRoom, IsBalanced, met};
+ghost use Rattle.id_tree.specs.Joining.{with_key, CutsBoth};
 ghost use Rattle.id_tree.specs.Tree.{HasNode, Row};
-ghost use Rattle.id_tree.specs.Tidy.{AreAsTidy, IsAsTidy};
+ghost use Rattle.id_tree.specs.Tidy.{IsAsTidy};
+ghost use Rattle.id_tree.specs.Works.{Finds};
+ghost use Rattle.page_file.specs.declared.fault.Fault.TheVariants as fault;
 
 use crate::halving::Cut;
 use crate::looks::{copy_page, count_in};
@@ -41,14 +41,9 @@ pub(crate) fn fit_together<const D: usize, B: BlockDevice, A: Allocator + Copy>(
     level: u8,
 ) -> Result<bool, Fault>
     ensures asks { Asks cache.old cache.new result }
-    ensures fit { IsHonest cache.old → (one two : Row) → HasNode D (pages cache.old) first level one
-        → HasNode D (pages cache.old) second level two
-        → IfOk result (λ fit. fit ≡ true → FitTogether D level one two) }
-    ensures many { IsHonest cache.old → (one two : Row) → HasNode D (pages cache.old) first level one
-        → HasNode D (pages cache.old) second level two
-        → IfOk result (λ fit. fit ≡ false → AreTooMany D level one two) }
-    ensures there { IsHonest cache.old → (one two : Row) → HasNode D (pages cache.old) first level one
-        → HasNode D (pages cache.old) second level two → IfErr result IsOfDevice }
+    ensures fits { IsHonest cache.old → (one two : Row) → HasNode D (pages cache.old) first level one
+        → HasNode D (pages cache.old) second level two → Finds result (λ fit.
+        (fit ≡ true → FitTogether D level one two) × (fit ≡ false → AreTooMany D level one two)) }
     ensures damage { IsHonest cache.old → IfErr result (λ f. (n : ℕ) → f ≡ fault.Damaged n
         → (n ≡ first) ⊎ (n ≡ second)) }
     ensures other_faults { IfErr result (λ f. IsOfDevice f ⊎ IsDamage f) }
@@ -83,15 +78,9 @@ pub(crate) fn joined<const D: usize, B: BlockDevice, A: Allocator + Copy>(
     level: u8,
 ) -> Result<[u8; 4096], Fault>
     ensures asks { Asks cache.old cache.new result }
-    ensures all { IsHonest cache.old → (one two : Row) → HasNode D (pages cache.old) first level one
-        → HasNode D (pages cache.old) second level two → FitTogether D level one two
-        → IfOk result (λ page. SpellsNode D level (met key one two) page) }
-    ensures tidy { IsHonest cache.old → (one two : Row) → HasNode D (pages cache.old) first level one
-        → HasNode D (pages cache.old) second level two → FitTogether D level one two
-        → IfOk result (IsAsTidy D (pages cache.old)) }
-    ensures there { IsHonest cache.old → (one two : Row) → HasNode D (pages cache.old) first level one
-        → HasNode D (pages cache.old) second level two → FitTogether D level one two
-        → IfErr result IsOfDevice }
+    ensures joins { IsHonest cache.old → (one two : Row) → HasNode D (pages cache.old) first level one
+        → HasNode D (pages cache.old) second level two → FitTogether D level one two → Finds result
+        (λ page. SpellsNode D level (met key one two) page × IsAsTidy D (pages cache.old) page) }
     ensures damage { IsHonest cache.old → IfErr result (λ f. (n : ℕ) → f ≡ fault.Damaged n
         → (n ≡ first) ⊎ (n ≡ second)) }
     ensures other_faults { IfErr result (λ f. IsOfDevice f ⊎ IsDamage f) }
@@ -163,21 +152,10 @@ pub(crate) fn shared<const D: usize, B: BlockDevice, A: Allocator + Copy>(
     level: u8,
 ) -> Result<Cut, Fault>
     ensures asks { Asks cache.old cache.new result }
-    ensures cuts { IsHonest cache.old → (edge : Bool) (one two : Row)
+    ensures shares { IsHonest cache.old → (edge : Bool) (one two : Row)
         → AreNeighbours D (pages cache.old) level edge first second key one two → AreTooMany D level one two
-        → IfOk result (λ cut. Cuts D level edge (met key one two) cut.key cut.first cut.second) }
-    ensures balanced { IsHonest cache.old → (edge : Bool) (one two : Row)
-        → AreNeighbours D (pages cache.old) level edge first second key one two → AreTooMany D level one two
-        → IfOk result (λ cut. IsBalanced D level cut.first cut.second) }
-    ensures roomy { IsHonest cache.old → (edge : Bool) (one two : Row)
-        → AreNeighbours D (pages cache.old) level edge first second key one two → AreTooMany D level one two
-        → LeaveRoom D level one two → IfOk result (λ cut. HaveRoom D cut.first cut.second) }
-    ensures tidy { IsHonest cache.old → (edge : Bool) (one two : Row)
-        → AreNeighbours D (pages cache.old) level edge first second key one two → AreTooMany D level one two
-        → IfOk result (λ cut. AreAsTidy D (pages cache.old) cut.first cut.second) }
-    ensures there { IsHonest cache.old → (edge : Bool) (one two : Row)
-        → AreNeighbours D (pages cache.old) level edge first second key one two → AreTooMany D level one two
-        → IfErr result IsOfDevice }
+        → Finds result (λ cut.
+        CutsBoth D (pages cache.old) level edge key one two cut.key cut.first cut.second) }
     ensures damage { IsHonest cache.old → IfErr result (λ f. (n : ℕ) → f ≡ fault.Damaged n
         → (n ≡ first) ⊎ (n ≡ second)) }
     ensures other_faults { IfErr result (λ f. IsOfDevice f ⊎ IsDamage f) }

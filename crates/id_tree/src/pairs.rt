@@ -1,19 +1,19 @@
 //! Two children of a fork next to one another, one of which is on the way to an identifier.
 
-ghost use Rattle.std.specs.Prelude.{◌≡◌, ℕ, ◌<◌, ◌≤◌, ◌+◌, ◌⊎◌, Some, length, true, false};
-ghost use Rattle.std.specs.Prelude.{remove, slice_index_or, slice_set, IfErr, IfOk, OnOk};
+ghost use Rattle.std.specs.Prelude.{◌≡◌, ℕ, ◌<◌, ◌≤◌, ◌+◌, ◌⊎◌, Some, length, true, false, remove};
+ghost use Rattle.std.specs.Prelude.{slice_index_or, slice_set, IfErr, IfOk, OnOk};
 ghost use Rattle.block_bytes.specs.Numbers.{number_at};
 ghost use Rattle.page_file.specs.Fault.{IsDamage, IsOfDevice};
-ghost use Rattle.page_file.specs.declared.fault.Fault.TheVariants as fault;
-ghost use Rattle.page_cache.specs.Cache.{Grows, IsHonest, IsPageMap, pages, IsLive, given};
-ghost use Rattle.page_cache.specs.Cache.{touched_of};
+ghost use Rattle.page_cache.specs.Cache.{Grows, IsHonest, IsPageMap, pages, IsLive, given, touched_of};
 ghost use Rattle.page_cache.specs.Calls.{Asks, Changes};
 ghost use Rattle.id_page.specs.Fork.{ForkContent, Link, fork_at, with_links, IsTidyFork};
 ghost use Rattle.id_tree.specs.Joining.{AreApart, IsBeside, IsPair, Joins, MayFree, MayMeet, PutsAndFrees};
 ghost use Rattle.id_tree.specs.Joining.{PutsBoth, Shares};
 ghost use Rattle.id_tree.specs.Tree.{Row, fork_in};
-ghost use Rattle.id_tree.specs.Tidy.{AreAsTidy, IsAsTidy, KeepsTidy};
+ghost use Rattle.id_tree.specs.Tidy.{AreAsTidy, IsAsTidy};
 ghost use Rattle.id_tree.specs.Checked.{Names};
+ghost use Rattle.id_tree.specs.Works.{Works};
+ghost use Rattle.page_file.specs.declared.fault.Fault.TheVariants as fault;
 
 use crate::below::is_last;
 use crate::halving::Cut;
@@ -97,18 +97,12 @@ pub(crate) fn put_joined<const D: usize, B: BlockDevice, A: Allocator + Copy>(
     requires within { pair.now.left + 1 < number_at 2 2 pair.now.fork }
     requires few { number_at 2 2 pair.now.fork ≤ 340 }
     ensures changes { Changes cache.old cache.new result }
-    ensures joined { IsPageMap cache.old → AreApart (pages cache.old) page pair.now.first pair.now.second
-        → OnOk result (Joins D (pages cache.old) (pages cache.new) page pair.now.first pair.now.second
-        (pair.now.left + 1) pair.now.fork all.now) }
-    ensures tidy { IsPageMap cache.old → AreApart (pages cache.old) page pair.now.first pair.now.second
+    ensures puts { IsPageMap cache.old → AreApart (pages cache.old) page pair.now.first pair.now.second
         → (c : ForkContent) → fork_at D pair.now.fork ≡ Some c → IsAsTidy D (pages cache.old) pair.now.fork
         → IsAsTidy D (pages cache.old) all.now
-        → OnOk result (KeepsTidy D (pages cache.old) (pages cache.new)) }
-    ensures sound { IsPageMap cache.old → AreApart (pages cache.old) page pair.now.first pair.now.second
-        → IsPageMap cache.new }
+        → Works D cache.old cache.new result (λ u. Joins D (pages cache.old) (pages cache.new) page
+        pair.now.first pair.now.second (pair.now.left + 1) pair.now.fork all.now) IsOfDevice }
     ensures grows { Grows 0 cache.old cache.new }
-    ensures faults { IsPageMap cache.old → AreApart (pages cache.old) page pair.now.first pair.now.second
-        → IfErr result IsOfDevice }
     ensures touched { OnOk result (touched_of cache.new ≡ true) }
     ensures damage { IsHonest cache.old → touched_of cache.new ≡ false
         → IfErr result (λ f. IsOfDevice f ⊎ (f ≡ fault.Damaged pair.now.first)) }
@@ -128,14 +122,11 @@ pub(crate) fn put_and_free<B: BlockDevice, A: Allocator + Copy>(
     bytes: &[u8; 4096],
 ) -> Result<(), Fault>
     ensures changes { Changes cache.old cache.new result }
-    ensures done { IsPageMap cache.old → MayFree (pages cache.old) first second
-        → OnOk result (PutsAndFrees (pages cache.old) (pages cache.new) first second bytes.now) }
-    ensures tidy { IsPageMap cache.old → MayFree (pages cache.old) first second → (dims : ℕ)
+    ensures puts { IsPageMap cache.old → MayFree (pages cache.old) first second → (dims : ℕ)
         → IsAsTidy dims (pages cache.old) bytes.now
-        → OnOk result (KeepsTidy dims (pages cache.old) (pages cache.new)) }
-    ensures sound { IsPageMap cache.old → MayFree (pages cache.old) first second → IsPageMap cache.new }
+        → Works dims cache.old cache.new result
+        (λ u. PutsAndFrees (pages cache.old) (pages cache.new) first second bytes.now) IsOfDevice }
     ensures grows { Grows 0 cache.old cache.new }
-    ensures faults { IsPageMap cache.old → MayFree (pages cache.old) first second → IfErr result IsOfDevice }
     ensures touched { OnOk result (touched_of cache.new ≡ true) }
     ensures damage { IsHonest cache.old → touched_of cache.new ≡ false
         → IfErr result (λ f. IsOfDevice f ⊎ (f ≡ fault.Damaged first)) }
@@ -169,19 +160,14 @@ pub(crate) fn put_shares<const D: usize, B: BlockDevice, A: Allocator + Copy>(
     requires within { pair.now.left + 1 < number_at 2 2 pair.now.fork }
     requires few { number_at 2 2 pair.now.fork ≤ 340 }
     ensures changes { Changes cache.old cache.new result }
-    ensures shared { IsPageMap cache.old → AreApart (pages cache.old) page pair.now.first pair.now.second
-        → OnOk result (Shares D (pages cache.old) (pages cache.new) page pair.now.first pair.now.second
-        (pair.now.left + 1) cut.now.key pair.now.fork cut.now.first cut.now.second) }
-    ensures tidy { IsPageMap cache.old → AreApart (pages cache.old) page pair.now.first pair.now.second
+    ensures puts { IsPageMap cache.old → AreApart (pages cache.old) page pair.now.first pair.now.second
         → (c : ForkContent) → fork_at D pair.now.fork ≡ Some c → pair.now.left + 1 < length c.links
-        → IsAsTidy D (pages cache.old) pair.now.fork → AreAsTidy D (pages cache.old) cut.now.first
-        cut.now.second
-        → OnOk result (KeepsTidy D (pages cache.old) (pages cache.new)) }
-    ensures sound { IsPageMap cache.old → AreApart (pages cache.old) page pair.now.first pair.now.second
-        → IsPageMap cache.new }
+        → IsAsTidy D (pages cache.old) pair.now.fork
+        → AreAsTidy D (pages cache.old) cut.now.first cut.now.second
+        → Works D cache.old cache.new result (λ u. Shares D (pages cache.old) (pages cache.new) page
+        pair.now.first pair.now.second (pair.now.left + 1) cut.now.key pair.now.fork cut.now.first
+        cut.now.second) IsOfDevice }
     ensures grows { Grows 0 cache.old cache.new }
-    ensures faults { IsPageMap cache.old → AreApart (pages cache.old) page pair.now.first pair.now.second
-        → IfErr result IsOfDevice }
     ensures touched { OnOk result (touched_of cache.new ≡ true) }
     ensures damage { IsHonest cache.old → touched_of cache.new ≡ false
         → IfErr result (λ f. IsOfDevice f ⊎ (f ≡ fault.Damaged pair.now.first)) }
@@ -202,14 +188,11 @@ fn put_both<B: BlockDevice, A: Allocator + Copy>(
     two: &[u8; 4096],
 ) -> Result<(), Fault>
     ensures changes { Changes cache.old cache.new result }
-    ensures done { IsPageMap cache.old → MayFree (pages cache.old) first second
-        → OnOk result (PutsBoth (pages cache.old) (pages cache.new) first second one.now two.now) }
-    ensures tidy { IsPageMap cache.old → MayFree (pages cache.old) first second → (dims : ℕ)
+    ensures puts { IsPageMap cache.old → MayFree (pages cache.old) first second → (dims : ℕ)
         → AreAsTidy dims (pages cache.old) one.now two.now
-        → OnOk result (KeepsTidy dims (pages cache.old) (pages cache.new)) }
-    ensures sound { IsPageMap cache.old → MayFree (pages cache.old) first second → IsPageMap cache.new }
+        → Works dims cache.old cache.new result
+        (λ u. PutsBoth (pages cache.old) (pages cache.new) first second one.now two.now) IsOfDevice }
     ensures grows { Grows 0 cache.old cache.new }
-    ensures faults { IsPageMap cache.old → MayFree (pages cache.old) first second → IfErr result IsOfDevice }
     ensures touched { OnOk result (touched_of cache.new ≡ true) }
     ensures damage { IsHonest cache.old → touched_of cache.new ≡ false
         → IfErr result (λ f. IsOfDevice f ⊎ (f ≡ fault.Damaged first)) }

@@ -1,10 +1,8 @@
 //! An object removed.
 
 ghost use Rattle.std.specs.Prelude.{◌≡◌, ◌≤◌, ◌⊎◌, ℕ, true, false, length, IfErr, OnOk};
-ghost use Rattle.std.specs.FinMap as map;
 ghost use Rattle.box_math.specs.Bounds.{IsDims};
 ghost use Rattle.page_file.specs.Fault.{IsDamage, IsOfDevice};
-ghost use Rattle.page_file.specs.declared.fault.Fault.TheVariants as fault;
 ghost use Rattle.page_cache.specs.Cache.{Grows, IsHonest, IsPageMap, given, pages, touched_of};
 ghost use Rattle.page_cache.specs.Calls.{Changes};
 ghost use Rattle.id_tree.specs.Changes.{Removes};
@@ -15,6 +13,9 @@ ghost use Rattle.id_tree.specs.Steps.{Becomes};
 ghost use Rattle.id_tree.specs.Steps.Step.{drops};
 ghost use Rattle.id_tree.specs.Tidy.{KeepsTidy};
 ghost use Rattle.id_tree.specs.Tree.{IdTree, Row, TreeStands, objects_in, objects_of};
+ghost use Rattle.id_tree.specs.Works.{Works};
+ghost use Rattle.std.specs.FinMap as map;
+ghost use Rattle.page_file.specs.declared.fault.Fault.TheVariants as fault;
 
 use crate::below::look_below;
 use crate::joining::{is_ample, join};
@@ -84,16 +85,10 @@ fn remove_from_root<const D: usize, B: BlockDevice, A: Allocator + Copy>(
 ) -> Result<(), Fault>
     requires dims { IsDims D }
     ensures changes { Changes cache.old cache.new result }
-    ensures sound { IsPageMap cache.old → (t : IdTree) → t.page ≡ root → TreeStands D (pages cache.old) t
-        → IsPageMap cache.new }
-    ensures tidy { IsPageMap cache.old → (t : IdTree) → t.page ≡ root → TreeStands D (pages cache.old) t
-        → OnOk result (KeepsTidy D (pages cache.old) (pages cache.new)) }
-    ensures removed { IsPageMap cache.old → (t : IdTree) → t.page ≡ root → TreeStands D (pages cache.old) t
-        → map.contains_key (objects_of t) id ≡ true
-        → OnOk result (Removes D (pages cache.old) (pages cache.new) t id) }
+    ensures removes { IsPageMap cache.old → (t : IdTree) → t.page ≡ root → TreeStands D (pages cache.old) t
+        → Works D cache.old cache.new result
+        (λ u. Removes D (pages cache.old) (pages cache.new) t id) (λ f. Has id t.row → IsOfDevice f) }
     ensures grows { Grows 0 cache.old cache.new }
-    ensures faults { IsPageMap cache.old → (t : IdTree) → t.page ≡ root → TreeStands D (pages cache.old) t
-        → map.contains_key (objects_of t) id ≡ true → IfErr result IsOfDevice }
     ensures damage { IsHonest cache.old → touched_of cache.new ≡ false
         → IfErr result (λ f. (n : ℕ) → f ≡ fault.Damaged n → ComesInTree D (given cache.old) root n) }
     ensures other_faults { IfErr result (λ f. IsOfDevice f ⊎ IsDamage f) }
@@ -121,15 +116,10 @@ fn remove_among<const D: usize, B: BlockDevice, A: Allocator + Copy>(
 ) -> Result<(), Fault>
     requires dims { IsDims D }
     ensures changes { Changes cache.old cache.new result }
-    ensures tidy { IsPageMap cache.old → (t : IdTree) → t.page ≡ root → IsAmong D (pages cache.old) t level
-        → OnOk result (KeepsTidy D (pages cache.old) (pages cache.new)) }
-    ensures sound { IsPageMap cache.old → (t : IdTree) → t.page ≡ root → IsAmong D (pages cache.old) t level
-        → IsPageMap cache.new }
-    ensures removed { IsPageMap cache.old → (t : IdTree) → t.page ≡ root → IsAmong D (pages cache.old) t level
-        → Has id t.row → OnOk result (Removes D (pages cache.old) (pages cache.new) t id) }
+    ensures removes { IsPageMap cache.old → (t : IdTree) → t.page ≡ root → IsAmong D (pages cache.old) t level
+        → Works D cache.old cache.new result
+        (λ u. Removes D (pages cache.old) (pages cache.new) t id) (λ f. Has id t.row → IsOfDevice f) }
     ensures grows { Grows 0 cache.old cache.new }
-    ensures faults { IsPageMap cache.old → (t : IdTree) → t.page ≡ root → IsAmong D (pages cache.old) t level
-        → Has id t.row → IfErr result IsOfDevice }
     ensures damage { IsHonest cache.old → touched_of cache.new ≡ false
         → IfErr result (λ f. (n : ℕ) → f ≡ fault.Damaged n → ComesInTree D (given cache.old) root n) }
     ensures other_faults { IfErr result (λ f. IsOfDevice f ⊎ IsDamage f) }
@@ -150,18 +140,11 @@ fn remove_below<const D: usize, B: BlockDevice, A: Allocator + Copy>(
 ) -> Result<(), Fault>
     requires dims { IsDims D }
     ensures changes { Changes cache.old cache.new result }
-    ensures removed { IsPageMap cache.old → (row : Row) → MayShrink D (pages cache.old) page level edge row
-        → Has id row
-        → OnOk result (Becomes D (pages cache.old) (pages cache.new) page level edge row id drops) }
-    ensures there { IsPageMap cache.old → (row : Row) → MayShrink D (pages cache.old) page level edge row
-        → OnOk result (Has id row) }
-    ensures tidy { IsPageMap cache.old → (row : Row) → MayShrink D (pages cache.old) page level edge row
-        → OnOk result (KeepsTidy D (pages cache.old) (pages cache.new)) }
-    ensures sound { IsPageMap cache.old → (row : Row) → MayShrink D (pages cache.old) page level edge row
-        → IsPageMap cache.new }
+    ensures removes { IsPageMap cache.old → (row : Row) → MayShrink D (pages cache.old) page level edge row
+        → Works D cache.old cache.new result
+        (λ u. Becomes D (pages cache.old) (pages cache.new) page level edge row id drops)
+        (λ f. Has id row → IsOfDevice f) }
     ensures grows { Grows 0 cache.old cache.new }
-    ensures faults { IsPageMap cache.old → (row : Row) → MayShrink D (pages cache.old) page level edge row
-        → Has id row → IfErr result IsOfDevice }
     ensures touched { OnOk result (touched_of cache.new ≡ true) }
     ensures damage { IsHonest cache.old → touched_of cache.new ≡ false
         → IfErr result (λ f. (n : ℕ) → f ≡ fault.Damaged n → ComesInTree D (given cache.old) page n) }
@@ -190,17 +173,11 @@ fn take_in<const D: usize, B: BlockDevice, A: Allocator + Copy>(
 ) -> Result<(), Fault>
     requires dims { IsDims D }
     ensures changes { Changes cache.old cache.new result }
-    ensures removed { IsPageMap cache.old → (row : Row) → MayShrink D (pages cache.old) page 0 edge row
-        → Has id row → OnOk result (Becomes D (pages cache.old) (pages cache.new) page 0 edge row id drops) }
-    ensures there { IsPageMap cache.old → (row : Row) → MayShrink D (pages cache.old) page 0 edge row
-        → OnOk result (Has id row) }
-    ensures tidy { IsPageMap cache.old → (row : Row) → MayShrink D (pages cache.old) page 0 edge row
-        → OnOk result (KeepsTidy D (pages cache.old) (pages cache.new)) }
-    ensures sound { IsPageMap cache.old → (row : Row) → MayShrink D (pages cache.old) page 0 edge row
-        → IsPageMap cache.new }
+    ensures removes { IsPageMap cache.old → (row : Row) → MayShrink D (pages cache.old) page 0 edge row
+        → Works D cache.old cache.new result
+        (λ u. Becomes D (pages cache.old) (pages cache.new) page 0 edge row id drops)
+        (λ f. Has id row → IsOfDevice f) }
     ensures grows { Grows 0 cache.old cache.new }
-    ensures faults { IsPageMap cache.old → (row : Row) → MayShrink D (pages cache.old) page 0 edge row
-        → Has id row → IfErr result IsOfDevice }
     ensures touched { OnOk result (touched_of cache.new ≡ true) }
     ensures damage { IsHonest cache.old → IfErr result (λ f. IsOfDevice f ⊎ (f ≡ fault.Damaged page)) }
     ensures other_faults { IfErr result (λ f. IsOfDevice f ⊎ IsDamage f) }
@@ -222,17 +199,10 @@ fn remove_only<const D: usize, B: BlockDevice, A: Allocator + Copy>(
 ) -> Result<(), Fault>
     requires dims { IsDims D }
     ensures changes { Changes cache.old cache.new result }
-    ensures tidy { IsPageMap cache.old → (t : IdTree) → t.page ≡ root → IsOnly D (pages cache.old) t leaf
-        → OnOk result (KeepsTidy D (pages cache.old) (pages cache.new)) }
-    ensures sound { IsPageMap cache.old → (t : IdTree) → t.page ≡ root → IsOnly D (pages cache.old) t leaf
-        → IsPageMap cache.new }
-    ensures removed { IsPageMap cache.old → (t : IdTree) → t.page ≡ root → IsOnly D (pages cache.old) t leaf
-        → Has id t.row → OnOk result (Removes D (pages cache.old) (pages cache.new) t id) }
-    ensures there { IsPageMap cache.old → (t : IdTree) → t.page ≡ root → IsOnly D (pages cache.old) t leaf
-        → OnOk result (Has id t.row) }
+    ensures removes { IsPageMap cache.old → (t : IdTree) → t.page ≡ root → IsOnly D (pages cache.old) t leaf
+        → Works D cache.old cache.new result
+        (λ u. Removes D (pages cache.old) (pages cache.new) t id) (λ f. Has id t.row → IsOfDevice f) }
     ensures grows { Grows 0 cache.old cache.new }
-    ensures faults { IsPageMap cache.old → (t : IdTree) → t.page ≡ root → IsOnly D (pages cache.old) t leaf
-        → Has id t.row → IfErr result IsOfDevice }
     ensures damage { IsHonest cache.old → touched_of cache.new ≡ false
         → IfErr result (λ f. (n : ℕ) → f ≡ fault.Damaged n
         → (n ≡ leaf) ⊎ (n ≡ root)) }
@@ -255,18 +225,10 @@ fn remove_last<const D: usize, B: BlockDevice, A: Allocator + Copy>(
 ) -> Result<(), Fault>
     requires dims { IsDims D }
     ensures changes { Changes cache.old cache.new result }
-    ensures tidy { IsPageMap cache.old → (t : IdTree) → t.page ≡ root → IsOnly D (pages cache.old) t leaf
-        → OnOk result (KeepsTidy D (pages cache.old) (pages cache.new)) }
-    ensures sound { IsPageMap cache.old → (t : IdTree) → t.page ≡ root → IsOnly D (pages cache.old) t leaf
-        → IsPageMap cache.new }
-    ensures removed { IsPageMap cache.old → (t : IdTree) → t.page ≡ root → IsOnly D (pages cache.old) t leaf
-        → Has id t.row → length (objects_in t.row) ≤ 1
-        → OnOk result (Removes D (pages cache.old) (pages cache.new) t id) }
-    ensures there { IsPageMap cache.old → (t : IdTree) → t.page ≡ root → IsOnly D (pages cache.old) t leaf
-        → OnOk result (Has id t.row) }
+    ensures removes { IsPageMap cache.old → (t : IdTree) → t.page ≡ root → IsOnly D (pages cache.old) t leaf
+        → length (objects_in t.row) ≤ 1 → Works D cache.old cache.new result
+        (λ u. Removes D (pages cache.old) (pages cache.new) t id) (λ f. Has id t.row → IsOfDevice f) }
     ensures grows { Grows 0 cache.old cache.new }
-    ensures faults { IsPageMap cache.old → (t : IdTree) → t.page ≡ root → IsOnly D (pages cache.old) t leaf
-        → Has id t.row → IfErr result IsOfDevice }
     ensures damage { IsHonest cache.old → touched_of cache.new ≡ false
         → IfErr result (λ f. (n : ℕ) → f ≡ fault.Damaged n
         → (n ≡ leaf) ⊎ (n ≡ root)) }

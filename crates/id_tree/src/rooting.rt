@@ -1,18 +1,19 @@
 //! The root of a table: its first object, and one level more.
 
-ghost use Rattle.std.specs.Prelude.{◌≡◌, ◌<◌, ◌⊎◌, Some, [], ◌∷◌, IfErr, IfOk, OnOk, ℕ, true, false};
+ghost use Rattle.std.specs.Prelude.{◌≡◌, ◌<◌, ◌⊎◌, Some, [], ◌∷◌, IfErr, OnOk, ℕ, true, false};
 ghost use Rattle.box_math.specs.Bounds.{IsDims};
 ghost use Rattle.page_file.specs.Fault.{IsDamage};
-ghost use Rattle.page_file.specs.declared.fault.Fault.TheVariants as fault;
 ghost use Rattle.page_cache.specs.Cache.{Grows, IsLive, IsPageMap, pages, IsHonest, touched_of};
 ghost use Rattle.page_cache.specs.Calls.{Changes};
 ghost use Rattle.node_page.specs.Faults.{IsNoDamage};
 ghost use Rattle.id_page.specs.Fork.{fork_at, ForkContent, IsTidyFork};
 ghost use Rattle.id_page.specs.Leaf.{leaf_at, IsTidyLeaf};
 ghost use Rattle.id_tree.specs.Writes.{Deepens, NamesNew, Starts};
-ghost use Rattle.id_tree.specs.Tidy.{IsAsTidy, KeepsTidy};
+ghost use Rattle.id_tree.specs.Tidy.{IsAsTidy};
 ghost use Rattle.id_tree.specs.Tree.{fork_in};
 ghost use Rattle.id_words.specs.Damage.{MayBreakAt};
+ghost use Rattle.id_tree.specs.Works.{Works};
+ghost use Rattle.page_file.specs.declared.fault.Fault.TheVariants as fault;
 
 use crate::giving::give_page;
 use crate::looks::copy_page;
@@ -36,13 +37,11 @@ pub(crate) fn name_new<const D: usize, B: BlockDevice, A: Allocator + Copy>(
     requires dims { IsDims D }
     requires high { 0 < level }
     ensures changes { Changes cache.old cache.new result }
-    ensures named { IsPageMap cache.old → IsLive cache.old root
-        → IfOk result (λ number. NamesNew D (pages cache.old) (pages cache.new) root level number bytes.now) }
-    ensures tidy { IsPageMap cache.old → IsLive cache.old root → IsAsTidy D (pages cache.old) bytes.now
-        → OnOk result (KeepsTidy D (pages cache.old) (pages cache.new)) }
-    ensures sound { IsPageMap cache.old → IsLive cache.old root → IsPageMap cache.new }
+    ensures names { IsPageMap cache.old → IsLive cache.old root → IsAsTidy D (pages cache.old) bytes.now
+        → Works D cache.old cache.new result
+        (λ number. NamesNew D (pages cache.old) (pages cache.new) root level number bytes.now)
+        (IsNoDamage cache.new) }
     ensures grows { Grows 1 cache.old cache.new }
-    ensures faults { IsPageMap cache.old → IsLive cache.old root → IfErr result (IsNoDamage cache.new) }
     ensures touched { OnOk result (touched_of cache.new ≡ true) }
     ensures damage { IsHonest cache.old → touched_of cache.new ≡ false
         → IfErr result (λ f. (n : ℕ) → f ≡ fault.Damaged n → MayBreakAt cache.old n) }
@@ -87,13 +86,9 @@ pub(crate) fn start<const D: usize, B: BlockDevice, A: Allocator + Copy>(
 ) -> Result<(), Fault>
     requires dims { IsDims D }
     ensures changes { Changes cache.old cache.new result }
-    ensures started { IsPageMap cache.old → IsLive cache.old root
-        → OnOk result (Starts D (pages cache.old) (pages cache.new) root object.now) }
-    ensures tidy { IsPageMap cache.old → IsLive cache.old root
-        → OnOk result (KeepsTidy D (pages cache.old) (pages cache.new)) }
-    ensures sound { IsPageMap cache.old → IsLive cache.old root → IsPageMap cache.new }
+    ensures starts { IsPageMap cache.old → IsLive cache.old root → Works D cache.old cache.new result
+        (λ u. Starts D (pages cache.old) (pages cache.new) root object.now) (IsNoDamage cache.new) }
     ensures grows { Grows 1 cache.old cache.new }
-    ensures faults { IsPageMap cache.old → IsLive cache.old root → IfErr result (IsNoDamage cache.new) }
     ensures damage { IsHonest cache.old → touched_of cache.new ≡ false
         → IfErr result (λ f. (n : ℕ) → f ≡ fault.Damaged n → MayBreakAt cache.old n) }
     ensures other_faults { IfErr result (λ f. IsNoDamage cache.new f ⊎ IsDamage f) }
@@ -125,14 +120,10 @@ pub(crate) fn deepen<const D: usize, B: BlockDevice, A: Allocator + Copy>(
     requires dims { IsDims D }
     requires low { level < 255 }
     ensures changes { Changes cache.old cache.new result }
-    ensures deepened { IsPageMap cache.old → IsLive cache.old root
-        → IfOk result (λ number. Deepens D (pages cache.old) (pages cache.new) root level number) }
-    ensures tidy { IsPageMap cache.old → (c : ForkContent) → fork_in D (pages cache.old root) ≡ Some c
-        → OnOk result (KeepsTidy D (pages cache.old) (pages cache.new)) }
-    ensures sound { IsPageMap cache.old → IsLive cache.old root → IsPageMap cache.new }
+    ensures deepens { IsPageMap cache.old → (c : ForkContent) → fork_in D (pages cache.old root) ≡ Some c
+        → Works D cache.old cache.new result
+        (λ number. Deepens D (pages cache.old) (pages cache.new) root level number) (IsNoDamage cache.new) }
     ensures grows { Grows 1 cache.old cache.new }
-    ensures faults { IsPageMap cache.old → IsLive cache.old root
-        → IfErr result (IsNoDamage cache.new) }
     ensures touched { OnOk result (touched_of cache.new ≡ true) }
     ensures damage { IsHonest cache.old → touched_of cache.new ≡ false
         → IfErr result (λ f. (n : ℕ) → f ≡ fault.Damaged n → (n ≡ root) ⊎ MayBreakAt cache.old n) }

@@ -1,10 +1,9 @@
 //! Room in a full child: a leaf shares with a neighbour that has room enough, and else the child is split.
 
-ghost use Rattle.std.specs.Prelude.{◌≡◌, ◌<◌, ◌≤◌, ◌⊎◌, ◌+◌, ◌-◌, ◌*◌, ◌/◌, ℕ, Bool, true, false, Some};
-ghost use Rattle.std.specs.Prelude.{List, length, slice_index_or, IfErr, IfOk, IfSome, IsSome, OnOk};
+ghost use Rattle.std.specs.Prelude.{◌≡◌, ◌<◌, ◌≤◌, ◌⊎◌, ◌+◌, ◌-◌, ◌*◌, ◌/◌, ℕ, Bool, true, false, Some, List};
+ghost use Rattle.std.specs.Prelude.{length, slice_index_or, IfErr, IfOk, IfSome, IsSome, OnOk};
 ghost use Rattle.block_bytes.specs.Numbers.{number_at};
 ghost use Rattle.page_file.specs.Fault.{IsDamage, IsOfDevice};
-ghost use Rattle.page_file.specs.declared.fault.Fault.TheVariants as fault;
 ghost use Rattle.page_cache.specs.Cache.{Grows, IsHonest, IsLive, IsPageMap, given, pages, touched_of};
 ghost use Rattle.page_cache.specs.Calls.{Asks, Changes};
 ghost use Rattle.node_page.specs.Faults.{IsNoDamage};
@@ -15,8 +14,9 @@ ghost use Rattle.id_tree.specs.Checked.{ComesInTree, Names, NamesChild};
 ghost use Rattle.id_tree.specs.Joining.{AreTooMany, HasChildren, LeaveRoom, MayShare, MayShareEach};
 ghost use Rattle.id_tree.specs.Joining.{emptier_left};
 ghost use Rattle.id_tree.specs.Steps.{MakesRoom, MaySplit};
-ghost use Rattle.id_tree.specs.Tidy.{KeepsTidy};
 ghost use Rattle.id_tree.specs.Tree.{HasNode, Row, fork_in, links_of, objects_in};
+ghost use Rattle.id_tree.specs.Works.{Works};
+ghost use Rattle.page_file.specs.declared.fault.Fault.TheVariants as fault;
 
 use crate::below::Below;
 use crate::joining::share;
@@ -43,27 +43,16 @@ pub(crate) fn make_room<const D: usize, B: BlockDevice, A: Allocator + Copy>(
 ) -> Result<(u32, bool), Fault>
     requires high { 0 < level }
     ensures changes { Changes cache.old cache.new result }
-    ensures made { IsPageMap cache.old → (row : Row)
+    ensures makes { IsPageMap cache.old → (row : Row)
         → MaySplit D (pages cache.old) page level edge row id
-        below.now.child below.now.place below.now.last
-        → IfOk result (λ r. MakesRoom D (pages cache.old) (pages cache.new) page level edge row id r.0 r.1) }
-    ensures tidy { IsPageMap cache.old → (row : Row)
-        → MaySplit D (pages cache.old) page level edge row id
-        below.now.child below.now.place below.now.last
-        → OnOk result (KeepsTidy D (pages cache.old) (pages cache.new)) }
-    ensures sound { IsPageMap cache.old → (row : Row)
-        → MaySplit D (pages cache.old) page level edge row id
-        below.now.child below.now.place below.now.last
-        → IsPageMap cache.new }
+        below.now.child below.now.place below.now.last → Works D cache.old cache.new result
+        (λ r. MakesRoom D (pages cache.old) (pages cache.new) page level edge row id r.0 r.1)
+        (IsNoDamage cache.new) }
     ensures grows { Grows 1 cache.old cache.new }
     ensures shares { IsPageMap cache.old → (row : Row)
         → MaySplit D (pages cache.old) page level edge row id
         below.now.child below.now.place below.now.last → level ≡ 1
         → 1 < length (links_of row) → MayShareEach D (level - 1) id row → Grows 0 cache.old cache.new }
-    ensures faults { IsPageMap cache.old → (row : Row)
-        → MaySplit D (pages cache.old) page level edge row id
-        below.now.child below.now.place below.now.last
-        → IfErr result (IsNoDamage cache.new) }
     ensures touched { OnOk result (touched_of cache.new ≡ true) }
     ensures damage { IsHonest cache.old → touched_of cache.new ≡ false
         → NamesChild D (given cache.old) page below.now.child
@@ -96,8 +85,6 @@ fn look_roomy<const D: usize, B: BlockDevice, A: Allocator + Copy>(
     ensures shares { IsHonest cache.old → (id child : ℕ) (last : Bool) (row : Row)
         → MaySplit D (pages cache.old) page level edge row id child place last → level ≡ 1
         → 1 < length (links_of row) → MayShareEach D (level - 1) id row → IfOk result (λ r. IsSome r) }
-    ensures bytes { IsHonest cache.old → IsLive cache.old page
-        → IfOk result (λ r. IfSome r (λ p. pages cache.old page ≡ Some p.fork)) }
     ensures within { IfOk result (λ r. IfSome r (λ p. p.left + 1 < number_at 2 2 p.fork)) }
     ensures few { IfOk result (λ r. IfSome r (λ p. number_at 2 2 p.fork ≤ 340)) }
     ensures there { IsHonest cache.old → (id child : ℕ) (last : Bool) (row : Row)

@@ -1,19 +1,20 @@
 //! A full node split in two.
 
-ghost use Rattle.std.specs.Prelude.{◌≡◌, ◌<◌, ◌≤◌, ◌+◌, ◌⊎◌, ◌-◌, ℕ, Bool, Some, insert, IfErr, IfOk, OnOk};
-ghost use Rattle.std.specs.Prelude.{true, false};
+ghost use Rattle.std.specs.Prelude.{◌≡◌, ◌<◌, ◌≤◌, ◌⊎◌, ℕ, Bool, Some, insert, IfErr, IfOk, OnOk, true};
+ghost use Rattle.std.specs.Prelude.{false};
 ghost use Rattle.block_bytes.specs.Numbers.{number_at};
 ghost use Rattle.page_file.specs.Fault.{IsDamage, IsOfDevice};
-ghost use Rattle.page_file.specs.declared.fault.Fault.TheVariants as fault;
 ghost use Rattle.page_cache.specs.Cache.{Grows, IsHonest, IsLive, IsPageMap, pages, touched_of};
 ghost use Rattle.page_cache.specs.Calls.{Asks, Changes};
 ghost use Rattle.node_page.specs.Faults.{IsNoDamage};
 ghost use Rattle.id_page.specs.Fork.{ForkContent, fork_at, with_links, IsTidyFork};
-ghost use Rattle.id_tree.specs.Cutting.{Cuts, Splits};
+ghost use Rattle.id_tree.specs.Cutting.{Splits, Plans};
 ghost use Rattle.id_tree.specs.Steps.{MakesHalves, MaySplit};
-ghost use Rattle.id_tree.specs.Tree.{Row, links_of};
-ghost use Rattle.id_tree.specs.Tidy.{AreAsTidy, IsAsTidy, KeepsTidy};
+ghost use Rattle.id_tree.specs.Tree.{Row};
+ghost use Rattle.id_tree.specs.Tidy.{AreAsTidy, IsAsTidy};
 ghost use Rattle.id_words.specs.Damage.{MayBreakAt};
+ghost use Rattle.id_tree.specs.Works.{Finds, Works};
+ghost use Rattle.page_file.specs.declared.fault.Fault.TheVariants as fault;
 
 use crate::below::Below;
 use crate::giving::give_and_put;
@@ -36,24 +37,12 @@ pub(crate) fn split<const D: usize, B: BlockDevice, A: Allocator + Copy>(
 ) -> Result<(u32, bool), Fault>
     requires high { 0 < level }
     ensures changes { Changes cache.old cache.new result }
-    ensures made { IsPageMap cache.old → (edge : Bool) (row : Row)
+    ensures splits { IsPageMap cache.old → (edge : Bool) (row : Row)
         → MaySplit D (pages cache.old) page level edge row id
-        below.now.child below.now.place below.now.last
-        → IfOk result (λ r.
-        MakesHalves D (pages cache.old) (pages cache.new) page level edge row id r.0 r.1) }
-    ensures tidy { IsPageMap cache.old → (edge : Bool) (row : Row)
-        → MaySplit D (pages cache.old) page level edge row id
-        below.now.child below.now.place below.now.last
-        → OnOk result (KeepsTidy D (pages cache.old) (pages cache.new)) }
-    ensures sound { IsPageMap cache.old → (edge : Bool) (row : Row)
-        → MaySplit D (pages cache.old) page level edge row id
-        below.now.child below.now.place below.now.last
-        → IsPageMap cache.new }
+        below.now.child below.now.place below.now.last → Works D cache.old cache.new result (λ r.
+        MakesHalves D (pages cache.old) (pages cache.new) page level edge row id r.0 r.1)
+        (IsNoDamage cache.new) }
     ensures grows { Grows 1 cache.old cache.new }
-    ensures faults { IsPageMap cache.old → (edge : Bool) (row : Row)
-        → MaySplit D (pages cache.old) page level edge row id
-        below.now.child below.now.place below.now.last
-        → IfErr result (IsNoDamage cache.new) }
     ensures touched { OnOk result (touched_of cache.new ≡ true) }
     ensures damage { IsHonest cache.old → touched_of cache.new ≡ false
         → IfErr result (λ f. (n : ℕ) → f ≡ fault.Damaged n
@@ -82,29 +71,13 @@ fn plan_split<const D: usize, B: BlockDevice, A: Allocator + Copy>(
 ) -> Result<Plan, Fault>
     requires high { 0 < level }
     ensures asks { Asks cache.old cache.new result }
-    ensures fork { IsHonest cache.old → (edge : Bool) (row : Row)
-        → MaySplit D (pages cache.old) page level edge row id
-        below.now.child below.now.place below.now.last
-        → IfOk result (λ plan. fork_at D plan.fork ≡ Some (record { level = level; links = links_of row })) }
-    ensures cuts { IsHonest cache.old → (edge : Bool) (row : Row)
+    ensures plans { IsHonest cache.old → (edge : Bool) (row : Row)
         → (may : MaySplit D (pages cache.old) page level edge row id
-        below.now.child below.now.place below.now.last)
-        → IfOk result (λ plan. Cuts D (level - 1) below.now.last may.way.below
-        plan.cut.key plan.cut.first plan.cut.second) }
-    ensures tidy_fork { IsHonest cache.old → (edge : Bool) (row : Row)
-        → MaySplit D (pages cache.old) page level edge row id
-        below.now.child below.now.place below.now.last
-        → IfOk result (λ plan. IsAsTidy D (pages cache.old) plan.fork) }
-    ensures tidy_cut { IsHonest cache.old → (edge : Bool) (row : Row)
-        → MaySplit D (pages cache.old) page level edge row id
-        below.now.child below.now.place below.now.last
-        → IfOk result (λ plan. AreAsTidy D (pages cache.old) plan.cut.first plan.cut.second) }
+        below.now.child below.now.place below.now.last) → Finds result (λ plan.
+        Plans D (pages cache.old) level below.now.last row may.way.below plan.fork plan.cut.key
+        plan.cut.first plan.cut.second) }
     ensures within { IfOk result (λ plan. below.now.place < number_at 2 2 plan.fork) }
     ensures room { IfOk result (λ plan. number_at 2 2 plan.fork < 340) }
-    ensures there { IsHonest cache.old → (edge : Bool) (row : Row)
-        → MaySplit D (pages cache.old) page level edge row id
-        below.now.child below.now.place below.now.last
-        → IfErr result IsOfDevice }
     ensures damage { IsHonest cache.old → IfErr result (λ f. (n : ℕ) → f ≡ fault.Damaged n
         → (n ≡ page) ⊎ (n ≡ below.now.child)) }
     ensures other_faults { IfErr result (λ f. IsOfDevice f ⊎ IsDamage f) }
@@ -132,26 +105,14 @@ fn put_split<const D: usize, B: BlockDevice, A: Allocator + Copy>(
     requires within { below.now.place < number_at 2 2 plan.now.fork }
     requires room { number_at 2 2 plan.now.fork < 340 }
     ensures changes { Changes cache.old cache.new result }
-    ensures made { IsPageMap cache.old → (level : ℕ) (edge : Bool) (row : Row)
+    ensures splits { IsPageMap cache.old → (level : ℕ) (edge : Bool) (row : Row)
         → (may : MaySplit D (pages cache.old) page level edge row id
         below.now.child below.now.place below.now.last)
-        → fork_at D plan.now.fork ≡ Some (record { level = level; links = links_of row })
-        → Cuts D (level - 1) below.now.last may.way.below
-        plan.now.cut.key plan.now.cut.first plan.now.cut.second
-        → IfOk result (λ r.
-        MakesHalves D (pages cache.old) (pages cache.new) page level edge row id r.0 r.1) }
-    ensures tidy { IsPageMap cache.old → IsLive cache.old below.now.child → IsLive cache.old page
-        → ¬ (page ≡ below.now.child)
-        → (c : ForkContent) → fork_at D plan.now.fork ≡ Some c → IsAsTidy D (pages cache.old) plan.now.fork
-        → AreAsTidy D (pages cache.old) plan.now.cut.first plan.now.cut.second
-        → OnOk result (KeepsTidy D (pages cache.old) (pages cache.new)) }
-    ensures sound { IsPageMap cache.old → IsLive cache.old below.now.child → IsLive cache.old page
-        → ¬ (page ≡ below.now.child)
-        → IsPageMap cache.new }
+        → Plans D (pages cache.old) level below.now.last row may.way.below plan.now.fork plan.now.cut.key
+        plan.now.cut.first plan.now.cut.second → Works D cache.old cache.new result (λ r.
+        MakesHalves D (pages cache.old) (pages cache.new) page level edge row id r.0 r.1)
+        (IsNoDamage cache.new) }
     ensures grows { Grows 1 cache.old cache.new }
-    ensures faults { IsPageMap cache.old → IsLive cache.old below.now.child → IsLive cache.old page
-        → ¬ (page ≡ below.now.child)
-        → IfErr result (IsNoDamage cache.new) }
     ensures touched { OnOk result (touched_of cache.new ≡ true) }
     ensures damage { IsHonest cache.old → touched_of cache.new ≡ false
         → IfErr result (λ f. (n : ℕ) → f ≡ fault.Damaged n → MayBreakAt cache.old n) }
@@ -184,19 +145,13 @@ fn put_cut<const D: usize, B: BlockDevice, A: Allocator + Copy>(
     requires within { place ≤ number_at 2 2 fork.now }
     requires room { number_at 2 2 fork.now < 340 }
     ensures changes { Changes cache.old cache.new result }
-    ensures split { IsPageMap cache.old → IsLive cache.old child → IsLive cache.old page → ¬ (page ≡ child)
-        → IfOk result
-        (λ number. Splits D (pages cache.old) (pages cache.new) page child number place cut.now.key
-        fork.now cut.now.first cut.now.second) }
-    ensures tidy { IsPageMap cache.old → IsLive cache.old child → IsLive cache.old page → ¬ (page ≡ child)
+    ensures splits { IsPageMap cache.old → IsLive cache.old child → IsLive cache.old page → ¬ (page ≡ child)
         → (c : ForkContent) → fork_at D fork.now ≡ Some c → IsAsTidy D (pages cache.old) fork.now
         → AreAsTidy D (pages cache.old) cut.now.first cut.now.second
-        → OnOk result (KeepsTidy D (pages cache.old) (pages cache.new)) }
-    ensures sound { IsPageMap cache.old → IsLive cache.old child → IsLive cache.old page → ¬ (page ≡ child)
-        → IsPageMap cache.new }
+        → Works D cache.old cache.new result
+        (λ number. Splits D (pages cache.old) (pages cache.new) page child number place cut.now.key
+        fork.now cut.now.first cut.now.second) (IsNoDamage cache.new) }
     ensures grows { Grows 1 cache.old cache.new }
-    ensures faults { IsPageMap cache.old → IsLive cache.old child → IsLive cache.old page → ¬ (page ≡ child)
-        → IfErr result (IsNoDamage cache.new) }
     ensures touched { OnOk result (touched_of cache.new ≡ true) }
     ensures damage { IsHonest cache.old → touched_of cache.new ≡ false
         → IfErr result (λ f. (n : ℕ) → f ≡ fault.Damaged n → MayBreakAt cache.old n) }

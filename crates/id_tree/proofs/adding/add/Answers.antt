@@ -101,41 +101,6 @@ pub returns-clause-changes : goal.returns-clause-changes
 returns-clause-changes g c = asks_and_changes c.args.cache.now c.has_room.new.cache c.add_object-2.new.cache
     c.add_object-2.result c.in_ok-has_room.ensures.asks c.add_object-2.ensures.changes
 
-pub returns-clause-sound : goal.returns-clause-sound
-returns-clause-sound g c = λ map t at stands found.
-    let asks = c.in_ok-has_room.ensures.asks in
-    c.add_object-2.ensures.sound (asks.map.sound.0 map) t at
-    (tree_same g.row.D (pages c.args.cache.now) (pages c.has_room.new.cache) t
-    (asks.map.pages_stay map.honest) stands)
-
-pub returns-clause-tidy : goal.returns-clause-tidy
-returns-clause-tidy g c = λ map t at stands found.
-    let D = g.row.D in
-    let old = pages c.args.cache.now in
-    let mid = pages c.has_room.new.cache in
-    let asks = c.in_ok-has_room.ensures.asks in
-    let same = asks.map.pages_stay map.honest in
-    tidy_from c.add_object-2.result D old mid (pages c.add_object-2.new.cache) same
-    (c.add_object-2.ensures.tidy (asks.map.sound.0 map) t at (tree_same D old mid t same stands))
-
-pub returns-clause-added : goal.returns-clause-added
-returns-clause-added g c = λ map t at stands found absent.
-    let D = g.row.D in
-    let old = pages c.args.cache.now in
-    let mid = pages c.has_room.new.cache in
-    let asks = c.in_ok-has_room.ensures.asks in
-    let same = asks.map.pages_stay map.honest in
-    on_ok c.add_object-2.result
-    (sets_from D old mid (pages c.add_object-2.new.cache) t c.args.id (c.args.bounds.now, c.args.tag) same)
-    (c.add_object-2.ensures.added (asks.map.sound.0 map) t at (tree_same D old mid t same stands) absent)
-
-pub returns-clause-faults : goal.returns-clause-faults
-returns-clause-faults g c = λ map t at stands found.
-    let asks = c.in_ok-has_room.ensures.asks in
-    c.add_object-2.ensures.faults (asks.map.sound.0 map) t at
-    (tree_same g.row.D (pages c.args.cache.now) (pages c.has_room.new.cache) t
-    (asks.map.pages_stay map.honest) stands)
-
 pub returns-clause-damage : goal.returns-clause-damage
 returns-clause-damage g c = λ h met none.
     let D = g.row.D in
@@ -147,3 +112,60 @@ returns-clause-damage g c = λ h met none.
     (λ f. (n : ℕ) → f ≡ fault.Damaged n → ComesInTree D (given old) c.args.root n ⊎ MayBreakAt old n)
     (λ f either n damaged. said_before D old mid c.args.root n asks.map h (either n damaged))
     (c.add_object-2.ensures.damage (asks.gate.honest.0 h) none)
+
+pub returns-then-at-eq0-clause-sound : goal.returns-then-at-eq0-clause-sound
+returns-then-at-eq0-clause-sound g c = λ map t at stands found.
+    (c.add_object.ensures.takes map t at stands).sound
+
+pub returns-then-at-eq0-clause-tidy : goal.returns-then-at-eq0-clause-tidy
+returns-then-at-eq0-clause-tidy g c = λ map t at stands found.
+    (c.add_object.ensures.takes map t at stands).tidy
+
+pub returns-then-at-eq0-clause-added : goal.returns-then-at-eq0-clause-added
+returns-then-at-eq0-clause-added g c = λ map t at stands found absent.
+    on_ok c.add_object.result (λ set. set absent) (c.add_object.ensures.takes map t at stands).made
+
+pub returns-then-at-eq0-clause-faults : goal.returns-then-at-eq0-clause-faults
+returns-then-at-eq0-clause-faults g c = λ map t at stands found.
+    (c.add_object.ensures.takes map t at stands).faults
+
+pub returns-clause-sound : goal.returns-clause-sound
+returns-clause-sound g c = λ map t at stands found.
+    let D = g.row.D in
+    let old = pages c.args.cache.now in
+    let mid = pages c.has_room.new.cache in
+    let asks = c.in_ok-has_room.ensures.asks in
+    let same = asks.map.pages_stay map.honest in
+    let w = c.add_object-2.ensures.takes (asks.map.sound.0 map) t at (tree_same D old mid t same stands) in
+    w.sound
+
+pub returns-clause-tidy : goal.returns-clause-tidy
+returns-clause-tidy g c = λ map t at stands found.
+    let D = g.row.D in
+    let old = pages c.args.cache.now in
+    let mid = pages c.has_room.new.cache in
+    let asks = c.in_ok-has_room.ensures.asks in
+    let same = asks.map.pages_stay map.honest in
+    let w = c.add_object-2.ensures.takes (asks.map.sound.0 map) t at (tree_same D old mid t same stands) in
+    tidy_from c.add_object-2.result D old mid (pages c.add_object-2.new.cache) same w.tidy
+
+pub returns-clause-added : goal.returns-clause-added
+returns-clause-added g c = λ map t at stands found absent.
+    let D = g.row.D in
+    let old = pages c.args.cache.now in
+    let mid = pages c.has_room.new.cache in
+    let asks = c.in_ok-has_room.ensures.asks in
+    let same = asks.map.pages_stay map.honest in
+    let w = c.add_object-2.ensures.takes (asks.map.sound.0 map) t at (tree_same D old mid t same stands) in
+    on_ok c.add_object-2.result (λ set. sets_from D old mid (pages c.add_object-2.new.cache) t c.args.id
+    (c.args.bounds.now, c.args.tag) same (set absent)) w.made
+
+pub returns-clause-faults : goal.returns-clause-faults
+returns-clause-faults g c = λ map t at stands found.
+    let D = g.row.D in
+    let old = pages c.args.cache.now in
+    let mid = pages c.has_room.new.cache in
+    let asks = c.in_ok-has_room.ensures.asks in
+    let same = asks.map.pages_stay map.honest in
+    let w = c.add_object-2.ensures.takes (asks.map.sound.0 map) t at (tree_same D old mid t same stands) in
+    w.faults

@@ -1,13 +1,13 @@
 -- The root takes the object as its count and its level tell.
+use Rattle.id_page.specs.Fork.{ForkContent}
+use Rattle.id_tree.proofs.WorksLemmas.{works_from, works_refused}
 use Rattle.std.proofs.Common.{inl, arith, ◌≡◌, ◌⊎◌, ⊎_elim, ℕ, inr}
 use Rattle.page_cache.specs.Cache.{pages, given}
 use Rattle.page_cache.specs.Calls.{no_call_asks, asks_and_changes, asks_and_gives_up}
-use Rattle.node_page.specs.Faults.{IsNoDamage}
-use Rattle.node_page.proofs.NodeLemmas.{on_ok, at_error}
+use Rattle.node_page.proofs.NodeLemmas.{at_error}
 use Rattle.id_tree.specs.Tree.{links_of}
 use Rattle.id_tree.proofs.AddLemmas.{grow_root, sets_root, started_root}
 use Rattle.id_tree.proofs.RootLemmas.{absent_of, root_fork, root_live, sets_from, tree_same}
-use Rattle.id_tree.proofs.TidyLemmas.{tidy_from}
 use Rattle.page_file.specs.declared.fault.Fault.TheVariants as fault
 use Rattle.id_tree.specs.Checked.{ComesInTree}
 use Rattle.id_words.specs.Damage.{MayBreakAt}
@@ -22,245 +22,18 @@ returns-in_err-way-clause-changes g c =
     c.from_residual.result c.from_residual.ensures.1 (no_call_asks c.args.cache.now)
     c.in_err-way.ensures.asks
 
-pub returns-in_err-way-clause-faults : goal.returns-in_err-way-clause-faults
-returns-in_err-way-clause-faults g c = λ map t at stands.
-    at_error c.from_residual.result c.in_err-way.field-0.0 (IsNoDamage c.step.new.cache)
-    c.from_residual.ensures.1
-    (inl (c.in_err-way.ensures.there map.honest (record { level = t.level; links = links_of t.row })
-    (root_fork g.row.D (pages c.args.cache.now) c.args.root t at stands)))
-
 pub returns-then-way-eq0-clause-changes : goal.returns-then-way-eq0-clause-changes
 returns-then-way-eq0-clause-changes g c = asks_and_changes c.args.cache.now c.step.new.cache c.start.new.cache
     c.start.result c.in_ok-way.ensures.asks c.start.ensures.changes
-
-pub returns-then-way-eq0-clause-added : goal.returns-then-way-eq0-clause-added
-returns-then-way-eq0-clause-added g c = λ map t at stands absent.
-    let D = g.row.D in
-    let root = c.args.root in
-    let old = pages c.args.cache.now in
-    let mid = pages c.step.new.cache in
-    let new = pages c.start.new.cache in
-    let id = c.args.object.now.0 in
-    let kept = c.args.object.now.1 in
-    let asks = c.in_ok-way.ensures.asks in
-    let same = asks.map.pages_stay map.honest in
-    let tree = tree_same D old mid t same stands in
-    let count = c.in_ok-way.ensures.count map.honest (record { level = t.level; links = links_of t.row })
-    (root_fork D old root t at stands) in
-    (on_ok c.start.result
-    (λ w. sets_from D old mid new t id kept same
-    (started_root D mid new t root id kept at tree (omega (arith, count, c.if-way-eq0.true)) w))
-    (c.start.ensures.started (asks.map.sound.0 map) (root_live D mid t root at tree)))
-
-pub returns-then-way-eq0-clause-sound : goal.returns-then-way-eq0-clause-sound
-returns-then-way-eq0-clause-sound g c = λ map t at stands.
-    let asks = c.in_ok-way.ensures.asks in
-    let tree = tree_same g.row.D (pages c.args.cache.now) (pages c.step.new.cache) t
-    (asks.map.pages_stay map.honest) stands in
-    c.start.ensures.sound (asks.map.sound.0 map)
-    (root_live g.row.D (pages c.step.new.cache) t c.args.root at tree)
-
-pub returns-then-way-eq0-clause-faults : goal.returns-then-way-eq0-clause-faults
-returns-then-way-eq0-clause-faults g c = λ map t at stands.
-    let asks = c.in_ok-way.ensures.asks in
-    let tree = tree_same g.row.D (pages c.args.cache.now) (pages c.step.new.cache) t
-    (asks.map.pages_stay map.honest) stands in
-    (c.start.ensures.faults (asks.map.sound.0 map)
-    (root_live g.row.D (pages c.step.new.cache) t c.args.root at tree))
-
-pub returns-then-way-gt-MOST_LEVELS-clause-faults : goal.returns-then-way-gt-MOST_LEVELS-clause-faults
-returns-then-way-gt-MOST_LEVELS-clause-faults g c = λ map t at stands.
-    let level = c.in_ok-way.ensures.level map.honest (record { level = t.level; links = links_of t.row })
-    (root_fork g.row.D (pages c.args.cache.now) c.args.root t at stands) in
-    absurd (omega (arith, level, stands.bounded, c.if-way-gt-MOST_LEVELS.true))
 
 pub returns-then-way-lt-MOST_CHILDREN-clause-changes : goal.returns-then-way-lt-MOST_CHILDREN-clause-changes
 returns-then-way-lt-MOST_CHILDREN-clause-changes g c =
     asks_and_changes c.args.cache.now c.step.new.cache c.add_below.new.cache c.add_below.result
     c.in_ok-way.ensures.asks c.add_below.ensures.changes
 
-pub returns-then-way-lt-MOST_CHILDREN-clause-added : goal.returns-then-way-lt-MOST_CHILDREN-clause-added
-returns-then-way-lt-MOST_CHILDREN-clause-added g c = λ map t at stands absent.
-    let D = g.row.D in
-    let root = c.args.root in
-    let old = pages c.args.cache.now in
-    let mid = pages c.step.new.cache in
-    let new = pages c.add_below.new.cache in
-    let id = c.args.object.now.0 in
-    let kept = c.args.object.now.1 in
-    let way = c.in_ok-way.way in
-    let asks = c.in_ok-way.ensures.asks in
-    let same = asks.map.pages_stay map.honest in
-    let tree = tree_same D old mid t same stands in
-    let gone = absent_of t id absent in
-    let fork = root_fork D old root t at stands in
-    let level = c.in_ok-way.ensures.level map.honest (record { level = t.level; links = links_of t.row })
-    fork in
-    let count = c.in_ok-way.ensures.count map.honest (record { level = t.level; links = links_of t.row })
-    fork in
-    let may = grow_root D mid t root way.level at level tree (omega (arith, count, c.if-way-eq0.false))
-    (omega (arith, count, c.if-way-lt-MOST_CHILDREN.true)) in
-    on_ok c.add_below.result
-    (λ b. sets_from D old mid new t id kept same
-    (sets_root D mid new t root way.level id kept at level tree gone b))
-    (c.add_below.ensures.grown (asks.map.sound.0 map) t.row may gone)
-
-pub returns-then-way-lt-MOST_CHILDREN-clause-sound : goal.returns-then-way-lt-MOST_CHILDREN-clause-sound
-returns-then-way-lt-MOST_CHILDREN-clause-sound g c = λ map t at stands.
-    let D = g.row.D in
-    let root = c.args.root in
-    let old = pages c.args.cache.now in
-    let mid = pages c.step.new.cache in
-    let id = c.args.object.now.0 in
-    let way = c.in_ok-way.way in
-    let asks = c.in_ok-way.ensures.asks in
-    let tree = tree_same D old mid t (asks.map.pages_stay map.honest) stands in
-    let fork = root_fork D old root t at stands in
-    let level = c.in_ok-way.ensures.level map.honest (record { level = t.level; links = links_of t.row })
-    fork in
-    let count = c.in_ok-way.ensures.count map.honest (record { level = t.level; links = links_of t.row })
-    fork in
-    c.add_below.ensures.sound (asks.map.sound.0 map) t.row
-    (grow_root D mid t root way.level at level tree (omega (arith, count, c.if-way-eq0.false))
-    (omega (arith, count, c.if-way-lt-MOST_CHILDREN.true)))
-
-pub returns-then-way-lt-MOST_CHILDREN-clause-faults : goal.returns-then-way-lt-MOST_CHILDREN-clause-faults
-returns-then-way-lt-MOST_CHILDREN-clause-faults g c = λ map t at stands.
-    let D = g.row.D in
-    let root = c.args.root in
-    let old = pages c.args.cache.now in
-    let mid = pages c.step.new.cache in
-    let id = c.args.object.now.0 in
-    let way = c.in_ok-way.way in
-    let asks = c.in_ok-way.ensures.asks in
-    let tree = tree_same D old mid t (asks.map.pages_stay map.honest) stands in
-    let fork = root_fork D old root t at stands in
-    let level = c.in_ok-way.ensures.level map.honest (record { level = t.level; links = links_of t.row })
-    fork in
-    let count = c.in_ok-way.ensures.count map.honest (record { level = t.level; links = links_of t.row })
-    fork in
-    c.add_below.ensures.faults (asks.map.sound.0 map) t.row
-    (grow_root D mid t root way.level at level tree (omega (arith, count, c.if-way-eq0.false))
-    (omega (arith, count, c.if-way-lt-MOST_CHILDREN.true)))
-
 pub returns-clause-changes : goal.returns-clause-changes
 returns-clause-changes g c = asks_and_changes c.args.cache.now c.step.new.cache c.add_deeper.new.cache
     c.add_deeper.result c.in_ok-way.ensures.asks c.add_deeper.ensures.changes
-
-pub returns-clause-added : goal.returns-clause-added
-returns-clause-added g c = λ map t at stands absent.
-    let D = g.row.D in
-    let old = pages c.args.cache.now in
-    let mid = pages c.step.new.cache in
-    let new = pages c.add_deeper.new.cache in
-    let asks = c.in_ok-way.ensures.asks in
-    let same = asks.map.pages_stay map.honest in
-    let fork = root_fork D old c.args.root t at stands in
-    let level = c.in_ok-way.ensures.level map.honest (record { level = t.level; links = links_of t.row })
-    fork in
-    let count = c.in_ok-way.ensures.count map.honest (record { level = t.level; links = links_of t.row })
-    fork in
-    on_ok c.add_deeper.result (sets_from D old mid new t c.args.object.now.0 c.args.object.now.1 same)
-    (c.add_deeper.ensures.added (asks.map.sound.0 map) t at
-    (record {
-      stands = tree_same D old mid t same stands;
-      level_is = level;
-      full =
-          omega (arith, count, c.if-way-lt-MOST_CHILDREN.false);
-    }) absent)
-
-pub returns-clause-sound : goal.returns-clause-sound
-returns-clause-sound g c = λ map t at stands.
-    let D = g.row.D in
-    let old = pages c.args.cache.now in
-    let mid = pages c.step.new.cache in
-    let asks = c.in_ok-way.ensures.asks in
-    let fork = root_fork D old c.args.root t at stands in
-    let level = c.in_ok-way.ensures.level map.honest (record { level = t.level; links = links_of t.row })
-    fork in
-    let count = c.in_ok-way.ensures.count map.honest (record { level = t.level; links = links_of t.row })
-    fork in
-    c.add_deeper.ensures.sound (asks.map.sound.0 map) t at
-    (record {
-      stands = tree_same D old mid t (asks.map.pages_stay map.honest) stands;
-      level_is =
-          level;
-      full = omega (arith, count, c.if-way-lt-MOST_CHILDREN.false);
-    })
-
-pub returns-clause-faults : goal.returns-clause-faults
-returns-clause-faults g c = λ map t at stands.
-    let D = g.row.D in
-    let old = pages c.args.cache.now in
-    let mid = pages c.step.new.cache in
-    let asks = c.in_ok-way.ensures.asks in
-    let fork = root_fork D old c.args.root t at stands in
-    let level = c.in_ok-way.ensures.level map.honest (record { level = t.level; links = links_of t.row })
-    fork in
-    let count = c.in_ok-way.ensures.count map.honest (record { level = t.level; links = links_of t.row })
-    fork in
-    c.add_deeper.ensures.faults (asks.map.sound.0 map) t at
-    (record {
-      stands = tree_same D old mid t (asks.map.pages_stay map.honest) stands;
-      level_is =
-          level;
-      full = omega (arith, count, c.if-way-lt-MOST_CHILDREN.false);
-    })
-
-pub returns-then-way-eq0-clause-tidy : goal.returns-then-way-eq0-clause-tidy
-returns-then-way-eq0-clause-tidy g c = λ map t at stands.
-    let asks = c.in_ok-way.ensures.asks in
-    let tree = tree_same g.row.D (pages c.args.cache.now) (pages c.step.new.cache) t
-    (asks.map.pages_stay map.honest) stands in
-    tidy_from c.start.result g.row.D (pages c.args.cache.now) (pages c.step.new.cache)
-    (pages c.start.new.cache)
-    (asks.map.pages_stay map.honest)
-    (c.start.ensures.tidy (asks.map.sound.0 map)
-    (root_live g.row.D (pages c.step.new.cache) t c.args.root at tree))
-
-pub returns-then-way-lt-MOST_CHILDREN-clause-tidy : goal.returns-then-way-lt-MOST_CHILDREN-clause-tidy
-returns-then-way-lt-MOST_CHILDREN-clause-tidy g c = λ map t at stands.
-    let D = g.row.D in
-    let root = c.args.root in
-    let old = pages c.args.cache.now in
-    let mid = pages c.step.new.cache in
-    let id = c.args.object.now.0 in
-    let way = c.in_ok-way.way in
-    let asks = c.in_ok-way.ensures.asks in
-    let tree = tree_same D old mid t (asks.map.pages_stay map.honest) stands in
-    let fork = root_fork D old root t at stands in
-    let level = c.in_ok-way.ensures.level map.honest (record { level = t.level; links = links_of t.row })
-    fork in
-    let count = c.in_ok-way.ensures.count map.honest (record { level = t.level; links = links_of t.row })
-    fork in
-    tidy_from c.add_below.result g.row.D (pages c.args.cache.now) (pages c.step.new.cache)
-    (pages c.add_below.new.cache)
-    (asks.map.pages_stay map.honest)
-    (c.add_below.ensures.tidy (asks.map.sound.0 map) t.row
-    (grow_root D mid t root way.level at level tree (omega (arith, count, c.if-way-eq0.false))
-    (omega (arith, count, c.if-way-lt-MOST_CHILDREN.true))))
-
-pub returns-clause-tidy : goal.returns-clause-tidy
-returns-clause-tidy g c = λ map t at stands.
-    let D = g.row.D in
-    let old = pages c.args.cache.now in
-    let mid = pages c.step.new.cache in
-    let asks = c.in_ok-way.ensures.asks in
-    let fork = root_fork D old c.args.root t at stands in
-    let level = c.in_ok-way.ensures.level map.honest (record { level = t.level; links = links_of t.row })
-    fork in
-    let count = c.in_ok-way.ensures.count map.honest (record { level = t.level; links = links_of t.row })
-    fork in
-    tidy_from c.add_deeper.result g.row.D (pages c.args.cache.now) (pages c.step.new.cache)
-    (pages c.add_deeper.new.cache)
-    (asks.map.pages_stay map.honest)
-    (c.add_deeper.ensures.tidy (asks.map.sound.0 map) t at
-    (record {
-      stands = tree_same D old mid t (asks.map.pages_stay map.honest) stands;
-      level_is =
-          level;
-      full = omega (arith, count, c.if-way-lt-MOST_CHILDREN.false);
-    }))
 
 pub returns-in_err-way-clause-damage : goal.returns-in_err-way-clause-damage
 returns-in_err-way-clause-damage g c = λ h none.
@@ -310,3 +83,87 @@ returns-clause-damage g c = λ h none.
     (λ (breaks : MayBreakAt c.step.new.cache n). inr
     (breaks_kept c.args.cache.now c.step.new.cache n asks.map h breaks))
     (either n damaged)) (c.add_deeper.ensures.damage (asks.gate.honest.0 h) none)
+
+pub returns-in_err-way-clause-takes : goal.returns-in_err-way-clause-takes
+returns-in_err-way-clause-takes g c = λ map t at stands.
+    works_refused c.in_err-way.field-0.0 c.from_residual.ensures.1 (c.in_err-way.ensures.asks.map.sound.0 map)
+    (inl (c.in_err-way.ensures.there map.honest (record { level = t.level; links = links_of t.row })
+    (root_fork g.row.D (pages c.args.cache.now) c.args.root t at stands)))
+
+pub returns-then-way-eq0-clause-takes : goal.returns-then-way-eq0-clause-takes
+returns-then-way-eq0-clause-takes g c = λ map t at stands.
+    let D = g.row.D in
+    let root = c.args.root in
+    let old = pages c.args.cache.now in
+    let mid = pages c.step.new.cache in
+    let id = c.args.object.now.0 in
+    let kept = c.args.object.now.1 in
+    let way = c.in_ok-way.way in
+    let asks = c.in_ok-way.ensures.asks in
+    let same = asks.map.pages_stay map.honest in
+    let map1 = asks.map.sound.0 map in
+    let tree = tree_same D old mid t same stands in
+    let content : ForkContent = record { level = t.level; links = links_of t.row } in
+    let fork = root_fork D old root t at stands in
+    let count = c.in_ok-way.ensures.count map.honest content fork in
+    let new = pages c.start.new.cache in
+    works_from (c.start.ensures.starts map1 (root_live D mid t root at tree)) same
+    (λ u w absent. sets_from D old mid new t id kept same
+    (started_root D mid new t root id kept at tree (omega (arith, count, c.if-way-eq0.true)) w))
+    (λ f why. why)
+
+pub returns-then-way-gt-MOST_LEVELS-clause-takes : goal.returns-then-way-gt-MOST_LEVELS-clause-takes
+returns-then-way-gt-MOST_LEVELS-clause-takes g c = λ map t at stands.
+    let level = c.in_ok-way.ensures.level map.honest (record { level = t.level; links = links_of t.row })
+    (root_fork g.row.D (pages c.args.cache.now) c.args.root t at stands) in
+    absurd (omega (arith, level, stands.bounded, c.if-way-gt-MOST_LEVELS.true))
+
+pub returns-then-way-lt-MOST_CHILDREN-clause-takes : goal.returns-then-way-lt-MOST_CHILDREN-clause-takes
+returns-then-way-lt-MOST_CHILDREN-clause-takes g c = λ map t at stands.
+    let D = g.row.D in
+    let root = c.args.root in
+    let old = pages c.args.cache.now in
+    let mid = pages c.step.new.cache in
+    let id = c.args.object.now.0 in
+    let kept = c.args.object.now.1 in
+    let way = c.in_ok-way.way in
+    let asks = c.in_ok-way.ensures.asks in
+    let same = asks.map.pages_stay map.honest in
+    let map1 = asks.map.sound.0 map in
+    let tree = tree_same D old mid t same stands in
+    let content : ForkContent = record { level = t.level; links = links_of t.row } in
+    let fork = root_fork D old root t at stands in
+    let level = c.in_ok-way.ensures.level map.honest content fork in
+    let count = c.in_ok-way.ensures.count map.honest content fork in
+    let new = pages c.add_below.new.cache in
+    works_from (c.add_below.ensures.takes map1 t.row
+    (grow_root D mid t root way.level at level tree (omega (arith, count, c.if-way-eq0.false))
+    (omega (arith, count, c.if-way-lt-MOST_CHILDREN.true)))) same
+    (λ u b absent. let gone = absent_of t id absent in sets_from D old mid new t id kept same
+    (sets_root D mid new t root way.level id kept at level tree gone (b gone)))
+    (λ f why. why)
+
+pub returns-clause-takes : goal.returns-clause-takes
+returns-clause-takes g c = λ map t at stands.
+    let D = g.row.D in
+    let root = c.args.root in
+    let old = pages c.args.cache.now in
+    let mid = pages c.step.new.cache in
+    let id = c.args.object.now.0 in
+    let kept = c.args.object.now.1 in
+    let way = c.in_ok-way.way in
+    let asks = c.in_ok-way.ensures.asks in
+    let same = asks.map.pages_stay map.honest in
+    let map1 = asks.map.sound.0 map in
+    let tree = tree_same D old mid t same stands in
+    let content : ForkContent = record { level = t.level; links = links_of t.row } in
+    let fork = root_fork D old root t at stands in
+    let level = c.in_ok-way.ensures.level map.honest content fork in
+    let count = c.in_ok-way.ensures.count map.honest content fork in
+    works_from (c.add_deeper.ensures.takes map1 t at (record {
+      stands = tree;
+      level_is = level;
+      full = omega (arith, count, c.if-way-lt-MOST_CHILDREN.false);
+    })) same
+    (λ u set absent. sets_from D old mid (pages c.add_deeper.new.cache) t id kept same (set absent))
+    (λ f why. why)

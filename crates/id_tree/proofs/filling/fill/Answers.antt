@@ -1,6 +1,5 @@
 -- The goals of `fill` that are proved by hand.
-use Rattle.std.proofs.Common.{◌∙◌, ◌+◌, ◌≤◌, ap, arith, drop, length, length-drop, ◌≡◌, ◌⊎◌, ℕ, subst}
-use Rattle.std.proofs.Common.{sym, take}
+use Rattle.std.proofs.Common.{◌∙◌, ◌+◌, ◌≤◌, ap, arith, drop, length, length-drop, ◌≡◌, subst, sym, take}
 use Rattle.std.specs.FinMap.{FinMap}
 use Rattle.std.specs.Ordering.{nat_cmp}
 use Rattle.box_math.specs.Objects.{Object}
@@ -8,10 +7,7 @@ use Rattle.page_cache.specs.Calls.{changes_and_refuses, no_call_changes}
 use Rattle.node_page.specs.Faults.{IsNoDamage}
 use Rattle.node_page.proofs.NodeLemmas.{at_error}
 use Rattle.id_tree.proofs.FillLemmas.{all_of, few_so_far, filling_begins, fills_on, new_taken}
-use Rattle.page_file.specs.declared.fault.Fault.TheVariants as fault
 use Rattle.page_cache.specs.Cache.{given, touched_of}
-use Rattle.id_tree.specs.Checked.{ComesInTree}
-use Rattle.id_words.specs.Damage.{MayBreakAt}
 use Rattle.id_words.specs.Objects.{AreNew, pairs_in}
 use Rattle.id_words.proofs.EntryLemmas.{as_many_listed, few_taken, taken_behind}
 use Rattle.id_tree.specs.Tree.{objects_of}
@@ -61,7 +57,9 @@ loop-filled-preserved g c =
     ) in
     record {
       filling = fills_on so_far.filling c.fill_run.new.cache count 145 _ batch added.within within added.changes
-          added.sound added.tidy added.filled;
+          (λ map t at stands new. (added.fills map t at stands new).sound)
+          (λ map t at stands new. (added.fills map t at stands new).tidy)
+          (λ map t at stands new. (added.fills map t at stands new).made);
       within = omega (arith, within, as_many_listed c.args.entries.now);
       grows = omega (arith, so_far.grows, added.grows, added.some);
     }
@@ -75,16 +73,18 @@ returns-in_err-filled-clause-changes g c =
 pub returns-in_err-filled-clause-sound : goal.returns-in_err-filled-clause-sound
 returns-in_err-filled-clause-sound g c = λ map t at stands new.
     let f = c.loop-filled.invariant.filling.left map t at stands new in
-    c.in_err-filled.ensures.sound f.map_is f.table (f.page ∙ at) f.stands
-    (all_new g (goal.at.returns-in_err-filled-clause-sound g c).After-fill_run (objects_of f.table) f.rest)
+    (c.in_err-filled.ensures.fills f.map_is f.table (f.page ∙ at) f.stands
+    (all_new g (goal.at.returns-in_err-filled-clause-sound g c).After-fill_run (objects_of f.table)
+    f.rest)).sound
 
 pub returns-in_err-filled-clause-faults : goal.returns-in_err-filled-clause-faults
 returns-in_err-filled-clause-faults g c = λ map t at stands new.
     let f = c.loop-filled.invariant.filling.left map t at stands new in
     at_error c.from_residual.result c.in_err-filled.field-0.0 (IsNoDamage c.fill_run.new.cache)
     c.from_residual.ensures.1
-    (c.in_err-filled.ensures.faults f.map_is f.table (f.page ∙ at) f.stands
-    (all_new g (goal.at.returns-in_err-filled-clause-faults g c).After-fill_run (objects_of f.table) f.rest))
+    (c.in_err-filled.ensures.fills f.map_is f.table (f.page ∙ at) f.stands
+    (all_new g (goal.at.returns-in_err-filled-clause-faults g c).After-fill_run (objects_of f.table)
+    f.rest)).faults
 
 pub returns-clause-filled : goal.returns-clause-filled
 returns-clause-filled g c = λ map t at stands new.
@@ -123,9 +123,6 @@ returns-in_err-filled-clause-damage g c = λ h none.
     let changes = c.loop-filled.invariant.filling.changes in
     let before = not_before (touched_of mid) (touched_of c.fill_run.new.cache)
     c.in_err-filled.ensures.changes.touched none in
-    at_error c.from_residual.result c.in_err-filled.field-0.0
-    (λ f. (n : ℕ) → f ≡ fault.Damaged n → ComesInTree g.row.D (given c.args.cache.now) c.args.root n
-    ⊎ MayBreakAt c.args.cache.now n)
-    c.from_residual.ensures.1
+    at_error c.from_residual.result c.in_err-filled.field-0.0 _ c.from_residual.ensures.1
     (λ n damaged. said_before g.row.D old mid c.args.root n (changes.untouched before) h
     (c.in_err-filled.ensures.damage (changes.honest.0 h) none n damaged))

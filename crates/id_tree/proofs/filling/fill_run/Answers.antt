@@ -1,9 +1,9 @@
 -- The objects of a run are pushed into its leaf, or the first one is added by itself.
+use Rattle.id_tree.proofs.WorksLemmas.{works_done, works_handed, works_refused}
 use Rattle.std.proofs.Common.{◌≡◌, ◌⊎◌, [], ◌∷◌, None, ℕ, inl, subst}
 use Rattle.page_file.specs.declared.fault.Fault.TheVariants as fault
 use Rattle.page_cache.specs.Cache.{given, pages}
 use Rattle.page_cache.specs.Calls.{asks_changes, changes_and_refuses, changes_in_turn}
-use Rattle.node_page.specs.Faults.{IsNoDamage}
 use Rattle.node_page.proofs.NodeLemmas.{at_error}
 use Rattle.id_words.specs.Damage.{MayBreakAt}
 use Rattle.id_tree.specs.Changes.{Fills}
@@ -24,22 +24,6 @@ returns-in_err-add_object-clause-changes g c =
     (asks_changes c.args.cache.now c.run_from.new.cache None c.in_ok-run.ensures.asks)
     c.in_err-add_object.ensures.changes
 
-pub returns-in_err-add_object-clause-sound : goal.returns-in_err-add_object-clause-sound
-returns-in_err-add_object-clause-sound g c = λ map t at stands new.
-    let asks = c.in_ok-run.ensures.asks in
-    c.in_err-add_object.ensures.sound (asks.map.sound.0 map) t at
-    (tree_same g.row.D (pages c.args.cache.now) (pages c.run_from.new.cache) t
-    (asks.map.pages_stay map.honest) stands)
-
-pub returns-in_err-add_object-clause-faults : goal.returns-in_err-add_object-clause-faults
-returns-in_err-add_object-clause-faults g c = λ map t at stands new.
-    let asks = c.in_ok-run.ensures.asks in
-    at_error c.from_residual-in_err-add_object.result c.in_err-add_object.field-0.0
-    (IsNoDamage c.add_object.new.cache) c.from_residual-in_err-add_object.ensures.1
-    (c.in_err-add_object.ensures.faults (asks.map.sound.0 map) t at
-    (tree_same g.row.D (pages c.args.cache.now) (pages c.run_from.new.cache) t
-    (asks.map.pages_stay map.honest) stands))
-
 pub returns-in_err-add_object-clause-damage : goal.returns-in_err-add_object-clause-damage
 returns-in_err-add_object-clause-damage g c = λ h none.
     let D = g.row.D in
@@ -57,40 +41,6 @@ returns-then-count-eq0-clause-changes g c =
     (asks_changes c.args.cache.now c.run_from.new.cache None c.in_ok-run.ensures.asks)
     c.in_ok-add_object.ensures.changes
 
-pub returns-then-count-eq0-clause-sound : goal.returns-then-count-eq0-clause-sound
-returns-then-count-eq0-clause-sound g c = λ map t at stands new.
-    let asks = c.in_ok-run.ensures.asks in
-    c.in_ok-add_object.ensures.sound (asks.map.sound.0 map) t at
-    (tree_same g.row.D (pages c.args.cache.now) (pages c.run_from.new.cache) t
-    (asks.map.pages_stay map.honest) stands)
-
-pub returns-then-count-eq0-clause-tidy : goal.returns-then-count-eq0-clause-tidy
-returns-then-count-eq0-clause-tidy g c = λ map t at stands new.
-    let D = g.row.D in
-    let old = pages c.args.cache.now in
-    let mid = pages c.run_from.new.cache in
-    let asks = c.in_ok-run.ensures.asks in
-    let same = asks.map.pages_stay map.honest in
-    tidy_in_turn D old mid (pages c.add_object.new.cache) (tidy_same D old mid same)
-    (c.in_ok-add_object.ensures.tidy (asks.map.sound.0 map) t at (tree_same D old mid t same stands))
-
-pub returns-then-count-eq0-clause-filled : goal.returns-then-count-eq0-clause-filled
-returns-then-count-eq0-clause-filled g c = λ map t at stands new.
-    let D = g.row.D in
-    let old = pages c.args.cache.now in
-    let mid = pages c.run_from.new.cache in
-    let now = pages c.add_object.new.cache in
-    let asks = c.in_ok-run.ensures.asks in
-    let same = asks.map.pages_stay map.honest in
-    let objects = c.args.objects.now in
-    let object = c.index-objects-0-then-count-eq0.result in
-    let is = c.index-objects-0-then-count-eq0.is in
-    let absent = first_new (objects_of t) objects object c.requires.some is new in
-    let set = c.in_ok-add_object.ensures.added (asks.map.sound.0 map) t at (tree_same D old mid t same stands)
-    absent in
-    subst (Fills D old now t) (first_of objects 0 object c.requires.some is)
-    (fills_from D old mid now t (object ∷ []) same (fills_one D mid now t object set))
-
 pub returns-in_err-push_all-clause-changes : goal.returns-in_err-push_all-clause-changes
 returns-in_err-push_all-clause-changes g c =
     changes_and_refuses c.args.cache.now c.run_from.new.cache c.push_all.new.cache
@@ -99,81 +49,84 @@ returns-in_err-push_all-clause-changes g c =
     (asks_changes c.args.cache.now c.run_from.new.cache None c.in_ok-run.ensures.asks)
     c.in_err-push_all.ensures.changes
 
-pub returns-in_err-push_all-clause-sound : goal.returns-in_err-push_all-clause-sound
-returns-in_err-push_all-clause-sound g c = λ map t at stands new.
-    let D = g.row.D in
-    let run = c.in_ok-run.run' in
-    let count = c.count_of_run-count in
-    let asks = c.in_ok-run.ensures.asks in
-    let takes = counted_run D t c.args.root _ run.upto run.leaf run.room count.result
-    c.args.objects.now at (c.in_ok-run.ensures.found map.honest t at stands) c.if-count-eq0.false
-    count.ensures.few count.ensures.within count.ensures.range in
-    c.in_err-push_all.ensures.sound (asks.map.sound.0 map) t
-    (tree_same D (pages c.args.cache.now) (pages c.run_from.new.cache) t (asks.map.pages_stay map.honest)
-    stands) takes (new_taken (objects_of t) count.result c.args.objects.now new)
-
-pub returns-in_err-push_all-clause-faults : goal.returns-in_err-push_all-clause-faults
-returns-in_err-push_all-clause-faults g c = λ map t at stands new.
-    let D = g.row.D in
-    let run = c.in_ok-run.run' in
-    let count = c.count_of_run-count in
-    let asks = c.in_ok-run.ensures.asks in
-    let takes = counted_run D t c.args.root _ run.upto run.leaf run.room count.result
-    c.args.objects.now at (c.in_ok-run.ensures.found map.honest t at stands) c.if-count-eq0.false
-    count.ensures.few count.ensures.within count.ensures.range in
-    at_error c.from_residual-in_err-push_all.result c.in_err-push_all.field-0.0
-    (IsNoDamage c.push_all.new.cache) c.from_residual-in_err-push_all.ensures.1
-    (inl (c.in_err-push_all.ensures.faults (asks.map.sound.0 map) t
-    (tree_same D (pages c.args.cache.now) (pages c.run_from.new.cache) t (asks.map.pages_stay map.honest)
-    stands) takes (new_taken (objects_of t) count.result c.args.objects.now new)))
-
 pub returns-clause-changes : goal.returns-clause-changes
 returns-clause-changes g c =
     changes_in_turn c.args.cache.now c.run_from.new.cache c.push_all.new.cache None
     (asks_changes c.args.cache.now c.run_from.new.cache None c.in_ok-run.ensures.asks)
     c.in_ok-push_all.ensures.changes
 
-pub returns-clause-sound : goal.returns-clause-sound
-returns-clause-sound g c = λ map t at stands new.
-    let D = g.row.D in
-    let run = c.in_ok-run.run' in
-    let count = c.count_of_run-count in
-    let asks = c.in_ok-run.ensures.asks in
-    let takes = counted_run D t c.args.root _ run.upto run.leaf run.room count.result
-    c.args.objects.now at (c.in_ok-run.ensures.found map.honest t at stands) c.if-count-eq0.false
-    count.ensures.few count.ensures.within count.ensures.range in
-    c.in_ok-push_all.ensures.sound (asks.map.sound.0 map) t
-    (tree_same D (pages c.args.cache.now) (pages c.run_from.new.cache) t (asks.map.pages_stay map.honest)
-    stands) takes (new_taken (objects_of t) count.result c.args.objects.now new)
+pub returns-in_err-run-clause-fills : goal.returns-in_err-run-clause-fills
+returns-in_err-run-clause-fills g c = λ map t at stands new.
+    works_refused c.in_err-run.field-0.0 c.from_residual.ensures.1 (c.in_err-run.ensures.asks.map.sound.0 map)
+    (inl (c.in_err-run.ensures.stands map.honest t at stands))
 
-pub returns-clause-tidy : goal.returns-clause-tidy
-returns-clause-tidy g c = λ map t at stands new.
+pub returns-in_err-add_object-clause-fills : goal.returns-in_err-add_object-clause-fills
+returns-in_err-add_object-clause-fills g c = λ map t at stands new.
     let D = g.row.D in
     let old = pages c.args.cache.now in
     let mid = pages c.run_from.new.cache in
-    let run = c.in_ok-run.run' in
-    let count = c.count_of_run-count in
     let asks = c.in_ok-run.ensures.asks in
     let same = asks.map.pages_stay map.honest in
-    let takes = counted_run D t c.args.root _ run.upto run.leaf run.room count.result
-    c.args.objects.now at (c.in_ok-run.ensures.found map.honest t at stands) c.if-count-eq0.false
-    count.ensures.few count.ensures.within count.ensures.range in
-    tidy_in_turn D old mid (pages c.push_all.new.cache) (tidy_same D old mid same)
-    (c.in_ok-push_all.ensures.tidy (asks.map.sound.0 map) t (tree_same D old mid t same stands) takes
-    (new_taken (objects_of t) count.result c.args.objects.now new))
+    let tree = tree_same D old mid t same stands in
+    works_handed (c.in_err-add_object.ensures.takes (asks.map.sound.0 map) t at tree)
+    c.from_residual-in_err-add_object.ensures.1 (λ why. why)
 
-pub returns-clause-filled : goal.returns-clause-filled
-returns-clause-filled g c = λ map t at stands new.
+pub returns-then-count-eq0-clause-fills : goal.returns-then-count-eq0-clause-fills
+returns-then-count-eq0-clause-fills g c = λ map t at stands new.
     let D = g.row.D in
     let old = pages c.args.cache.now in
     let mid = pages c.run_from.new.cache in
-    let run = c.in_ok-run.run' in
-    let count = c.count_of_run-count in
     let asks = c.in_ok-run.ensures.asks in
     let same = asks.map.pages_stay map.honest in
+    let tree = tree_same D old mid t same stands in
+    let now = pages c.add_object.new.cache in
+    let objects = c.args.objects.now in
+    let object = c.index-objects-0-then-count-eq0.result in
+    let is = c.index-objects-0-then-count-eq0.is in
+    let absent = first_new (objects_of t) objects object c.requires.some is new in
+    let set = c.in_ok-add_object.ensures.takes (asks.map.sound.0 map) t at tree in
+    works_done set (tidy_same D old mid same)
+    (subst (Fills D old now t) (first_of objects 0 object c.requires.some is)
+    (fills_from D old mid now t (object ∷ []) same (fills_one D mid now t object (set.made absent))))
+
+pub returns-in_err-push_all-clause-fills : goal.returns-in_err-push_all-clause-fills
+returns-in_err-push_all-clause-fills g c = λ map t at stands new.
+    let D = g.row.D in
+    let old = pages c.args.cache.now in
+    let mid = pages c.run_from.new.cache in
+    let asks = c.in_ok-run.ensures.asks in
+    let same = asks.map.pages_stay map.honest in
+    let tree = tree_same D old mid t same stands in
+    let run = c.in_ok-run.run' in
+    let count = c.count_of_run-count in
     let takes = counted_run D t c.args.root _ run.upto run.leaf run.room count.result
     c.args.objects.now at (c.in_ok-run.ensures.found map.honest t at stands) c.if-count-eq0.false
     count.ensures.few count.ensures.within count.ensures.range in
-    fills_from D old mid (pages c.push_all.new.cache) t _ same
-    (c.in_ok-push_all.ensures.filled (asks.map.sound.0 map) t (tree_same D old mid t same stands) takes
-    (new_taken (objects_of t) count.result c.args.objects.now new))
+    let fresh = new_taken (objects_of t) count.result c.args.objects.now new in
+    works_refused c.in_err-push_all.field-0.0 c.from_residual-in_err-push_all.ensures.1
+    (c.in_err-push_all.ensures.sound (asks.map.sound.0 map) t tree takes fresh)
+    (inl (c.in_err-push_all.ensures.faults (asks.map.sound.0 map) t tree takes fresh))
+
+pub returns-clause-fills : goal.returns-clause-fills
+returns-clause-fills g c = λ map t at stands new.
+    let D = g.row.D in
+    let old = pages c.args.cache.now in
+    let mid = pages c.run_from.new.cache in
+    let asks = c.in_ok-run.ensures.asks in
+    let same = asks.map.pages_stay map.honest in
+    let tree = tree_same D old mid t same stands in
+    let run = c.in_ok-run.run' in
+    let count = c.count_of_run-count in
+    let takes = counted_run D t c.args.root _ run.upto run.leaf run.room count.result
+    c.args.objects.now at (c.in_ok-run.ensures.found map.honest t at stands) c.if-count-eq0.false
+    count.ensures.few count.ensures.within count.ensures.range in
+    let fresh = new_taken (objects_of t) count.result c.args.objects.now new in
+    let now = pages c.push_all.new.cache in
+    let map1 = asks.map.sound.0 map in
+    record {
+      sound = c.in_ok-push_all.ensures.sound map1 t tree takes fresh;
+      tidy = tidy_in_turn D old mid now (tidy_same D old mid same)
+          (c.in_ok-push_all.ensures.tidy map1 t tree takes fresh);
+      made = fills_from D old mid now t _ same (c.in_ok-push_all.ensures.filled map1 t tree takes fresh);
+      faults = tt;
+    }

@@ -1,4 +1,5 @@
 -- Each of the two pages is written, and the other one stays.
+use Rattle.id_tree.proofs.WorksLemmas.{works_refused}
 use Rattle.std.proofs.Common.{◌∙◌, IsSome, subst, sym, ◌≡◌, ◌⊎◌}
 use Rattle.page_cache.specs.Cache.{pages, touched_of, next_of}
 use Rattle.page_cache.specs.Laws.{a_live_page_was_given_out}
@@ -9,47 +10,6 @@ use Rattle.page_file.specs.declared.fault.Fault.TheVariants as fault
 use Rattle.page_file.specs.Fault.{IsOfDevice}
 use Rattle.id_words.proofs.Results.{on_done}
 use Rattle.id_tree.proofs.pairs.put_both.Goals as goal
-
-pub returns-clause-done : goal.returns-clause-done
-returns-clause-done g c = λ map may.
-    let others = c.put.ensures.others map.honest may.first_live in
-    let map1 = c.put.ensures.sound map may.first_live in
-    let live = subst IsSome (sym (others c.args.second (λ is. may.apart (sym is)))) may.second_live in
-    let away = c.put-2.ensures.others map1.honest live in
-    on_ok c.put-2.result (λ there. record {
-      others = λ n off other. away n other ∙ others n off;
-      there_first = away c.args.first may.apart ∙ c.in_ok-put.ensures.written map.honest may.first_live;
-      there_second = there;
-    }) (c.put-2.ensures.written map1.honest live)
-
-pub returns-clause-sound : goal.returns-clause-sound
-returns-clause-sound g c = λ map may.
-    c.put-2.ensures.sound (c.put.ensures.sound map may.first_live)
-    (subst IsSome
-    (sym (c.put.ensures.others map.honest may.first_live c.args.second (λ is. may.apart (sym is))))
-    may.second_live)
-
-pub returns-clause-faults : goal.returns-clause-faults
-returns-clause-faults g c = λ map may.
-    let map1 = c.put.ensures.sound map may.first_live in
-    let live =
-    subst IsSome
-    (sym (c.put.ensures.others map.honest may.first_live c.args.second (λ is. may.apart (sym is))))
-    may.second_live in
-    let out = a_live_page_was_given_out c.put.new.self c.args.second live in
-    c.put-2.ensures.faults map1.honest out.0 out.1
-
-pub returns-clause-tidy : goal.returns-clause-tidy
-returns-clause-tidy g c = λ map may dims node.
-    let old = pages c.args.cache.now in
-    let mid = pages c.put.new.self in
-    let others = c.put.ensures.others map.honest may.first_live in
-    let map1 = c.put.ensures.sound map may.first_live in
-    let live = subst IsSome (sym (others c.args.second (λ is. may.apart (sym is)))) may.second_live in
-    on_ok c.put-2.result (λ there. tidy_put dims old mid (pages c.put-2.new.self) c.args.second c.args.two.now
-    (tidy_written dims old mid c.args.first c.args.one.now others
-    (c.in_ok-put.ensures.written map.honest may.first_live) node.first)
-    (c.put-2.ensures.others map1.honest live) there node.second) (c.put-2.ensures.written map1.honest live)
 
 pub returns-in_err-put-clause-damage : goal.returns-in_err-put-clause-damage
 returns-in_err-put-clause-damage g c = λ h none.
@@ -72,3 +32,33 @@ returns-clause-touched g c = on_done c.put-2.result
     (λ x done. c.put-2.ensures.changes.touched
     (touched_so (touched_of c.args.cache.now) (touched_of c.put.new.self)
     c.in_ok-put.ensures.in_memory.touched))
+
+pub returns-in_err-put-clause-puts : goal.returns-in_err-put-clause-puts
+returns-in_err-put-clause-puts g c = λ map may dims node.
+    let out = a_live_page_was_given_out c.args.cache.now c.args.first may.first_live in
+    works_refused c.in_err-put.field-0.0 c.from_residual.ensures.1 (c.put.ensures.sound map may.first_live)
+    (c.in_err-put.ensures.faults map.honest out.0 out.1)
+
+pub returns-clause-puts : goal.returns-clause-puts
+returns-clause-puts g c = λ map may dims node.
+    let old = pages c.args.cache.now in
+    let mid = pages c.put.new.self in
+    let others = c.put.ensures.others map.honest may.first_live in
+    let map1 = c.put.ensures.sound map may.first_live in
+    let written = c.in_ok-put.ensures.written map.honest may.first_live in
+    let live = subst IsSome (sym (others c.args.second (λ is. may.apart (sym is)))) may.second_live in
+    let away = c.put-2.ensures.others map1.honest live in
+    let then = c.put-2.ensures.written map1.honest live in
+    let out = a_live_page_was_given_out c.put.new.self c.args.second live in
+    record {
+      sound = c.put-2.ensures.sound map1 live;
+      tidy = on_ok c.put-2.result (λ there. tidy_put dims old mid (pages c.put-2.new.self) c.args.second
+          c.args.two.now (tidy_written dims old mid c.args.first c.args.one.now others written node.first)
+          away there node.second) then;
+      made = on_ok c.put-2.result (λ there. record {
+        others = λ n off other. away n other ∙ others n off;
+        there_first = away c.args.first may.apart ∙ written;
+        there_second = there;
+      }) then;
+      faults = c.put-2.ensures.faults map1.honest out.0 out.1;
+    }

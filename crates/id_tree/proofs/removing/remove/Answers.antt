@@ -1,17 +1,15 @@
 -- The object in the place that was found is taken, or a walk down from the root takes it.
-use Rattle.std.proofs.Common.{◌≡◌, ℕ, refl}
+use Rattle.id_tree.proofs.RemoveLemmas.{has_object, removes_from}
+use Rattle.std.proofs.Common.{refl}
 use Rattle.page_file.specs.Fault.{IsOfDevice}
-use Rattle.page_file.specs.declared.fault.Fault.TheVariants as fault
 use Rattle.page_cache.specs.Cache.{pages, given}
 use Rattle.page_cache.specs.Calls.{asks_and_changes}
 use Rattle.node_page.proofs.NodeLemmas.{at_error, on_ok}
-use Rattle.id_tree.specs.Checked.{ComesInTree}
 use Rattle.id_tree.specs.Tree.{objects_in}
 use Rattle.id_tree.proofs.GivenLemmas.{comes_so}
 use Rattle.id_tree.proofs.NodeLemmas.{node_there}
 use Rattle.id_tree.proofs.PartingLemmas.{some_object}
 use Rattle.id_tree.proofs.PlaceLemmas.{kept_at, last_in, leads_there, removes_taken}
-use Rattle.id_tree.proofs.RemoveLemmas.{removes_from}
 use Rattle.id_tree.proofs.ResultLemmas.{if_err}
 use Rattle.id_tree.proofs.RootLemmas.{tree_same}
 use Rattle.id_tree.proofs.TidyLemmas.{tidy_from}
@@ -98,12 +96,39 @@ returns-clause-changes g c = asks_and_changes c.args.cache.now c.is_ample.new.ca
     c.remove_from_root-2.new.cache c.remove_from_root-2.result c.in_ok-is_ample.ensures.asks
     c.remove_from_root-2.ensures.changes
 
+pub returns-clause-damage : goal.returns-clause-damage
+returns-clause-damage g c = λ h met none.
+    let asks = c.in_ok-is_ample.ensures.asks in
+    if_err c.remove_from_root-2.result _ _
+    (λ f comes n damaged. comes_so g.row.D (given c.args.cache.now) (given c.is_ample.new.cache) c.args.root n
+    (asks.map.given_stay h) (comes n damaged))
+    (c.remove_from_root-2.ensures.damage (asks.gate.honest.0 h) none)
+
+pub returns-then-at-eq0-clause-sound : goal.returns-then-at-eq0-clause-sound
+returns-then-at-eq0-clause-sound g c = λ map t at stands found.
+    (c.remove_from_root.ensures.removes map t at stands).sound
+
+pub returns-then-at-eq0-clause-tidy : goal.returns-then-at-eq0-clause-tidy
+returns-then-at-eq0-clause-tidy g c = λ map t at stands found there.
+    (c.remove_from_root.ensures.removes map t at stands).tidy
+
+pub returns-then-at-eq0-clause-removed : goal.returns-then-at-eq0-clause-removed
+returns-then-at-eq0-clause-removed g c = λ map t at stands found there.
+    (c.remove_from_root.ensures.removes map t at stands).made
+
+pub returns-then-at-eq0-clause-faults : goal.returns-then-at-eq0-clause-faults
+returns-then-at-eq0-clause-faults g c = λ map t at stands found there.
+    if_err c.remove_from_root.result _ IsOfDevice (λ f why. why (has_object t c.args.id there))
+    (c.remove_from_root.ensures.removes map t at stands).faults
+
 pub returns-clause-sound : goal.returns-clause-sound
 returns-clause-sound g c = λ map t at stands found.
+    let D = g.row.D in
+    let old = pages c.args.cache.now in
+    let mid = pages c.is_ample.new.cache in
     let asks = c.in_ok-is_ample.ensures.asks in
-    c.remove_from_root-2.ensures.sound (asks.map.sound.0 map) t at
-    (tree_same g.row.D (pages c.args.cache.now) (pages c.is_ample.new.cache) t
-    (asks.map.pages_stay map.honest) stands)
+    let same = asks.map.pages_stay map.honest in
+    (c.remove_from_root-2.ensures.removes (asks.map.sound.0 map) t at (tree_same D old mid t same stands)).sound
 
 pub returns-clause-tidy : goal.returns-clause-tidy
 returns-clause-tidy g c = λ map t at stands found there.
@@ -113,7 +138,7 @@ returns-clause-tidy g c = λ map t at stands found there.
     let asks = c.in_ok-is_ample.ensures.asks in
     let same = asks.map.pages_stay map.honest in
     tidy_from c.remove_from_root-2.result D old mid (pages c.remove_from_root-2.new.cache) same
-    (c.remove_from_root-2.ensures.tidy (asks.map.sound.0 map) t at (tree_same D old mid t same stands))
+    (c.remove_from_root-2.ensures.removes (asks.map.sound.0 map) t at (tree_same D old mid t same stands)).tidy
 
 pub returns-clause-removed : goal.returns-clause-removed
 returns-clause-removed g c = λ map t at stands found there.
@@ -124,22 +149,15 @@ returns-clause-removed g c = λ map t at stands found there.
     let same = asks.map.pages_stay map.honest in
     on_ok c.remove_from_root-2.result
     (removes_from D old mid (pages c.remove_from_root-2.new.cache) t c.args.id same)
-    (c.remove_from_root-2.ensures.removed (asks.map.sound.0 map) t at (tree_same D old mid t same stands)
-    there)
+    (c.remove_from_root-2.ensures.removes (asks.map.sound.0 map) t at (tree_same D old mid t same stands)).made
 
 pub returns-clause-faults : goal.returns-clause-faults
 returns-clause-faults g c = λ map t at stands found there.
+    let D = g.row.D in
+    let old = pages c.args.cache.now in
+    let mid = pages c.is_ample.new.cache in
     let asks = c.in_ok-is_ample.ensures.asks in
-    c.remove_from_root-2.ensures.faults (asks.map.sound.0 map) t at
-    (tree_same g.row.D (pages c.args.cache.now) (pages c.is_ample.new.cache) t
-    (asks.map.pages_stay map.honest) stands) there
-
-pub returns-clause-damage : goal.returns-clause-damage
-returns-clause-damage g c = λ h met none.
-    let asks = c.in_ok-is_ample.ensures.asks in
-    if_err c.remove_from_root-2.result
-    (λ f. (n : ℕ) → f ≡ fault.Damaged n → ComesInTree g.row.D (given c.is_ample.new.cache) c.args.root n)
-    (λ f. (n : ℕ) → f ≡ fault.Damaged n → ComesInTree g.row.D (given c.args.cache.now) c.args.root n)
-    (λ f comes n damaged. comes_so g.row.D (given c.args.cache.now) (given c.is_ample.new.cache) c.args.root n
-    (asks.map.given_stay h) (comes n damaged))
-    (c.remove_from_root-2.ensures.damage (asks.gate.honest.0 h) none)
+    let same = asks.map.pages_stay map.honest in
+    if_err c.remove_from_root-2.result _ IsOfDevice (λ f why. why (has_object t c.args.id there))
+    (c.remove_from_root-2.ensures.removes (asks.map.sound.0 map) t at
+    (tree_same D old mid t same stands)).faults

@@ -1,16 +1,15 @@
 -- The root has two children or more, or one leaf.
+use Rattle.id_tree.proofs.WorksLemmas.{works_from, works_refused}
 use Rattle.std.proofs.Common.{◌∙◌, sym, true, arith, ◌≡◌, ◌⊎◌, ℕ, refl}
-use Rattle.page_file.specs.Fault.{IsOfDevice}
 use Rattle.page_cache.specs.Cache.{pages, given}
 use Rattle.page_cache.specs.Calls.{asks_and_changes, asks_and_gives_up, no_call_asks}
-use Rattle.node_page.proofs.NodeLemmas.{at_error, on_ok}
+use Rattle.node_page.proofs.NodeLemmas.{at_error}
 use Rattle.id_page.specs.Fork.{ForkContent}
 use Rattle.id_tree.specs.Joining.{IsAmong}
 use Rattle.id_tree.specs.Tree.{links_of}
-use Rattle.id_tree.proofs.RemoveLemmas.{has_object, level_one, only_leaf, removes_from, some_root_links}
+use Rattle.id_tree.proofs.RemoveLemmas.{level_one, only_leaf, removes_from, some_root_links}
 use Rattle.id_tree.proofs.RootLemmas.{root_fork, root_stands, tree_same}
 use Rattle.id_tree.proofs.SeekLemmas.{keys_ascend, no_route}
-use Rattle.id_tree.proofs.TidyLemmas.{tidy_from}
 use Rattle.page_file.specs.declared.fault.Fault.TheVariants as fault
 use Rattle.id_tree.specs.Checked.{ComesInTree, NamesChild}
 use Rattle.id_tree.proofs.ResultLemmas.{if_err}
@@ -24,221 +23,13 @@ returns-in_err-way-clause-changes g c =
     c.from_residual.result c.from_residual.ensures.1 (no_call_asks c.args.cache.now)
     c.in_err-way.ensures.asks
 
-pub returns-in_err-way-clause-faults : goal.returns-in_err-way-clause-faults
-returns-in_err-way-clause-faults g c = λ map t at stands there.
-    at_error c.from_residual.result c.in_err-way.field-0.0 IsOfDevice c.from_residual.ensures.1
-    (c.in_err-way.ensures.there map.honest (record { level = t.level; links = links_of t.row })
-    (root_fork g.row.D (pages c.args.cache.now) c.args.root t at stands))
-
 pub returns-then-way-gt1-clause-changes : goal.returns-then-way-gt1-clause-changes
 returns-then-way-gt1-clause-changes g c = asks_and_changes c.args.cache.now c.step.new.cache
     c.remove_among.new.cache c.remove_among.result c.in_ok-way.ensures.asks c.remove_among.ensures.changes
 
-pub returns-then-way-gt1-clause-removed : goal.returns-then-way-gt1-clause-removed
-returns-then-way-gt1-clause-removed g c = λ map t at stands there.
-    let D = g.row.D in
-    let root = c.args.root in
-    let old = pages c.args.cache.now in
-    let mid = pages c.step.new.cache in
-    let way = c.in_ok-way.way in
-    let asks = c.in_ok-way.ensures.asks in
-    let same = asks.map.pages_stay map.honest in
-    let map1 = asks.map.sound.0 map in
-    let fork = root_fork D old root t at stands in
-    let content : ForkContent = record { level = t.level; links = links_of t.row } in
-    let level = c.in_ok-way.ensures.level map.honest content fork in
-    let count = c.in_ok-way.ensures.count map.honest content fork in
-    let tree = tree_same D old mid t same stands in
-    let among : IsAmong D mid t way.level = record
-    { stands = tree; level_is = level; wide = omega (arith, count, c.if-way-gt1.true) } in
-    on_ok c.remove_among.result (removes_from D old mid (pages c.remove_among.new.cache) t c.args.id same)
-    (c.remove_among.ensures.removed map1 t at among (has_object t c.args.id there))
-
-pub returns-then-way-gt1-clause-sound : goal.returns-then-way-gt1-clause-sound
-returns-then-way-gt1-clause-sound g c = λ map t at stands.
-    let D = g.row.D in
-    let root = c.args.root in
-    let old = pages c.args.cache.now in
-    let mid = pages c.step.new.cache in
-    let way = c.in_ok-way.way in
-    let asks = c.in_ok-way.ensures.asks in
-    let same = asks.map.pages_stay map.honest in
-    let map1 = asks.map.sound.0 map in
-    let fork = root_fork D old root t at stands in
-    let content : ForkContent = record { level = t.level; links = links_of t.row } in
-    let level = c.in_ok-way.ensures.level map.honest content fork in
-    let count = c.in_ok-way.ensures.count map.honest content fork in
-    let tree = tree_same D old mid t same stands in
-    let among : IsAmong D mid t way.level = record
-    { stands = tree; level_is = level; wide = omega (arith, count, c.if-way-gt1.true) } in
-    c.remove_among.ensures.sound map1 t at among
-
-pub returns-then-way-gt1-clause-faults : goal.returns-then-way-gt1-clause-faults
-returns-then-way-gt1-clause-faults g c = λ map t at stands there.
-    let D = g.row.D in
-    let root = c.args.root in
-    let old = pages c.args.cache.now in
-    let mid = pages c.step.new.cache in
-    let way = c.in_ok-way.way in
-    let asks = c.in_ok-way.ensures.asks in
-    let same = asks.map.pages_stay map.honest in
-    let map1 = asks.map.sound.0 map in
-    let fork = root_fork D old root t at stands in
-    let content : ForkContent = record { level = t.level; links = links_of t.row } in
-    let level = c.in_ok-way.ensures.level map.honest content fork in
-    let count = c.in_ok-way.ensures.count map.honest content fork in
-    let tree = tree_same D old mid t same stands in
-    let among : IsAmong D mid t way.level = record
-    { stands = tree; level_is = level; wide = omega (arith, count, c.if-way-gt1.true) } in
-    c.remove_among.ensures.faults map1 t at among (has_object t c.args.id there)
-
-pub returns-then-way-ne1-clause-faults : goal.returns-then-way-ne1-clause-faults
-returns-then-way-ne1-clause-faults g c = λ map t at stands there.
-    let D = g.row.D in
-    let root = c.args.root in
-    let old = pages c.args.cache.now in
-    let mid = pages c.step.new.cache in
-    let way = c.in_ok-way.way in
-    let asks = c.in_ok-way.ensures.asks in
-    let same = asks.map.pages_stay map.honest in
-    let map1 = asks.map.sound.0 map in
-    let fork = root_fork D old root t at stands in
-    let content : ForkContent = record { level = t.level; links = links_of t.row } in
-    let level = c.in_ok-way.ensures.level map.honest content fork in
-    let count = c.in_ok-way.ensures.count map.honest content fork in
-    let tree = tree_same D old mid t same stands in
-    absurd (c.if-way-ne1.true (level ∙ level_one D old t stands (omega (arith, count, c.if-way-gt1.false))))
-
-pub returns-in_default-clause-faults : goal.returns-in_default-clause-faults
-returns-in_default-clause-faults g c = λ map t at stands there.
-    let D = g.row.D in
-    let root = c.args.root in
-    let old = pages c.args.cache.now in
-    let mid = pages c.step.new.cache in
-    let way = c.in_ok-way.way in
-    let asks = c.in_ok-way.ensures.asks in
-    let same = asks.map.pages_stay map.honest in
-    let map1 = asks.map.sound.0 map in
-    let fork = root_fork D old root t at stands in
-    let content : ForkContent = record { level = t.level; links = links_of t.row } in
-    let level = c.in_ok-way.ensures.level map.honest content fork in
-    let count = c.in_ok-way.ensures.count map.honest content fork in
-    let tree = tree_same D old mid t same stands in
-    let ascend = keys_ascend D old t.page t.level true t.row stands.high (root_stands D old t stands) in
-    let named = c.in_ok-way.ensures.child map.honest content fork ascend in
-    let none = no_route c.args.id (links_of t.row) (sym c.in_default.is ∙ named) in
-    let some = some_root_links D old t c.args.id stands (has_object t c.args.id there) in
-    absurd (omega (arith, none, some))
-
 pub returns-clause-changes : goal.returns-clause-changes
 returns-clause-changes g c = asks_and_changes c.args.cache.now c.step.new.cache c.remove_only.new.cache
     c.remove_only.result c.in_ok-way.ensures.asks c.remove_only.ensures.changes
-
-pub returns-clause-removed : goal.returns-clause-removed
-returns-clause-removed g c = λ map t at stands there.
-    let D = g.row.D in
-    let root = c.args.root in
-    let old = pages c.args.cache.now in
-    let mid = pages c.step.new.cache in
-    let way = c.in_ok-way.way in
-    let asks = c.in_ok-way.ensures.asks in
-    let same = asks.map.pages_stay map.honest in
-    let map1 = asks.map.sound.0 map in
-    let fork = root_fork D old root t at stands in
-    let content : ForkContent = record { level = t.level; links = links_of t.row } in
-    let level = c.in_ok-way.ensures.level map.honest content fork in
-    let count = c.in_ok-way.ensures.count map.honest content fork in
-    let tree = tree_same D old mid t same stands in
-    let ascend = keys_ascend D old t.page t.level true t.row stands.high (root_stands D old t stands) in
-    let named = c.in_ok-way.ensures.child map.honest content fork ascend in
-    let only = only_leaf D mid t c.args.id way.child c.in-Some.leaf tree
-    (omega (arith, count, c.if-way-gt1.false)) named c.in-Some.is in
-    on_ok c.remove_only.result (removes_from D old mid (pages c.remove_only.new.cache) t c.args.id same)
-    (c.remove_only.ensures.removed map1 t at only (has_object t c.args.id there))
-
-pub returns-clause-sound : goal.returns-clause-sound
-returns-clause-sound g c = λ map t at stands.
-    let D = g.row.D in
-    let root = c.args.root in
-    let old = pages c.args.cache.now in
-    let mid = pages c.step.new.cache in
-    let way = c.in_ok-way.way in
-    let asks = c.in_ok-way.ensures.asks in
-    let same = asks.map.pages_stay map.honest in
-    let map1 = asks.map.sound.0 map in
-    let fork = root_fork D old root t at stands in
-    let content : ForkContent = record { level = t.level; links = links_of t.row } in
-    let level = c.in_ok-way.ensures.level map.honest content fork in
-    let count = c.in_ok-way.ensures.count map.honest content fork in
-    let tree = tree_same D old mid t same stands in
-    let ascend = keys_ascend D old t.page t.level true t.row stands.high (root_stands D old t stands) in
-    let named = c.in_ok-way.ensures.child map.honest content fork ascend in
-    let only = only_leaf D mid t c.args.id way.child c.in-Some.leaf tree
-    (omega (arith, count, c.if-way-gt1.false)) named c.in-Some.is in
-    c.remove_only.ensures.sound map1 t at only
-
-pub returns-clause-faults : goal.returns-clause-faults
-returns-clause-faults g c = λ map t at stands there.
-    let D = g.row.D in
-    let root = c.args.root in
-    let old = pages c.args.cache.now in
-    let mid = pages c.step.new.cache in
-    let way = c.in_ok-way.way in
-    let asks = c.in_ok-way.ensures.asks in
-    let same = asks.map.pages_stay map.honest in
-    let map1 = asks.map.sound.0 map in
-    let fork = root_fork D old root t at stands in
-    let content : ForkContent = record { level = t.level; links = links_of t.row } in
-    let level = c.in_ok-way.ensures.level map.honest content fork in
-    let count = c.in_ok-way.ensures.count map.honest content fork in
-    let tree = tree_same D old mid t same stands in
-    let ascend = keys_ascend D old t.page t.level true t.row stands.high (root_stands D old t stands) in
-    let named = c.in_ok-way.ensures.child map.honest content fork ascend in
-    let only = only_leaf D mid t c.args.id way.child c.in-Some.leaf tree
-    (omega (arith, count, c.if-way-gt1.false)) named c.in-Some.is in
-    c.remove_only.ensures.faults map1 t at only (has_object t c.args.id there)
-
-pub returns-then-way-gt1-clause-tidy : goal.returns-then-way-gt1-clause-tidy
-returns-then-way-gt1-clause-tidy g c = λ map t at stands.
-    let D = g.row.D in
-    let root = c.args.root in
-    let old = pages c.args.cache.now in
-    let mid = pages c.step.new.cache in
-    let way = c.in_ok-way.way in
-    let asks = c.in_ok-way.ensures.asks in
-    let same = asks.map.pages_stay map.honest in
-    let map1 = asks.map.sound.0 map in
-    let fork = root_fork D old root t at stands in
-    let content : ForkContent = record { level = t.level; links = links_of t.row } in
-    let level = c.in_ok-way.ensures.level map.honest content fork in
-    let count = c.in_ok-way.ensures.count map.honest content fork in
-    let tree = tree_same D old mid t same stands in
-    let among : IsAmong D mid t way.level = record
-    { stands = tree; level_is = level; wide = omega (arith, count, c.if-way-gt1.true) } in
-    tidy_from c.remove_among.result D old mid (pages c.remove_among.new.cache) same
-    (c.remove_among.ensures.tidy map1 t at among)
-
-pub returns-clause-tidy : goal.returns-clause-tidy
-returns-clause-tidy g c = λ map t at stands.
-    let D = g.row.D in
-    let root = c.args.root in
-    let old = pages c.args.cache.now in
-    let mid = pages c.step.new.cache in
-    let way = c.in_ok-way.way in
-    let asks = c.in_ok-way.ensures.asks in
-    let same = asks.map.pages_stay map.honest in
-    let map1 = asks.map.sound.0 map in
-    let fork = root_fork D old root t at stands in
-    let content : ForkContent = record { level = t.level; links = links_of t.row } in
-    let level = c.in_ok-way.ensures.level map.honest content fork in
-    let count = c.in_ok-way.ensures.count map.honest content fork in
-    let tree = tree_same D old mid t same stands in
-    let ascend = keys_ascend D old t.page t.level true t.row stands.high (root_stands D old t stands) in
-    let named = c.in_ok-way.ensures.child map.honest content fork ascend in
-    let only = only_leaf D mid t c.args.id way.child c.in-Some.leaf tree
-    (omega (arith, count, c.if-way-gt1.false)) named c.in-Some.is in
-    tidy_from c.remove_only.result D old mid (pages c.remove_only.new.cache) same
-    (c.remove_only.ensures.tidy map1 t at only)
 
 pub returns-in_err-way-clause-damage : goal.returns-in_err-way-clause-damage
 returns-in_err-way-clause-damage g c = λ h none.
@@ -279,3 +70,91 @@ returns-clause-damage g c = λ h none.
     (comes_down D m root leaf leaf names (comes_here D m leaf leaf refl)) (comes_here D m root root refl)
     (either n damaged))
     (c.remove_only.ensures.damage (c.in_ok-way.ensures.asks.gate.honest.0 h) none)
+
+pub returns-in_err-way-clause-removes : goal.returns-in_err-way-clause-removes
+returns-in_err-way-clause-removes g c = λ map t at stands.
+    works_refused c.in_err-way.field-0.0 c.from_residual.ensures.1 (c.in_err-way.ensures.asks.map.sound.0 map)
+    (λ there. c.in_err-way.ensures.there map.honest (record { level = t.level; links = links_of t.row })
+    (root_fork g.row.D (pages c.args.cache.now) c.args.root t at stands))
+
+pub returns-then-way-gt1-clause-removes : goal.returns-then-way-gt1-clause-removes
+returns-then-way-gt1-clause-removes g c = λ map t at stands.
+    let D = g.row.D in
+    let root = c.args.root in
+    let old = pages c.args.cache.now in
+    let mid = pages c.step.new.cache in
+    let way = c.in_ok-way.way in
+    let asks = c.in_ok-way.ensures.asks in
+    let same = asks.map.pages_stay map.honest in
+    let fork = root_fork D old root t at stands in
+    let content : ForkContent = record { level = t.level; links = links_of t.row } in
+    let level = c.in_ok-way.ensures.level map.honest content fork in
+    let count = c.in_ok-way.ensures.count map.honest content fork in
+    let tree = tree_same D old mid t same stands in
+    let among : IsAmong D mid t way.level = record
+    { stands = tree; level_is = level; wide = omega (arith, count, c.if-way-gt1.true) } in
+    works_from (c.remove_among.ensures.removes (asks.map.sound.0 map) t at among) same
+    (λ u. removes_from D old mid (pages c.remove_among.new.cache) t c.args.id same) (λ f why. why)
+
+pub returns-then-way-ne1-clause-removes : goal.returns-then-way-ne1-clause-removes
+returns-then-way-ne1-clause-removes g c = λ map t at stands.
+    let D = g.row.D in
+    let root = c.args.root in
+    let old = pages c.args.cache.now in
+    let mid = pages c.step.new.cache in
+    let way = c.in_ok-way.way in
+    let asks = c.in_ok-way.ensures.asks in
+    let same = asks.map.pages_stay map.honest in
+    let fork = root_fork D old root t at stands in
+    let content : ForkContent = record { level = t.level; links = links_of t.row } in
+    let level = c.in_ok-way.ensures.level map.honest content fork in
+    let count = c.in_ok-way.ensures.count map.honest content fork in
+    record {
+      sound = asks.map.sound.0 map;
+      tidy = tt;
+      made = tt;
+      faults = λ there. absurd (c.if-way-ne1.true
+          (level ∙ level_one D old t stands (omega (arith, count, c.if-way-gt1.false))));
+    }
+
+pub returns-in_default-clause-removes : goal.returns-in_default-clause-removes
+returns-in_default-clause-removes g c = λ map t at stands.
+    let D = g.row.D in
+    let root = c.args.root in
+    let old = pages c.args.cache.now in
+    let mid = pages c.step.new.cache in
+    let way = c.in_ok-way.way in
+    let asks = c.in_ok-way.ensures.asks in
+    let same = asks.map.pages_stay map.honest in
+    let fork = root_fork D old root t at stands in
+    let content : ForkContent = record { level = t.level; links = links_of t.row } in
+    let ascend = keys_ascend D old t.page t.level true t.row stands.high (root_stands D old t stands) in
+    let named = c.in_ok-way.ensures.child map.honest content fork ascend in
+    let none = no_route c.args.id (links_of t.row) (sym c.in_default.is ∙ named) in
+    record {
+      sound = asks.map.sound.0 map;
+      tidy = tt;
+      made = tt;
+      faults = λ there. let some = some_root_links D old t c.args.id stands there in
+          absurd (omega (arith, none, some));
+    }
+
+pub returns-clause-removes : goal.returns-clause-removes
+returns-clause-removes g c = λ map t at stands.
+    let D = g.row.D in
+    let root = c.args.root in
+    let old = pages c.args.cache.now in
+    let mid = pages c.step.new.cache in
+    let way = c.in_ok-way.way in
+    let asks = c.in_ok-way.ensures.asks in
+    let same = asks.map.pages_stay map.honest in
+    let fork = root_fork D old root t at stands in
+    let content : ForkContent = record { level = t.level; links = links_of t.row } in
+    let count = c.in_ok-way.ensures.count map.honest content fork in
+    let tree = tree_same D old mid t same stands in
+    let ascend = keys_ascend D old t.page t.level true t.row stands.high (root_stands D old t stands) in
+    let named = c.in_ok-way.ensures.child map.honest content fork ascend in
+    let only = only_leaf D mid t c.args.id way.child c.in-Some.leaf tree
+    (omega (arith, count, c.if-way-gt1.false)) named c.in-Some.is in
+    works_from (c.remove_only.ensures.removes (asks.map.sound.0 map) t at only) same
+    (λ u. removes_from D old mid (pages c.remove_only.new.cache) t c.args.id same) (λ f why. why)

@@ -1,4 +1,5 @@
 -- The leaf of the object is the only child.
+use Rattle.id_tree.proofs.WorksLemmas.{works_handed}
 use Rattle.id_tree.proofs.TidyLemmas.{leaf_node}
 use Rattle.std.proofs.Common.{◌∷◌, [], ◌≡◌, ℕ}
 use Rattle.page_file.specs.declared.fault.Fault.TheVariants as fault
@@ -6,21 +7,32 @@ use Rattle.node_page.proofs.NodeLemmas.{at_error}
 use Rattle.id_words.specs.Damage.{MayBreakAt}
 use Rattle.id_tree.proofs.rooting.start.Goals as goal
 
-pub returns-clause-started : goal.returns-clause-started
-returns-clause-started g c = λ map live. record {
-  number = c.in_ok-name_new.field-0;
-  bytes = c.leaf_of-leaf.result;
-  named = c.in_ok-name_new.ensures.named map live;
-  leaf = c.leaf_of-leaf.ensures.spelled;
-}
-
-pub returns-clause-tidy : goal.returns-clause-tidy
-returns-clause-tidy g c = λ map live. c.in_ok-name_new.ensures.tidy map live
-    (λ tidy. leaf_node g.row.D c.leaf_of-leaf.result (c.args.object.now ∷ []) c.leaf_of-leaf.ensures.spelled
-    c.leaf_of-leaf.ensures.tidy)
-
 pub returns-in_err-name_new-clause-damage : goal.returns-in_err-name_new-clause-damage
 returns-in_err-name_new-clause-damage g c = λ h none.
     at_error c.from_residual.result c.in_err-name_new.field-0.0
     (λ e. (n : ℕ) → e ≡ fault.Damaged n → MayBreakAt c.args.cache.now n)
     c.from_residual.ensures.1 (c.in_err-name_new.ensures.damage h none)
+
+pub returns-in_err-name_new-clause-starts : goal.returns-in_err-name_new-clause-starts
+returns-in_err-name_new-clause-starts g c = λ map live.
+    works_handed (c.in_err-name_new.ensures.names map live
+    (λ tidy. leaf_node g.row.D c.leaf_of-leaf.result (c.args.object.now ∷ []) c.leaf_of-leaf.ensures.spelled
+    c.leaf_of-leaf.ensures.tidy))
+    c.from_residual.ensures.1 (λ why. why)
+
+pub returns-clause-starts : goal.returns-clause-starts
+returns-clause-starts g c = λ map live.
+    let w = c.in_ok-name_new.ensures.names map live
+    (λ tidy. leaf_node g.row.D c.leaf_of-leaf.result (c.args.object.now ∷ []) c.leaf_of-leaf.ensures.spelled
+    c.leaf_of-leaf.ensures.tidy) in
+    record {
+      sound = w.sound;
+      tidy = w.tidy;
+      made = record {
+        number = c.in_ok-name_new.field-0;
+        bytes = c.leaf_of-leaf.result;
+        named = w.made;
+        leaf = c.leaf_of-leaf.ensures.spelled;
+      };
+      faults = tt;
+    }

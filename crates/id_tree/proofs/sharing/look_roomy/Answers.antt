@@ -1,6 +1,7 @@
 -- The pair that was found is one of leaves that may share.
-use Rattle.std.proofs.Common.{◌≡◌, ◌∙◌, ◌-◌, ℕ, None, IsSome, refl, sym, ap}
-use Rattle.std.proofs.Common.{subst, arith}
+use Rattle.id_tree.proofs.TidyLemmas.{as_tidy_back, fork_as_tidy}
+use Rattle.id_tree.proofs.NodeLemmas.{node_there, node_stays}
+use Rattle.std.proofs.Common.{◌≡◌, ◌∙◌, ◌-◌, ℕ, None, IsSome, refl, sym, ap, subst, arith}
 use Rattle.page_file.specs.Fault.{IsOfDevice}
 use Rattle.page_file.specs.declared.fault.Fault.TheVariants as fault
 use Rattle.page_cache.specs.Cache.{pages, given}
@@ -12,7 +13,6 @@ use Rattle.id_tree.specs.Tree.{fork_in, links_of}
 use Rattle.id_tree.proofs.DamageLemmas.{comes_at, comes_down, comes_to_one}
 use Rattle.id_tree.proofs.GivenLemmas.{comes_here}
 use Rattle.id_tree.proofs.JoinLemmas.{join_apart, one_node, two_node}
-use Rattle.id_tree.proofs.NodeLemmas.{node_stays}
 use Rattle.id_tree.proofs.SharingLemmas.{is_beside, links_live, split_joins, split_meets}
 use Rattle.id_tree.proofs.SplitLemmas.{live_same, place_within}
 use Rattle.id_tree.proofs.sharing.look_roomy.Goals as goal
@@ -84,9 +84,11 @@ returns-in_err-share-clause-there g c = λ h id child last row may.
     let p = c.in_ok-pair.pair in
     let pair = c.in_ok-pair.ensures.pair h1 level id child place row
     (split_meets D old mid page level edge row id child place last left same may beside) beside in
+    let tidy = fork_as_tidy D mid page p.fork content (c.in_ok-pair.ensures.bytes h1
+    (live_same old mid page same (node_there D old page level row may.stands.node))) pair.fork_is in
     let joins = split_joins D old mid page level edge row id child place last p.fork p.left p.first p.second
-    p.key p.last same may pair in
-    let apart = join_apart D mid page level edge row id p.fork p.left p.first p.second p.key p.last joins in
+    p.key p.last same may pair tidy in
+    let apart = join_apart joins in
     at_error c.from_residual-in_err-share.result c.in_err-share.field-0.0 IsOfDevice
     c.from_residual-in_err-share.ensures.1
     (c.in_err-share.ensures.there (asks2.gate.honest.0 h1)
@@ -115,13 +117,15 @@ returns-then-share-clause-pair g c = λ h id child last row may.
     let p = c.in_ok-pair.pair in
     let pair = c.in_ok-pair.ensures.pair h1 level id child place row
     (split_meets D old mid page level edge row id child place last left same may beside) beside in
+    let tidy = fork_as_tidy D mid page p.fork content (c.in_ok-pair.ensures.bytes h1
+    (live_same old mid page same (node_there D old page level row may.stands.node))) pair.fork_is in
     let joins = split_joins D old old page level edge row id child place last p.fork p.left p.first p.second
-    p.key p.last (λ n. refl) may pair in
+    p.key p.last (λ n. refl) may pair (as_tidy_back D old mid p.fork same tidy) in
     let now : (n : ℕ) → then n ≡ old n = λ n. asks2.map.pages_stay h1 n ∙ same n in
     let one = node_stays D old then p.first (level - 1) pair.at.one (now p.first)
-    (one_node D old page level edge row id p.fork p.left p.first p.second p.key p.last joins) in
+    (one_node joins) in
     let two = node_stays D old then p.second (level - 1) pair.at.two (now p.second)
-    (two_node D old page level edge row id p.fork p.left p.first p.second p.key p.last joins) in
+    (two_node joins) in
     let low : level - 1 ≡ 0 = omega (arith, c.if-level-ne1.false) in
     record {
       join = joins;
@@ -163,26 +167,19 @@ returns-clause-shares g c = λ h id child last row may is wide each.
     let p = c.in_ok-pair.pair in
     let pair = c.in_ok-pair.ensures.pair h1 level id child place row
     (split_meets D old mid page level edge row id child place last left same may beside) beside in
+    let tidy = fork_as_tidy D mid page p.fork content (c.in_ok-pair.ensures.bytes h1
+    (live_same old mid page same (node_there D old page level row may.stands.node))) pair.fork_is in
     let joins = split_joins D old old page level edge row id child place last p.fork p.left p.first p.second
-    p.key p.last (λ n. refl) may pair in
+    p.key p.last (λ n. refl) may pair (as_tidy_back D old mid p.fork same tidy) in
     let now : (n : ℕ) → then n ≡ old n = λ n. asks2.map.pages_stay h1 n ∙ same n in
     let one = node_stays D old then p.first (level - 1) pair.at.one (now p.first)
-    (one_node D old page level edge row id p.fork p.left p.first p.second p.key p.last joins) in
+    (one_node joins) in
     let two = node_stays D old then p.second (level - 1) pair.at.two (now p.second)
-    (two_node D old page level edge row id p.fork p.left p.first p.second p.key p.last joins) in
+    (two_node joins) in
     let low : level - 1 ≡ 0 = omega (arith, c.if-level-ne1.false) in
     let few = each p.first p.second pair.at in
     let yes = c.in_ok-share.ensures.accepts h2 (level - 1) pair.at.one pair.at.two low one two few.0 few.1 in
     absurd (let never = sym yes ∙ c.if-share.false in cc)
-
-pub returns-then-share-clause-bytes : goal.returns-then-share-clause-bytes
-returns-then-share-clause-bytes g c = λ h live.
-    let old = pages c.args.cache.now in
-    let mid = pages c.look_beside.new.cache in
-    let page = c.args.page in
-    let asks = c.in_ok-beside.ensures.asks in
-    let same = asks.map.pages_stay h in
-    sym (same page) ∙ c.in_ok-pair.ensures.bytes (asks.gate.honest.0 h) (live_same old mid page same live)
 
 pub returns-then-share-clause-names : goal.returns-then-share-clause-names
 returns-then-share-clause-names g c = λ h content there.

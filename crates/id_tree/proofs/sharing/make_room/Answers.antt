@@ -1,25 +1,19 @@
 -- The pair shares, or the child is split.
-use Rattle.std.proofs.Common.{◌≡◌, ◌+◌, ◌<◌, ◌≤◌, ◌⊎◌, ⊎_elim, ℕ, Some, IsSome, inl, inr, refl}
-use Rattle.std.proofs.Common.{subst, arith}
+use Rattle.id_tree.proofs.WorksLemmas.{works_from, works_refused}
+use Rattle.id_tree.proofs.JoinLemmas.{join_same}
+use Rattle.std.proofs.Common.{◌≡◌, ◌+◌, ◌<◌, ◌≤◌, ◌⊎◌, ⊎_elim, ℕ, IsSome, inl, inr, refl, subst, arith}
 use Rattle.block_bytes.specs.Numbers.{number_at}
-use Rattle.page_file.specs.Fault.{IsOfDevice}
 use Rattle.page_file.specs.declared.fault.Fault.TheVariants as fault
 use Rattle.page_cache.specs.Cache.{pages, given}
-use Rattle.node_page.specs.Faults.{IsNoDamage}
 use Rattle.node_page.proofs.NodeLemmas.{at_error}
 use Rattle.id_words.specs.Damage.{MayBreakAt}
 use Rattle.id_tree.specs.Checked.{ComesInTree, Names}
 use Rattle.id_tree.specs.Joining.{MayShare}
-use Rattle.id_tree.specs.Steps.{MakesHalves, MakesRoom}
-use Rattle.id_tree.specs.Tree.{links_of}
 use Rattle.id_tree.specs.declared.pairs.Pair.{Pair}
 use Rattle.id_tree.proofs.DamageLemmas.{breaks_kept, comes_down, comes_to_one}
 use Rattle.id_tree.proofs.GivenLemmas.{comes_here}
-use Rattle.id_tree.proofs.JoinLemmas.{share_same}
-use Rattle.id_tree.proofs.NodeLemmas.{node_there}
-use Rattle.id_tree.proofs.ResultLemmas.{if_err, if_ok, some_is}
+use Rattle.id_tree.proofs.ResultLemmas.{if_err, some_is}
 use Rattle.id_tree.proofs.SplitLemmas.{makes_from, split_again}
-use Rattle.id_tree.proofs.TidyLemmas.{as_tidy_on, fork_as_tidy, tidy_from}
 use Rattle.id_tree.proofs.sharing.make_room.Goals as goal
 
 pub share-requires : goal.share-requires
@@ -31,16 +25,6 @@ share-requires g c = record {
       c.in-Some.is c.in_ok-roomy.ensures.few;
 }
 
-pub returns-in_err-roomy-clause-sound : goal.returns-in_err-roomy-clause-sound
-returns-in_err-roomy-clause-sound g c = λ map row may. c.in_err-roomy.ensures.asks.map.sound.0 map
-
-pub returns-in_err-roomy-clause-faults : goal.returns-in_err-roomy-clause-faults
-returns-in_err-roomy-clause-faults g c = λ map row may.
-    at_error c.from_residual.result c.in_err-roomy.field-0.0 (IsNoDamage c.look_roomy.new.cache)
-    c.from_residual.ensures.1
-    (inl (c.in_err-roomy.ensures.there map.honest c.args.id c.args.below.now.child c.args.below.now.last row
-    may))
-
 pub returns-in_err-roomy-clause-damage : goal.returns-in_err-roomy-clause-damage
 returns-in_err-roomy-clause-damage g c = λ h none names.
     at_error c.from_residual.result c.in_err-roomy.field-0.0
@@ -50,62 +34,6 @@ returns-in_err-roomy-clause-damage g c = λ h none names.
     (λ n damaged. inl (c.in_err-roomy.ensures.damage h names.0 names.1 n damaged))
 
 -- ---- it is split
-
-pub returns-in_default-clause-made : goal.returns-in_default-clause-made
-returns-in_default-clause-made g c = λ map row may.
-    let D = g.row.D in
-    let page = c.args.page in
-    let level = c.args.level in
-    let edge = c.args.edge in
-    let id = c.args.id in
-    let b = c.args.below.now in
-    let old = pages c.args.cache.now in
-    let mid = pages c.look_roomy.new.cache in
-    let new = pages c.split.new.cache in
-    let asks = c.in_ok-roomy.ensures.asks in
-    let same = asks.map.pages_stay map.honest in
-    if_ok c.split.result (λ r. MakesHalves D mid new page level edge row id r.0 r.1)
-    (λ r. MakesRoom D old new page level edge row id r.0 r.1)
-    (λ r m. makes_from D old mid new page level edge row id r.0 r.1 same m.room)
-    (c.split.ensures.made (asks.map.sound.0 map) edge row
-    (split_again D old mid page level edge row id b.child b.place b.last same may))
-
-pub returns-in_default-clause-tidy : goal.returns-in_default-clause-tidy
-returns-in_default-clause-tidy g c = λ map row may.
-    let D = g.row.D in
-    let b = c.args.below.now in
-    let old = pages c.args.cache.now in
-    let mid = pages c.look_roomy.new.cache in
-    let asks = c.in_ok-roomy.ensures.asks in
-    let same = asks.map.pages_stay map.honest in
-    tidy_from c.split.result D old mid (pages c.split.new.cache) same
-    (c.split.ensures.tidy (asks.map.sound.0 map) c.args.edge row
-    (split_again D old mid c.args.page c.args.level c.args.edge row c.args.id b.child b.place b.last same
-    may))
-
-pub returns-in_default-clause-sound : goal.returns-in_default-clause-sound
-returns-in_default-clause-sound g c = λ map row may.
-    let D = g.row.D in
-    let b = c.args.below.now in
-    let old = pages c.args.cache.now in
-    let mid = pages c.look_roomy.new.cache in
-    let asks = c.in_ok-roomy.ensures.asks in
-    let same = asks.map.pages_stay map.honest in
-    c.split.ensures.sound (asks.map.sound.0 map) c.args.edge row
-    (split_again D old mid c.args.page c.args.level c.args.edge row c.args.id b.child b.place b.last same
-    may)
-
-pub returns-in_default-clause-faults : goal.returns-in_default-clause-faults
-returns-in_default-clause-faults g c = λ map row may.
-    let D = g.row.D in
-    let b = c.args.below.now in
-    let old = pages c.args.cache.now in
-    let mid = pages c.look_roomy.new.cache in
-    let asks = c.in_ok-roomy.ensures.asks in
-    let same = asks.map.pages_stay map.honest in
-    c.split.ensures.faults (asks.map.sound.0 map) c.args.edge row
-    (split_again D old mid c.args.page c.args.level c.args.edge row c.args.id b.child b.place b.last same
-    may)
 
 pub returns-in_default-clause-touched : goal.returns-in_default-clause-touched
 returns-in_default-clause-touched g c = c.split.ensures.touched
@@ -142,96 +70,6 @@ returns-clause-shares g c = λ map row may is wide each.
     let asks = c.in_ok-roomy.ensures.asks in
     omega (arith, c.share.ensures.grows, asks.map.next, asks.map.free_count)
 
-pub returns-clause-made : goal.returns-clause-made
-returns-clause-made g c = λ map row may.
-    let D = g.row.D in
-    let page = c.args.page in
-    let level = c.args.level in
-    let edge = c.args.edge in
-    let id = c.args.id in
-    let b = c.args.below.now in
-    let p = c.in-Some.pair in
-    let old = pages c.args.cache.now in
-    let mid = pages c.look_roomy.new.cache in
-    let new = pages c.share.new.cache in
-    let asks = c.in_ok-roomy.ensures.asks in
-    let same = asks.map.pages_stay map.honest in
-    let share = some_is c.in_ok-roomy.roomy p (λ (q : Pair).
-    MayShare D old page level edge row id q.fork q.left q.first q.second q.key q.last) c.in-Some.is
-    (c.in_ok-roomy.ensures.pair map.honest id b.child b.last row may) in
-    if_ok c.share.result (λ r. MakesRoom D mid new page level edge row id r.0 r.1)
-    (λ r. MakesRoom D old new page level edge row id r.0 r.1)
-    (λ r m. makes_from D old mid new page level edge row id r.0 r.1 same m)
-    (c.share.ensures.roomy (asks.map.sound.0 map) edge row
-    (share_same D old mid page level edge row id p.fork p.left p.first p.second p.key p.last same share))
-
-pub returns-clause-tidy : goal.returns-clause-tidy
-returns-clause-tidy g c = λ map row may.
-    let D = g.row.D in
-    let page = c.args.page in
-    let level = c.args.level in
-    let edge = c.args.edge in
-    let id = c.args.id in
-    let b = c.args.below.now in
-    let p = c.in-Some.pair in
-    let old = pages c.args.cache.now in
-    let mid = pages c.look_roomy.new.cache in
-    let asks = c.in_ok-roomy.ensures.asks in
-    let same = asks.map.pages_stay map.honest in
-    let share = some_is c.in_ok-roomy.roomy p (λ (q : Pair).
-    MayShare D old page level edge row id q.fork q.left q.first q.second q.key q.last) c.in-Some.is
-    (c.in_ok-roomy.ensures.pair map.honest id b.child b.last row may) in
-    let now = share_same D old mid page level edge row id p.fork p.left p.first p.second p.key p.last same
-    share in
-    let there = some_is c.in_ok-roomy.roomy p (λ (q : Pair). old page ≡ Some q.fork) c.in-Some.is
-    (c.in_ok-roomy.ensures.bytes map.honest (node_there D old page level row may.stands.node)) in
-    tidy_from c.share.result D old mid (pages c.share.new.cache) same
-    (c.share.ensures.tidy (asks.map.sound.0 map) edge row now.join now.many
-    (as_tidy_on D old mid p.fork same
-    (fork_as_tidy D old page p.fork (record { level = level; links = links_of row }) there
-    share.join.pair.fork_is)))
-
-pub returns-clause-sound : goal.returns-clause-sound
-returns-clause-sound g c = λ map row may.
-    let D = g.row.D in
-    let page = c.args.page in
-    let level = c.args.level in
-    let edge = c.args.edge in
-    let id = c.args.id in
-    let b = c.args.below.now in
-    let p = c.in-Some.pair in
-    let old = pages c.args.cache.now in
-    let mid = pages c.look_roomy.new.cache in
-    let asks = c.in_ok-roomy.ensures.asks in
-    let same = asks.map.pages_stay map.honest in
-    let share = some_is c.in_ok-roomy.roomy p (λ (q : Pair).
-    MayShare D old page level edge row id q.fork q.left q.first q.second q.key q.last) c.in-Some.is
-    (c.in_ok-roomy.ensures.pair map.honest id b.child b.last row may) in
-    let now = share_same D old mid page level edge row id p.fork p.left p.first p.second p.key p.last same
-    share in
-    c.share.ensures.sound (asks.map.sound.0 map) edge row now.join
-
-pub returns-clause-faults : goal.returns-clause-faults
-returns-clause-faults g c = λ map row may.
-    let D = g.row.D in
-    let page = c.args.page in
-    let level = c.args.level in
-    let edge = c.args.edge in
-    let id = c.args.id in
-    let b = c.args.below.now in
-    let p = c.in-Some.pair in
-    let old = pages c.args.cache.now in
-    let mid = pages c.look_roomy.new.cache in
-    let asks = c.in_ok-roomy.ensures.asks in
-    let same = asks.map.pages_stay map.honest in
-    let share = some_is c.in_ok-roomy.roomy p (λ (q : Pair).
-    MayShare D old page level edge row id q.fork q.left q.first q.second q.key q.last) c.in-Some.is
-    (c.in_ok-roomy.ensures.pair map.honest id b.child b.last row may) in
-    let now = share_same D old mid page level edge row id p.fork p.left p.first p.second p.key p.last same
-    share in
-    if_err c.share.result IsOfDevice (IsNoDamage c.share.new.cache) (λ f is. inl is)
-    (c.share.ensures.faults (asks.map.sound.0 map) edge row now.join now.many)
-
 pub returns-clause-touched : goal.returns-clause-touched
 returns-clause-touched g c = c.share.ensures.touched
 
@@ -253,3 +91,49 @@ returns-clause-damage g c = λ h none names.
     (λ f. (n : ℕ) → f ≡ fault.Damaged n → ComesInTree D m page n ⊎ MayBreakAt old n)
     (λ f either n damaged. inl (comes_to_one D m page p.first p.second n first second (either n damaged)))
     (c.share.ensures.damage (c.in_ok-roomy.ensures.asks.gate.honest.0 h) none)
+
+-- ---- what is made
+
+pub returns-in_err-roomy-clause-makes : goal.returns-in_err-roomy-clause-makes
+returns-in_err-roomy-clause-makes g c = λ map row may.
+    works_refused c.in_err-roomy.field-0.0 c.from_residual.ensures.1
+    (c.in_err-roomy.ensures.asks.map.sound.0 map)
+    (inl (c.in_err-roomy.ensures.there map.honest c.args.id c.args.below.now.child c.args.below.now.last row
+    may))
+
+pub returns-in_default-clause-makes : goal.returns-in_default-clause-makes
+returns-in_default-clause-makes g c = λ map row may.
+    let D = g.row.D in
+    let page = c.args.page in
+    let level = c.args.level in
+    let edge = c.args.edge in
+    let id = c.args.id in
+    let b = c.args.below.now in
+    let old = pages c.args.cache.now in
+    let mid = pages c.look_roomy.new.cache in
+    let asks = c.in_ok-roomy.ensures.asks in
+    let same = asks.map.pages_stay map.honest in
+    works_from (c.split.ensures.splits (asks.map.sound.0 map) edge row
+    (split_again D old mid page level edge row id b.child b.place b.last same may)) same
+    (λ r m. makes_from D old mid (pages c.split.new.cache) page level edge row id r.0 r.1 same m.room)
+    (λ f why. why)
+
+pub returns-clause-makes : goal.returns-clause-makes
+returns-clause-makes g c = λ map row may.
+    let D = g.row.D in
+    let page = c.args.page in
+    let level = c.args.level in
+    let edge = c.args.edge in
+    let id = c.args.id in
+    let b = c.args.below.now in
+    let old = pages c.args.cache.now in
+    let mid = pages c.look_roomy.new.cache in
+    let asks = c.in_ok-roomy.ensures.asks in
+    let same = asks.map.pages_stay map.honest in
+    let p = c.in-Some.pair in
+    let share = some_is c.in_ok-roomy.roomy p (λ (q : Pair).
+    MayShare D old page level edge row id q.fork q.left q.first q.second q.key q.last) c.in-Some.is
+    (c.in_ok-roomy.ensures.pair map.honest id b.child b.last row may) in
+    works_from (c.share.ensures.shares (asks.map.sound.0 map) edge row (join_same share.join same) share.many)
+    same (λ r out. makes_from D old mid (pages c.share.new.cache) page level edge row id r.0 r.1 same
+    (out.room share.room)) (λ f why. inl why)

@@ -1,5 +1,7 @@
 -- The fork is named once both halves are put.
-use Rattle.std.proofs.Common.{◌∙◌, ap, ◌≡◌, ℕ}
+use Rattle.std.proofs.Common.{inl, ◌∙◌, ap, ◌≡◌, ℕ}
+use Rattle.page_cache.specs.Laws.{a_live_page_was_given_out}
+use Rattle.id_tree.proofs.WorksLemmas.{works_handed, works_refused}
 use Rattle.page_cache.specs.Cache.{pages, touched_of}
 use Rattle.id_tree.specs.Tree.{fork_in}
 use Rattle.id_tree.proofs.SplitLemmas.{given_live}
@@ -9,45 +11,6 @@ use Rattle.page_file.specs.declared.fault.Fault.TheVariants as fault
 use Rattle.node_page.proofs.NodeLemmas.{at_error}
 use Rattle.id_words.specs.Damage.{MayBreakAt}
 use Rattle.id_tree.proofs.splitting.put_cut.Goals as goal
-
-pub returns-clause-split : goal.returns-clause-split
-returns-clause-split g c = λ map live_child live_page apart.
-    let old = pages c.args.cache.now in
-    let mid = pages c.give_and_put.new.cache in
-    let given = c.in_ok-number.ensures.given map live_child in
-    let map1 = c.give_and_put.ensures.sound map live_child in
-    let there = given_live old mid c.args.child c.in_ok-number.number c.args.page _ _ given live_page apart in
-    record {
-      mid = mid;
-      given = given;
-      others = c.put.ensures.others map1.honest there;
-      named = λ content is. ap (fork_in g.row.D) (c.in_ok-put.ensures.written map1.honest there)
-          ∙ c.with_link-named.ensures.linked g.row.D content is;
-    }
-
-pub returns-clause-sound : goal.returns-clause-sound
-returns-clause-sound g c = λ map live_child live_page apart.
-    let old = pages c.args.cache.now in
-    let mid = pages c.give_and_put.new.cache in
-    let given = c.in_ok-number.ensures.given map live_child in
-    let map1 = c.give_and_put.ensures.sound map live_child in
-    c.put.ensures.sound map1
-    (given_live old mid c.args.child c.in_ok-number.number c.args.page _ _ given live_page apart)
-
-pub returns-clause-tidy : goal.returns-clause-tidy
-returns-clause-tidy g c = λ map live_child live_page apart content is node cut.
-    let D = g.row.D in
-    let old = pages c.args.cache.now in
-    let mid = pages c.give_and_put.new.cache in
-    let given = c.in_ok-number.ensures.given map live_child in
-    let map1 = c.give_and_put.ensures.sound map live_child in
-    let there = given_live old mid c.args.child c.in_ok-number.number c.args.page _ _ given live_page apart in
-    let named = c.with_link-named.result in
-    tidy_put D old mid (pages c.put.new.self) c.args.page named
-    (c.in_ok-number.ensures.tidy map live_child D cut)
-    (c.put.ensures.others map1.honest there) (c.in_ok-put.ensures.written map1.honest there)
-    (λ tidy. fork_node D named _ (c.with_link-named.ensures.linked D content is)
-    (c.with_link-named.ensures.tidy (node_fork D c.args.fork.now content is (node tidy))))
 
 pub returns-in_err-number-clause-damage : goal.returns-in_err-number-clause-damage
 returns-in_err-number-clause-damage g c = λ h none.
@@ -61,3 +24,42 @@ returns-in_err-put-clause-damage g c = λ h none. absurd
 
 pub returns-clause-touched : goal.returns-clause-touched
 returns-clause-touched g c = c.put.ensures.changes.touched c.in_ok-number.ensures.touched
+
+pub returns-in_err-number-clause-splits : goal.returns-in_err-number-clause-splits
+returns-in_err-number-clause-splits g c = λ map live_child live_page apart content is node cut.
+    works_handed (c.in_err-number.ensures.gives map live_child g.row.D cut) c.from_residual.ensures.1
+    (λ why. why)
+
+pub returns-in_err-put-clause-splits : goal.returns-in_err-put-clause-splits
+returns-in_err-put-clause-splits g c = λ map live_child live_page apart content is node cut.
+    let gives = c.in_ok-number.ensures.gives map live_child g.row.D cut in
+    let there = given_live (pages c.args.cache.now) (pages c.give_and_put.new.cache) c.args.child
+    c.in_ok-number.number c.args.page _ _ gives.made live_page apart in
+    let out = a_live_page_was_given_out c.give_and_put.new.cache c.args.page there in
+    works_refused c.in_err-put.field-0.0 c.from_residual-in_err-put.ensures.1
+    (c.put.ensures.sound gives.sound there) (inl (c.in_err-put.ensures.faults gives.sound.honest out.0 out.1))
+
+pub returns-clause-splits : goal.returns-clause-splits
+returns-clause-splits g c = λ map live_child live_page apart content is node cut.
+    let D = g.row.D in
+    let old = pages c.args.cache.now in
+    let mid = pages c.give_and_put.new.cache in
+    let gives = c.in_ok-number.ensures.gives map live_child D cut in
+    let there = given_live old mid c.args.child c.in_ok-number.number c.args.page _ _ gives.made live_page apart
+    in
+    let others = c.put.ensures.others gives.sound.honest there in
+    let written = c.in_ok-put.ensures.written gives.sound.honest there in
+    let named = c.with_link-named.result in
+    record {
+      sound = c.put.ensures.sound gives.sound there;
+      tidy = tidy_put D old mid (pages c.put.new.self) c.args.page named gives.tidy others written
+          (λ tidy. fork_node D named _ (c.with_link-named.ensures.linked D content is)
+          (c.with_link-named.ensures.tidy (node_fork D c.args.fork.now content is (node tidy))));
+      made = record {
+        mid = mid;
+        given = gives.made;
+        others = others;
+        named = λ content is. ap (fork_in D) written ∙ c.with_link-named.ensures.linked D content is;
+      };
+      faults = tt;
+    }
