@@ -2,8 +2,8 @@
 //! with `--draw LAYER`, `--stats` or `--import LAYER` in place of lines (docs/COMMANDS.md, "The program").
 #![tactic(auto)]
 
-use command_line::{ProgressLine, ProgressReader, serve};
 use command_language::CountedReader;
+use command_line::{ProgressLine, ProgressReader, serve};
 use file_device::OpenError;
 use journaled_file::{JournaledFile, OpenedFile, end_journaled, open_journaled};
 use journaled_store::OpeningJudge;
