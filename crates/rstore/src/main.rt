@@ -4,8 +4,8 @@
 
 mod laws;
 
-use command_line::{ProgressLine, ProgressReader, serve};
 use command_language::CountedReader;
+use command_line::{ProgressLine, ProgressReader, serve};
 use file_device::OpenError;
 use journaled_file::{JournaledFile, OpenedFile, end_journaled, open_journaled};
 use journaled_store::OpeningJudge;
