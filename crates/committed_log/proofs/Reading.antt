@@ -17,7 +17,7 @@ use Rattle.committed_log.specs.Opening.{IsBroken, IsMalformed}
 use Rattle.committed_log.specs.Regions.{recovered_unsaid}
 use Rattle.committed_log.specs.Stops.{IsStanding}
 use Rattle.committed_log.specs.declared.log.CommittedLog.{CommittedLog}
-use Rattle.committed_log.proofs.Appending.{appends_none, appends_then}
+use Rattle.committed_log.proofs.Appending.{appends_then}
 use Rattle.committed_log.proofs.Keeping.{SameRead, behind_same, behind_still, law_of, leaves_call, leaves_same}
 use Rattle.committed_log.proofs.Keeping.{leaves_still, seen_same}
 use Rattle.committed_log.proofs.Opened.{homes_push, malformed_behind}

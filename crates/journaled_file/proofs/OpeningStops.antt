@@ -1,5 +1,5 @@
 -- What a stop within an opening leaves, led back from the journal's pair to the two files.
-use Rattle.std.proofs.Common.{◌≡◌, ◌≤◌, ◌⊎◌, ℕ, refl, inl, inr, ⊎_elim}
+use Rattle.std.proofs.Common.{◌≡◌, ◌⊎◌, refl, inl, inr, ⊎_elim}
 use Rattle.block_device.specs.Device.{Blocks}
 use Rattle.committed_log.specs.Log.{recovered}
 use Rattle.committed_log.specs.Opening.{LeavesOr}

@@ -1,5 +1,5 @@
 -- Laws of a clean end that is cut short.
-use Rattle.std.proofs.Common.{◌≡◌, ◌∙◌, ◌≤◌, List, [], ◌∷◌, ℕ, Bool, true, false, length, refl, ap, subst, sym}
+use Rattle.std.proofs.Common.{◌≡◌, ◌∙◌, ◌≤◌, List, [], ◌∷◌, ℕ, true, false, length, refl, ap, sym}
 use Rattle.std.proofs.Common.{arith, lit<, ⊎_elim}
 use Rattle.std.proofs.lemmas.Bool.{cases_Bool}
 use Rattle.block_device.specs.Device.{Blocks, IsBlock, Torn, block_at, written}

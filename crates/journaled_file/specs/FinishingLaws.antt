@@ -1,6 +1,6 @@
 -- Laws of an end that is finished over files that are synced, and of a mark that is written again.
-use Rattle.std.proofs.Common.{◌≡◌, ◌∙◌, ◌≤◌, ◌⊎◌, List, ℕ, length, ap, sym, subst}
-use Rattle.std.proofs.Common.{true, [], ◌∷◌, ◌<◌, inl, inr, ⊎_elim, arith}
+use Rattle.std.proofs.Common.{◌≡◌, ◌∙◌, ◌≤◌, List, ℕ, length, ap, sym, subst}
+use Rattle.std.proofs.Common.{true, [], ◌∷◌, inl, inr, ⊎_elim, arith}
 use Rattle.block_device.specs.Device.{Blocks, IsBlock, Torn, block_at, written}
 use Rattle.block_device.specs.Written.{length-written_within, torn_length, torn_other}
 use Rattle.committed_log.specs.Log.{says}

@@ -1,11 +1,10 @@
 -- Laws of what is found beside a base.
-use Rattle.std.proofs.Common.{◌≡◌, ◌∙◌, ◌<◌, ◌≤◌, ℕ, true, List, [], length, zero, suc, refl, sym, ap, subst}
+use Rattle.std.proofs.Common.{◌≡◌, ◌∙◌, ◌<◌, ◌≤◌, ℕ, List, [], length, zero, suc, sym, ap}
 use Rattle.std.proofs.Common.{arith, get_or, ⊎_elim}
 use Rattle.std.proofs.lemmas.List.{get_or_default}
 use Rattle.block_bytes.specs.Numbers.{put_number, zeros}
 use Rattle.block_device.specs.Device.{Blocks, block_at}
-use Rattle.journaled_file.specs.Judged.{HasEntries, IsJournal, IsJudged, IsOf}
-use Rattle.journaled_file.specs.declared.judging.Found.{Found}
+use Rattle.journaled_file.specs.Judged.{IsJournal, IsJudged, IsOf}
 use Rattle.journaled_file.specs.declared.judging.Found.TheVariants.{Ended, Missing, Foreign}
 use Rattle.marked_pair.specs.Behind.{IsLeft, IsPlain}
 use Rattle.marked_pair.specs.Mark.{IsMarked}

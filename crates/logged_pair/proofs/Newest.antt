@@ -1,23 +1,23 @@
 -- A log written anew: each base is read through it as through the old one.
-use Rattle.std.proofs.Common.{◌≡◌, ◌∙◌, ◌⊎◌, ◌^◌, ℕ, zero, suc, ◌+◌, ◌*◌, ◌<◌, ◌≤◌, List, [], ◌∷◌, ◌++◌, length, drop}
-use Rattle.std.proofs.Common.{get_or, refl, sym, ap, subst, arith, inl, inr, ⊎_elim, true, false}
+use Rattle.std.proofs.Common.{◌≡◌, ◌∙◌, ◌^◌, ℕ, suc, ◌+◌, ◌*◌, ◌<◌, ◌≤◌, List, [], ◌∷◌, ◌++◌, length, drop}
+use Rattle.std.proofs.Common.{get_or, refl, sym, ap, subst, arith, inl, inr, ⊎_elim}
 use Rattle.std.specs.Prelude.{◌/◌, ◌%◌, slice_index}
 use Rattle.std.specs.List.{All, Contains}
 use Rattle.std.proofs.lemmas.Bool.{cases_lt}
 use Rattle.std.proofs.lemmas.List.{append_assoc, append-nil, get_or-append-add, get_or-drop, get_or_append_left}
 use Rattle.std.proofs.lemmas.List.{get_or_default, length-append}
 use Rattle.std.proofs.lemmas.List.Elements.{All-append, All-cons, All-weaker}
-use Rattle.block_device.specs.Device.{Blocks, Torn, block_at}
+use Rattle.block_device.specs.Device.{Blocks, block_at}
 use Rattle.block_bytes.specs.Numbers.{number_at}
 use Rattle.committed_log.specs.FlagLaws.{count-read, says-none, says-one}
 use Rattle.committed_log.specs.Found.{IsSlot}
 use Rattle.committed_log.specs.Log.{count_block, count_in, flag_block, home_in, homes_in, index_blocks, overlaid}
-use Rattle.committed_log.specs.Log.{recovered, region_of, says, size_of, slot_homes}
+use Rattle.committed_log.specs.Log.{recovered, region_of, says, size_of}
 use Rattle.committed_log.specs.Overlay.{overlay_reads}
 use Rattle.committed_log.specs.Region.{IsRegion}
 use Rattle.committed_log.specs.Regions.{homes_more, homes_unsaid, index_within}
 use Rattle.committed_log.specs.Replay.{length-overlaid, overlaid_other, same_blocks}
-use Rattle.logged_pair.specs.Compaction.{AreIndex, AreListed, AreNewest, IsNewest, LeavesItsBase, Lists, WritesJournal}
+use Rattle.logged_pair.specs.Compaction.{AreIndex, AreListed, AreNewest, IsNewest, Lists}
 use Rattle.logged_pair.specs.Law.{recorded_region, recorded_size}
 use Rattle.logged_pair.specs.Shown.{length-shown, shown_other, shown_reads, shown_region}
 use Rattle.logged_pair.specs.Stages.{IsRecorded, shown_through}

@@ -1,5 +1,5 @@
 -- What calls leave of a pair.
-use Rattle.std.specs.Prelude.{◌≡◌, ℕ}
+use Rattle.std.specs.Prelude.{◌≡◌}
 use Rattle.block_device.specs.Device.{Blocks}
 use Rattle.device_pair.specs.Pairs.{PairLeaves, PairsNoMore}
 use Rattle.device_pair.specs.declared.pair.DevicePair as pair

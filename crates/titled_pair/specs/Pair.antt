@@ -1,5 +1,5 @@
 -- A pair whose journal has a title, as its contracts see it.
-use Rattle.std.specs.Prelude.{◌≡◌, ℕ, List}
+use Rattle.std.specs.Prelude.{ℕ, List}
 use Rattle.block_device.specs.Device.{Blocks}
 use Rattle.titled_pair.specs.Title.{untitled}
 use Rattle.titled_pair.specs.Titled.{Untitled}

@@ -1,5 +1,5 @@
 -- Laws of a title: what is behind it, of blocks that are written or torn.
-use Rattle.std.proofs.Common.{◌≡◌, ◌∙◌, ℕ, zero, suc, ◌+◌, ◌-◌, ◌^◌, ◌<◌, ◌≤◌, List, [], ◌∷◌, ◌++◌, length, refl}
+use Rattle.std.proofs.Common.{◌≡◌, ◌∙◌, ℕ, suc, ◌+◌, ◌-◌, ◌^◌, ◌<◌, ◌≤◌, List, [], ◌∷◌, ◌++◌, length, refl}
 use Rattle.std.proofs.Common.{sym, ap, subst, arith, inl, inr, ⊎_elim, true, ◌||◌, ◌==◌, drop, lit<}
 use Rattle.std.proofs.Props.{props}
 use Rattle.std.proofs.lemmas.Slice.{drop-append-drop}
@@ -8,7 +8,7 @@ use Rattle.byteorder.specs.Endian.{big_bytes}
 use Rattle.byteorder.specs.Numbers.{big_number-reads_back, length-bytes_high_first}
 use Rattle.block_bytes.specs.Numbers.{number_at, put_number}
 use Rattle.block_device.specs.Device.{Blocks, IsBlock, Torn, block_at, written}
-use Rattle.block_device.specs.Written.{torn_length, torn_other}
+use Rattle.block_device.specs.Written.{torn_length}
 use Rattle.device_pair.specs.Pairs.{BaseFollows, JournalFollows, PairElapses, PairsNoMore}
 use Rattle.titled_pair.specs.Title.{older_text, reads_title, title_text, untitled, with_text, HasTitle}
 use Rattle.titled_pair.specs.Titled.{Untitled, HasRoom, IsOf, StaysTitled}

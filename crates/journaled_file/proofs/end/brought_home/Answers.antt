@@ -1,5 +1,5 @@
 -- What is home is read of the base alone.
-use Rattle.std.proofs.Common.{◌≡◌, ◌∙◌, ap, subst, sym}
+use Rattle.std.proofs.Common.{◌∙◌, ap, subst, sym}
 use Rattle.block_device.specs.Device.{BeginsOne}
 use Rattle.journaled_device.specs.Journaled.{inner_of}
 use Rattle.logged_pair.specs.Standing.{commits_of}

@@ -1,5 +1,5 @@
 -- The base that is read without its journal.
-use Rattle.std.proofs.Common.{◌≡◌, ap, subst, sym, ◌∙◌}
+use Rattle.std.proofs.Common.{subst, sym}
 use Rattle.std.specs.Prelude.{◌↔◌, IfSome}
 use Rattle.block_device.specs.Device.{BeginsOne}
 use Rattle.journaled_device.specs.Journaled.{inner_of}

@@ -1,5 +1,5 @@
 -- The end that was written is there.
-use Rattle.std.proofs.Common.{◌≡◌, ◌∙◌, ◌≤◌, ap, sym, arith}
+use Rattle.std.proofs.Common.{◌∙◌, ap, arith}
 use Rattle.block_device.specs.Device.{block_at}
 use Rattle.block_device.specs.Written.{block_at-written}
 use Rattle.journaled_file.proofs.end.put_end.Goals as goal

@@ -1,5 +1,5 @@
 -- Opening has appended to the journal, behind all regions that it had.
-use Rattle.std.proofs.Common.{◌≡◌, ◌∙◌, ◌≤◌, ap, arith, length, subst, sym, take}
+use Rattle.std.proofs.Common.{◌≡◌, ◌∙◌, ◌≤◌, ap, arith, length, sym, take}
 use Rattle.std.proofs.lemmas.List.{take-take}
 use Rattle.block_device.specs.Device.{Blocks}
 use Rattle.committed_log.specs.Committed.{homes_of, journal_of}

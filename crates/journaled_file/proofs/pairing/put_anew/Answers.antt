@@ -6,7 +6,6 @@ use Rattle.committed_log.specs.Log.{overlaid, recovered}
 use Rattle.committed_log.specs.Room.{blocks_of}
 use Rattle.logged_pair.specs.Compaction.{LeavesItsBase, WritesJournal}
 use Rattle.logged_pair.specs.WritesLaws.{writes_one, writes_then}
-use Rattle.titled_pair.specs.Title.{untitled}
 use Rattle.journaled_file.proofs.Anew.{anew_is, begun_on, two_written, untitled_is}
 use Rattle.journaled_file.proofs.pairing.put_anew.Given as given
 use Rattle.journaled_file.proofs.pairing.put_anew.Goals as goal

@@ -1,5 +1,5 @@
 -- One block of the index more is added.
-use Rattle.std.proofs.Common.{◌∙◌, List, [], ◌∷◌, ◌++◌, ap, refl}
+use Rattle.std.proofs.Common.{◌∙◌, [], ◌∷◌, ◌++◌, ap, refl}
 use Rattle.std.proofs.lemmas.List.{append_assoc}
 use Rattle.block_device.specs.Device.{Blocks}
 use Rattle.logged_pair.specs.WritesLaws.{writes_then}

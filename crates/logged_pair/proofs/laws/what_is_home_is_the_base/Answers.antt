@@ -1,5 +1,5 @@
 -- The log has no block that is read.
-use Rattle.std.proofs.Common.{◌≡◌, ◌∙◌, ◌^◌, ℕ, List, ap, arith}
+use Rattle.std.proofs.Common.{◌∙◌, ℕ, List, ap, arith}
 use Rattle.committed_log.specs.Committed as regions
 use Rattle.committed_log.specs.Log.{overlaid}
 use Rattle.logged_pair.specs.CommitLaws.{few_seen}
