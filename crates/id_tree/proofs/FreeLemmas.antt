@@ -1,12 +1,16 @@
 -- Nodes freed one after the other.
-use Rattle.std.proofs.Common.{◌≡◌, ◌∙◌, ℕ, ◌+◌, ◌-◌, ◌<◌, ◌≤◌, Bool, true, cond, eqb, None, IsSome, List, []}
-use Rattle.std.proofs.Common.{◌∷◌, length, get_or, refl, sym, ap, subst, arith, length-append}
+use Rattle.std.proofs.Common.{IsErrAnd, Result, Ok, Err, subst, sym, ◌≡◌, ◌∙◌, ℕ, ◌+◌, ◌-◌, ◌<◌, ◌≤◌, Bool}
+use Rattle.std.proofs.Common.{true, cond, eqb, None, IsSome, List, [], ◌∷◌, length, get_or, refl, ap, arith}
+use Rattle.std.proofs.Common.{length-append}
+use Rattle.page_file.specs.Fault.{IsOfDevice}
+use Rattle.page_file.specs.declared.fault.Fault.{Fault}
+use Rattle.page_cache.specs.Cache.{IsPageMap, Grows, next_of, pages}
+use Rattle.page_cache.specs.declared.cache.PageCache.{PageCache}
+use Rattle.node_page.specs.Parts.{Part, Moves, both, no_page, one_page}
+use Rattle.id_tree.specs.Freeing.{Frees}
 use Rattle.std.proofs.lemmas.List.{get_or_at}
 use Rattle.page_file.specs.Pages.{SameBut}
-use Rattle.page_cache.specs.Cache.{Grows, IsPageMap, next_of, pages}
 use Rattle.page_cache.specs.Calls.{ChangesUntil}
-use Rattle.page_cache.specs.declared.cache.PageCache.{PageCache}
-use Rattle.node_page.specs.Parts.{Moves, Part, both, no_page, one_page}
 use Rattle.node_page.specs.Standing.{PageMap}
 use Rattle.node_page.proofs.PartLemmas.{moves_beside, moves_in_turn, moves_same, one_page_moves}
 use Rattle.node_page.proofs.PartLemmas.{the_rest_stays}
@@ -210,3 +214,11 @@ module _ {B A : Type 0} {m : _} where
     pub grows : Grows 0 old now
     pub left : IsPageMap old → (edge : Bool) (row : Row) → NodeStands dims (pages old) page level edge row
         → IsPageMap now × FreesFirst (pages old) (pages now) row count
+
+-- a refusal
+module _ {B A : Type 0} {m : _} where
+  pub frees_none : {old new : PageCache B A m} {r : Result (Unit {0}) Fault} {part : Part} (f : Fault)
+      → IsErrAnd r (λ e. e ≡ f) → IsPageMap new → IsOfDevice f → Frees old new r part
+  frees_none {r = Ok x} f is sound of = elim is [ ]
+  frees_none {r = Err e} f is sound of =
+      record { sound = sound; freed = tt; faults = subst IsOfDevice (sym is) of }

@@ -6,6 +6,7 @@ pub mod Changes
 pub mod Rows
 pub mod Runs
 pub mod Steps
+pub mod Freeing
 pub mod Halving
 pub mod Writes
 pub mod Cutting

@@ -2,14 +2,14 @@
 
 ghost use Rattle.std.specs.Prelude.{◌≡◌, ◌⊎◌, ℕ, Bool, false, IfErr, OnOk};
 ghost use Rattle.page_file.specs.Fault.{IsDamage, IsOfDevice};
-ghost use Rattle.page_file.specs.declared.fault.Fault.TheVariants as fault;
-ghost use Rattle.page_cache.specs.Cache.{Grows, IsHonest, IsPageMap, given, next_of, pages};
-ghost use Rattle.page_cache.specs.Cache.{touched_of};
+ghost use Rattle.page_cache.specs.Cache.{Grows, IsHonest, IsPageMap, given, next_of, pages, touched_of};
 ghost use Rattle.page_cache.specs.Calls.{Changes};
 ghost use Rattle.node_page.specs.Parts.{Moves, no_page};
 ghost use Rattle.id_tree.specs.Checked.{ComesInTree};
 ghost use Rattle.id_tree.specs.Rows.{NodeStands, part_at};
 ghost use Rattle.id_tree.specs.Tree.{IdTree, Row, TreeStands, part_of};
+ghost use Rattle.id_tree.specs.Freeing.{Frees};
+ghost use Rattle.page_file.specs.declared.fault.Fault.TheVariants as fault;
 
 use crate::looks::{copy_page, step};
 use block_device::BlockDevice;
@@ -53,15 +53,11 @@ fn free_node<const D: usize, B: BlockDevice, A: Allocator + Copy>(
     level: u8,
 ) -> Result<(), Fault>
     ensures changes { Changes cache.old cache.new result }
-    ensures freed { IsPageMap cache.old → (edge : Bool) (row : Row)
+    ensures frees { IsPageMap cache.old → (edge : Bool) (row : Row)
         → NodeStands D (pages cache.old) page level edge row
-        → OnOk result (Moves (pages cache.old) (pages cache.new) (part_at page row) no_page) }
-    ensures sound { IsPageMap cache.old → (edge : Bool) (row : Row)
-        → NodeStands D (pages cache.old) page level edge row → IsPageMap cache.new }
+        → Frees cache.old cache.new result (part_at page row) }
     ensures next { next_of cache.new ≡ next_of cache.old }
     ensures grows { Grows 0 cache.old cache.new }
-    ensures faults { IsPageMap cache.old → (edge : Bool) (row : Row)
-        → NodeStands D (pages cache.old) page level edge row → IfErr result IsOfDevice }
     ensures damage { IsHonest cache.old → touched_of cache.new ≡ false
         → IfErr result (λ f. (n : ℕ) → f ≡ fault.Damaged n → ComesInTree D (given cache.old) page n) }
     ensures other_faults { IfErr result (λ f. IsOfDevice f ⊎ IsDamage f) }
