@@ -391,7 +391,7 @@ static rstore *new_handle(void) {
 static int journal_of(rstore *db) { return db->fd[2] < 0 ? db->fd[1] : db->fd[2]; }
 static uint64_t journal_blocks(rstore *db) {
     struct stat found;
-    return fstat(journal_of(db), &found) ? 0 : (uint64_t)found.st_size / BLOCK;
+    return journal_of(db) < 0 || fstat(journal_of(db), &found) ? 0 : (uint64_t)found.st_size / BLOCK;
 }
 
 /* Opens the store over the files, or hands out why not. */
