@@ -1,6 +1,6 @@
 -- What a session keeps, or tells, of a part of an answer, and of objects that are got one by one. Our rule,
 -- docs/LIBRARY.md.
-use Rattle.std.specs.Prelude.{ℕ, ℤ, pos, negsuc, ◌≡◌, ◌<◌, ◌⊎◌, ◌==◌, Bool, List, [], ◌∷◌, take, length, Vec}
+use Rattle.std.specs.Prelude.{ℕ, pos, negsuc, ◌≡◌, ◌<◌, ◌⊎◌, ◌==◌, Bool, List, [], ◌∷◌, take, length, Vec}
 use Rattle.std.specs.Prelude.{Option, None, Some, Result, Ok, Err, is_some, unwrap_or, slice_index_or}
 use Rattle.std.specs.Prelude.{if◌then◌else◌}
 use Rattle.plain_table.specs.Answers.{boxes_answer, distances_answer, object_answer}

@@ -1,4 +1,4 @@
-use Rattle.std.proofs.Common.{Ok, Err, Result, inl, inr, refl, subst, sym, ap, ◌∙◌}
+use Rattle.std.proofs.Common.{Ok, Err, inl, inr, refl, subst, sym, ap, ◌∙◌}
 use Rattle.c_session.specs.Parts.{GetsNear}
 use Rattle.c_session.proofs.Steps.{at}
 use Rattle.c_session.proofs.session.Session.nearest_rows.Goals as goal

@@ -1,4 +1,4 @@
-use Rattle.std.proofs.Common.{refl, subst, sym, take, ◌+◌, ◌++◌, ◌∷◌, []}
+use Rattle.std.proofs.Common.{refl, subst, sym, take, ◌+◌}
 use Rattle.c_session.specs.Parts.{GetsAll}
 use Rattle.c_session.proofs.GettingLemmas.{get_refused, got_next, no_memory}
 use Rattle.c_session.proofs.session.parts.get_each.Goals as goal
