@@ -50,7 +50,7 @@ build_for() {
     done
     cp -a "$top/crates.txt" "$top/tools" "$to/"
     mkdir "$to/library"
-    (cd "$top/library" && cp -a build.sh exports.py rstore rstore.c rstore.h rstore_rtree.py "$to/library/")
+    (cd "$top/library" && cp -a build.sh exports.py rstore rstore.c rstore_files.h rstore.h rstore_rtree.py "$to/library/")
     "$to/tools/build" ${JOBS:+--jobs "$JOBS"} --cpu "$1" rstore rstore_c
     CPU=$1 CFLAGS="-march=$1 -ffile-prefix-map=$to=." "$to/library/build.sh" "$to/lib"
     ! wants sqlite || CFLAGS="-march=$1 -ffile-prefix-map=$top=." "$top/library/sqlite/build.sh" "$to/lib"
