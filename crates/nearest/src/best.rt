@@ -1,6 +1,6 @@
 //! The nearest of the objects seen so far.
 
-ghost use Rattle.std.specs.Prelude.{◌≡◌, ◌↔◌, ◌<◌, ◌≤◌, ℕ, [], false, length, take, IfOk, IfErr, IfSome, IsTrue, OnOk};
+ghost use Rattle.std.specs.Prelude.{◌≡◌, ◌↔◌, ◌≤◌, [], false, length, take, IfOk, IfErr, IsTrue, OnOk};
 ghost use Rattle.box_math.specs.Bounds.{Bounds, IsBox, meets_test};
 ghost use Rattle.box_math.specs.Measures.{point_dist2_of};
 ghost use Rattle.box_math.specs.Nearest.{nearest_first, put_nearest_first};
@@ -93,21 +93,6 @@ impl<H: Allocator> Best<H> {
         }
     }
 
-    /// The distance of the last of k objects, where so many are known.
-    pub(crate) fn last(&self, k: usize) -> Option<u128>
-        requires few { length self.now ≤ k }
-        requires some { 1 ≤ k }
-        ensures { IfSome result (λ last. (d : ℕ) → last < d → Past d k self.now) }
-    {
-        if self.heap.len() < k {
-            return None;
-        }
-        match self.heap.peek() {
-            Some(last) => Some(last.distance),
-            None => None,
-        }
-    }
-
     /// Whether k objects are known.
     pub(crate) fn is_full(&self, k: usize) -> bool {
         self.heap.len() >= k
@@ -134,8 +119,7 @@ impl<H: Allocator> Best<H> {
         ensures rows { IfOk result (λ rows. rows.items ≡ self) }
         ensures memory { IfErr result (λ f. f ≡ fault.Memory) }
     {
-        let mut objects = self.heap.into_vec();
-        objects.sort_unstable();
+        let objects = self.heap.into_sorted_vec();
         let mut rows = Vec::with_capacity(alloc, objects.len())?;
         for place in 0..objects.len() {
             let object = objects[place];

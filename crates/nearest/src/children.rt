@@ -65,6 +65,9 @@ fn append_all<const D: usize, H: Allocator>(
     distances.measure(view, point);
     'children: for place in 0..view.len() {
         let distance = distances.at(view, place, point);
+        if best.are_nearer(distance, k) {
+            continue;
+        }
         fresh.push(child_of(&view.entry(place), level, distance))?;
     }
     Ok(())

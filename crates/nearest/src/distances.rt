@@ -11,10 +11,6 @@ ghost use Rattle.nearest.specs.Candidates.{AreDistances};
 use box_math::BBox;
 use node_page::NodeView;
 
-// The places of a node are dealt out to so many parts: boxes that lie side by side mostly stand so too, and each
-// part gets some of the least squares.
-const PARTS: usize = 16;
-
 /// The squared distances of the boxes of a node from a point, by place. 64 bits hold them where no box is
 /// 2^31 or more away on an axis.
 #[derive(Drop)]
@@ -67,7 +63,7 @@ impl Distances {
     }
 
     /// A number than which no fewer than so many of the squares are less, and often not many more: where the
-    /// boxes are so many, and no square is too large. A guess that is far too large is halved as long as
+    /// boxes are so many, and no square is too large. The greatest of the first squares is halved as long as
     /// enough are less.
     pub(crate) fn bound(&self, count: usize, many: usize) -> Option<u64>
         requires { count ≤ 100 }
@@ -78,13 +74,9 @@ impl Distances {
         if self.widest >= 1 << 31 {
             return None;
         }
-        let mut bound = self.guess(count, many).saturating_add(1);
-        let below = self.count_below(count, bound);
-        if below < many {
+        let mut bound = self.greatest(count.min(many)).saturating_add(1);
+        if self.count_below(count, bound) < many {
             return None;
-        }
-        if below / 2 <= many {
-            return Some(bound);
         }
         'halves: while bound > 1 {
             if self.count_below(count, bound / 2) < many {
@@ -105,40 +97,6 @@ impl Distances {
             below += usize::from(self.squares[place] < bound);
         }
         below
-    }
-
-    // What so many of the squares do not exceed, where there are so many, and mostly not many more: so many parts
-    // have a square that does not.
-    fn guess(&self, count: usize, many: usize) -> u64
-        requires { count ≤ 100 }
-    {
-        if many > PARTS || count < 2 * PARTS {
-            return self.greatest(count.min(many));
-        }
-        let mut least = self.least_of_parts(count / PARTS);
-        least.sort_unstable();
-        least[many.wrapping_sub(1) % PARTS]
-    }
-
-    // The least of the squares of each part: a part has each sixteenth place of the first rows of sixteen.
-    fn least_of_parts(&self, rows: usize) -> [u64; PARTS]
-        requires { rows ≤ 6 }
-    {
-        let mut least = [u64::MAX; PARTS];
-        for row in 0..rows {
-            self.lower(&mut least, PARTS * row);
-        }
-        least
-    }
-
-    // Lowers the least of each part to the square of its place in the row that begins there.
-    #[inline]
-    fn lower(&self, least: &mut [u64; PARTS], first: usize)
-        requires { first ≤ 80 }
-    {
-        for part in 0..PARTS {
-            least[part] = least[part].min(self.squares[first + part]);
-        }
     }
 
     // The greatest of the first squares.

@@ -2,7 +2,7 @@
 
 ghost use Rattle.std.specs.Prelude.{◌≡◌, ◌⊎◌, ℕ, ◌+◌, ◌^◌, ◌<◌, ◌≤◌, ◌++◌, Some, [], ◌∷◌};
 ghost use Rattle.std.specs.Prelude.{List, All, slice_index_or, map, length, IsPermutation};
-ghost use Rattle.std.specs.Prelude.{IfOk, IfErr, IfSome, IfNone, IsTrue, OnOk};
+ghost use Rattle.std.specs.Prelude.{IfOk, IfErr, IfSome, IfNone, OnOk};
 ghost use Rattle.block_device.specs.Device.{one_more};
 ghost use Rattle.box_math.specs.Measures.{point_dist2_of};
 ghost use Rattle.page_file.specs.Fault.{IsDamage, IsOfDevice};
@@ -227,22 +227,10 @@ fn settle<H: Allocator>(
         × All (λ c. Past c.distance k best.now) gone) }
     ensures memory { IfErr result (λ f. f ≡ fault.Memory) }
 {
-    let last = best.last(k);
     while let Some(candidate) = fresh.pop() {
-        if !is_past(last, candidate.distance) {
+        if !best.are_nearer(candidate.distance, k) {
             queue.push(candidate)?;
         }
     }
     Ok(())
-}
-
-// Whether there is a last distance, and it is less.
-#[inline]
-fn is_past(last: Option<u128>, distance: u128) -> bool
-    ensures { IsTrue result → ((d : ℕ) × (last ≡ Some d) × (d < distance)) }
-{
-    match last {
-        Some(last) => last < distance,
-        None => false,
-    }
 }

@@ -1,6 +1,5 @@
 -- The goals of `settle` that are proved by hand.
-use Rattle.std.proofs.Common.{ℕ, ◌++◌, ◌<◌, IfSome, subst}
-use Rattle.nearest.specs.Candidates.{Past}
+use Rattle.std.proofs.Common.{◌++◌}
 use Rattle.nearest.proofs.SearchLemmas.{settle_left, settle_pushed}
 use Rattle.nearest.proofs.search.settle.Goals as goal
 
@@ -15,6 +14,4 @@ loop-candidate-preserved g c =
     settle_left c.args.k c.args.best.now (c.args.queue.now ++ c.args.fresh.now.items) c.loop-candidate.queue
     c.loop-candidate.fresh.items c.pop.new.self.items c.in-Some.candidate c.loop-candidate.invariant
     c.in-Some.ensures.items
-    (let past = c.is_past.ensures c.if-not-is_past.false in
-    subst (λ last. IfSome last (λ (l : ℕ). (d : ℕ) → l < d → Past d c.args.k c.args.best.now)) past.1
-    c.last-last.ensures c.in-Some.candidate.distance past.2)
+    (c.are_nearer.ensures.0 c.if-not-are_nearer.false)

@@ -7,13 +7,13 @@ use Rattle.nearest.proofs.best.Best.into_rows.Goals as goal
 
 pub loop-place-preserved : goal.loop-place-preserved
 loop-place-preserved g c =
-    let objects = c.sort_unstable.new.self.items in
+    let objects = c.into_sorted_vec-objects.result.items in
     let within : c.loop-place.place < length objects =
     omega (
       arith,
       c.loop-place-test.true,
       c.len-place-end.ensures,
-      c.sort_unstable.new.self.ok.0,
+      c.into_sorted_vec-objects.result.ok.0,
     ) in
     let more = map_more row_of objects c.loop-place.place c.index-object.result.now within in
     c.in_ok-push.ensures.items
@@ -23,16 +23,15 @@ loop-place-preserved g c =
 
 pub returns-clause-rows : goal.returns-clause-rows
 returns-clause-rows g c =
-    let sorted = c.sort_unstable.new.self.items in
+    let sorted = c.into_sorted_vec-objects.result.items in
     let all =
     take_all c.loop-place.place sorted
     (omega (
       arith,
       c.loop-place-test.false,
       c.len-place-end.ensures,
-      c.sort_unstable.new.self.ok.0,
+      c.into_sorted_vec-objects.result.ok.0,
     )) in
     c.loop-place.invariant ∙ ap (map row_of) all
-    ∙ rows_in_order c.self.inside.heap.data.items sorted
-    (rw c.into_vec-objects.ensures.value at c.sort_unstable.ensures.permutation)
-    c.sort_unstable.ensures.sorted ∙ c.self.view_is
+    ∙ rows_in_order c.self.inside.heap.data.items sorted c.into_sorted_vec-objects.ensures.permutation
+    (c.into_sorted_vec-objects.ensures.sorted c.self.invariant) ∙ c.self.view_is
