@@ -1,6 +1,6 @@
 -- What a session keeps of a call that asks for the pages of a layer, which no command does. Our rule,
 -- docs/LIBRARY.md.
-use Rattle.std.specs.Prelude.{ℕ, ◌≡◌, ◌⊎◌, List, Some, Result, Ok, Err, length}
+use Rattle.std.specs.Prelude.{ℕ, ◌≡◌, ◌⊎◌, List, Some, Result, length}
 use Rattle.live_layers.specs.Changes.{Rose}
 use Rattle.live_layers.specs.Outlines.{IsIdPages, IsOfName, ListsTree}
 use Rattle.live_layers.specs.declared.outlines.LayerOutline.{LayerOutline}

@@ -1,5 +1,4 @@
 use Rattle.std.proofs.Common.{Ok, Err, inr, refl, ap}
-use Rattle.c_rows.specs.Numbers.{detail_of}
 use Rattle.c_session.proofs.Steps.{at}
 use Rattle.c_session.proofs.session.Session.outline.Goals as goal
 
