@@ -8,5 +8,5 @@ mod log;
 mod slots;
 
 pub use flag::{count_page, flag_page, says_committed};
-pub use log::{CommittedLog, OpenFault};
+pub use log::{CommittedLog, HOMES, OpenFault, push_none, region_blocks};
 pub use slots::Slots;

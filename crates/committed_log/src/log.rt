@@ -11,6 +11,7 @@ use crate::slots::Slots;
 use device_pair::DevicePair;
 pub use open::OpenFault;
 use std::alloc::{Allocator, Global};
+pub use taking::{HOMES, push_none, region_blocks};
 
 /// The committed regions of a log over a base.
 ///

@@ -15,7 +15,6 @@ ghost use Rattle.marked_pair.specs.Mark.{unmarked, IsMarked};
 ghost use Rattle.marked_pair.specs.Pair.{pair_of as titled_of};
 ghost use Rattle.page_file.specs.Layout.{gate_block};
 ghost use Rattle.titled_pair.specs.Pair.{pair_of as files_of};
-ghost use Rattle.titled_pair.specs.Title.{untitled};
 
 use crate::end::put_end;
 use crate::judging::{Found, is_marked, judge};

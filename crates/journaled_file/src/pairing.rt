@@ -1,5 +1,5 @@
 //! How a file gets its journal: the one that is there, or a new one.
-ghost use Rattle.std.specs.Prelude.{◌≡◌, ◌<◌, ◌≤◌, ◌^◌, ◌↔◌, ℕ, List, true, false, length, IfOk, IfSome, OnOk};
+ghost use Rattle.std.specs.Prelude.{◌≡◌, ◌<◌, ◌≤◌, ◌↔◌, ℕ, List, true, false, length, IfOk, IfSome, OnOk};
 ghost use Rattle.block_device.specs.Device.{Blocks, block_at, written};
 ghost use Rattle.committed_log.specs.Log.{overlaid, recovered};
 ghost use Rattle.committed_log.specs.Room.{blocks_of};

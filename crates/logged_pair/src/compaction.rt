@@ -1,17 +1,15 @@
 //! A log written anew, as one region that has the newest slot of each block.
-ghost use Rattle.std.specs.Prelude.{◌≡◌, ◌<◌, ◌≤◌, ◌+◌, ◌^◌, ◌++◌, ◌∷◌, ◌↔◌, ◌⊎◌, ℕ, List, [], true, drop, length};
+ghost use Rattle.std.specs.Prelude.{◌≡◌, ◌<◌, ◌≤◌, ◌+◌, ◌^◌, ◌++◌, ◌∷◌, ◌↔◌, ℕ, List, [], true, drop, length};
 ghost use Rattle.std.specs.Prelude.{IfOk, OnOk};
-ghost use Rattle.std.specs.List.{Contains};
 ghost use Rattle.block_device.specs.Device.{Blocks, block_at};
-ghost use Rattle.committed_log.specs.Found.{IsSlot};
 ghost use Rattle.committed_log.specs.Log.{count_block, flag_block, index_blocks, overlaid, recovered, says};
 ghost use Rattle.committed_log.specs.Room.{blocks_of};
 ghost use Rattle.logged_pair.specs.Compaction.{AreIndex, AreListed, AreNewest, IsNewest, Lists, WritesJournal};
 
-use crate::pair::{HOMES, index_page};
+use crate::pair::index_page;
 use block_bytes::zero_block;
 use block_device::{BlockDevice, DeviceError};
-use committed_log::{Slots, count_page, flag_page};
+use committed_log::{HOMES, Slots, count_page, flag_page};
 use device_pair::DevicePair;
 use std::alloc::Allocator;
 

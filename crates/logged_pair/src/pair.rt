@@ -14,7 +14,7 @@ mod taken;
 
 use committed_log::{CommittedLog, Slots};
 use device_pair::DevicePair;
-pub(crate) use record::{HOMES, index_page};
+pub(crate) use record::index_page;
 use std::alloc::{Allocator, Global};
 
 /// A base and a log of commits. A sync commits what was written since the last one, or nothing of it.

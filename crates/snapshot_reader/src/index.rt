@@ -1,9 +1,9 @@
 //! The index of a log that is only read: the home of each block of its regions.
-ghost use Rattle.std.specs.Prelude.{◌≡◌, ◌≤◌, ◌<◌, ◌+◌, ◌^◌, ◌/◌, ◌%◌, ◌++◌, ℕ, Some, None, true, false, drop};
-ghost use Rattle.std.specs.Prelude.{length, replicate, IfOk, IsErrOf, OnOk};
+ghost use Rattle.std.specs.Prelude.{◌≡◌, ◌≤◌, ◌<◌, ◌+◌, ◌/◌, ◌%◌, ◌++◌, ℕ, Some, None, true, false, drop};
+ghost use Rattle.std.specs.Prelude.{length, IfOk, IsErrOf, OnOk};
 ghost use Rattle.std.specs.List.{All};
 ghost use Rattle.block_device.specs.Device.{Blocks, block_at};
-ghost use Rattle.committed_log.specs.Log.{count_in, home_in, homes_in, index_blocks, no_home, region_of, says};
+ghost use Rattle.committed_log.specs.Log.{count_in, home_in, homes_in, index_blocks, region_of, says};
 ghost use Rattle.committed_log.specs.Log.{size_of, slot_homes};
 ghost use Rattle.committed_log.specs.Opening.{IsMalformed};
 ghost use Rattle.committed_log.specs.Room.{blocks_of, HasRoomFor};
@@ -12,12 +12,9 @@ ghost use Rattle.snapshot_reader.specs.Reading.{AreRead, IsBrokenBelow};
 
 use block_bytes::{read_u32, zero_block};
 use block_device::DeviceError;
-use committed_log::{OpenFault, Slots, says_committed};
+use committed_log::{HOMES, OpenFault, Slots, push_none, region_blocks, says_committed};
 use read_only_device::BlockReader;
 use std::alloc::Allocator;
-
-// How many homes an index block holds.
-const HOMES: usize = 1024;
 
 /// Reads the index of a log over a base of so many blocks.
 pub(crate) fn read_index<J: BlockReader, A: Allocator + Copy>(
@@ -95,14 +92,6 @@ fn read_count<J: BlockReader>(journal: &J, start: usize) -> Result<Option<u32>, 
     Ok(Some(n))
 }
 
-// How many blocks a region of n slots has.
-fn region_blocks(n: usize) -> usize
-    requires { n < 2 ^ 32 }
-    ensures { result ≡ 2 + n + index_blocks n }
-{
-    2 + n + n.div_ceil(HOMES)
-}
-
 // Reads block i of those behind the first `start`.
 fn read_behind<J: BlockReader>(
     journal: &J,
@@ -140,17 +129,6 @@ fn take_region<J: BlockReader, A: Allocator + Copy>(
     push_homes(journal, start, limit, n, slots)?;
     push_none(slots, (n as usize).div_ceil(HOMES));
     Ok(())
-}
-
-// Adds blocks that are no slots.
-fn push_none<A: Allocator + Copy>(slots: &mut Slots<A>, count: usize)
-    requires { HasRoomFor count slots.old }
-    ensures slots { blocks_of slots.new ≡ blocks_of slots.old ++ replicate count no_home }
-    ensures room { (n : ℕ) → HasRoomFor (n + count) slots.old → HasRoomFor n slots.new }
-{
-    for _k in 0..count {
-        slots.push(u32::MAX);
-    }
 }
 
 // Adds the n slots of the region behind the first `start` blocks, each of which has to have a block of the base as

@@ -2,7 +2,7 @@
 ghost use Rattle.std.specs.Prelude.{◌≡◌, ◌≤◌, ◌<◌, ◌+◌, ◌^◌, ◌↔◌, length, false, OnOk, OnErr};
 ghost use Rattle.std.specs.List.{Contains};
 ghost use Rattle.block_device.specs.Device.{Blocks, Torn, Counts, block_at, written};
-ghost use Rattle.device_pair.specs.Pairs.{BaseFollows, JournalFollows, PairElapses, PairsNoMore};
+ghost use Rattle.device_pair.specs.Pairs.{BaseFollows, JournalFollows, PairElapses};
 ghost use Rattle.committed_log.specs.Appending.{AppendsOnly};
 ghost use Rattle.committed_log.specs.Committed.{base_of, behind_of, clearing_of, homes_of, journal_of};
 ghost use Rattle.committed_log.specs.Committed.{leaves_of, pair_of, seen_of, slots_of, IsHonest, IsStill};

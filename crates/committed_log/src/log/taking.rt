@@ -1,5 +1,5 @@
 //! The region behind the others, once it is committed.
-ghost use Rattle.std.specs.Prelude.{◌≡◌, ◌<◌, ◌+◌, ◌/◌, ◌%◌, ◌++◌, ◌^◌, ◌↔◌, ℕ, length, drop, false, replicate};
+ghost use Rattle.std.specs.Prelude.{◌≡◌, ◌<◌, ◌+◌, ◌/◌, ◌%◌, ◌++◌, ◌^◌, ℕ, length, drop, false, replicate};
 ghost use Rattle.std.specs.Prelude.{IfErr, OnOk, min};
 ghost use Rattle.block_device.specs.declared.device.DeviceError.TheVariants.{Memory};
 ghost use Rattle.committed_log.specs.Log.{no_home, overlaid, region_of, size_of};
@@ -15,10 +15,10 @@ use device_pair::DevicePair;
 use std::alloc::Allocator;
 
 /// How many homes an index block holds.
-pub(crate) const HOMES: usize = 1024;
+pub const HOMES: usize = 1024;
 
-// Adds blocks that are no slots.
-fn push_none<A: Allocator + Copy>(slots: &mut Slots<A>, count: usize)
+/// Adds blocks that are no slots.
+pub fn push_none<A: Allocator + Copy>(slots: &mut Slots<A>, count: usize)
     requires { HasRoomFor count slots.old }
     ensures slots { blocks_of slots.new ≡ blocks_of slots.old ++ replicate count no_home }
     ensures room { (n : ℕ) → HasRoomFor (n + count) slots.old → HasRoomFor n slots.new }
@@ -40,7 +40,7 @@ fn push_all<A: Allocator + Copy>(slots: &mut Slots<A>, homes: &[u32])
 }
 
 /// How many blocks a region of n slots has.
-pub(crate) fn region_blocks(n: usize) -> usize
+pub fn region_blocks(n: usize) -> usize
     requires { n < 2 ^ 32 }
     ensures { result ≡ 2 + n + (n / 1024 + min 1 (n % 1024)) }
 {

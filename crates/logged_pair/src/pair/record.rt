@@ -11,12 +11,9 @@ ghost use Rattle.logged_pair.specs.Standing.{pair_of, shown_of, IsHonest, KeepsT
 use crate::pair::LoggedPair;
 use block_bytes::{write_u32, zero_block};
 use block_device::DeviceError;
-use committed_log::{count_page, flag_page};
+use committed_log::{HOMES, count_page, flag_page};
 use device_pair::DevicePair;
 use std::alloc::Allocator;
-
-/// How many homes an index block holds.
-pub const HOMES: usize = 1024;
 
 // The index block of the homes from number `from` on, at most 1024 of them.
 pub(crate) fn index_page(homes: &[u32], from: usize) -> [u8; 4096]
