@@ -54,10 +54,10 @@ pub trait JournalSource<J: BlockDevice> {
 }
 
 /// Gives a file its journal, which may be open, and tells whether the last run over it had closed anything and
-/// not ended; and whether it had begun more than it had committed, where that stands in the journal. The journal that
-/// is there is judged with it (`judge_and_finish`); one that is needless is removed, and made anew. One that has commits
-/// to bring back is written anew, with the newest slot of each block alone, into a new file, which takes its place: what
-/// is read of it may have been lost by a sync that failed, and all that is brought back rests on it.
+/// not ended; and whether it had begun more than it had committed, where that stands in the journal. The journal
+/// that is there is judged with it (`judge_and_finish`); one that is needless is removed, and made anew. One that
+/// has commits to bring back is written anew, with the newest slot of each block alone, into a new file, which takes
+/// its place: what is read of it may have been lost by a sync that failed, and all that is brought back rests on it.
 ///
 /// `NoJournal` and `OtherJournal` come where the journal is none, or another file's: then nothing is written
 /// into either. Any other error is one of the source or of the devices.

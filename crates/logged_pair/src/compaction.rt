@@ -14,8 +14,8 @@ use device_pair::DevicePair;
 use std::alloc::Allocator;
 
 /// Writes a log anew behind the blocks of a journal, as one region that has the newest slot of each block, and syncs
-/// it. The log is that of `from`, behind as many blocks as the journal has, and `slots` is its index. Nothing is written
-/// of the base.
+/// it. The log is that of `from`, behind as many blocks as the journal has, and `slots` is its index. Nothing of the
+/// base is written. After an error the journal may hold anything.
 ///
 /// Through the new log each base of so many blocks is read as it is through the old one.
 pub fn write_newest<J: BlockDevice, P: DevicePair, A: Allocator + Copy>(

@@ -21,9 +21,10 @@ use marked_pair::MarkedPair;
 use std::alloc::Allocator;
 use titled_pair::TitledPair;
 
-/// **A run that is cut short at any moment leaves, in FILE and FILE-journal together, the table that was closed last or
-/// the one whose closing was in progress**: what is read of both files once they are opened again is an image of one of
-/// the tables that the session kept since that moment began to count, or of the one that it closed with.
+/// **A run that is cut short at any moment leaves, in FILE and FILE-journal together, a table that was closed, or whose
+/// closing was in progress, since the store stood**: what is read of both files once they are opened again is an image of
+/// one of the tables that the session kept since moment `t`, or of its last one. That between two calls it is the last
+/// of them says `journaled_store::a_stop_of_both_files_leaves_a_table_that_was_closed` (`now`).
 ///
 /// That the run is one, `command_line::serve` promises of the device that it serves (`RunsToClose`, in `HasServed`): so
 /// what it promises of a device holds of the two files that the device lies on.

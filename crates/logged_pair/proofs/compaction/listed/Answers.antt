@@ -7,7 +7,8 @@ use Rattle.logged_pair.proofs.compaction.listed.Goals as goal
 
 pub loop-i-init : goal.loop-i-init
 loop-i-init g c =
-    subst (AreListed (blocks_of c.args.slots.now) 0) (sym c.new-homes.ensures.items) (list_start (blocks_of c.args.slots.now))
+    subst (AreListed (blocks_of c.args.slots.now) 0) (sym c.new-homes.ensures.items)
+    (list_start (blocks_of c.args.slots.now))
 
 pub loop-i-preserved : goal.loop-i-preserved
 loop-i-preserved g c =

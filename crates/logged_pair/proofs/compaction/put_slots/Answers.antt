@@ -25,7 +25,8 @@ loop-k-preserved g c =
             one.1 ∙ ap (λ (b : Blocks). b ++ one.0 ∷ []) was.1 ∙ append_assoc (p.journal start) was.0 (one.0 ∷ []),
             λ jh. newest_step (blocks_of c.args.slots.now) (drop c.args.front (j.shown first)) c.args.homes.now
                 c.loop-k.k (slice_index c.args.homes.now c.loop-k.k) was.0 one.0 refl (was.2 jh)
-                (subst (λ (b : Blocks). IsNewest (blocks_of c.args.slots.now) (drop c.args.front b) (slice_index c.args.homes.now c.loop-k.k) one.0)
+                (subst (λ (b : Blocks). IsNewest (blocks_of c.args.slots.now) (drop c.args.front b)
+                (slice_index c.args.homes.now c.loop-k.k) one.0)
                 (inv.1 jh) (one.2 (inv.0.0 jh))),
           ),
       inv.5,

@@ -10,5 +10,6 @@ invariant-loop-k g l = let j = g.J.BlockDevice in let p = g.P.DevicePair in
     (j.honest l.fn.from ↔ j.honest l.from) × (j.honest l.fn.from → j.shown l.from ≡ j.shown l.fn.from)
     × (p.honest l.fn.pair ↔ p.honest l.pair) × (p.honest l.fn.pair → WritesJournal p l.fn.pair l.pair)
     × (p.honest l.fn.pair → (blocks : Blocks) × (p.journal l.pair ≡ p.journal l.fn.pair ++ blocks)
-    × (j.honest l.fn.from → AreNewest (blocks_of l.fn.slots) (drop l.fn.front (j.shown l.fn.from)) l.fn.homes l.k blocks))
+    × (j.honest l.fn.from →
+    AreNewest (blocks_of l.fn.slots) (drop l.fn.front (j.shown l.fn.from)) l.fn.homes l.k blocks))
     × (l.fn.front ≤ 2 ^ 31) × (l.k-end ≡ length l.fn.homes)
