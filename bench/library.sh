@@ -8,7 +8,8 @@
 # The store is in a file, with 4096 cached pages, all others are in memory. Rows: windows of no row, of ten and of 900, and
 # of ten into an array of the caller's or as identifiers alone; the ten nearest to a point; an object by its identifier; a
 # count (what a call alone costs); insertions and deletions one by one; a load, of a box. Of rstore rows are tuples; of
-# rtree and of rstore.rtree identifiers.
+# rtree and of rstore.rtree identifiers. Behind it stands the table of bench/arrays.py, many questions in one call, where
+# numpy is here.
 set -eu
 here=$(cd "$(dirname "$0")" && pwd)
 boxes=${1:-100000} rounds=${2:-15}
@@ -78,3 +79,6 @@ for k, c in enumerate(columns):
         if name in c and abs(c[name][1] - found[name]) > 0.005:
             sys.exit(f"bench/library.sh: {names[k]} has {c[name][1]} rows, not {found[name]}")
 PY
+if "$python" -c 'import numpy' 2>/dev/null; then
+    PYTHONPATH=$lib "$python" "$here/arrays.py" "$boxes"
+fi

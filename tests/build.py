@@ -1,8 +1,8 @@
 #!/usr/bin/env python3
-"""Runs tools/build on small repositories of its own: in which order crates are begun and by how many jobs, which are
-proved by one run, that nothing is proved twice and no change is missed, what is said of a failure, an interrupt, a
-crate that is killed, a full disk, little memory and no `rt`, and that the next call goes on. In all but the last test,
-which proves two crates, a script plays the kit's compiler.
+"""Runs tools/build on small repositories of its own: in which order crates are begun and by how many jobs, that
+nothing is proved twice and no change is missed, what is said of a failure, an interrupt, a crate that is killed, a full
+disk, little memory and no `rt`, and that the next call goes on. In all but the last test, which proves two crates, a
+script plays the kit's compiler.
 
 build.py [WORDS OF unittest]
 """
@@ -35,22 +35,6 @@ def note(*what):
         log.write(json.dumps(what) + "\n")
 
 words = sys.argv[1:]
-if words[0] == "check":  # crates together
-    libs = [it for flag, it in zip(words, words[1:]) if flag == "--lib"]
-    note("together", [it.partition(":")[0] for it in libs], int(after("--jobs")))
-    kept = after("--incremental") + "/of this kit/records"
-    os.makedirs(kept, exist_ok=True)
-    texts = []
-    for it in libs:
-        name, _, source = it.partition(":")
-        with open(source.partition("=")[2]) as file:
-            texts.append(file.read())
-        for made in (f"{kept}/Rattle-{name}.oantt", f"{kept}/../Rattle-{name}-proofs.F.oantt"):
-            with open(made, "w") as file:
-                file.write(name)
-    if "kill" in str(texts):
-        os.kill(os.getpid(), signal.SIGKILL)
-    sys.exit("refuse" in str(texts))
 name, made = after("--crate-name"), after("-o")
 with open(next(it for it in words if it.startswith("src/"))) as it:
     text = it.read()
@@ -176,60 +160,6 @@ class Order(Builds):
         self.repository("top:\n")
         self.build("--cpu", "x86-64-v2", "top")
         self.assertEqual(self.logged()[0][3], "x86-64-v2")
-
-
-class Together(Builds):
-    """Libraries of which nothing is kept, together large enough."""
-    LINES = "low:\nlow_too:\nleft: low\nright: low_too\nlast: left right\ntop: last\n"
-    KEPT = "out/incremental/of this kit"
-
-    def setUp(self):
-        super().setUp()
-        self.texts = {it: f"0 {it}{LARGE}" for it in ("low", "low_too", "left", "right", "last")}
-        self.repository(self.LINES, **self.texts)
-
-    def runs(self):
-        return [sorted(it[1]) for it in self.logged() if it[0] == "together"]
-
-    def test_they_are_proved_by_one_run_and_then_each_takes_what_it_kept(self):
-        self.assertBuilds([*self.texts, "top"], "--jobs", "3", "top")
-        self.assertEqual(self.logged()[0][0], "together")
-        self.assertEqual(self.runs(), [sorted(self.texts)])
-        for it in self.texts:
-            kept = sorted(os.listdir(f"{self.top}/crates/{it}/{self.KEPT}"))
-            self.assertEqual(kept, [f"Rattle-{it}-proofs.F.oantt", "records"])
-            self.assertEqual(os.listdir(f"{self.top}/crates/{it}/{self.KEPT}/records"), [f"Rattle-{it}.oantt"])
-        self.assertFalse(os.path.exists(f"{self.top}/out/together"))
-
-    def test_a_change_is_proved_by_each_crate_itself(self):
-        self.build("--jobs", "3", "top")
-        self.crate("low", f"0 changed{LARGE}")
-        self.assertBuilds(["low", "left", "last", "top"], "--jobs", "3", "top")
-        self.assertEqual(self.runs(), [])
-
-    def test_they_wait_for_what_they_stand_on(self):
-        os.makedirs(f"{self.top}/crates/low/out/incremental")
-        self.crate("low", f"10 low{LARGE}")
-        self.crate("left", f"0 left{3 * LARGE}")
-        self.assertBuilds([*self.texts, "top"], "--jobs", "3", "top")
-        self.assertEqual(self.runs(), [["last", "left"]])
-        order = [it[0] if it[0] == "together" else it[:2] for it in self.logged()]
-        self.assertLess(order.index(["end", "low"]), order.index("together"))
-
-    def test_a_failure_is_told_of_its_crate_alone(self):
-        self.crate("left", f"0 refuse{LARGE}")
-        status, said, _ = self.build("--jobs", "3", "top")
-        self.assertEqual((status, self.runs()), (1, [sorted(self.texts)]))
-        self.assertIn("left failed; all that was said is in", said)
-
-    def test_a_run_that_is_killed_is_not_tried_again(self):
-        self.crate("left", f"0 kill{LARGE}")
-        status, said, _ = self.build("--jobs", "3", "top")
-        self.assertEqual((status, self.runs()), (0, [sorted(self.texts)]), said)
-
-    def test_two_processors_are_none_too_many_without_it(self):
-        self.assertBuilds([*self.texts, "top"], "--jobs", "2", "top")
-        self.assertEqual(self.runs(), [])
 
 
 class Stamps(Builds):
