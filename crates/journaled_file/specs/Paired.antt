@@ -1,14 +1,15 @@
 -- What a base and its journal are once they were paired for a run (our format, docs/FORMAT.md, "The journal",
 -- "Files").
-use Rattle.std.specs.Prelude.{◌≡◌, ◌<◌, ◌≤◌, ◌⊎◌, ◌↔◌, ℕ, Bool, true, List, [], length}
+use Rattle.std.specs.Prelude.{◌≡◌, ◌<◌, ◌≤◌, ◌⊎◌, ◌↔◌, ℕ, Bool, true, false, List, [], length}
 use Rattle.block_bytes.specs.Numbers.{zeros}
-use Rattle.block_device.specs.Device.{Blocks, block_at}
+use Rattle.block_device.specs.Device.{Blocks, block_at, written}
 use Rattle.committed_log.specs.Log.{says}
 use Rattle.journaled_file.specs.Ending.{GateTorn}
 use Rattle.journaled_file.specs.Judged.{IsJudged, IsOf}
 use Rattle.journaled_file.specs.Opened.{read_of}
-use Rattle.journaled_file.specs.declared.judging.Found.TheVariants.{Own}
+use Rattle.journaled_file.specs.declared.judging.Found.TheVariants.{Ended, Fresh, Own, Unended}
 use Rattle.marked_pair.specs.Mark.{unmarked, IsMarked}
+use Rattle.page_file.specs.Layout.{gate_block}
 use Rattle.titled_pair.specs.Title.{title_of}
 
 -- a journal that has nothing but the title of this base
@@ -48,9 +49,24 @@ abbrev pub IsPaired : Blocks → Blocks → Blocks → Bool → Type 0
 IsPaired was a e unended =
     (IsRewritten was a e × ((unended ≡ true) ↔ IsMarked was)) ⊎ (IsNew a e × (unended ≡ true → IsMarked was))
 
--- What is read of it is what was read of the base and the journal that it had; or its journal is new.
-abbrev pub IsReadAgain : Blocks → Blocks → Blocks → Blocks → Type 0
-IsReadAgain was journal a e = (read_of a e ≡ read_of was journal) ⊎ IsNew a e
+-- the gate of a base is shut, if it has one, and the rest is as it was
+abbrev pub IsShut : Blocks → Blocks → Type 0
+IsShut was a = 0 < length was → a ≡ written 0 (gate_block 1) was
+
+-- The journal that the base had brings nothing back: it is needless, and the base is as it was; or its session is
+-- over, and the base is shut. That a session had not ended is told.
+abbrev pub HadNothing : Blocks → Blocks → Blocks → Bool → Type 0
+HadNothing was journal a unended =
+    (IsJudged Fresh was journal × (a ≡ was) × (unended ≡ false))
+    ⊎ (IsJudged Ended was journal × IsShut was a × (unended ≡ false))
+    ⊎ (IsJudged Unended was journal × IsShut was a × (unended ≡ true))
+
+-- From what a base and the journal that it had are paired to: the base's own journal has a commit to bring back, and
+-- what is read of both stays; or it brings nothing back, and another one is new. Beside a journal that is missing, or
+-- that of another base, nothing is paired.
+abbrev pub IsPairedFrom : Blocks → Blocks → Blocks → Blocks → Bool → Type 0
+IsPairedFrom was journal a e unended =
+    (IsJudged Own was journal × (read_of a e ≡ read_of was journal)) ⊎ (IsNew a e × HadNothing was journal a unended)
 
 -- what a stop left before; or both as they were but for the gate, where the title is of the base
 abbrev pub LeavesOwnGate : (Blocks → Blocks → Type 0) → Blocks → Blocks → Blocks → Blocks → Type 0

@@ -7,7 +7,7 @@ ghost use Rattle.device_pair.specs.Pairs.{PairLeaves};
 ghost use Rattle.journaled_file.specs.Ending.{GateTorn};
 ghost use Rattle.journaled_file.specs.Judged.{IsJudged, IsOf};
 ghost use Rattle.journaled_file.specs.Opened.{read_of};
-ghost use Rattle.journaled_file.specs.Paired.{HasBegunEmpty, IsAnew, IsMarkedAnew, IsNew, IsPaired, IsReadAgain};
+ghost use Rattle.journaled_file.specs.Paired.{HasBegunEmpty, IsAnew, IsMarkedAnew, IsNew, IsPaired, IsPairedFrom};
 ghost use Rattle.journaled_file.specs.Paired.{IsRewritten, LeavesOwnGate};
 ghost use Rattle.journaled_file.specs.declared.judging.Found.TheVariants.{Own};
 ghost use Rattle.marked_pair.specs.Mark.{reads_as, unmarked, IsMarked};
@@ -70,9 +70,10 @@ pub fn pair_up<B: BlockDevice + Drop, J: BlockDevice + Drop, S: JournalSource<J>
     ensures paired { IfOk result (λ r. B.honest base → S.is_honest → IfSome there (λ j. J.honest j)
         → IsPaired (B.shown base) (⟦<TwoDevices<B, J> as DevicePair>⟧.base r.0)
         (⟦<TwoDevices<B, J> as DevicePair>⟧.journal r.0) r.1) }
-    ensures read { IfOk result (λ r. B.honest base → S.is_honest → IfSome there (λ j. J.honest j
-        → IsReadAgain (B.shown base) (J.shown j) (⟦<TwoDevices<B, J> as DevicePair>⟧.base r.0)
-        (⟦<TwoDevices<B, J> as DevicePair>⟧.journal r.0))) }
+    ensures found { IfOk result (λ r. B.honest base → S.is_honest → IfSome there (λ j. J.honest j)
+        → (journal : Blocks) × IfSome there (λ j. journal ≡ J.shown j)
+        × IsPairedFrom (B.shown base) journal (⟦<TwoDevices<B, J> as DevicePair>⟧.base r.0)
+        (⟦<TwoDevices<B, J> as DevicePair>⟧.journal r.0) r.1) }
     ensures anew { IfOk result (λ r. ⟦<TwoDevices<B, J> as DevicePair>⟧.honest r.0
         → HasBegunEmpty (⟦<TwoDevices<B, J> as DevicePair>⟧.moment r.0)
         (⟦<TwoDevices<B, J> as DevicePair>⟧.left_since r.0)) }
@@ -136,6 +137,8 @@ fn renewed<B: BlockDevice + Drop, J: BlockDevice + Drop, S: JournalSource<J>>(
 ) -> Result<TwoDevices<B, J>, OpenError>
     ensures honest { IfOk result (λ new. ⟦<TwoDevices<B, J> as DevicePair>⟧.honest pair → S.is_honest
         → ⟦<TwoDevices<B, J> as DevicePair>⟧.honest new) }
+    ensures base { IfOk result (λ new. ⟦<TwoDevices<B, J> as DevicePair>⟧.honest pair → S.is_honest
+        → ⟦<TwoDevices<B, J> as DevicePair>⟧.base new ≡ ⟦<TwoDevices<B, J> as DevicePair>⟧.base pair) }
     ensures new { IfOk result (λ new. ⟦<TwoDevices<B, J> as DevicePair>⟧.honest new
         → IsNew (⟦<TwoDevices<B, J> as DevicePair>⟧.base new)
         (⟦<TwoDevices<B, J> as DevicePair>⟧.journal new)) }
@@ -160,6 +163,7 @@ fn renewed<B: BlockDevice + Drop, J: BlockDevice + Drop, S: JournalSource<J>>(
 /// Makes the title of a journal without blocks.
 pub(crate) fn put_title<P: DevicePair>(pair: &mut P) -> Result<(), DeviceError>
     requires none { length (P.journal pair.old) ≡ 0 }
+    ensures base { P.honest pair.old → P.base pair.new ≡ P.base pair.old }
     ensures new { P.honest pair.old → OnOk result (IsNew (P.base pair.new) (P.journal pair.new)) }
     ensures anew { P.honest pair.old → HasBegunEmpty (P.moment pair.new) (P.left_since pair.new) }
     ensures honest { P.honest pair.old ↔ P.honest pair.new }
