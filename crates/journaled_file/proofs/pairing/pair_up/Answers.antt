@@ -5,14 +5,21 @@ use Rattle.journaled_file.proofs.pairing.pair_up.Goals as goal
 
 pub returns-in_ok-renewed-in-Unended-clause-found :
     goal.returns-in_ok-renewed-in-Unended-clause-found
-returns-in_ok-renewed-in-Unended-clause-found g c = λ base source there.
-    (g.J.BlockDevice.shown c.in_ok-journal.journal, search rules,
-    inr (search rules, inr (inr (search rules, search rules, refl))))
+returns-in_ok-renewed-in-Unended-clause-found g c = λ base source there. (
+  g.J.BlockDevice.shown c.in_ok-journal.journal,
+  search rules,
+  inr (search rules, inr (inr (search rules, search rules, refl))),
+)
 
 pub returns-in_ok-renewed-in-Fresh-clause-found : goal.returns-in_ok-renewed-in-Fresh-clause-found
-returns-in_ok-renewed-in-Fresh-clause-found g c = λ base source there.
-    (g.J.BlockDevice.shown c.in_ok-journal.journal, search rules,
-    inr (search rules, ⊎_elim
-    (λ (is : c.in_ok-judge_and_finish.field-0 ≡ Fresh). inl (search rules, search rules, refl))
-    (λ (is : c.in_ok-judge_and_finish.field-0 ≡ Ended). inr (inl (search rules, search rules, refl)))
-    c.in-Fresh.is))
+returns-in_ok-renewed-in-Fresh-clause-found g c = λ base source there. (
+  g.J.BlockDevice.shown c.in_ok-journal.journal,
+  search rules,
+  inr (
+    search rules,
+    ⊎_elim
+        (λ (is : c.in_ok-judge_and_finish.field-0 ≡ Fresh). inl (search rules, search rules, refl))
+        (λ (is : c.in_ok-judge_and_finish.field-0 ≡ Ended). inr (inl (search rules, search rules, refl)))
+        c.in-Fresh.is,
+  ),
+)
