@@ -17,7 +17,7 @@ use Rattle.node_page.specs.Standing.{PageMap}
 use Rattle.node_page.proofs.PartLemmas.{moves_from}
 use Rattle.id_tree.specs.Cutting.{Cuts, SpellsNode}
 use Rattle.id_tree.specs.Joining.{AreApart, AreNeighbours, AtPair, HasSpare, HaveRoom, IsBalanced, IsPair}
-use Rattle.id_tree.specs.Joining.{Joins, MakesSpare, MayJoin, MayMeet, MayShare, PutsAndFrees, PutsBoth}
+use Rattle.id_tree.specs.Joining.{Joins, MakesSpare, MayJoin, MayMeet, PutsAndFrees, PutsBoth}
 use Rattle.id_tree.specs.Joining.{Shares, SharesOut, met}
 use Rattle.id_tree.specs.Rows.{NodeStands, joined, part_at}
 use Rattle.id_tree.specs.Steps.{Keeps, MakesRoom}

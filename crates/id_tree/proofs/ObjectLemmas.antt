@@ -48,11 +48,6 @@ unfolding or_else
 none_behind None = refl
 none_behind (Some x) = refl
 
--- what two lists do not have, none of them has
-pub none_of : (q : ℕ) (xs ys : List Entry) → kept_in q (xs ++ ys) ≡ None
-    → (kept_in q xs ≡ None) × (kept_in q ys ≡ None)
-none_of q xs ys none = none_of_both (kept_in q xs) (kept_in q ys) (sym (kept-append q xs ys) ∙ none)
-
 pub is_same : (a b : ℕ) → a ≡ b → eqb a b ≡ true
 is_same a b h = grind (arith, nat_tests)
 
@@ -81,14 +76,6 @@ keeps_same xs = record { kept = λ q. refl; times = λ q. refl; below = λ key a
 
 pub keeps_equal : (xs ys : List Entry) → ys ≡ xs → Keeps xs ys
 keeps_equal xs ys is = subst (Keeps xs) (sym is) (keeps_same xs)
-
-pub keeps_in_turn : (xs ys zs : List Entry) → Keeps xs ys → Keeps ys zs → Keeps xs zs
-keeps_in_turn xs ys zs a b = record {
-  kept = λ q. b.kept q ∙ a.kept q;
-  times = λ q. b.times q ∙ a.times q;
-  below = λ key all. b.below key (a.below key all);
-  from = λ key all. b.from key (a.from key all);
-}
 
 -- what holds of each object before and behind, and of those that come between, holds of all
 module _ (P : Entry → Type 0) where
@@ -171,16 +158,6 @@ turns_after id step old mid new keeps turns = record {
   times = λ q. omega (arith, turns.times q, keeps.times q);
   below = λ key all less. turns.below key (keeps.below key all) less;
   from = λ key all le. turns.from key (keeps.from key all) le;
-}
-
--- a step, and then the same objects
-pub turns_before : (id : ℕ) (step : Step) (old mid new : List Entry) → Turns id step old mid → Keeps mid new
-    → Turns id step old new
-turns_before id step old mid new turns keeps = record {
-  kept = λ q. keeps.kept q ∙ turns.kept q;
-  times = λ q. omega (arith, turns.times q, keeps.times q);
-  below = λ key all less. keeps.below key (turns.below key all less);
-  from = λ key all le. keeps.from key (turns.from key all le);
 }
 
 -- an object more

@@ -89,12 +89,6 @@ pub has_below : (dims : ℕ) (pages : PageMap) (page level : ℕ) (edge : Bool) 
 has_below dims pages page level edge row id p high s way has none =
     has (same_below dims pages page level edge id p row high s way ∙ none)
 
--- what the child has the node has
-pub has_above : (dims : ℕ) (pages : PageMap) (page level : ℕ) (edge : Bool) (row : Row) (id p : ℕ) → 0 < level
-    → NodeStands dims pages page level edge row → (way : At id p row) → Has id way.below → Has id row
-has_above dims pages page level edge row id p high s way has none =
-    has (sym (same_below dims pages page level edge id p row high s way) ∙ none)
-
 spare_large : (dims level : ℕ) (edge : Bool) (row : Row) → HasSpare dims level edge row → edge ≡ false
     → IsLarge dims level row
 spare_large dims level edge row spare off = record {
@@ -154,13 +148,6 @@ pub has_made : (dims : ℕ) (old mid : PageMap) (page level : ℕ) (edge : Bool)
 has_made dims old mid page level edge row id p last high made there =
     has_below dims mid page level edge made.now id p high made.stands made.way
     (λ none. there (sym (made.keeps.kept id) ∙ none))
-
-pub has_made_above : (dims : ℕ) (old mid : PageMap) (page level : ℕ) (edge : Bool) (row : Row) (id p : ℕ)
-    (last : Bool)
-    → 0 < level → (made : MakesSpare dims old mid page level edge row id p last) → Has id made.way.below
-    → Has id row
-has_made_above dims old mid page level edge row id p last high made has none =
-    has_above dims mid page level edge made.now id p high made.stands made.way has (made.keeps.kept id ∙ none)
 
 -- the child is joined where it has too little
 pub may_meet : (dims : ℕ) (pages : PageMap) (page level : ℕ) (edge : Bool) (row : Row) (id q place : ℕ)

@@ -7,7 +7,7 @@ use Rattle.page_cache.specs.Calls.{changes_and_refuses, no_call_changes}
 use Rattle.node_page.specs.Faults.{IsNoDamage}
 use Rattle.node_page.proofs.NodeLemmas.{at_error}
 use Rattle.id_tree.proofs.FillLemmas.{all_of, few_so_far, filling_begins, fills_on, new_taken}
-use Rattle.page_cache.specs.Cache.{given, touched_of}
+use Rattle.page_cache.specs.Cache.{touched_of}
 use Rattle.id_words.specs.Objects.{AreNew, pairs_in}
 use Rattle.id_words.proofs.EntryLemmas.{as_many_listed, few_taken, taken_behind}
 use Rattle.id_tree.specs.Tree.{objects_of}

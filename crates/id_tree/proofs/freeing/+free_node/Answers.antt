@@ -1,8 +1,7 @@
 -- Child after child is freed, and then the page of the node.
 use Rattle.id_tree.proofs.FreeLemmas.{frees_none, all_freed, leaf_freed, next, next_link, next_stands}
 use Rattle.id_tree.proofs.FreeLemmas.{none_freed, one_freed, page_still}
-use Rattle.std.proofs.Common.{◌≡◌, ◌∙◌, ◌-◌, ◌<◌, ◌≤◌, ℕ, None, length, ap, subst, sym, arith, ◌⊎◌}
-use Rattle.page_file.specs.Fault.{IsOfDevice}
+use Rattle.std.proofs.Common.{◌≡◌, ◌∙◌, ◌-◌, ◌<◌, ◌≤◌, ℕ, None, length, ap, subst, sym, arith}
 use Rattle.page_cache.specs.Cache.{pages, given, next_of, touched_of}
 use Rattle.page_cache.specs.Calls.{asks_changes, changes_and_refuses, changes_in_turn, fault_in}
 use Rattle.node_page.specs.Parts.{Moves, no_page}

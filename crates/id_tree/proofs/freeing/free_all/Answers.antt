@@ -1,5 +1,5 @@
 -- The root is freed as a node.
-use Rattle.std.proofs.Common.{ℕ, subst, sym, ◌≡◌}
+use Rattle.std.proofs.Common.{ℕ, subst, sym}
 use Rattle.page_file.specs.Fault.{IsOfDevice}
 use Rattle.page_cache.specs.Cache.{pages, given}
 use Rattle.page_cache.specs.Calls.{no_call_asks, asks_and_changes, asks_and_gives_up}

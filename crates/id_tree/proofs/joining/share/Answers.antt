@@ -1,6 +1,6 @@
 -- Both pages have their shares, and the fork the key between them.
 use Rattle.id_tree.proofs.WorksLemmas.{works_done, works_handed, works_refused}
-use Rattle.std.proofs.Common.{◌≡◌, arith, false, ◌⊎◌, ℕ, inl}
+use Rattle.std.proofs.Common.{◌≡◌, arith, ◌⊎◌, ℕ, inl}
 use Rattle.id_tree.proofs.JoinLemmas.{second_in, shares_from, shares_left, shares_right, join_apart}
 use Rattle.id_tree.proofs.JoinLemmas.{join_neighbours, join_same}
 use Rattle.id_tree.proofs.TidyLemmas.{both_tidy_on, tidy_same}
