@@ -1,7 +1,6 @@
 -- The object goes on to the child where it belongs, in which room is made first if it is full.
 use Rattle.id_tree.proofs.WorksLemmas.{works_after, works_from, works_handed, works_refused, works_same}
-use Rattle.std.proofs.Common.{◌<◌, ℕ, None, inl, subst, sym, arith, ◌≡◌, ◌⊎◌}
-use Rattle.page_file.specs.Fault.{IsOfDevice}
+use Rattle.std.proofs.Common.{◌<◌, ℕ, None, inl, subst, sym, arith}
 use Rattle.page_cache.specs.Cache.{pages, given, touched_of}
 use Rattle.page_cache.specs.Calls.{asks_changes, changes_in_turn, no_call_asks, asks_and_changes}
 use Rattle.page_cache.specs.Calls.{asks_and_gives_up, changes_and_refuses, fault_in}
@@ -12,9 +11,6 @@ use Rattle.id_tree.proofs.AddLemmas.{absent_after, absent_below, becomes_after, 
 use Rattle.id_tree.proofs.AddLemmas.{grow_beneath, grow_same, may_grow_after, some_links, split_beneath}
 use Rattle.id_tree.proofs.ResultLemmas.{if_err}
 use Rattle.id_tree.proofs.TidyLemmas.{tidy_in_turn, tidy_same}
-use Rattle.page_file.specs.declared.fault.Fault.TheVariants as fault
-use Rattle.id_tree.specs.Checked.{ComesInTree}
-use Rattle.id_words.specs.Damage.{MayBreakAt}
 use Rattle.id_tree.proofs.DamageLemmas.{comes_at, names_same, said_before, said_below}
 use Rattle.id_words.proofs.WriteLemmas.{not_both}
 use Rattle.id_tree.proofs.adding.+add_below.Goals as goal
@@ -45,28 +41,20 @@ returns-clause-changes g t c =
 
 pub returns-then-level-eq0-clause-damage : goal.returns-then-level-eq0-clause-damage
 returns-then-level-eq0-clause-damage g t c = λ h none.
-    if_err c.push_in.result (λ f. IsOfDevice f ⊎ (f ≡ fault.Damaged c.args.page))
-    (λ f. (n : ℕ) → f ≡ fault.Damaged n → ComesInTree g.row.D (given c.args.cache.now) c.args.page n
-    ⊎ MayBreakAt c.args.cache.now n)
+    if_err c.push_in.result _ _
     (λ f either n damaged. inl (comes_at g.row.D (given c.args.cache.now) c.args.page n f either damaged))
     (c.push_in.ensures.damage h)
 
 pub returns-in_err-below-clause-damage : goal.returns-in_err-below-clause-damage
 returns-in_err-below-clause-damage g t c = λ h none.
-    at_error c.from_residual.result c.in_err-below.field-0.0
-    (λ f. (n : ℕ) → f ≡ fault.Damaged n → ComesInTree g.row.D (given c.args.cache.now) c.args.page n
-    ⊎ MayBreakAt c.args.cache.now n)
+    at_error c.from_residual.result c.in_err-below.field-0.0 _
     c.from_residual.ensures.1 (λ n damaged. inl (c.in_err-below.ensures.damage h n damaged))
 
 pub returns-then-below-clause-damage : goal.returns-then-below-clause-damage
 returns-then-below-clause-damage g t c = λ h none.
     let asks = c.in_ok-below.ensures.asks in
     let p = c.in_ok-below.below.child in
-    if_err c.add_below.result
-    (λ f. (n : ℕ) → f ≡ fault.Damaged n → ComesInTree g.row.D (given c.look_below.new.cache) p n
-    ⊎ MayBreakAt c.look_below.new.cache n)
-    (λ f. (n : ℕ) → f ≡ fault.Damaged n → ComesInTree g.row.D (given c.args.cache.now) c.args.page n
-    ⊎ MayBreakAt c.args.cache.now n)
+    if_err c.add_below.result _ _
     (λ f either n damaged. said_below g.row.D c.args.cache.now c.look_below.new.cache c.args.page p n asks.map
     h
     (c.in_ok-below.ensures.names h) (either n damaged))
@@ -79,9 +67,7 @@ returns-in_err-child-clause-damage g t c = λ h none.
     let mid = c.look_below.new.cache in
     let page = c.args.page in
     let asks = c.in_ok-below.ensures.asks in
-    at_error c.from_residual-in_err-child.result c.in_err-child.field-0.0
-    (λ f. (n : ℕ) → f ≡ fault.Damaged n → ComesInTree g.row.D (given c.args.cache.now) c.args.page n
-    ⊎ MayBreakAt c.args.cache.now n)
+    at_error c.from_residual-in_err-child.result c.in_err-child.field-0.0 _
     c.from_residual-in_err-child.ensures.1 (λ n damaged. said_before D old mid page n asks.map h
     (c.in_err-child.ensures.damage (asks.gate.honest.0 h) none
     (names_same D (given old) (given mid) page c.in_ok-below.below.child (asks.map.given_stay h)

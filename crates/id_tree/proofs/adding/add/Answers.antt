@@ -1,14 +1,11 @@
 -- The leaf that was found takes the object, or a walk down from the root finds where it comes.
-use Rattle.std.proofs.Common.{◌≡◌, ◌⊎◌, ℕ, inl, refl}
+use Rattle.std.proofs.Common.{inl, refl}
 use Rattle.box_math.specs.Objects.{Object}
 use Rattle.page_file.specs.Fault.{IsOfDevice}
-use Rattle.page_file.specs.declared.fault.Fault.TheVariants as fault
-use Rattle.page_cache.specs.Cache.{pages, given}
+use Rattle.page_cache.specs.Cache.{pages}
 use Rattle.page_cache.specs.Calls.{asks_and_changes}
 use Rattle.node_page.specs.Faults.{IsNoDamage}
 use Rattle.node_page.proofs.NodeLemmas.{at_error, on_ok}
-use Rattle.id_words.specs.Damage.{MayBreakAt}
-use Rattle.id_tree.specs.Checked.{ComesInTree}
 use Rattle.id_tree.specs.Tree.{objects_in}
 use Rattle.id_tree.proofs.DamageLemmas.{said_before}
 use Rattle.id_tree.proofs.NodeLemmas.{node_there}
@@ -107,9 +104,7 @@ returns-clause-damage g c = λ h met none.
     let old = c.args.cache.now in
     let mid = c.has_room.new.cache in
     let asks = c.in_ok-has_room.ensures.asks in
-    if_err c.add_object-2.result
-    (λ f. (n : ℕ) → f ≡ fault.Damaged n → ComesInTree D (given mid) c.args.root n ⊎ MayBreakAt mid n)
-    (λ f. (n : ℕ) → f ≡ fault.Damaged n → ComesInTree D (given old) c.args.root n ⊎ MayBreakAt old n)
+    if_err c.add_object-2.result _ _
     (λ f either n damaged. said_before D old mid c.args.root n asks.map h (either n damaged))
     (c.add_object-2.ensures.damage (asks.gate.honest.0 h) none)
 

@@ -9,7 +9,6 @@ use Rattle.id_tree.specs.Tree.{links_of}
 use Rattle.id_tree.proofs.AddLemmas.{grow_root, sets_root, started_root}
 use Rattle.id_tree.proofs.RootLemmas.{absent_of, root_fork, root_live, sets_from, tree_same}
 use Rattle.page_file.specs.declared.fault.Fault.TheVariants as fault
-use Rattle.id_tree.specs.Checked.{ComesInTree}
 use Rattle.id_words.specs.Damage.{MayBreakAt}
 use Rattle.id_tree.proofs.DamageLemmas.{breaks_kept, comes_at, damaged_is, said_before}
 use Rattle.id_tree.proofs.GivenLemmas.{comes_here}
@@ -37,9 +36,7 @@ returns-clause-changes g c = asks_and_changes c.args.cache.now c.step.new.cache 
 
 pub returns-in_err-way-clause-damage : goal.returns-in_err-way-clause-damage
 returns-in_err-way-clause-damage g c = λ h none.
-    at_error c.from_residual.result c.in_err-way.field-0.0
-    (λ f. (n : ℕ) → f ≡ fault.Damaged n → ComesInTree g.row.D (given c.args.cache.now) c.args.root n
-    ⊎ MayBreakAt c.args.cache.now n)
+    at_error c.from_residual.result c.in_err-way.field-0.0 _
     c.from_residual.ensures.1 (λ n damaged.
     inl (comes_at g.row.D (given c.args.cache.now) c.args.root n c.in_err-way.field-0.0
     (c.in_err-way.ensures.damage h) damaged))
@@ -47,9 +44,7 @@ returns-in_err-way-clause-damage g c = λ h none.
 pub returns-then-way-eq0-clause-damage : goal.returns-then-way-eq0-clause-damage
 returns-then-way-eq0-clause-damage g c = λ h none.
     let asks = c.in_ok-way.ensures.asks in
-    if_err c.start.result (λ e. (n : ℕ) → e ≡ fault.Damaged n → MayBreakAt c.step.new.cache n)
-    (λ f. (n : ℕ) → f ≡ fault.Damaged n → ComesInTree g.row.D (given c.args.cache.now) c.args.root n
-    ⊎ MayBreakAt c.args.cache.now n)
+    if_err c.start.result (λ e. (n : ℕ) → e ≡ fault.Damaged n → MayBreakAt c.step.new.cache n) _
     (λ f breaks n damaged. inr
     (breaks_kept c.args.cache.now c.step.new.cache n asks.map h (breaks n damaged)))
     (c.start.ensures.damage (asks.gate.honest.0 h) none)
@@ -62,11 +57,7 @@ returns-then-way-gt-MOST_LEVELS-clause-damage g c =
 pub returns-then-way-lt-MOST_CHILDREN-clause-damage : goal.returns-then-way-lt-MOST_CHILDREN-clause-damage
 returns-then-way-lt-MOST_CHILDREN-clause-damage g c = λ h none.
     let asks = c.in_ok-way.ensures.asks in
-    if_err c.add_below.result
-    (λ f. (n : ℕ) → f ≡ fault.Damaged n → ComesInTree g.row.D (given c.step.new.cache) c.args.root n
-    ⊎ MayBreakAt c.step.new.cache n)
-    (λ f. (n : ℕ) → f ≡ fault.Damaged n → ComesInTree g.row.D (given c.args.cache.now) c.args.root n
-    ⊎ MayBreakAt c.args.cache.now n)
+    if_err c.add_below.result _ _
     (λ f either n damaged. said_before g.row.D c.args.cache.now c.step.new.cache c.args.root n asks.map h
     (either n damaged))
     (c.add_below.ensures.damage (asks.gate.honest.0 h) none)
@@ -75,9 +66,7 @@ pub returns-clause-damage : goal.returns-clause-damage
 returns-clause-damage g c = λ h none.
     let asks = c.in_ok-way.ensures.asks in
     if_err c.add_deeper.result
-    (λ e. (n : ℕ) → e ≡ fault.Damaged n → (n ≡ c.args.root) ⊎ MayBreakAt c.step.new.cache n)
-    (λ f. (n : ℕ) → f ≡ fault.Damaged n → ComesInTree g.row.D (given c.args.cache.now) c.args.root n
-    ⊎ MayBreakAt c.args.cache.now n)
+    (λ e. (n : ℕ) → e ≡ fault.Damaged n → (n ≡ c.args.root) ⊎ MayBreakAt c.step.new.cache n) _
     (λ f either n damaged. ⊎_elim
     (λ (is : n ≡ c.args.root). inl (comes_here g.row.D (given c.args.cache.now) c.args.root n is))
     (λ (breaks : MayBreakAt c.step.new.cache n). inr

@@ -1,12 +1,10 @@
 -- The count in the page is that of the node.
-use Rattle.std.proofs.Common.{◌≡◌, ◌<◌, ◌≤◌, arith, ◌⊎◌}
+use Rattle.std.proofs.Common.{◌≡◌, ◌<◌, ◌≤◌, arith}
 use Rattle.std.proofs.lemmas.Bool.Decides.{nat_tests}
 use Rattle.std.proofs.Common.{ℕ, true, false, nat_lt}
 use Rattle.page_cache.specs.Cache.{pages}
 use Rattle.id_tree.proofs.AddLemmas.{fork_counted, leaf_counted}
 use Rattle.id_tree.proofs.NodeLemmas.{there_bytes}
-use Rattle.page_file.specs.declared.fault.Fault.TheVariants as fault
-use Rattle.page_file.specs.Fault.{IsOfDevice}
 use Rattle.node_page.proofs.NodeLemmas.{at_error}
 use Rattle.id_tree.proofs.below.has_room.Goals as goal
 
@@ -66,6 +64,5 @@ returns-clause-full g c = λ h row node no.
 
 pub returns-in_err-count-clause-damage : goal.returns-in_err-count-clause-damage
 returns-in_err-count-clause-damage g c = λ h.
-    at_error c.from_residual.result c.in_err-count.field-0.0
-    (λ f. IsOfDevice f ⊎ (f ≡ fault.Damaged c.args.number))
+    at_error c.from_residual.result c.in_err-count.field-0.0 _
     c.from_residual.ensures.1 (c.in_err-count.ensures.damage h)

@@ -1,5 +1,5 @@
 -- The child that the page names is the one on the way.
-use Rattle.std.proofs.Common.{◌∙◌, ◌-◌, sym, arith, ◌≡◌, ℕ, subst}
+use Rattle.std.proofs.Common.{◌∙◌, ◌-◌, sym, arith, ◌≡◌, subst}
 use Rattle.page_file.specs.Fault.{IsOfDevice}
 use Rattle.page_cache.specs.Cache.{pages, given}
 use Rattle.node_page.proofs.NodeLemmas.{at_error}
@@ -8,7 +8,7 @@ use Rattle.id_tree.proofs.NodeLemmas.{node_stays}
 use Rattle.id_tree.proofs.SeekLemmas.{keys_ascend, no_route}
 use Rattle.id_tree.proofs.WayLemmas.{child_stands, last_here, way_of}
 use Rattle.page_file.specs.declared.fault.Fault.TheVariants as fault
-use Rattle.id_tree.specs.Checked.{ComesInTree, NamesChild, SpellsFork}
+use Rattle.id_tree.specs.Checked.{NamesChild, SpellsFork}
 use Rattle.id_tree.proofs.DamageLemmas.{comes_at, comes_down, damaged_is, named_some}
 use Rattle.id_tree.proofs.GivenLemmas.{comes_here}
 use Rattle.id_tree.proofs.below.look_below.Goals as goal
@@ -72,8 +72,7 @@ returns-clause-found g c = λ h row s.
 
 pub returns-in_err-way-clause-damage : goal.returns-in_err-way-clause-damage
 returns-in_err-way-clause-damage g c = λ h.
-    at_error c.from_residual.result c.in_err-way.field-0.0
-    (λ f. (n : ℕ) → f ≡ fault.Damaged n → ComesInTree g.row.D (given c.args.cache.now) c.args.page n)
+    at_error c.from_residual.result c.in_err-way.field-0.0 _
     c.from_residual.ensures.1 (λ n damaged.
     comes_at g.row.D (given c.args.cache.now) c.args.page n c.in_err-way.field-0.0
     (c.in_err-way.ensures.damage h) damaged)
@@ -92,8 +91,7 @@ returns-in_err-room-clause-damage g c = λ h.
     c.in-Some.child c.in-Some.is
     (c.in_ok-way.ensures.names h) in
     let asks = c.in_ok-way.ensures.asks in
-    at_error c.from_residual-in_err-room.result c.in_err-room.field-0.0
-    (λ f. (n : ℕ) → f ≡ fault.Damaged n → ComesInTree g.row.D (given c.args.cache.now) c.args.page n)
+    at_error c.from_residual-in_err-room.result c.in_err-room.field-0.0 _
     c.from_residual-in_err-room.ensures.1 (λ n damaged.
     comes_down g.row.D (given c.args.cache.now) c.args.page c.in-Some.child n names
     (comes_at g.row.D (given c.args.cache.now) c.in-Some.child n c.in_err-room.field-0.0

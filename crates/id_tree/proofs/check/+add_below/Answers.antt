@@ -1,7 +1,7 @@
 -- The children are found to stand one after the other.
-use Rattle.std.proofs.Common.{◌≡◌, ◌∙◌, ◌⊎◌, ◌<◌, ◌-◌, ◌+◌, ◌++◌, ◌∷◌, ◌&&◌, ◌==◌, [], ℕ, None, inl}
+use Rattle.std.proofs.Common.{◌≡◌, ◌∙◌, ◌⊎◌, ◌<◌, ◌-◌, ◌+◌, ◌++◌, ◌∷◌, ◌&&◌, ◌==◌, [], None, inl}
 use Rattle.std.proofs.Common.{get_or, length, ap, subst, sym, refl, arith}
-use Rattle.page_file.specs.Fault.{IsDamage, IsOfDevice}
+use Rattle.page_file.specs.Fault.{IsOfDevice}
 use Rattle.page_file.specs.declared.fault.Fault.TheVariants as fault
 use Rattle.page_file.specs.declared.fault.Fault.{Fault}
 use Rattle.page_cache.specs.Cache.{given}
@@ -11,7 +11,7 @@ use Rattle.node_page.proofs.DamageLemmas.{damaged_read, damaged_visit}
 use Rattle.node_page.proofs.NodeLemmas.{at_error, if_error, on_ok}
 use Rattle.id_page.specs.Fork.{ForkContent, Link}
 use Rattle.id_page.proofs.ForkReading.{some_link}
-use Rattle.id_tree.specs.Checked.{AddsNode, ComesInTree, MayAdd}
+use Rattle.id_tree.specs.Checked.{AddsNode, MayAdd}
 use Rattle.id_tree.specs.Tree.{links_of, objects_in}
 use Rattle.id_tree.proofs.AddLemmas.{some_links}
 use Rattle.id_tree.proofs.CheckLemmas.{adds_all, adds_more, adds_none, leaf_adds, links_found, may_be_leaf}
@@ -96,7 +96,7 @@ returns-in_err-come_to-clause-asks g t c =
 
 pub returns-in_err-come_to-clause-other_faults : goal.returns-in_err-come_to-clause-other_faults
 returns-in_err-come_to-clause-other_faults g t c =
-    at_error c.from_residual.result c.in_err-come_to.field-0.0 (λ f. IsOfDevice f ⊎ IsDamage f)
+    at_error c.from_residual.result c.in_err-come_to.field-0.0 _
     c.from_residual.ensures.1 (visit_faults c.in_err-come_to.field-0.0 _ c.in_err-come_to.ensures.faults)
 
 pub returns-in_err-come_to-clause-stands : goal.returns-in_err-come_to-clause-stands
@@ -285,8 +285,7 @@ returns-clause-found g t c = λ h there.
 
 pub returns-then-node-eq0-clause-damage : goal.returns-then-node-eq0-clause-damage
 returns-then-node-eq0-clause-damage g t c = λ h there.
-    if_error c.add_leaf.result (λ (f : Fault). (f ≡ fault.Memory) ⊎ (f ≡ fault.Damaged c.args.node.page))
-    (λ f. (n : ℕ) → f ≡ fault.Damaged n → ComesInTree g.row.D (given c.args.cache.now) c.args.node.page n)
+    if_error c.add_leaf.result (λ (f : Fault). (f ≡ fault.Memory) ⊎ (f ≡ fault.Damaged c.args.node.page)) _
     (λ f either n damaged. comes_here g.row.D (given c.args.cache.now) c.args.node.page n
     (damaged_visit f c.args.node.page n either damaged)) c.add_leaf.ensures.faults
 
@@ -301,8 +300,7 @@ returns-in_default-clause-damage g t c = λ h there n (damaged : fault.Damaged c
 
 pub returns-in_err-come_to-clause-damage : goal.returns-in_err-come_to-clause-damage
 returns-in_err-come_to-clause-damage g t c = λ h there.
-    at_error c.from_residual.result c.in_err-come_to.field-0.0
-    (λ f. (n : ℕ) → f ≡ fault.Damaged n → ComesInTree g.row.D (given c.args.cache.now) c.args.node.page n)
+    at_error c.from_residual.result c.in_err-come_to.field-0.0 _
     c.from_residual.ensures.1 (λ n damaged.
     let f = c.is_fork_of.ensures.fork c.if-not-is_fork_of.false in
     let content : ForkContent = record { level = c.args.node.level; links = f.links } in
@@ -318,8 +316,7 @@ returns-in_err-come_to-clause-damage g t c = λ h there.
 
 pub returns-in_err-below-clause-damage : goal.returns-in_err-below-clause-damage
 returns-in_err-below-clause-damage g t c = λ h there.
-    at_error c.from_residual-in_err-below.result c.in_err-below.field-0.0
-    (λ f. (n : ℕ) → f ≡ fault.Damaged n → ComesInTree g.row.D (given c.args.cache.now) c.args.node.page n)
+    at_error c.from_residual-in_err-below.result c.in_err-below.field-0.0 _
     c.from_residual-in_err-below.ensures.1 (λ n damaged.
     let f = c.is_fork_of.ensures.fork c.if-not-is_fork_of.false in
     let content : ForkContent = record { level = c.args.node.level; links = f.links } in
@@ -335,8 +332,7 @@ returns-in_err-below-clause-damage g t c = λ h there.
 
 pub returns-in_err-add_below-clause-damage : goal.returns-in_err-add_below-clause-damage
 returns-in_err-add_below-clause-damage g t c = λ h there.
-    at_error c.from_residual-in_err-add_below.result c.in_err-add_below.field-0.0
-    (λ f. (n : ℕ) → f ≡ fault.Damaged n → ComesInTree g.row.D (given c.args.cache.now) c.args.node.page n)
+    at_error c.from_residual-in_err-add_below.result c.in_err-add_below.field-0.0 _
     c.from_residual-in_err-add_below.ensures.1 (λ n damaged.
     let f = c.is_fork_of.ensures.fork c.if-not-is_fork_of.false in
     let content : ForkContent = record { level = c.args.node.level; links = f.links } in

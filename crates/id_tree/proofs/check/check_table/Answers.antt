@@ -13,7 +13,7 @@ use Rattle.node_page.proofs.DamageLemmas.{damaged_read, damaged_visit}
 use Rattle.node_page.proofs.NodeLemmas.{at_error}
 use Rattle.id_page.specs.Fork.{ForkContent}
 use Rattle.id_words.proofs.SeenLemmas.{none_seen, seen_once}
-use Rattle.id_tree.specs.Checked.{AddsNode, ComesInTree, FindsRoot, IsCheckedTable}
+use Rattle.id_tree.specs.Checked.{AddsNode, FindsRoot, IsCheckedTable}
 use Rattle.id_tree.specs.Tree.{links_of}
 use Rattle.id_tree.proofs.CheckLemmas.{may_on, node_on}
 use Rattle.id_tree.proofs.CheckedLemmas.{empty_checked, may_add_root, table_checked}
@@ -154,16 +154,14 @@ returns-clause-table g c = λ sound.
 
 pub returns-in_err-come_to-clause-damage : goal.returns-in_err-come_to-clause-damage
 returns-in_err-come_to-clause-damage g c = λ h.
-    at_error c.from_residual-in_err-come_to.result c.in_err-come_to.field-0.0
-    (λ f. (n : ℕ) → f ≡ fault.Damaged n → ComesInTree g.row.D (given c.args.cache.now) c.args.root n)
+    at_error c.from_residual-in_err-come_to.result c.in_err-come_to.field-0.0 _
     c.from_residual-in_err-come_to.ensures.1
     (λ n damaged. comes_here g.row.D (given c.args.cache.now) c.args.root n
     (damaged_visit c.in_err-come_to.field-0.0 c.args.root n c.in_err-come_to.ensures.faults damaged))
 
 pub returns-in_err-bytes-clause-damage : goal.returns-in_err-bytes-clause-damage
 returns-in_err-bytes-clause-damage g c = λ h.
-    at_error c.from_residual-in_err-bytes.result c.in_err-bytes.field-0.0
-    (λ f. (n : ℕ) → f ≡ fault.Damaged n → ComesInTree g.row.D (given c.args.cache.now) c.args.root n)
+    at_error c.from_residual-in_err-bytes.result c.in_err-bytes.field-0.0 _
     c.from_residual-in_err-bytes.ensures.1
     (λ n damaged. comes_here g.row.D (given c.args.cache.now) c.args.root n
     (damaged_read c.in_err-bytes.field-0.0 c.args.root n (c.in_err-bytes.ensures.damage h) damaged))
@@ -175,8 +173,7 @@ returns-then-not-is_root-clause-damage g c = λ h n (damaged : fault.Damaged c.a
 pub returns-in_err-add_below-clause-damage : goal.returns-in_err-add_below-clause-damage
 returns-in_err-add_below-clause-damage g c = λ h.
     let a = c.in_ok-bytes.ensures.asks in
-    at_error c.from_residual-in_err-add_below.result c.in_err-add_below.field-0.0
-    (λ f. (n : ℕ) → f ≡ fault.Damaged n → ComesInTree g.row.D (given c.args.cache.now) c.args.root n)
+    at_error c.from_residual-in_err-add_below.result c.in_err-add_below.field-0.0 _
     c.from_residual-in_err-add_below.ensures.1
     (λ n damaged. comes_so g.row.D (given c.args.cache.now) (given c.copy_given.new.cache) c.args.root n
     (λ k. a.map.given_stay h k)

@@ -1,13 +1,10 @@
 -- The objects of a run are pushed into its leaf, or the first one is added by itself.
 use Rattle.id_tree.proofs.WorksLemmas.{works_done, works_handed, works_refused}
-use Rattle.std.proofs.Common.{◌≡◌, ◌⊎◌, [], ◌∷◌, None, ℕ, inl, subst}
-use Rattle.page_file.specs.declared.fault.Fault.TheVariants as fault
-use Rattle.page_cache.specs.Cache.{given, pages}
+use Rattle.std.proofs.Common.{[], ◌∷◌, None, inl, subst}
+use Rattle.page_cache.specs.Cache.{pages}
 use Rattle.page_cache.specs.Calls.{asks_changes, changes_and_refuses, changes_in_turn}
 use Rattle.node_page.proofs.NodeLemmas.{at_error}
-use Rattle.id_words.specs.Damage.{MayBreakAt}
 use Rattle.id_tree.specs.Changes.{Fills}
-use Rattle.id_tree.specs.Checked.{ComesInTree}
 use Rattle.id_tree.specs.Tree.{objects_of}
 use Rattle.id_tree.proofs.DamageLemmas.{said_before}
 use Rattle.id_tree.proofs.FillLemmas.{fills_from, fills_one, first_new, first_of, new_taken}
@@ -29,8 +26,7 @@ returns-in_err-add_object-clause-damage g c = λ h none.
     let D = g.row.D in
     let old = c.args.cache.now in
     let asks = c.in_ok-run.ensures.asks in
-    at_error c.from_residual-in_err-add_object.result c.in_err-add_object.field-0.0
-    (λ f. (n : ℕ) → f ≡ fault.Damaged n → ComesInTree D (given old) c.args.root n ⊎ MayBreakAt old n)
+    at_error c.from_residual-in_err-add_object.result c.in_err-add_object.field-0.0 _
     c.from_residual-in_err-add_object.ensures.1
     (λ n damaged. said_before D old c.run_from.new.cache c.args.root n asks.map h
     (c.in_err-add_object.ensures.damage (asks.gate.honest.0 h) none n damaged))

@@ -1,5 +1,5 @@
 -- The node that the page spells is the one that is cut.
-use Rattle.std.proofs.Common.{◌∙◌, ◌<◌, refl, sym, arith, ◌≡◌, ◌⊎◌}
+use Rattle.std.proofs.Common.{◌∙◌, ◌<◌, refl, sym, arith}
 use Rattle.page_file.specs.Fault.{IsOfDevice}
 use Rattle.page_cache.specs.Cache.{pages}
 use Rattle.node_page.proofs.NodeLemmas.{at_error}
@@ -11,7 +11,6 @@ use Rattle.id_tree.proofs.TidyLemmas.{bytes_tidy, fork_node, leaf_node, tidy_for
 use Rattle.id_page.specs.Fork.{ForkContent}
 use Rattle.std.specs.Prelude.{take, drop}
 use Rattle.id_tree.specs.Halving.{from_key, under_key}
-use Rattle.page_file.specs.declared.fault.Fault.TheVariants as fault
 use Rattle.id_tree.proofs.halving.plan.Goals as goal
 
 pub returns-in_err-bytes-clause-there : goal.returns-in_err-bytes-clause-there
@@ -114,6 +113,5 @@ returns-clause-tidy g c = λ h row may.
 
 pub returns-in_err-bytes-clause-damage : goal.returns-in_err-bytes-clause-damage
 returns-in_err-bytes-clause-damage g c = λ h.
-    at_error c.from_residual.result c.in_err-bytes.field-0.0
-    (λ f. IsOfDevice f ⊎ (f ≡ fault.Damaged c.args.page))
+    at_error c.from_residual.result c.in_err-bytes.field-0.0 _
     c.from_residual.ensures.1 (c.in_err-bytes.ensures.damage h)

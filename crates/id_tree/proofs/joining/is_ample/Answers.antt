@@ -1,5 +1,5 @@
 -- Two fifths are more than a node has to have.
-use Rattle.std.proofs.Common.{◌<◌, arith, ◌≡◌, ◌⊎◌}
+use Rattle.std.proofs.Common.{◌<◌, arith}
 use Rattle.page_cache.specs.Cache.{pages}
 use Rattle.id_tree.proofs.AddLemmas.{fork_counted, leaf_counted}
 use Rattle.id_tree.proofs.CutLemmas.{least_some, sizes}
@@ -7,8 +7,6 @@ use Rattle.id_page.proofs.LeafReading.{leaf_spells}
 use Rattle.id_page.proofs.ObjectPlaces.{few_objects}
 use Rattle.id_tree.specs.Tree.{objects_in}
 use Rattle.id_tree.proofs.NodeLemmas.{leaf_bytes, there_bytes}
-use Rattle.page_file.specs.declared.fault.Fault.TheVariants as fault
-use Rattle.page_file.specs.Fault.{IsOfDevice}
 use Rattle.node_page.proofs.NodeLemmas.{at_error}
 use Rattle.id_tree.proofs.joining.is_ample.Goals as goal
 
@@ -102,5 +100,5 @@ returns-clause-little g c = λ h row node no ample.
 pub returns-in_err-count-clause-damage : goal.returns-in_err-count-clause-damage
 returns-in_err-count-clause-damage g c = λ h.
     at_error c.from_residual.result c.in_err-count.field-0.0
-    (λ f. IsOfDevice f ⊎ (f ≡ fault.Damaged c.args.number)) c.from_residual.ensures.1
+    _ c.from_residual.ensures.1
     (c.in_err-count.ensures.damage h)

@@ -15,8 +15,7 @@ use Rattle.id_tree.proofs.joining.join.Goals as goal
 
 pub returns-in_err-pair-clause-damage : goal.returns-in_err-pair-clause-damage
 returns-in_err-pair-clause-damage g c = λ h none content there.
-    at_error c.from_residual.result c.in_err-pair.field-0.0
-    (λ f. (n : ℕ) → f ≡ fault.Damaged n → ComesInTree g.row.D (given c.args.cache.now) c.args.page n)
+    at_error c.from_residual.result c.in_err-pair.field-0.0 _
     c.from_residual.ensures.1 (λ n damaged.
     comes_at g.row.D (given c.args.cache.now) c.args.page n c.in_err-pair.field-0.0
     (c.in_err-pair.ensures.damage h) damaged)
@@ -32,8 +31,7 @@ returns-clause-damage g c = λ h none content there.
     (comes_here D m p.first p.first refl) in
     let second : ComesInTree D m page p.second = comes_down D m page p.second p.second
     (content, there, names.1) (comes_here D m p.second p.second refl) in
-    if_err c.join_pair.result (λ e. (n : ℕ) → e ≡ fault.Damaged n → (n ≡ p.first) ⊎ (n ≡ p.second))
-    (λ f. (n : ℕ) → f ≡ fault.Damaged n → ComesInTree g.row.D (given c.args.cache.now) c.args.page n)
+    if_err c.join_pair.result (λ e. (n : ℕ) → e ≡ fault.Damaged n → (n ≡ p.first) ⊎ (n ≡ p.second)) _
     (λ f either n damaged. comes_to_one D m page p.first p.second n first second (either n damaged))
     (c.join_pair.ensures.damage (c.in_ok-pair.ensures.asks.gate.honest.0 h) none)
 

@@ -2,9 +2,7 @@
 use Rattle.page_cache.specs.Cache.{pages, next_of, given}
 use Rattle.id_page.proofs.ForkReading.{no_fork}
 use Rattle.id_tree.proofs.NodeLemmas.{fork_bytes, there_of_fork}
-use Rattle.std.proofs.Common.{◌≡◌, ◌∙◌, ◌⊎◌, ap, sym}
-use Rattle.page_file.specs.Fault.{IsOfDevice}
-use Rattle.page_file.specs.declared.fault.Fault.TheVariants as fault
+use Rattle.std.proofs.Common.{◌∙◌, ap, sym}
 use Rattle.node_page.proofs.NodeLemmas.{at_error, page_refused}
 use Rattle.id_tree.proofs.DamageLemmas.{fork_of_head, names_in}
 use Rattle.id_tree.specs.Tree.{fork_in}
@@ -50,7 +48,7 @@ returns-clause-place g c = λ h content there ascend.
 pub returns-in_err-page-clause-damage : goal.returns-in_err-page-clause-damage
 returns-in_err-page-clause-damage g c = λ h.
     let n = c.args.number in
-    at_error c.from_residual.result c.in_err-page.field-0.0 (λ f. IsOfDevice f ⊎ (f ≡ fault.Damaged n))
+    at_error c.from_residual.result c.in_err-page.field-0.0 _
     c.from_residual.ensures.1
     (page_refused n (next_of c.args.cache.now) c.in_err-page.field-0.0 (c.in_err-page.ensures.faults h)
     (λ outside. let is = c.in_err-page.ensures.outside outside in cc))

@@ -1,13 +1,11 @@
 -- The page that is given out is a table of no objects.
-use Rattle.page_cache.specs.Cache.{pages, BreaksAt}
+use Rattle.page_cache.specs.Cache.{pages}
 use Rattle.id_tree.specs.Changes.{Makes}
 use Rattle.id_tree.specs.Writes.{Gives}
 use Rattle.id_tree.proofs.ResultLemmas.{if_ok, if_err}
 use Rattle.id_tree.proofs.RootLemmas.{made}
 use Rattle.id_tree.proofs.TidyLemmas.{fork_node}
-use Rattle.std.proofs.Common.{[], ◌≡◌, ℕ}
-use Rattle.id_words.specs.Damage.{MayBreakAt}
-use Rattle.page_file.specs.declared.fault.Fault.TheVariants as fault
+use Rattle.std.proofs.Common.{[]}
 use Rattle.id_tree.proofs.making.make.Goals as goal
 
 pub returns-clause-made : goal.returns-clause-made
@@ -26,8 +24,6 @@ returns-clause-tidy g c = λ map. c.give_page.ensures.tidy map g.row.D
 
 pub returns-clause-damage : goal.returns-clause-damage
 returns-clause-damage g c = λ h.
-    if_err c.give_page.result
-    (λ f. (n : ℕ) → f ≡ fault.Damaged n → BreaksAt c.args.cache.now n × MayBreakAt c.args.cache.now n)
-    (λ f. (n : ℕ) → f ≡ fault.Damaged n → BreaksAt c.args.cache.now n)
+    if_err c.give_page.result _ _
     (λ f breaks n damaged. (breaks n damaged).0)
     (c.give_page.ensures.damage h)

@@ -1,5 +1,5 @@
 -- The pages and the key in the fork are those of two children next to one another.
-use Rattle.std.proofs.Common.{◌∙◌, ap, arith, ◌≡◌, ◌⊎◌, ◌+◌, ◌<◌, length, sym}
+use Rattle.std.proofs.Common.{◌∙◌, ap, arith, ◌+◌, ◌<◌, length, sym}
 use Rattle.page_file.specs.Fault.{IsOfDevice}
 use Rattle.page_cache.specs.Cache.{pages, given}
 use Rattle.node_page.proofs.NodeLemmas.{at_error}
@@ -8,7 +8,6 @@ use Rattle.id_page.proofs.ForkReading.{count_of_fork, fork_spells, some_link}
 use Rattle.id_tree.specs.Tree.{links_of}
 use Rattle.id_tree.proofs.NodeLemmas.{fork_bytes, node_there}
 use Rattle.id_tree.proofs.PairLemmas.{first_link, is_pair, pair_in, pair_last, pair_long, second_link}
-use Rattle.page_file.specs.declared.fault.Fault.TheVariants as fault
 use Rattle.id_tree.proofs.pairs.look_pair.Goals as goal
 
 pub returns-in_err-fork-clause-there : goal.returns-in_err-fork-clause-there
@@ -94,7 +93,7 @@ returns-clause-pair g c = λ h level id child place row may beside.
 pub returns-in_err-fork-clause-damage : goal.returns-in_err-fork-clause-damage
 returns-in_err-fork-clause-damage g c = λ h.
     at_error c.from_residual.result c.in_err-fork.field-0.0
-    (λ f. IsOfDevice f ⊎ (f ≡ fault.Damaged c.args.page)) c.from_residual.ensures.1
+    _ c.from_residual.ensures.1
     (c.in_err-fork.ensures.damage h)
 
 pub returns-clause-names : goal.returns-clause-names

@@ -1,20 +1,18 @@
 -- Each of the two pages is written, and the other one stays.
 use Rattle.id_tree.proofs.WorksLemmas.{works_refused}
-use Rattle.std.proofs.Common.{◌∙◌, IsSome, subst, sym, ◌≡◌, ◌⊎◌}
+use Rattle.std.proofs.Common.{◌∙◌, IsSome, subst, sym}
 use Rattle.page_cache.specs.Cache.{pages, touched_of, next_of}
 use Rattle.page_cache.specs.Laws.{a_live_page_was_given_out}
 use Rattle.node_page.proofs.NodeLemmas.{on_ok, at_error, page_refused}
 use Rattle.id_tree.proofs.TidyLemmas.{tidy_put, tidy_written}
 use Rattle.id_words.proofs.WriteLemmas.{not_both, touched_so}
-use Rattle.page_file.specs.declared.fault.Fault.TheVariants as fault
-use Rattle.page_file.specs.Fault.{IsOfDevice}
 use Rattle.id_words.proofs.Results.{on_done}
 use Rattle.id_tree.proofs.pairs.put_both.Goals as goal
 
 pub returns-in_err-put-clause-damage : goal.returns-in_err-put-clause-damage
 returns-in_err-put-clause-damage g c = λ h none.
     let n = c.args.first in
-    at_error c.from_residual.result c.in_err-put.field-0.0 (λ f. IsOfDevice f ⊎ (f ≡ fault.Damaged n))
+    at_error c.from_residual.result c.in_err-put.field-0.0 _
     c.from_residual.ensures.1
     (page_refused n (next_of c.args.cache.now) c.in_err-put.field-0.0 (c.in_err-put.ensures.faults h)
     (λ out. let is = (c.in_err-put.ensures.outside out).0 in cc))

@@ -1,6 +1,6 @@
 -- The fork is written once both children are.
 use Rattle.id_tree.proofs.WorksLemmas.{works_handed}
-use Rattle.std.proofs.Common.{◌∙◌, IsSome, ap, subst, sym, ◌≡◌, ◌⊎◌}
+use Rattle.std.proofs.Common.{◌∙◌, IsSome, ap, subst, sym}
 use Rattle.page_cache.specs.Cache.{pages, touched_of}
 use Rattle.page_cache.specs.Laws.{a_live_page_was_given_out}
 use Rattle.node_page.proofs.NodeLemmas.{on_ok, at_error}
@@ -8,15 +8,12 @@ use Rattle.id_tree.specs.Tree.{fork_in}
 use Rattle.id_tree.proofs.TidyLemmas.{fork_node, node_fork, tidy_put}
 use Rattle.id_page.proofs.ForkReading.{some_link}
 use Rattle.id_words.proofs.WriteLemmas.{not_both}
-use Rattle.page_file.specs.declared.fault.Fault.TheVariants as fault
-use Rattle.page_file.specs.Fault.{IsOfDevice}
 use Rattle.id_words.proofs.Results.{on_done}
 use Rattle.id_tree.proofs.pairs.put_shares.Goals as goal
 
 pub returns-in_err-put_both-clause-damage : goal.returns-in_err-put_both-clause-damage
 returns-in_err-put_both-clause-damage g c = λ h none.
-    at_error c.from_residual.result c.in_err-put_both.field-0.0
-    (λ f. IsOfDevice f ⊎ (f ≡ fault.Damaged c.args.pair.now.first))
+    at_error c.from_residual.result c.in_err-put_both.field-0.0 _
     c.from_residual.ensures.1 (c.in_err-put_both.ensures.damage h none)
 
 pub returns-clause-damage : goal.returns-clause-damage

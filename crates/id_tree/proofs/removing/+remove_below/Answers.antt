@@ -1,7 +1,6 @@
 -- The object is taken in the child where it is, which is joined first if it has too little.
 use Rattle.id_tree.proofs.WorksLemmas.{works_after, works_from, works_handed, works_refused, works_same}
-use Rattle.std.proofs.Common.{◌<◌, ◌-◌, ℕ, None, subst, sym, arith, ◌≡◌, ◌⊎◌}
-use Rattle.page_file.specs.Fault.{IsOfDevice}
+use Rattle.std.proofs.Common.{◌<◌, ◌-◌, ℕ, None, subst, sym, arith}
 use Rattle.page_cache.specs.Cache.{pages, given, touched_of}
 use Rattle.page_cache.specs.Calls.{asks_and_changes, asks_and_gives_up, asks_changes, asks_in_turn}
 use Rattle.page_cache.specs.Calls.{changes_and_refuses, changes_in_turn, fault_in, no_call_asks}
@@ -15,8 +14,6 @@ use Rattle.id_tree.proofs.RemoveLemmas.{has_below, has_made, may_meet, may_shrin
 use Rattle.id_tree.proofs.RemoveLemmas.{shrink_same, shrinks_after, shrinks_beneath}
 use Rattle.id_tree.proofs.WayLemmas.{child_stands}
 use Rattle.id_tree.proofs.TidyLemmas.{tidy_in_turn, tidy_same}
-use Rattle.page_file.specs.declared.fault.Fault.TheVariants as fault
-use Rattle.id_tree.specs.Checked.{ComesInTree}
 use Rattle.id_tree.proofs.ResultLemmas.{if_err}
 use Rattle.id_tree.proofs.DamageLemmas.{comes_at, comes_down, names_same}
 use Rattle.id_tree.proofs.GivenLemmas.{comes_so}
@@ -64,8 +61,7 @@ returns-clause-changes g t c =
 
 pub returns-then-level-eq0-clause-damage : goal.returns-then-level-eq0-clause-damage
 returns-then-level-eq0-clause-damage g t c = λ h none.
-    if_err c.take_in.result (λ f. IsOfDevice f ⊎ (f ≡ fault.Damaged c.args.page))
-    (λ f. (n : ℕ) → f ≡ fault.Damaged n → ComesInTree g.row.D (given c.args.cache.now) c.args.page n)
+    if_err c.take_in.result _ _
     (λ f either n damaged. comes_at g.row.D (given c.args.cache.now) c.args.page n f either damaged)
     (c.take_in.ensures.damage h)
 
@@ -74,8 +70,7 @@ returns-then-level-eq0-clause-touched g t c = c.take_in.ensures.touched
 
 pub returns-in_err-below-clause-damage : goal.returns-in_err-below-clause-damage
 returns-in_err-below-clause-damage g t c = λ h none.
-    at_error c.from_residual.result c.in_err-below.field-0.0
-    (λ f. (n : ℕ) → f ≡ fault.Damaged n → ComesInTree g.row.D (given c.args.cache.now) c.args.page n)
+    at_error c.from_residual.result c.in_err-below.field-0.0 _
     c.from_residual.ensures.1
     (c.in_err-below.ensures.damage h)
 
@@ -83,8 +78,7 @@ pub returns-in_err-ample-clause-damage : goal.returns-in_err-ample-clause-damage
 returns-in_err-ample-clause-damage g t c = λ h none.
     let m = given c.args.cache.now in
     let p = c.in_ok-below.below.child in
-    at_error c.from_residual-in_err-ample.result c.in_err-ample.field-0.0
-    (λ f. (n : ℕ) → f ≡ fault.Damaged n → ComesInTree g.row.D (given c.args.cache.now) c.args.page n)
+    at_error c.from_residual-in_err-ample.result c.in_err-ample.field-0.0 _
     c.from_residual-in_err-ample.ensures.1 (λ n damaged.
     comes_down g.row.D m c.args.page p n (c.in_ok-below.ensures.names h)
     (comes_at g.row.D m p n c.in_err-ample.field-0.0
@@ -100,8 +94,7 @@ returns-then-ample-clause-damage g t c = λ h none.
     let asks = asks_in_turn old c.look_below.new.cache mid None c.in_ok-below.ensures.asks
     c.in_ok-ample.ensures.asks in
     let same = asks.map.given_stay h in
-    if_err c.remove_below.result (λ f. (n : ℕ) → f ≡ fault.Damaged n → ComesInTree g.row.D (given mid) p n)
-    (λ f. (n : ℕ) → f ≡ fault.Damaged n → ComesInTree g.row.D (given c.args.cache.now) c.args.page n)
+    if_err c.remove_below.result _ _
     (λ f comes n damaged. comes_down D (given old) page p n (c.in_ok-below.ensures.names h)
     (comes_so D (given old) (given mid) p n same (comes n damaged)))
     (c.remove_below.ensures.damage (asks.gate.honest.0 h) none)
@@ -120,8 +113,7 @@ returns-in_err-child-clause-damage g t c = λ h none.
     c.in_ok-ample.ensures.asks in
     let same = asks.map.given_stay h in
     let names = names_same D (given old) (given mid) page p same (c.in_ok-below.ensures.names h) in
-    at_error c.from_residual-in_err-child.result c.in_err-child.field-0.0
-    (λ f. (n : ℕ) → f ≡ fault.Damaged n → ComesInTree g.row.D (given c.args.cache.now) c.args.page n)
+    at_error c.from_residual-in_err-child.result c.in_err-child.field-0.0 _
     c.from_residual-in_err-child.ensures.1 (λ n damaged. comes_so D (given old) (given mid) page n same
     (c.in_err-child.ensures.damage (asks.gate.honest.0 h) none names.0 names.1 n damaged))
 

@@ -1,18 +1,14 @@
 -- The object is removed below the root, which is lowered then.
 use Rattle.id_tree.proofs.WorksLemmas.{works_after, works_handed}
-use Rattle.std.proofs.Common.{◌≡◌, ℕ}
-use Rattle.page_cache.specs.Cache.{pages, given, touched_of}
+use Rattle.page_cache.specs.Cache.{pages, touched_of}
 use Rattle.node_page.proofs.NodeLemmas.{at_error}
 use Rattle.id_tree.proofs.RemoveLemmas.{may_lower, may_shrink_root, removes_among}
-use Rattle.page_file.specs.declared.fault.Fault.TheVariants as fault
-use Rattle.id_tree.specs.Checked.{ComesInTree}
 use Rattle.id_words.proofs.WriteLemmas.{not_both}
 use Rattle.id_tree.proofs.removing.remove_among.Goals as goal
 
 pub returns-in_err-remove_below-clause-damage : goal.returns-in_err-remove_below-clause-damage
 returns-in_err-remove_below-clause-damage g c = λ h none.
-    at_error c.from_residual.result c.in_err-remove_below.field-0.0
-    (λ f. (n : ℕ) → f ≡ fault.Damaged n → ComesInTree g.row.D (given c.args.cache.now) c.args.root n)
+    at_error c.from_residual.result c.in_err-remove_below.field-0.0 _
     c.from_residual.ensures.1
     (c.in_err-remove_below.ensures.damage h none)
 

@@ -11,7 +11,7 @@ use Rattle.id_tree.proofs.RemoveLemmas.{level_one, only_leaf, removes_from, some
 use Rattle.id_tree.proofs.RootLemmas.{root_fork, root_stands, tree_same}
 use Rattle.id_tree.proofs.SeekLemmas.{keys_ascend, no_route}
 use Rattle.page_file.specs.declared.fault.Fault.TheVariants as fault
-use Rattle.id_tree.specs.Checked.{ComesInTree, NamesChild}
+use Rattle.id_tree.specs.Checked.{NamesChild}
 use Rattle.id_tree.proofs.ResultLemmas.{if_err}
 use Rattle.id_tree.proofs.DamageLemmas.{comes_at, comes_down, comes_to_one, damaged_is, named_some}
 use Rattle.id_tree.proofs.GivenLemmas.{comes_here, comes_so}
@@ -33,8 +33,7 @@ returns-clause-changes g c = asks_and_changes c.args.cache.now c.step.new.cache 
 
 pub returns-in_err-way-clause-damage : goal.returns-in_err-way-clause-damage
 returns-in_err-way-clause-damage g c = λ h none.
-    at_error c.from_residual.result c.in_err-way.field-0.0
-    (λ f. (n : ℕ) → f ≡ fault.Damaged n → ComesInTree g.row.D (given c.args.cache.now) c.args.root n)
+    at_error c.from_residual.result c.in_err-way.field-0.0 _
     c.from_residual.ensures.1 (λ n damaged.
     comes_at g.row.D (given c.args.cache.now) c.args.root n c.in_err-way.field-0.0
     (c.in_err-way.ensures.damage h) damaged)
@@ -42,9 +41,7 @@ returns-in_err-way-clause-damage g c = λ h none.
 pub returns-then-way-gt1-clause-damage : goal.returns-then-way-gt1-clause-damage
 returns-then-way-gt1-clause-damage g c = λ h none.
     let asks = c.in_ok-way.ensures.asks in
-    if_err c.remove_among.result
-    (λ f. (n : ℕ) → f ≡ fault.Damaged n → ComesInTree g.row.D (given c.step.new.cache) c.args.root n)
-    (λ f. (n : ℕ) → f ≡ fault.Damaged n → ComesInTree g.row.D (given c.args.cache.now) c.args.root n)
+    if_err c.remove_among.result _ _
     (λ f comes n damaged. comes_so g.row.D (given c.args.cache.now) (given c.step.new.cache) c.args.root n
     (asks.map.given_stay h) (comes n damaged)) (c.remove_among.ensures.damage (asks.gate.honest.0 h) none)
 
@@ -64,8 +61,7 @@ returns-clause-damage g c = λ h none.
     let leaf = c.in-Some.leaf in
     let names = named_some (NamesChild D m root) c.in_ok-way.way.child leaf c.in-Some.is
     (c.in_ok-way.ensures.names h) in
-    if_err c.remove_only.result (λ e. (n : ℕ) → e ≡ fault.Damaged n → (n ≡ leaf) ⊎ (n ≡ root))
-    (λ f. (n : ℕ) → f ≡ fault.Damaged n → ComesInTree g.row.D (given c.args.cache.now) c.args.root n)
+    if_err c.remove_only.result (λ e. (n : ℕ) → e ≡ fault.Damaged n → (n ≡ leaf) ⊎ (n ≡ root)) _
     (λ f either n damaged. comes_to_one D m root leaf root n
     (comes_down D m root leaf leaf names (comes_here D m leaf leaf refl)) (comes_here D m root root refl)
     (either n damaged))

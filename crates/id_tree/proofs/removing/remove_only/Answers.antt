@@ -1,7 +1,6 @@
 -- The object is taken from the only leaf, or the leaf goes with it.
 use Rattle.id_tree.proofs.WorksLemmas.{works_from, works_refused}
 use Rattle.std.proofs.Common.{◌<◌, ◌≤◌, refl, length, arith, ◌≡◌, ◌⊎◌, ℕ, inl}
-use Rattle.page_file.specs.Fault.{IsOfDevice}
 use Rattle.page_cache.specs.Cache.{pages}
 use Rattle.node_page.proofs.NodeLemmas.{at_error}
 use Rattle.id_tree.specs.Tree.{objects_in}
@@ -23,7 +22,7 @@ returns-in_err-count-clause-damage g c = λ h none.
 
 pub returns-then-count-gt1-clause-damage : goal.returns-then-count-gt1-clause-damage
 returns-then-count-gt1-clause-damage g c = λ h none.
-    if_err c.take_in.result (λ f. IsOfDevice f ⊎ (f ≡ fault.Damaged c.args.leaf))
+    if_err c.take_in.result _
     (λ e. (n : ℕ) → e ≡ fault.Damaged n → (n ≡ c.args.leaf) ⊎ (n ≡ c.args.root))
     (λ f either n damaged. inl (damaged_read f c.args.leaf n either damaged))
     (c.take_in.ensures.damage (c.in_ok-count.ensures.asks.gate.honest.0 h))

@@ -1,7 +1,7 @@
 -- The object that was found in the leaf is taken.
 use Rattle.id_tree.proofs.ResultLemmas.{if_err}
 use Rattle.id_tree.proofs.WorksLemmas.{works_refused}
-use Rattle.std.proofs.Common.{refl, subst, ◌≡◌, ◌⊎◌}
+use Rattle.std.proofs.Common.{refl, subst}
 use Rattle.page_cache.specs.Cache.{pages}
 use Rattle.page_file.specs.Fault.{IsOfDevice}
 use Rattle.node_page.proofs.NodeLemmas.{at_error, on_ok}
@@ -13,13 +13,12 @@ use Rattle.id_tree.proofs.NodeLemmas.{node_there}
 use Rattle.id_tree.proofs.PartingLemmas.{some_object}
 use Rattle.id_tree.proofs.RemoveLemmas.{leaf_shrinks, shrink_same}
 use Rattle.id_tree.proofs.TidyLemmas.{tidy_from}
-use Rattle.page_file.specs.declared.fault.Fault.TheVariants as fault
 use Rattle.id_tree.proofs.removing.take_in.Goals as goal
 
 pub returns-in_err-found-clause-damage : goal.returns-in_err-found-clause-damage
 returns-in_err-found-clause-damage g c = λ h.
     at_error c.from_residual.result c.in_err-found.field-0.0
-    (λ f. IsOfDevice f ⊎ (f ≡ fault.Damaged c.args.page)) c.from_residual.ensures.1
+    _ c.from_residual.ensures.1
     (c.in_err-found.ensures.damage h)
 
 pub returns-clause-damage : goal.returns-clause-damage

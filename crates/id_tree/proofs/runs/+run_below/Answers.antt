@@ -1,7 +1,5 @@
 -- A run goes on in the child where the identifier is.
-use Rattle.std.proofs.Common.{◌≡◌, ◌∙◌, ◌⊎◌, ◌+◌, ◌-◌, ◌<◌, ◌≤◌, ℕ, length, sym, arith, subst}
-use Rattle.page_file.specs.Fault.{IsOfDevice}
-use Rattle.page_file.specs.declared.fault.Fault.TheVariants as fault
+use Rattle.std.proofs.Common.{◌≡◌, ◌∙◌, ◌+◌, ◌-◌, ◌<◌, ◌≤◌, ℕ, length, sym, arith, subst}
 use Rattle.page_cache.specs.Cache.{given, pages}
 use Rattle.page_cache.specs.Calls.{asks_in_turn, fault_in}
 use Rattle.node_page.proofs.NodeLemmas.{at_error}
@@ -101,17 +99,14 @@ returns-in-Some-clause-damage g t c = λ h.
     let names = named_some (NamesChild D old c.args.page) c.in_ok-way.way.child c.in-Some.child c.in-Some.is
     (c.in_ok-way.ensures.names h) in
     let same = c.in_ok-way.ensures.asks.map.given_stay h in
-    if_err c.run_below.result
-    (λ f. (n : ℕ) → f ≡ fault.Damaged n → ComesInTree D (given c.step.new.cache) c.in-Some.child n)
-    (λ f. (n : ℕ) → f ≡ fault.Damaged n → ComesInTree D old c.args.page n)
+    if_err c.run_below.result _ _
     (λ f comes n damaged. comes_down D old c.args.page c.in-Some.child n names
     (comes_so D old (given c.step.new.cache) c.in-Some.child n same (comes n damaged)))
     (c.run_below.ensures.damage (c.in_ok-way.ensures.asks.gate.honest.0 h))
 
 pub returns-in_err-way-clause-damage : goal.returns-in_err-way-clause-damage
 returns-in_err-way-clause-damage g t c = λ h.
-    at_error c.from_residual.result c.in_err-way.field-0.0
-    (λ f. (n : ℕ) → f ≡ fault.Damaged n → ComesInTree g.row.D (given c.args.cache.now) c.args.page n)
+    at_error c.from_residual.result c.in_err-way.field-0.0 _
     c.from_residual.ensures.1 (λ n damaged.
     comes_at g.row.D (given c.args.cache.now) c.args.page n c.in_err-way.field-0.0
     (c.in_err-way.ensures.damage h) damaged)
@@ -125,6 +120,5 @@ returns-then-level-eq0-clause-comes g t c = λ h.
 pub returns-then-level-eq0-clause-damage : goal.returns-then-level-eq0-clause-damage
 returns-then-level-eq0-clause-damage g t c = λ h.
     let m = given c.args.cache.now in
-    if_err c.run_at.result (λ f. IsOfDevice f ⊎ (f ≡ fault.Damaged c.args.page))
-    (λ f. (n : ℕ) → f ≡ fault.Damaged n → ComesInTree g.row.D m c.args.page n)
+    if_err c.run_at.result _ _
     (λ f either n damaged. comes_at g.row.D m c.args.page n f either damaged) (c.run_at.ensures.damage h)

@@ -1,7 +1,6 @@
 -- The goals of `push_all` that are proved by hand.
-use Rattle.std.proofs.Common.{◌≡◌, ◌+◌, ◌<◌, ◌≤◌, ◌⊎◌, arith, drop, length}
+use Rattle.std.proofs.Common.{◌+◌, ◌<◌, ◌≤◌, arith, drop, length}
 use Rattle.page_file.specs.Fault.{IsOfDevice}
-use Rattle.page_file.specs.declared.fault.Fault.TheVariants as fault
 use Rattle.page_cache.specs.Cache.{pages}
 use Rattle.page_cache.specs.Calls.{changes_and_refuses, no_call_changes}
 use Rattle.node_page.proofs.NodeLemmas.{at_error}
@@ -67,7 +66,7 @@ returns-in_err-push-clause-faults g c = λ map t stands takes new.
 pub returns-in_err-push-clause-damage : goal.returns-in_err-push-clause-damage
 returns-in_err-push-clause-damage g c = λ h.
     at_error c.from_residual.result c.in_err-push.field-0.0
-    (λ f. IsOfDevice f ⊎ (f ≡ fault.Damaged c.args.leaf)) c.from_residual.ensures.1
+    _ c.from_residual.ensures.1
     (c.in_err-push.ensures.damage (c.loop-pushed.invariant.pushing.changes.honest.0 h))
 
 pub returns-clause-sound : goal.returns-clause-sound

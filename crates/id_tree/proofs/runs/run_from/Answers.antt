@@ -1,7 +1,6 @@
 -- A run begins at the root.
 use Rattle.std.proofs.Common.{◌≡◌, ◌∙◌, ◌-◌, ◌<◌, ◌≤◌, ℕ, true, ap, sym, subst}
 use Rattle.std.specs.Prelude.{IfOk}
-use Rattle.page_file.specs.declared.fault.Fault.TheVariants as fault
 use Rattle.page_cache.specs.Cache.{given, pages}
 use Rattle.page_cache.specs.Calls.{asks_in_turn, fault_in}
 use Rattle.node_page.proofs.NodeLemmas.{at_error}
@@ -108,17 +107,14 @@ returns-in-Some-clause-damage g c = λ h.
     let names = named_some (NamesChild D old c.args.root) c.in_ok-way.way.child c.in-Some.child c.in-Some.is
     (c.in_ok-way.ensures.names h) in
     let same = c.in_ok-way.ensures.asks.map.given_stay h in
-    if_err c.run_below.result
-    (λ f. (n : ℕ) → f ≡ fault.Damaged n → ComesInTree D (given c.step.new.cache) c.in-Some.child n)
-    (λ f. (n : ℕ) → f ≡ fault.Damaged n → ComesInTree D old c.args.root n)
+    if_err c.run_below.result _ _
     (λ f comes n damaged. comes_down D old c.args.root c.in-Some.child n names
     (comes_so D old (given c.step.new.cache) c.in-Some.child n same (comes n damaged)))
     (c.run_below.ensures.damage (c.in_ok-way.ensures.asks.gate.honest.0 h))
 
 pub returns-in_err-way-clause-damage : goal.returns-in_err-way-clause-damage
 returns-in_err-way-clause-damage g c = λ h.
-    at_error c.from_residual.result c.in_err-way.field-0.0
-    (λ f. (n : ℕ) → f ≡ fault.Damaged n → ComesInTree g.row.D (given c.args.cache.now) c.args.root n)
+    at_error c.from_residual.result c.in_err-way.field-0.0 _
     c.from_residual.ensures.1 (λ n damaged.
     comes_at g.row.D (given c.args.cache.now) c.args.root n c.in_err-way.field-0.0
     (c.in_err-way.ensures.damage h) damaged)

@@ -1,5 +1,5 @@
 -- A way goes on in the child where the identifier is.
-use Rattle.std.proofs.Common.{◌∙◌, ◌-◌, ◌<◌, ℕ, [], refl, sym, arith, ◌≡◌, subst}
+use Rattle.std.proofs.Common.{◌∙◌, ◌-◌, ◌<◌, [], refl, sym, arith, ◌≡◌, subst}
 use Rattle.std.specs.Prelude.{IfSome}
 use Rattle.page_cache.specs.Cache.{pages, given}
 use Rattle.page_cache.specs.Calls.{asks_in_turn, fault_in}
@@ -8,7 +8,6 @@ use Rattle.id_tree.specs.Tree.{links_of}
 use Rattle.id_tree.proofs.ResultLemmas.{if_ok, if_err}
 use Rattle.id_tree.proofs.SeekLemmas.{keys_ascend, leads_below, leads_here, may_seek_below, nowhere, seek_same}
 use Rattle.id_tree.proofs.WayLemmas.{way_of}
-use Rattle.page_file.specs.declared.fault.Fault.TheVariants as fault
 use Rattle.node_page.proofs.NodeLemmas.{at_error}
 use Rattle.id_tree.proofs.DamageLemmas.{comes_at, comes_down, comes_under, down_by, named_some}
 use Rattle.id_tree.specs.Checked.{ComesDown, ComesInTree, NamesChild, SpellsFork}
@@ -73,8 +72,7 @@ returns-then-level-eq0-clause-comes g t c = λ h.
 
 pub returns-in_err-way-clause-damage : goal.returns-in_err-way-clause-damage
 returns-in_err-way-clause-damage g t c = λ h.
-    at_error c.from_residual.result c.in_err-way.field-0.0
-    (λ f. (n : ℕ) → f ≡ fault.Damaged n → ComesInTree g.row.D (given c.args.cache.now) c.args.page n)
+    at_error c.from_residual.result c.in_err-way.field-0.0 _
     c.from_residual.ensures.1 (λ n damaged.
     comes_at g.row.D (given c.args.cache.now) c.args.page n c.in_err-way.field-0.0
     (c.in_err-way.ensures.damage h) damaged)
@@ -99,9 +97,7 @@ returns-in-Some-clause-damage g t c = λ h.
     (c.in_ok-way.ensures.names h) in
     let same = c.in_ok-way.ensures.asks.map.given_stay h in
     let honest = c.in_ok-way.ensures.asks.gate.honest.0 h in
-    if_err c.descend.result
-    (λ f. (n : ℕ) → f ≡ fault.Damaged n → ComesInTree g.row.D (given c.step.new.cache) c.in-Some.child n)
-    (λ f. (n : ℕ) → f ≡ fault.Damaged n → ComesInTree g.row.D (given c.args.cache.now) c.args.page n)
+    if_err c.descend.result _ _
     (λ f comes n damaged. comes_down g.row.D (given c.args.cache.now) c.args.page c.in-Some.child n names
     (comes_so g.row.D (given c.args.cache.now) (given c.step.new.cache) c.in-Some.child n same
     (comes n damaged)))

@@ -1,8 +1,6 @@
 -- The leaf to which the way leads, and what a search finds there.
-use Rattle.std.proofs.Common.{◌≡◌, ◌⊎◌, ℕ, Option, refl, sym, subst, inl, inr}
+use Rattle.std.proofs.Common.{◌≡◌, ℕ, Option, refl, sym, subst, inl, inr}
 use Rattle.std.specs.FinMap as map
-use Rattle.page_file.specs.Fault.{IsOfDevice}
-use Rattle.page_file.specs.declared.fault.Fault.TheVariants as fault
 use Rattle.page_cache.specs.Cache.{pages, given}
 use Rattle.page_cache.specs.Calls.{asks_in_turn, fault_in}
 use Rattle.node_page.proofs.DamageLemmas.{damaged_read}
@@ -88,8 +86,7 @@ returns-in-Some-clause-damage g c = λ h.
     let leaf = c.in-Some.leaf in
     let comes = named_some (ComesInTree D m root) c.in_ok-leaf.field-0 leaf c.in-Some.is
     (c.in_ok-leaf.ensures.comes h) in
-    if_err c.seek_in.result (λ f. IsOfDevice f ⊎ (f ≡ fault.Damaged leaf))
-    (λ f. (n : ℕ) → f ≡ fault.Damaged n → ComesInTree D m root n)
+    if_err c.seek_in.result _ _
     (λ f either n damaged. subst (ComesInTree D m root) (sym (damaged_read f leaf n either damaged)) comes)
     (c.seek_in.ensures.damage (c.in_ok-leaf.ensures.asks.gate.honest.0 h))
 

@@ -85,8 +85,7 @@ returns-in-None-clause-found g c = λ h table at stands.
 
 pub returns-in_err-way-clause-damage : goal.returns-in_err-way-clause-damage
 returns-in_err-way-clause-damage g c = λ h.
-    at_error c.from_residual.result c.in_err-way.field-0.0
-    (λ f. (n : ℕ) → f ≡ fault.Damaged n → ComesInTree g.row.D (given c.args.cache.now) c.args.root n)
+    at_error c.from_residual.result c.in_err-way.field-0.0 _
     c.from_residual.ensures.1 (λ n damaged.
     comes_at g.row.D (given c.args.cache.now) c.args.root n c.in_err-way.field-0.0
     (c.in_err-way.ensures.damage h) damaged)
@@ -115,9 +114,7 @@ returns-in-Some-clause-damage g c = λ h.
     (c.in_ok-way.ensures.names h) in
     let same = c.in_ok-way.ensures.asks.map.given_stay h in
     let honest = c.in_ok-way.ensures.asks.gate.honest.0 h in
-    if_err c.descend.result
-    (λ f. (n : ℕ) → f ≡ fault.Damaged n → ComesInTree g.row.D (given c.step.new.cache) c.in-Some.child n)
-    (λ f. (n : ℕ) → f ≡ fault.Damaged n → ComesInTree g.row.D (given c.args.cache.now) c.args.root n)
+    if_err c.descend.result _ _
     (λ f comes n damaged. comes_down g.row.D (given c.args.cache.now) c.args.root c.in-Some.child n names
     (comes_so g.row.D (given c.args.cache.now) (given c.step.new.cache) c.in-Some.child n same
     (comes n damaged)))

@@ -149,8 +149,7 @@ returns-clause-emptier g c = λ h content other before behind there some within 
 
 pub returns-in_err-fork-clause-damage : goal.returns-in_err-fork-clause-damage
 returns-in_err-fork-clause-damage g c = λ h content there.
-    at_error c.from_residual.result c.in_err-fork.field-0.0
-    (λ f. (n : ℕ) → f ≡ fault.Damaged n → ComesInTree g.row.D (given c.args.cache.now) c.args.page n)
+    at_error c.from_residual.result c.in_err-fork.field-0.0 _
     c.from_residual.ensures.1 (λ n damaged.
     comes_at g.row.D (given c.args.cache.now) c.args.page n c.in_err-fork.field-0.0
     (c.in_err-fork.ensures.damage h) damaged)
@@ -192,8 +191,7 @@ returns-in_err-more-clause-damage g c = λ h content there.
       ),
     )
     (comes_here D m behind behind refl) in
-    at_error c.from_residual-in_err-more.result c.in_err-more.field-0.0
-    (λ f. (n : ℕ) → f ≡ fault.Damaged n → ComesInTree g.row.D (given c.args.cache.now) c.args.page n)
+    at_error c.from_residual-in_err-more.result c.in_err-more.field-0.0 _
     c.from_residual-in_err-more.ensures.1 (λ n damaged.
     comes_to_one D m page before behind n first second
     (c.in_err-more.ensures.damage (c.in_ok-fork.ensures.asks.gate.honest.0 h) n damaged))

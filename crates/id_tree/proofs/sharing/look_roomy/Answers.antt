@@ -3,7 +3,6 @@ use Rattle.id_tree.proofs.TidyLemmas.{as_tidy_back, fork_as_tidy}
 use Rattle.id_tree.proofs.NodeLemmas.{node_there, node_stays}
 use Rattle.std.proofs.Common.{◌≡◌, ◌∙◌, ◌-◌, ℕ, None, IsSome, refl, sym, ap, subst, arith}
 use Rattle.page_file.specs.Fault.{IsOfDevice}
-use Rattle.page_file.specs.declared.fault.Fault.TheVariants as fault
 use Rattle.page_cache.specs.Cache.{pages, given}
 use Rattle.page_cache.specs.Calls.{asks_and_refuses, asks_in_turn}
 use Rattle.node_page.proofs.NodeLemmas.{at_error}
@@ -189,15 +188,13 @@ returns-then-share-clause-names g c = λ h content there.
 
 pub returns-in_err-beside-clause-damage : goal.returns-in_err-beside-clause-damage
 returns-in_err-beside-clause-damage g c = λ h content there.
-    at_error c.from_residual.result c.in_err-beside.field-0.0
-    (λ f. (n : ℕ) → f ≡ fault.Damaged n → ComesInTree g.row.D (given c.args.cache.now) c.args.page n)
+    at_error c.from_residual.result c.in_err-beside.field-0.0 _
     c.from_residual.ensures.1 (c.in_err-beside.ensures.damage h content there)
 
 pub returns-in_err-pair-clause-damage : goal.returns-in_err-pair-clause-damage
 returns-in_err-pair-clause-damage g c = λ h content there.
     let asks = c.in_ok-beside.ensures.asks in
-    at_error c.from_residual-in_err-pair.result c.in_err-pair.field-0.0
-    (λ f. (n : ℕ) → f ≡ fault.Damaged n → ComesInTree g.row.D (given c.args.cache.now) c.args.page n)
+    at_error c.from_residual-in_err-pair.result c.in_err-pair.field-0.0 _
     c.from_residual-in_err-pair.ensures.1 (λ n damaged.
     comes_at g.row.D (given c.args.cache.now) c.args.page n c.in_err-pair.field-0.0
     (c.in_err-pair.ensures.damage (asks.gate.honest.0 h)) damaged)
@@ -216,8 +213,7 @@ returns-in_err-share-clause-damage g c = λ h content there.
     (comes_here D m p.first p.first refl) in
     let second : ComesInTree D m page p.second = comes_down D m page p.second p.second
     (content, there, names.1) (comes_here D m p.second p.second refl) in
-    at_error c.from_residual-in_err-share.result c.in_err-share.field-0.0
-    (λ f. (n : ℕ) → f ≡ fault.Damaged n → ComesInTree g.row.D (given c.args.cache.now) c.args.page n)
+    at_error c.from_residual-in_err-share.result c.in_err-share.field-0.0 _
     c.from_residual-in_err-share.ensures.1 (λ n damaged.
     comes_to_one D m page p.first p.second n first second
     (c.in_err-share.ensures.damage (c.in_ok-pair.ensures.asks.gate.honest.0 h1) n damaged))

@@ -1,9 +1,8 @@
 -- The pair shares, or the child is split.
 use Rattle.id_tree.proofs.WorksLemmas.{works_from, works_refused}
 use Rattle.id_tree.proofs.JoinLemmas.{join_same}
-use Rattle.std.proofs.Common.{◌≡◌, ◌+◌, ◌<◌, ◌≤◌, ◌⊎◌, ⊎_elim, ℕ, IsSome, inl, inr, refl, subst, arith}
+use Rattle.std.proofs.Common.{◌≡◌, ◌+◌, ◌<◌, ◌≤◌, ◌⊎◌, ⊎_elim, IsSome, inl, inr, refl, subst, arith}
 use Rattle.block_bytes.specs.Numbers.{number_at}
-use Rattle.page_file.specs.declared.fault.Fault.TheVariants as fault
 use Rattle.page_cache.specs.Cache.{pages, given}
 use Rattle.node_page.proofs.NodeLemmas.{at_error}
 use Rattle.id_words.specs.Damage.{MayBreakAt}
@@ -27,9 +26,7 @@ share-requires g c = record {
 
 pub returns-in_err-roomy-clause-damage : goal.returns-in_err-roomy-clause-damage
 returns-in_err-roomy-clause-damage g c = λ h none names.
-    at_error c.from_residual.result c.in_err-roomy.field-0.0
-    (λ f. (n : ℕ) → f ≡ fault.Damaged n → ComesInTree g.row.D (given c.args.cache.now) c.args.page n
-    ⊎ MayBreakAt c.args.cache.now n)
+    at_error c.from_residual.result c.in_err-roomy.field-0.0 _
     c.from_residual.ensures.1
     (λ n damaged. inl (c.in_err-roomy.ensures.damage h names.0 names.1 n damaged))
 
@@ -46,9 +43,7 @@ returns-in_default-clause-damage g c = λ h none names.
     let page = c.args.page in
     let p = c.args.below.now.child in
     let asks = c.in_ok-roomy.ensures.asks in
-    if_err c.split.result
-    (λ f. (n : ℕ) → f ≡ fault.Damaged n → ((n ≡ page) ⊎ (n ≡ p)) ⊎ MayBreakAt mid n)
-    (λ f. (n : ℕ) → f ≡ fault.Damaged n → ComesInTree D (given old) page n ⊎ MayBreakAt old n)
+    if_err c.split.result _ _
     (λ f either n damaged. ⊎_elim
     (λ (at : (n ≡ page) ⊎ (n ≡ p)). inl (comes_to_one D (given old) page page p n
     (comes_here D (given old) page page refl)
@@ -86,9 +81,7 @@ returns-clause-damage g c = λ h none names.
     (names.0, names.1, both.0) (comes_here D m p.first p.first refl) in
     let second : ComesInTree D m page p.second = comes_down D m page p.second p.second
     (names.0, names.1, both.1) (comes_here D m p.second p.second refl) in
-    if_err c.share.result
-    (λ f. (n : ℕ) → f ≡ fault.Damaged n → (n ≡ p.first) ⊎ (n ≡ p.second))
-    (λ f. (n : ℕ) → f ≡ fault.Damaged n → ComesInTree D m page n ⊎ MayBreakAt old n)
+    if_err c.share.result _ _
     (λ f either n damaged. inl (comes_to_one D m page p.first p.second n first second (either n damaged)))
     (c.share.ensures.damage (c.in_ok-roomy.ensures.asks.gate.honest.0 h) none)
 
