@@ -1,12 +1,7 @@
 -- The goals of `add` that are proved by hand: a run of one object.
-use Rattle.std.proofs.Common.{◌≡◌, ◌⊎◌, ℕ}
-use Rattle.page_file.specs.declared.fault.Fault.TheVariants as fault
-use Rattle.page_cache.specs.Cache.{given, pages}
+use Rattle.page_cache.specs.Cache.{pages}
 use Rattle.node_page.specs.Faults.{IsNoDamage}
 use Rattle.node_page.proofs.NodeLemmas.{at_error}
-use Rattle.id_chains.specs.Table.{class_of}
-use Rattle.id_words.specs.Damage.{MayBreakAt}
-use Rattle.id_chains.specs.Walks.{BeginsChain}
 use Rattle.id_chains.proofs.FillLemmas.{one_set}
 use Rattle.id_chains.proofs.adding.add.Goals as goal
 
@@ -24,7 +19,5 @@ returns-in_err-add_run-clause-faults g c = λ map t at stands.
 pub returns-in_err-add_run-clause-damage : goal.returns-in_err-add_run-clause-damage
 returns-in_err-add_run-clause-damage g c = λ h.
     let old = c.args.cache.now in
-    at_error c.from_residual.result c.in_err-add_run.field-0.0
-    (λ f. (n : ℕ) → f ≡ fault.Damaged n
-    → BeginsChain g.row.D (given old) c.args.directory (class_of c.args.id) n ⊎ MayBreakAt old n)
+    at_error c.from_residual.result c.in_err-add_run.field-0.0 _
     c.from_residual.ensures.1 (c.in_err-add_run.ensures.damage h)

@@ -3,7 +3,6 @@
 use Rattle.std.proofs.Common.{◌≡◌, ◌∙◌, ◌<◌, ◌≤◌, ◌⊎◌, ℕ, None, Some, ap, arith, inl, inr, length, subst, sym}
 use Rattle.std.proofs.Common.{take, IsSome, ⊎_elim}
 use Rattle.page_file.specs.Fault.{IsOfDevice}
-use Rattle.page_file.specs.declared.fault.Fault.TheVariants as fault
 use Rattle.page_cache.specs.Cache.{Grows, given, pages}
 use Rattle.page_cache.proofs.Results.{if_ok_map}
 use Rattle.page_cache.specs.Calls.{asks_and_changes, asks_and_gives_up, asks_in_turn}
@@ -14,7 +13,7 @@ use Rattle.id_chains.specs.Changes.{Fills}
 use Rattle.id_chains.specs.Pages.{IsRun, IsWholeRun, PutsBefore, first_class, with_more}
 use Rattle.id_chains.specs.Table.{bucket_in, chain_at, objects_of}
 use Rattle.id_words.specs.Damage.{MayBreakAt}
-use Rattle.id_chains.specs.Walks.{BeginsChain, IsBucket}
+use Rattle.id_chains.specs.Walks.{IsBucket}
 use Rattle.id_chains.proofs.AddLemmas.{puts_from}
 use Rattle.id_chains.proofs.BucketLemmas.{if_err, is_there}
 use Rattle.id_chains.proofs.FillLemmas.{class_of_first, first_new}
@@ -246,9 +245,7 @@ pub returns-in_err-first-clause-damage : goal.returns-in_err-first-clause-damage
 returns-in_err-first-clause-damage g c = λ h.
     let old = c.args.cache.now in
     let d = c.args.directory in
-    at_error c.from_residual.result c.in_err-first.field-0.0
-    (λ f. (n : ℕ) → f ≡ fault.Damaged n
-    → BeginsChain g.row.D (given old) d (first_class c.args.objects.now) n ⊎ MayBreakAt old n)
+    at_error c.from_residual.result c.in_err-first.field-0.0 _
     c.from_residual.ensures.1
     (λ n damaged. inl (inl
     (damaged_read c.in_err-first.field-0.0 d n (c.in_err-first.ensures.damage h) damaged)))
@@ -262,9 +259,7 @@ returns-in_err-room-clause-damage g c = λ h.
     let same : c.class_of-class.result ≡ first_class c.args.objects.now =
     c.class_of-class.ensures.value
     ∙ class_of_first c.args.objects.now c.index-objects-0.result c.requires.some in
-    at_error c.from_residual-in_err-room.result c.in_err-room.field-0.0
-    (λ f. (n : ℕ) → f ≡ fault.Damaged n
-    → BeginsChain g.row.D (given old) d (first_class c.args.objects.now) n ⊎ MayBreakAt old n)
+    at_error c.from_residual-in_err-room.result c.in_err-room.field-0.0 _
     c.from_residual-in_err-room.ensures.1
     (λ n damaged. inl (begins_chain g.row.D (given old) d c.class_of-class.result
     (first_class c.args.objects.now) first n same (c.in_ok-first.ensures.names h) c.in_err-room.ensures.met
@@ -279,9 +274,7 @@ returns-then-room-clause-damage g c = λ h.
     let same : c.class_of-class.result ≡ first_class c.args.objects.now =
     c.class_of-class.ensures.value
     ∙ class_of_first c.args.objects.now c.index-objects-0.result c.requires.some in
-    if_err c.put_in.result (λ f. IsOfDevice f ⊎ (f ≡ fault.Damaged first))
-    (λ f. (n : ℕ) → f ≡ fault.Damaged n
-    → BeginsChain g.row.D (given old) d (first_class c.args.objects.now) n ⊎ MayBreakAt old n)
+    if_err c.put_in.result _ _
     (λ f either n damaged. inl (begins_chain g.row.D (given old) d c.class_of-class.result
     (first_class c.args.objects.now) first n same (c.in_ok-first.ensures.names h)
     (c.in_ok-room.ensures.some c.if-room.true) (damaged_read f first n either damaged)))
@@ -294,10 +287,7 @@ returns-clause-damage g c = λ h.
     let mid = c.has_room.new.cache in
     let asks =
     asks_in_turn old c.read_link.new.cache mid None c.in_ok-first.ensures.asks c.in_ok-room.ensures.asks in
-    if_err c.put_alone.result
-    (λ f. (n : ℕ) → f ≡ fault.Damaged n → (n ≡ d) ⊎ MayBreakAt mid n)
-    (λ f. (n : ℕ) → f ≡ fault.Damaged n
-    → BeginsChain g.row.D (given old) d (first_class c.args.objects.now) n ⊎ MayBreakAt old n)
+    if_err c.put_alone.result _ _
     (λ f said n damaged. ⊎_elim
     (λ (is : n ≡ d). inl (inl is))
     (λ (breaks : MayBreakAt mid n). inr (breaks_before old mid n asks h breaks))
@@ -308,8 +298,7 @@ pub returns-in_err-first-clause-spelled : goal.returns-in_err-first-clause-spell
 returns-in_err-first-clause-spelled g c = λ map.
     let old = c.args.cache.now in
     let d = c.args.directory in
-    at_error c.from_residual.result c.in_err-first.field-0.0
-    (λ f. (n : ℕ) → f ≡ fault.Damaged n → (n ≡ d) ⊎ (¬ (IsBucket g.row.D (pages old n))))
+    at_error c.from_residual.result c.in_err-first.field-0.0 _
     c.from_residual.ensures.1
     (λ n damaged. inl
     (damaged_read c.in_err-first.field-0.0 d n (c.in_err-first.ensures.damage map.honest) damaged))
@@ -322,8 +311,7 @@ returns-in_err-room-clause-spelled g c = λ map.
     let f = c.in_err-room.field-0.0 in
     let asks = c.in_ok-first.ensures.asks in
     let honest = asks.gate.honest.0 map.honest in
-    at_error c.from_residual-in_err-room.result f
-    (λ f. (n : ℕ) → f ≡ fault.Damaged n → (n ≡ c.args.directory) ⊎ (¬ (IsBucket D (pages old n))))
+    at_error c.from_residual-in_err-room.result f _
     c.from_residual-in_err-room.ensures.1
     (λ n damaged.
     let is = damaged_read f first n (c.in_err-room.ensures.damage honest) damaged in
@@ -361,9 +349,7 @@ returns-clause-spelled g c = λ map.
     let mid = c.has_room.new.cache in
     let asks =
     asks_in_turn old c.read_link.new.cache mid None c.in_ok-first.ensures.asks c.in_ok-room.ensures.asks in
-    if_err c.put_alone.result
-    (λ f. (n : ℕ) → f ≡ fault.Damaged n → (n ≡ d) ⊎ MayBreakAt mid n)
-    (λ f. (n : ℕ) → f ≡ fault.Damaged n → (n ≡ d) ⊎ (¬ (IsBucket g.row.D (pages old n))))
+    if_err c.put_alone.result _ _
     (λ f said n damaged. ⊎_elim
     (λ (is : n ≡ d). inl is)
     (λ (breaks : MayBreakAt mid n). absurd (breaks.0 (asks.map.sound.0 map)))

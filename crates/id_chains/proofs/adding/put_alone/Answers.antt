@@ -1,12 +1,8 @@
 -- The goal of `put_alone` that is proved by hand: the page that is damaged.
-use Rattle.std.proofs.Common.{◌≡◌, ◌⊎◌, ℕ}
-use Rattle.page_file.specs.declared.fault.Fault.TheVariants as fault
 use Rattle.node_page.proofs.NodeLemmas.{at_error}
-use Rattle.id_words.specs.Damage.{MayBreakAt}
 use Rattle.id_chains.proofs.adding.put_alone.Goals as goal
 
 pub returns-in_err-put_before-clause-damage : goal.returns-in_err-put_before-clause-damage
 returns-in_err-put_before-clause-damage g c = λ h.
-    at_error c.from_residual.result c.in_err-put_before.field-0.0
-    (λ f. (n : ℕ) → f ≡ fault.Damaged n → (n ≡ c.args.directory) ⊎ MayBreakAt c.args.cache.now n)
+    at_error c.from_residual.result c.in_err-put_before.field-0.0 _
     c.from_residual.ensures.1 (c.in_err-put_before.ensures.damage h)

@@ -1,8 +1,7 @@
 -- The goals of `put_in` that are proved by hand: a page that gets objects stays tidy.
-use Rattle.std.proofs.Common.{◌≡◌, ◌∙◌, ◌⊎◌, ap, subst, sym}
+use Rattle.std.proofs.Common.{◌∙◌, ap, subst, sym}
 use Rattle.bucket_page.specs.Layout.{bucket_at}
 use Rattle.page_file.specs.Fault.{IsOfDevice}
-use Rattle.page_file.specs.declared.fault.Fault.TheVariants as fault
 use Rattle.page_cache.specs.Cache.{next_of, pages, touched_of}
 use Rattle.page_cache.specs.Laws.{a_live_page_is_given, a_live_page_was_given_out}
 use Rattle.node_page.proofs.NodeLemmas.{at_error, page_refused}
@@ -29,7 +28,7 @@ returns-in-Some-clause-tidy g c = λ h content there.
 pub returns-in_err-pushed-clause-damage : goal.returns-in_err-pushed-clause-damage
 returns-in_err-pushed-clause-damage g c = λ h.
     let n = c.args.number in
-    at_error c.from_residual.result c.in_err-pushed.field-0.0 (λ f. IsOfDevice f ⊎ (f ≡ fault.Damaged n))
+    at_error c.from_residual.result c.in_err-pushed.field-0.0 _
     c.from_residual.ensures.1
     (page_refused n (next_of c.args.cache.now) c.in_err-pushed.field-0.0 (c.in_err-pushed.ensures.faults h)
     (λ outside. let is = (c.in_err-pushed.ensures.outside outside).0 in cc))

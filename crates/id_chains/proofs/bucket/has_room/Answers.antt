@@ -1,7 +1,6 @@
 -- The goals of `has_room` that are proved by hand: a chain that stands begins with a bucket.
-use Rattle.std.proofs.Common.{◌≡◌, ◌∙◌, ◌⊎◌, ap, arith, length, refl, subst, sym}
+use Rattle.std.proofs.Common.{◌≡◌, ◌∙◌, ap, arith, length, refl, subst, sym}
 use Rattle.bucket_page.proofs.Reading.{no_head}
-use Rattle.page_file.specs.declared.fault.Fault.TheVariants as fault
 use Rattle.page_file.specs.Fault.{IsOfDevice}
 use Rattle.page_cache.specs.Cache.{next_of, pages}
 use Rattle.page_cache.specs.Laws.{a_live_page_was_given_out}
@@ -60,14 +59,14 @@ returns-clause-room g c = λ h content there room.
 pub returns-in_err-page-clause-damage : goal.returns-in_err-page-clause-damage
 returns-in_err-page-clause-damage g c = λ h.
     let n = c.args.first in
-    at_error c.from_residual.result c.in_err-page.field-0.0 (λ f. IsOfDevice f ⊎ (f ≡ fault.Damaged n))
+    at_error c.from_residual.result c.in_err-page.field-0.0 _
     c.from_residual.ensures.1
     (page_refused n (next_of c.args.cache.now) c.in_err-page.field-0.0 (c.in_err-page.ensures.faults h)
     (λ outside. let is = c.in_err-page.ensures.outside outside in cc))
 
 pub returns-in_err-page-clause-met : goal.returns-in_err-page-clause-met
 returns-in_err-page-clause-met g c =
-    at_error c.from_residual.result c.in_err-page.field-0.0 (λ f. ¬ (c.args.first ≡ 0))
+    at_error c.from_residual.result c.in_err-page.field-0.0 _
     c.from_residual.ensures.1 c.if-first-eq0.false
 
 pub returns-clause-head : goal.returns-clause-head

@@ -1,7 +1,4 @@
 -- The goals of `look` that are proved by hand.
-use Rattle.std.proofs.Common.{◌≡◌, ◌⊎◌}
-use Rattle.page_file.specs.Fault.{IsOfDevice}
-use Rattle.page_file.specs.declared.fault.Fault.TheVariants as fault
 use Rattle.page_cache.specs.Cache.{next_of, pages}
 use Rattle.node_page.proofs.NodeLemmas.{at_error, page_refused}
 use Rattle.id_chains.proofs.BucketLemmas.{bucket_bytes, page_of_bucket}
@@ -28,7 +25,7 @@ returns-in-None-clause-there g c = λ h content there.
 pub returns-in_err-page-clause-damage : goal.returns-in_err-page-clause-damage
 returns-in_err-page-clause-damage g c = λ h.
     let n = c.args.number in
-    at_error c.from_residual.result c.in_err-page.field-0.0 (λ f. IsOfDevice f ⊎ (f ≡ fault.Damaged n))
+    at_error c.from_residual.result c.in_err-page.field-0.0 _
     c.from_residual.ensures.1
     (page_refused n (next_of c.args.cache.now) c.in_err-page.field-0.0 (c.in_err-page.ensures.faults h)
     (λ outside. let is = c.in_err-page.ensures.outside outside in cc))

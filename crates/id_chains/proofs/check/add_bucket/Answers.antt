@@ -1,11 +1,9 @@
 -- The goals of `add_bucket` that are proved by hand: what the page spells.
-use Rattle.std.proofs.Common.{◌≡◌, ◌∙◌, ◌⊎◌, ap, refl}
+use Rattle.std.proofs.Common.{◌∙◌, ap, refl}
 use Rattle.block_bytes.specs.Numbers.{number_at}
 use Rattle.block_bytes.specs.PlaceLaws.{length-first_places}
 use Rattle.bucket_page.specs.Layout.{object_at, objects_at}
 use Rattle.bucket_page.proofs.Reading.{all_places, count_of_bucket, spells}
-use Rattle.page_file.specs.Fault.{IsOfDevice}
-use Rattle.page_file.specs.declared.fault.Fault.TheVariants as fault
 use Rattle.page_cache.specs.Cache.{given, next_of}
 use Rattle.node_page.proofs.NodeLemmas.{at_error, page_refused}
 use Rattle.id_chains.specs.Table.{bucket_in}
@@ -43,7 +41,7 @@ returns-clause-found g c = λ h.
 pub returns-in_err-come_to-clause-damage : goal.returns-in_err-come_to-clause-damage
 returns-in_err-come_to-clause-damage g c = λ h.
     let n = c.args.bucket.number in
-    at_error c.from_residual.result c.in_err-come_to.field-0.0 (λ f. IsOfDevice f ⊎ (f ≡ fault.Damaged n))
+    at_error c.from_residual.result c.in_err-come_to.field-0.0 _
     c.from_residual.ensures.1
     (damaged_or_memory c.in_err-come_to.field-0.0 n c.in_err-come_to.ensures.faults)
 
@@ -51,7 +49,7 @@ pub returns-in_err-page-clause-damage : goal.returns-in_err-page-clause-damage
 returns-in_err-page-clause-damage g c = λ h.
     let n = c.args.bucket.number in
     at_error c.from_residual-in_err-page.result c.in_err-page.field-0.0
-    (λ f. IsOfDevice f ⊎ (f ≡ fault.Damaged n)) c.from_residual-in_err-page.ensures.1
+    _ c.from_residual-in_err-page.ensures.1
     (page_refused n (next_of c.args.cache.now) c.in_err-page.field-0.0 (c.in_err-page.ensures.faults h)
     (λ outside. let is = c.in_err-page.ensures.outside outside in cc))
 
@@ -59,5 +57,5 @@ pub returns-in_err-add_objects-clause-damage : goal.returns-in_err-add_objects-c
 returns-in_err-add_objects-clause-damage g c = λ h.
     let n = c.args.bucket.number in
     at_error c.from_residual-in_err-add_objects.result c.in_err-add_objects.field-0.0
-    (λ f. IsOfDevice f ⊎ (f ≡ fault.Damaged n)) c.from_residual-in_err-add_objects.ensures.1
+    _ c.from_residual-in_err-add_objects.ensures.1
     (damaged_or_memory c.in_err-add_objects.field-0.0 n c.in_err-add_objects.ensures.faults)

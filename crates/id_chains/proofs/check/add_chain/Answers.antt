@@ -8,7 +8,6 @@ use Rattle.page_cache.specs.Calls.{asks_and_refuses, asks_in_turn, no_call_asks}
 use Rattle.page_cache.specs.Laws.{numbers_are_few}
 use Rattle.node_page.proofs.DamageLemmas.{damaged_read}
 use Rattle.node_page.proofs.NodeLemmas.{at_error}
-use Rattle.id_chains.specs.Checked.{ComesAlong}
 use Rattle.id_chains.specs.Table.{bucket_in}
 use Rattle.id_chains.proofs.CheckLemmas.{never_so_long, next_is, not_ended, prefix_all, prefix_more}
 use Rattle.id_chains.proofs.CheckLemmas.{prefix_none}
@@ -102,7 +101,7 @@ returns-in_err-number-clause-damage g c = λ h.
     let l = c.loop-walked in
     let m = given c.args.cache.now in
     at_error c.from_residual.result c.in_err-number.field-0.0
-    (λ f. (n : ℕ) → f ≡ fault.Damaged n → ComesAlong g.row.D m c.args.first n) c.from_residual.ensures.1
+    _ c.from_residual.ensures.1
     (λ n damaged. comes_here g.row.D m c.args.first l.number n c.if-number-eq0.false (l.invariant.leads h)
     (damaged_read c.in_err-number.field-0.0 l.number n
     (c.in_err-number.ensures.damage (l.invariant.asks.gate.honest.0 h)) damaged))

@@ -1,11 +1,10 @@
 -- The goals of `add_chains` that are proved by hand: a chain more, and one that cannot come next.
 use Rattle.std.proofs.Common.{◌≡◌, ◌∙◌, ◌<◌, ℕ, [], None, arith, get_or, length, refl, subst, sym}
 use Rattle.page_file.specs.Fault.{IsOfDevice}
-use Rattle.page_file.specs.declared.fault.Fault.TheVariants as fault
 use Rattle.page_cache.specs.Cache.{given}
 use Rattle.page_cache.specs.Calls.{asks_and_refuses, asks_in_turn, no_call_asks}
 use Rattle.node_page.proofs.NodeLemmas.{at_error}
-use Rattle.id_chains.specs.Checked.{AddsChains, ComesAlong, ComesFrom}
+use Rattle.id_chains.specs.Checked.{AddsChains, ComesAlong}
 use Rattle.id_chains.specs.Table.{ChainStands}
 use Rattle.id_chains.proofs.CheckedLemmas.{chain_on, chains_more, chains_none, next_once}
 use Rattle.id_chains.proofs.DamageLemmas.{comes_so}
@@ -75,8 +74,7 @@ returns-in_err-add_chain-clause-damage g c = λ h.
     let l = c.loop-class in
     let inv = l.invariant in
     let m = given c.args.cache.now in
-    at_error c.from_residual.result c.in_err-add_chain.field-0.0
-    (λ f. (n : ℕ) → f ≡ fault.Damaged n → ComesFrom g.row.D m c.args.directory.now n)
+    at_error c.from_residual.result c.in_err-add_chain.field-0.0 _
     c.from_residual.ensures.1
     (λ n damaged. (
       l.class,

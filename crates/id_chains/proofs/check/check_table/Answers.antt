@@ -11,7 +11,7 @@ use Rattle.node_page.specs.Checked.{named_pages}
 use Rattle.node_page.proofs.CheckLemmas.{quiet_visit, refuses_quietly}
 use Rattle.node_page.proofs.DamageLemmas.{damaged_read, damaged_visit}
 use Rattle.node_page.proofs.NodeLemmas.{at_error}
-use Rattle.id_chains.specs.Checked.{ComesInTable, IsCheckedTable}
+use Rattle.id_chains.specs.Checked.{IsCheckedTable}
 use Rattle.id_chains.proofs.BucketLemmas.{is_there}
 use Rattle.id_chains.proofs.CheckedLemmas.{chains_on, checked_live, is_spelled, live_table_is_given, may_stand}
 use Rattle.id_chains.proofs.CheckedLemmas.{may_stand_on, table_checked}
@@ -103,18 +103,14 @@ returns-clause-table g c =
 
 pub returns-in_err-come_to-clause-damage : goal.returns-in_err-come_to-clause-damage
 returns-in_err-come_to-clause-damage g c = λ h.
-    at_error c.from_residual-in_err-come_to.result c.in_err-come_to.field-0.0
-    (λ f. (n : ℕ) → f ≡ fault.Damaged n
-    → ComesInTable g.row.D (given c.args.cache.now) c.args.directory n)
+    at_error c.from_residual-in_err-come_to.result c.in_err-come_to.field-0.0 _
     c.from_residual-in_err-come_to.ensures.1
     (λ n damaged. inl
     (damaged_visit c.in_err-come_to.field-0.0 c.args.directory n c.in_err-come_to.ensures.faults damaged))
 
 pub returns-in_err-bytes-clause-damage : goal.returns-in_err-bytes-clause-damage
 returns-in_err-bytes-clause-damage g c = λ h.
-    at_error c.from_residual-in_err-bytes.result c.in_err-bytes.field-0.0
-    (λ f. (n : ℕ) → f ≡ fault.Damaged n
-    → ComesInTable g.row.D (given c.args.cache.now) c.args.directory n)
+    at_error c.from_residual-in_err-bytes.result c.in_err-bytes.field-0.0 _
     c.from_residual-in_err-bytes.ensures.1
     (λ n damaged. inl
     (damaged_read c.in_err-bytes.field-0.0 c.args.directory n (c.in_err-bytes.ensures.damage h) damaged))
@@ -127,8 +123,7 @@ pub returns-in_err-add_chains-clause-damage : goal.returns-in_err-add_chains-cla
 returns-in_err-add_chains-clause-damage g c = λ h.
     let m = given c.args.cache.now in
     let a = c.in_ok-bytes.ensures.asks in
-    at_error c.from_residual-in_err-add_chains.result c.in_err-add_chains.field-0.0
-    (λ f. (n : ℕ) → f ≡ fault.Damaged n → ComesInTable g.row.D m c.args.directory n)
+    at_error c.from_residual-in_err-add_chains.result c.in_err-add_chains.field-0.0 _
     c.from_residual-in_err-add_chains.ensures.1
     (λ n damaged.
     let from = c.in_err-add_chains.ensures.damage (a.gate.honest.0 h) n damaged in

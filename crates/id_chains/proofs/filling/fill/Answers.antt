@@ -1,10 +1,9 @@
 -- The goals of `fill` that are proved by hand.
-use Rattle.std.proofs.Common.{◌≡◌, ◌∙◌, ◌⊎◌, ℕ, List, drop, ◌<◌, ◌≤◌, ap, arith, false, length, ⊎_elim}
+use Rattle.std.proofs.Common.{◌≡◌, ◌∙◌, List, drop, ◌<◌, ◌≤◌, ap, arith, false, length, ⊎_elim}
 use Rattle.std.proofs.Common.{inl, inr, refl}
 use Rattle.std.proofs.Common.{length-drop, subst, sym, take}
 use Rattle.bucket_page.specs.Layout.{Entry}
-use Rattle.page_file.specs.declared.fault.Fault.TheVariants as fault
-use Rattle.page_cache.specs.Cache.{Grows, IsPageMap, given, pages, touched_of}
+use Rattle.page_cache.specs.Cache.{Grows, IsPageMap, pages, touched_of}
 use Rattle.page_cache.specs.Calls.{changes_and_refuses, no_call_changes}
 use Rattle.node_page.specs.Faults.{IsNoDamage}
 use Rattle.node_page.proofs.NodeLemmas.{at_error}
@@ -13,8 +12,6 @@ use Rattle.id_words.proofs.EntryLemmas.{as_many_listed, few_taken, taken_behind,
 use Rattle.id_chains.specs.Changes.{Fills}
 use Rattle.id_chains.specs.Pages.{IsWholeRun, first_class}
 use Rattle.id_chains.specs.Table.{objects_of}
-use Rattle.id_words.specs.Damage.{MayBreakAt}
-use Rattle.id_chains.specs.Walks.{BeginsInTable}
 use Rattle.id_chains.proofs.FillLemmas.{all_filled, filling_begins, fills_on, next_is_low, next_of_some}
 use Rattle.id_chains.proofs.FillLemmas.{first_new, first_of_taken, run_takes, whole_of_taken}
 use Rattle.id_chains.proofs.FirstLemmas.{begins_before, begins_untouched, kept_in_turn, nothing_added}
@@ -105,8 +102,7 @@ returns-in_err-filled-clause-damage g c = λ h either.
     let same = ap (λ (es : List Entry). first_class es) batch ∙ first_of_taken 145 rest (omega arith) in
     let class = first_class c.deref.result.now in
     let small : class < 1000 = omega (arith, low.0, low.1, same) in
-    at_error c.from_residual.result c.in_err-filled.field-0.0
-    (λ f. (n : ℕ) → f ≡ fault.Damaged n → BeginsInTable D (given old) d n ⊎ MayBreakAt old n)
+    at_error c.from_residual.result c.in_err-filled.field-0.0 _
     c.from_residual.ensures.1
     (λ n damaged.
     let names = c.in_err-filled.ensures.damage (so_far.filling.changes.honest.0 h) n damaged in

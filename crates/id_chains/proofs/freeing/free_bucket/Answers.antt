@@ -1,7 +1,5 @@
 -- The goals of `free_bucket` that are proved by hand: the page is read before it is freed.
-use Rattle.std.proofs.Common.{◌≡◌, ◌⊎◌, IsSome, None, subst, sym}
-use Rattle.page_file.specs.Fault.{IsOfDevice}
-use Rattle.page_file.specs.declared.fault.Fault.TheVariants as fault
+use Rattle.std.proofs.Common.{IsSome, None, subst, sym}
 use Rattle.page_cache.specs.Cache.{given, next_of}
 use Rattle.page_cache.specs.Calls.{asks_changes, changes_and_refuses}
 use Rattle.node_page.proofs.NodeLemmas.{at_error}
@@ -20,7 +18,7 @@ returns-in_err-free-clause-changes g c =
 pub returns-in_err-next-clause-damage : goal.returns-in_err-next-clause-damage
 returns-in_err-next-clause-damage g c = λ map.
     at_error c.from_residual.result c.in_err-next.field-0.0
-    (λ f. IsOfDevice f ⊎ (f ≡ fault.Damaged c.args.number)) c.from_residual.ensures.1
+    _ c.from_residual.ensures.1
     (c.in_err-next.ensures.damage map.honest)
 
 pub returns-in_err-free-clause-damage : goal.returns-in_err-free-clause-damage
@@ -32,7 +30,7 @@ returns-in_err-free-clause-damage g c = λ map.
     subst IsSome (sym (asks.map.pages_stay map.honest n))
     (named_live g.row.D c.args.cache.now n c.in_ok-next.next map names) in
     let f = c.in_err-free.field-0.0 in
-    at_error c.from_residual-in_err-free.result f (λ e. IsOfDevice e ⊎ (e ≡ fault.Damaged n))
+    at_error c.from_residual-in_err-free.result f _
     c.from_residual-in_err-free.ensures.1
     (freed_refused n (next_of c.next_after.new.cache) f
     (c.in_err-free.ensures.faults (asks.map.sound.0 map) live)

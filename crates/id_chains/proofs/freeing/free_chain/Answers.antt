@@ -1,5 +1,5 @@
 -- The goals of `free_chain` that are proved by hand.
-use Rattle.std.proofs.Common.{◌≡◌, ◌<◌, ℕ, arith, subst}
+use Rattle.std.proofs.Common.{◌≡◌, ◌<◌, arith, subst}
 use Rattle.page_file.specs.Fault.{IsOfDevice}
 use Rattle.page_file.specs.declared.fault.Fault.TheVariants as fault
 use Rattle.page_cache.specs.Cache.{given, pages}
@@ -63,8 +63,7 @@ returns-then-number-eq0-clause-kept g c = λ map. c.loop-freed.invariant.kept ma
 pub returns-in_err-number-clause-damage : goal.returns-in_err-number-clause-damage
 returns-in_err-number-clause-damage g c = λ map.
     let so_far = c.loop-freed.invariant in
-    at_error c.from_residual.result c.in_err-number.field-0.0
-    (λ f. (n : ℕ) → f ≡ fault.Damaged n → MeetsAlong g.row.D (given c.args.cache.now) c.args.first n)
+    at_error c.from_residual.result c.in_err-number.field-0.0 _
     c.from_residual.ensures.1
     (λ n damaged. freeing_meets so_far c.if-number-eq0.false map n
     (damaged_read c.in_err-number.field-0.0 c.loop-freed.number n

@@ -5,7 +5,7 @@ use Rattle.page_file.specs.declared.fault.Fault.TheVariants as fault
 use Rattle.page_cache.specs.Cache.{IsLive, IsPageMap, given, next_of, pages, touched_of}
 use Rattle.node_page.proofs.DamageLemmas.{damaged_read}
 use Rattle.node_page.proofs.NodeLemmas.{at_error}
-use Rattle.id_chains.specs.Table.{ChainStands, chain_at, link_at}
+use Rattle.id_chains.specs.Table.{ChainStands, chain_at}
 use Rattle.id_chains.specs.Walks.{MeetsAlong, NamesNoMore}
 use Rattle.id_chains.proofs.FreeLemmas.{all_are_freed, all_begins, chain_left, chain_once, chain_short_now}
 use Rattle.id_chains.proofs.FreeLemmas.{frees_all_on}
@@ -84,9 +84,7 @@ returns-in_err-free-clause-damage g c = λ h either.
     untouched_refused d (next_of old) f (λ low below. c.in_err-free.ensures.untouched low below none)
     (λ out. let is = (c.in_err-free.ensures.outside out).0 in cc))
     either in
-    at_error c.from_residual.result f
-    (λ f. (n : ℕ) → f ≡ fault.Damaged n → (n ≡ c.args.directory)
-    ⊎ ((class : ℕ) × (class < 1000) × MeetsAlong g.row.D (given old) (link_at class c.args.bytes.now) n))
+    at_error c.from_residual.result f _
     c.from_residual.ensures.1
     (λ n damaged. inl (damaged_read f d n refused damaged))
 
@@ -101,9 +99,7 @@ returns-in_err-free_chain-clause-damage g c = λ h either.
     (λ (none : touched_of new ≡ false). absurd (not_both (touched_of new)
     (c.in_err-free_chain.ensures.changes.touched so_far.touched) none))
     either in
-    at_error c.from_residual-in_err-free_chain.result c.in_err-free_chain.field-0.0
-    (λ f. (n : ℕ) → f ≡ fault.Damaged n → (n ≡ c.args.directory)
-    ⊎ ((class : ℕ) × (class < 1000) × MeetsAlong g.row.D (given old) (link_at class c.args.bytes.now) n))
+    at_error c.from_residual-in_err-free_chain.result c.in_err-free_chain.field-0.0 _
     c.from_residual-in_err-free_chain.ensures.1
     (λ n damaged. inr (
       c.loop-class.class,

@@ -1,8 +1,7 @@
 -- The goals of `make` that are proved by hand: a page given out and written is a table of no objects.
-use Rattle.std.proofs.Common.{◌≡◌, ◌∙◌, ◌≤◌, ℕ, None, arith}
-use Rattle.page_file.specs.declared.fault.Fault.TheVariants as fault
+use Rattle.std.proofs.Common.{◌∙◌, ◌≤◌, None, arith}
 use Rattle.page_cache.specs.Calls.{changes_and_refuses, changes_in_turn}
-use Rattle.page_cache.specs.Cache.{BreaksAt, pages}
+use Rattle.page_cache.specs.Cache.{pages}
 use Rattle.node_page.proofs.NodeLemmas.{at_error}
 use Rattle.id_chains.proofs.BucketLemmas.{is_there}
 use Rattle.id_chains.proofs.MakingLemmas.{made}
@@ -46,7 +45,7 @@ pub returns-in_err-directory-clause-damage : goal.returns-in_err-directory-claus
 returns-in_err-directory-clause-damage g c = λ h.
     let old = c.args.cache.now in
     let f = c.in_err-directory.field-0.0 in
-    at_error c.from_residual.result f (λ e. (n : ℕ) → e ≡ fault.Damaged n → BreaksAt old n)
+    at_error c.from_residual.result f _
     c.from_residual.ensures.1
     (λ n damaged. refused_breaks old c.allocate.new.self f n (c.in_err-directory.ensures.damaged h) damaged)
 
@@ -55,8 +54,7 @@ returns-in_err-put-clause-damage g c = λ h.
     let f = c.in_err-put.field-0.0 in
     let number = c.in_ok-directory.ensures.number in
     let low : 2 ≤ c.in_ok-directory.directory = omega (arith, number.0) in
-    at_error c.from_residual-in_err-put.result f
-    (λ e. (n : ℕ) → e ≡ fault.Damaged n → BreaksAt c.args.cache.now n)
+    at_error c.from_residual-in_err-put.result f _
     c.from_residual-in_err-put.ensures.1
     (λ n damaged. absurd (no_damage f n
     (c.in_err-put.ensures.faults (c.in_ok-directory.ensures.changes.honest.0 h) low number.1) damaged))

@@ -41,9 +41,7 @@ pub returns-in_err-found-clause-damage : goal.returns-in_err-found-clause-damage
 returns-in_err-found-clause-damage g c = λ h.
     let so_far = c.loop-walked.invariant in
     let m = given c.args.cache.now in
-    at_error c.from_residual.result c.in_err-found.field-0.0
-    (λ f. (n : ℕ) → f ≡ fault.Damaged n
-    → (n ≡ c.args.directory) ⊎ MeetsAlong g.row.D m c.args.first n)
+    at_error c.from_residual.result c.in_err-found.field-0.0 _
     c.from_residual.ensures.1
     (λ n damaged. inr
     (meets_here g.row.D m c.args.first c.loop-walked.number n c.if-number-eq0.false (so_far.along h)

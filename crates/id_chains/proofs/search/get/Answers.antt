@@ -1,5 +1,5 @@
 -- The goals of `get` that are proved by hand.
-use Rattle.std.proofs.Common.{None, ◌≡◌, ◌≤◌, ◌∙◌, ℕ, inl, subst, sym, arith}
+use Rattle.std.proofs.Common.{None, ◌≡◌, ◌≤◌, ◌∙◌, inl, subst, sym, arith}
 use Rattle.page_file.specs.Fault.{IsOfDevice}
 use Rattle.page_file.specs.declared.fault.Fault.TheVariants as fault
 use Rattle.page_cache.specs.Cache.{given, next_of}
@@ -67,9 +67,7 @@ returns-clause-stands g c = λ h t at stands.
 
 pub returns-in_err-number-clause-damage : goal.returns-in_err-number-clause-damage
 returns-in_err-number-clause-damage g c = λ h.
-    at_error c.from_residual.result c.in_err-number.field-0.0
-    (λ f. (n : ℕ) → f ≡ fault.Damaged n
-    → MeetsInChain g.row.D (given c.args.cache.now) c.args.directory (class_of c.args.id) n)
+    at_error c.from_residual.result c.in_err-number.field-0.0 _
     c.from_residual.ensures.1
     (λ n damaged. inl
     (damaged_read c.in_err-number.field-0.0 c.args.directory n (c.in_err-number.ensures.damage h) damaged))
@@ -77,9 +75,7 @@ returns-in_err-number-clause-damage g c = λ h.
 pub returns-in_err-kept-clause-damage : goal.returns-in_err-kept-clause-damage
 returns-in_err-kept-clause-damage g c = λ h.
     let so_far = c.loop-walked.invariant in
-    at_error c.from_residual-in_err-kept.result c.in_err-kept.field-0.0
-    (λ f. (n : ℕ) → f ≡ fault.Damaged n
-    → MeetsInChain g.row.D (given c.args.cache.now) c.args.directory (class_of c.args.id) n)
+    at_error c.from_residual-in_err-kept.result c.in_err-kept.field-0.0 _
     c.from_residual-in_err-kept.ensures.1
     (λ n damaged. meets so_far c.if-number-eq0.false h n
     (damaged_read c.in_err-kept.field-0.0 c.loop-walked.number n

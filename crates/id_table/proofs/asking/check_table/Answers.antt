@@ -1,19 +1,16 @@
 -- A table of its kind is checked.
-use Rattle.std.proofs.Common.{◌≡◌, ℕ, None}
+use Rattle.std.proofs.Common.{None}
 use Rattle.page_file.specs.Fault.{IsOfDevice}
-use Rattle.page_file.specs.declared.fault.Fault.TheVariants as fault
 use Rattle.page_cache.specs.Cache.{given, pages}
 use Rattle.page_cache.specs.Calls.{asks_and_refuses, asks_in_turn}
 use Rattle.node_page.proofs.NodeLemmas.{at_error}
-use Rattle.id_table.specs.Checked.{ComesInTable}
 use Rattle.id_table.proofs.StepLemmas.{chains_checked, comes_along_chains, comes_at_once, comes_down_tree}
 use Rattle.id_table.proofs.StepLemmas.{of_chains, of_tree, same_given, same_pages, tree_checked}
 use Rattle.id_table.proofs.asking.check_table.Goals as goal
 
 pub returns-in_err-kind_at-clause-damage : goal.returns-in_err-kind_at-clause-damage
 returns-in_err-kind_at-clause-damage g c = λ h.
-    at_error c.from_residual.result c.in_err-kind_at.field-0.0
-    (λ f. (n : ℕ) → f ≡ fault.Damaged n → ComesInTable g.row.D (given c.args.cache.now) c.args.page n)
+    at_error c.from_residual.result c.in_err-kind_at.field-0.0 _
     c.from_residual.ensures.1
     (comes_at_once g.row.D c.args.page (given c.args.cache.now) c.in_err-kind_at.field-0.0
     (c.in_err-kind_at.ensures.damage h))
@@ -37,8 +34,7 @@ returns-in_err-facts-in-Chains-clause-stands g c = λ h t at s.
 
 pub returns-in_err-facts-in-Chains-clause-damage : goal.returns-in_err-facts-in-Chains-clause-damage
 returns-in_err-facts-in-Chains-clause-damage g c = λ h.
-    at_error c.from_residual-in_err-facts-in-Chains.result c.in_err-facts-in-Chains.field-0.0
-    (λ f. (n : ℕ) → f ≡ fault.Damaged n → ComesInTable g.row.D (given c.args.cache.now) c.args.page n)
+    at_error c.from_residual-in_err-facts-in-Chains.result c.in_err-facts-in-Chains.field-0.0 _
     c.from_residual-in_err-facts-in-Chains.ensures.1
     (λ n is. comes_along_chains g.row.D c.args.page (given c.kind_at.new.cache) (given c.args.cache.now) n
     (same_given g.row.D c.args.page c.args.cache.now c.kind_at.new.cache c.in_ok-kind_at.ensures.asks h)
@@ -82,8 +78,7 @@ returns-in_err-facts-in-Tree-clause-stands g c = λ h t at s.
 
 pub returns-in_err-facts-in-Tree-clause-damage : goal.returns-in_err-facts-in-Tree-clause-damage
 returns-in_err-facts-in-Tree-clause-damage g c = λ h.
-    at_error c.from_residual-in_err-facts-in-Tree.result c.in_err-facts-in-Tree.field-0.0
-    (λ f. (n : ℕ) → f ≡ fault.Damaged n → ComesInTable g.row.D (given c.args.cache.now) c.args.page n)
+    at_error c.from_residual-in_err-facts-in-Tree.result c.in_err-facts-in-Tree.field-0.0 _
     c.from_residual-in_err-facts-in-Tree.ensures.1
     (λ n is. comes_down_tree g.row.D c.args.page (given c.kind_at.new.cache) (given c.args.cache.now) n
     (same_given g.row.D c.args.page c.args.cache.now c.kind_at.new.cache c.in_ok-kind_at.ensures.asks h)

@@ -1,14 +1,12 @@
 -- An identifier is looked for in a table of its kind.
-use Rattle.std.proofs.Common.{◌≡◌, IfErr, ℕ, arith, subst}
+use Rattle.std.proofs.Common.{◌≡◌, IfErr, arith, subst}
 use Rattle.std.specs.FinMap as map
 use Rattle.page_cache.specs.Cache.{given}
 use Rattle.page_file.specs.Fault.{IsOfDevice}
-use Rattle.page_file.specs.declared.fault.Fault.TheVariants as fault
 use Rattle.node_page.specs.Standing.{PageMap}
 use Rattle.node_page.proofs.NodeLemmas.{at_error}
 use Rattle.id_chains.specs.Table.{class_of}
 use Rattle.id_tree.specs.Checked.{IsMet}
-use Rattle.id_table.specs.Checked.{MeetsInTable}
 use Rattle.id_table.specs.Table.{IsSpot, objects_of}
 use Rattle.id_table.specs.declared.asking.Spot.TheVariants.{InLeaf}
 use Rattle.id_table.proofs.StepLemmas.{met_in_chain, met_in_tree, of_chains, of_tree, same_given}
@@ -65,8 +63,7 @@ returns-in_ok-sought-in-Tree-clause-met g c = λ h.
 
 pub returns-in_err-kept-in-Chains-clause-damage : goal.returns-in_err-kept-in-Chains-clause-damage
 returns-in_err-kept-in-Chains-clause-damage g c = λ h.
-    at_error c.from_residual-in_err-kept-in-Chains.result c.in_err-kept-in-Chains.field-0.0
-    (λ f. (n : ℕ) → f ≡ fault.Damaged n → MeetsInTable g.row.D (given c.args.cache.now) c.args.page n)
+    at_error c.from_residual-in_err-kept-in-Chains.result c.in_err-kept-in-Chains.field-0.0 _
     c.from_residual-in_err-kept-in-Chains.ensures.1
     (λ n is. met_in_chain g.row.D c.args.page (class_of c.args.id) (given c.kind_at.new.cache)
     (given c.args.cache.now) n (same_given g.row.D c.args.page c.args.cache.now c.kind_at.new.cache c.in_ok-kind_at.ensures.asks h)
@@ -75,8 +72,7 @@ returns-in_err-kept-in-Chains-clause-damage g c = λ h.
 
 pub returns-in_err-sought-in-Tree-clause-damage : goal.returns-in_err-sought-in-Tree-clause-damage
 returns-in_err-sought-in-Tree-clause-damage g c = λ h.
-    at_error c.from_residual-in_err-sought-in-Tree.result c.in_err-sought-in-Tree.field-0.0
-    (λ f. (n : ℕ) → f ≡ fault.Damaged n → MeetsInTable g.row.D (given c.args.cache.now) c.args.page n)
+    at_error c.from_residual-in_err-sought-in-Tree.result c.in_err-sought-in-Tree.field-0.0 _
     c.from_residual-in_err-sought-in-Tree.ensures.1
     (λ n is. met_in_tree g.row.D c.args.page (given c.kind_at.new.cache) (given c.args.cache.now) n
     (same_given g.row.D c.args.page c.args.cache.now c.kind_at.new.cache c.in_ok-kind_at.ensures.asks h)

@@ -1,17 +1,13 @@
 -- An object is added to a table of its kind.
-use Rattle.std.proofs.Common.{◌≡◌, ◌⊎◌, ℕ, IfErr, OnOk, false, arith, refl, subst}
+use Rattle.std.proofs.Common.{◌≡◌, IfErr, OnOk, false, arith, refl, subst}
 use Rattle.std.specs.FinMap as map
-use Rattle.page_file.specs.declared.fault.Fault.TheVariants as fault
 use Rattle.page_cache.specs.Cache.{IsPageMap, given, pages}
 use Rattle.page_cache.specs.Calls.{no_call_asks}
 use Rattle.node_page.specs.Faults.{IsNoDamage}
 use Rattle.node_page.proofs.NodeLemmas.{if_error}
-use Rattle.id_words.specs.Damage.{MayBreakAt}
 use Rattle.id_chains.specs.Table.{class_of}
-use Rattle.id_chains.specs.Walks as walks
-use Rattle.id_tree.specs.Checked as checked_trees
 use Rattle.id_table.specs.Changes.{KeepsTidy, Sets}
-use Rattle.id_table.specs.Checked.{MeetsInTable, MeetsSpot}
+use Rattle.id_table.specs.Checked.{MeetsSpot}
 use Rattle.id_table.specs.Table.{kind_of, objects_of}
 use Rattle.id_table.proofs.StepLemmas.{at_chain, at_leaf, begun_or_broken, chains_set, in_some_chain}
 use Rattle.id_table.proofs.StepLemmas.{met_in_tree, met_or_broken, on_ok, tree_set}
@@ -50,11 +46,7 @@ returns-in-InChain-clause-tidy g c = λ sound t at s spot.
 
 pub returns-in-InChain-clause-damage : goal.returns-in-InChain-clause-damage
 returns-in-InChain-clause-damage g c = λ h meets quiet.
-    if_error c.add.result
-    (λ f. (n : ℕ) → f ≡ fault.Damaged n
-    → walks.BeginsChain g.row.D (given c.args.cache.now) c.args.page (class_of c.args.id) n ⊎ MayBreakAt c.args.cache.now n)
-    (λ f. (n : ℕ) → f ≡ fault.Damaged n
-    → MeetsInTable g.row.D (given c.args.cache.now) c.args.page n ⊎ MayBreakAt c.args.cache.now n)
+    if_error c.add.result _ _
     (λ f met n is. begun_or_broken g.row.D c.args.page c.args.cache.now c.args.cache.now (no_call_asks c.args.cache.now) h n
     (in_some_chain g.row.D c.args.page (class_of c.args.id) (given c.args.cache.now) n (omega arith) (met n is)))
     (c.add.ensures.damage h)
@@ -92,11 +84,7 @@ returns-in-InLeaf-clause-tidy g c = λ sound t at s spot.
 
 pub returns-in-InLeaf-clause-damage : goal.returns-in-InLeaf-clause-damage
 returns-in-InLeaf-clause-damage g c = λ h meets quiet.
-    if_error c.add-in-InLeaf.result
-    (λ f. (n : ℕ) → f ≡ fault.Damaged n
-    → checked_trees.ComesInTree g.row.D (given c.args.cache.now) c.args.page n ⊎ MayBreakAt c.args.cache.now n)
-    (λ f. (n : ℕ) → f ≡ fault.Damaged n
-    → MeetsInTable g.row.D (given c.args.cache.now) c.args.page n ⊎ MayBreakAt c.args.cache.now n)
+    if_error c.add-in-InLeaf.result _ _
     (λ f met n is. met_or_broken g.row.D c.args.page c.args.cache.now c.args.cache.now (no_call_asks c.args.cache.now) h n
     (met_in_tree g.row.D c.args.page (given c.args.cache.now) (given c.args.cache.now) n refl) (met n is))
     (c.add-in-InLeaf.ensures.damage h

@@ -1,15 +1,11 @@
 -- A table of its kind is freed.
-use Rattle.std.proofs.Common.{IfErr, OnOk, ◌≡◌, ℕ, inr}
+use Rattle.std.proofs.Common.{IfErr, OnOk, inr}
 use Rattle.page_cache.specs.Cache.{IsPageMap, given, pages}
 use Rattle.page_file.specs.Fault.{IsOfDevice}
 use Rattle.node_page.specs.Parts.{Moves, no_page}
 use Rattle.id_table.specs.Table.{part_of}
 use Rattle.id_table.proofs.StepLemmas.{moves_on, of_chains, of_tree, on_ok, same_pages}
-use Rattle.page_file.specs.declared.fault.Fault.TheVariants as fault
 use Rattle.node_page.proofs.NodeLemmas.{at_error, if_error}
-use Rattle.id_table.specs.Checked.{MeetsInTable}
-use Rattle.id_tree.specs.Checked as checked_trees
-use Rattle.id_chains.specs.Walks as walks
 use Rattle.id_table.proofs.StepLemmas.{met_at_once, met_in_chains, met_in_tree, same_given}
 use Rattle.id_table.proofs.changing.free_all.Goals as goal
 
@@ -71,26 +67,21 @@ returns-in-Tree-clause-faults g c = λ sound t at s.
 
 pub returns-in_err-kind_at-clause-damage : goal.returns-in_err-kind_at-clause-damage
 returns-in_err-kind_at-clause-damage g c = λ h quiet.
-    at_error c.from_residual.result c.in_err-kind_at.field-0.0
-    (λ f. (n : ℕ) → f ≡ fault.Damaged n → MeetsInTable g.row.D (given c.args.cache.now) c.args.page n)
+    at_error c.from_residual.result c.in_err-kind_at.field-0.0 _
     c.from_residual.ensures.1
     (met_at_once g.row.D c.args.page (given c.args.cache.now) c.in_err-kind_at.field-0.0
     (c.in_err-kind_at.ensures.damage h))
 
 pub returns-in-Chains-clause-damage : goal.returns-in-Chains-clause-damage
 returns-in-Chains-clause-damage g c = λ h quiet.
-    if_error c.free_all.result
-    (λ f. (n : ℕ) → f ≡ fault.Damaged n → walks.MeetsInTable g.row.D (given c.kind_at.new.cache) c.args.page n)
-    (λ f. (n : ℕ) → f ≡ fault.Damaged n → MeetsInTable g.row.D (given c.args.cache.now) c.args.page n)
+    if_error c.free_all.result _ _
     (λ f met n is. met_in_chains g.row.D c.args.page (given c.kind_at.new.cache) (given c.args.cache.now) n
     (same_given g.row.D c.args.page c.args.cache.now c.kind_at.new.cache c.in_ok-kind_at.ensures.asks h) (met n is))
     (c.free_all.ensures.damage (c.in_ok-kind_at.ensures.asks.gate.honest.0 h) (inr quiet))
 
 pub returns-in-Tree-clause-damage : goal.returns-in-Tree-clause-damage
 returns-in-Tree-clause-damage g c = λ h quiet.
-    if_error c.free_all-in-Tree.result
-    (λ f. (n : ℕ) → f ≡ fault.Damaged n → checked_trees.ComesInTree g.row.D (given c.kind_at.new.cache) c.args.page n)
-    (λ f. (n : ℕ) → f ≡ fault.Damaged n → MeetsInTable g.row.D (given c.args.cache.now) c.args.page n)
+    if_error c.free_all-in-Tree.result _ _
     (λ f met n is. met_in_tree g.row.D c.args.page (given c.kind_at.new.cache) (given c.args.cache.now) n
     (same_given g.row.D c.args.page c.args.cache.now c.kind_at.new.cache c.in_ok-kind_at.ensures.asks h) (met n is))
     (c.free_all-in-Tree.ensures.damage (c.in_ok-kind_at.ensures.asks.gate.honest.0 h) quiet)

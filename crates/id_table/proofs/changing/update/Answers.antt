@@ -1,17 +1,14 @@
 -- An object of a table of its kind gets another box.
-use Rattle.std.proofs.Common.{◌≡◌, ℕ, IfErr, OnOk, Some, true, arith, refl, subst}
+use Rattle.std.proofs.Common.{◌≡◌, IfErr, OnOk, Some, true, arith, refl, subst}
 use Rattle.std.specs.FinMap as map
 use Rattle.box_math.specs.Objects.{Object, tag_of}
 use Rattle.page_file.specs.Fault.{IsOfDevice}
-use Rattle.page_file.specs.declared.fault.Fault.TheVariants as fault
 use Rattle.page_cache.specs.Cache.{IsPageMap, given, pages}
 use Rattle.node_page.proofs.NodeLemmas.{if_error}
 use Rattle.id_words.specs.Objects.{with_box}
 use Rattle.id_chains.specs.Table.{class_of}
-use Rattle.id_chains.specs.Walks as walks
-use Rattle.id_tree.specs.Checked as checked_trees
 use Rattle.id_table.specs.Changes.{KeepsTidy, Sets}
-use Rattle.id_table.specs.Checked.{MeetsInTable, MeetsSpot}
+use Rattle.id_table.specs.Checked.{MeetsSpot}
 use Rattle.id_table.specs.Table.{kind_of, objects_of}
 use Rattle.id_table.proofs.StepLemmas.{at_chain, at_leaf, chains_set, met_in_chain, met_in_tree, on_ok, tree_set}
 use Rattle.id_table.proofs.changing.update.Goals as goal
@@ -50,11 +47,7 @@ returns-in-InChain-clause-tidy g c = λ sound t at s spot has.
 
 pub returns-in-InChain-clause-damage : goal.returns-in-InChain-clause-damage
 returns-in-InChain-clause-damage g c = λ h meets.
-    if_error c.update.result
-    (λ f. (n : ℕ) → f ≡ fault.Damaged n
-    → walks.MeetsInChain g.row.D (given c.args.cache.now) c.args.page (class_of c.args.id) n)
-    (λ f. (n : ℕ) → f ≡ fault.Damaged n
-    → MeetsInTable g.row.D (given c.args.cache.now) c.args.page n)
+    if_error c.update.result _ _
     (λ f met n is. met_in_chain g.row.D c.args.page (class_of c.args.id) (given c.args.cache.now) (given c.args.cache.now) n refl
     (omega arith) (met n is))
     (c.update.ensures.damage h)
@@ -93,11 +86,7 @@ returns-in-InLeaf-clause-tidy g c = λ sound t at s spot has.
 
 pub returns-in-InLeaf-clause-damage : goal.returns-in-InLeaf-clause-damage
 returns-in-InLeaf-clause-damage g c = λ h meets.
-    if_error c.update-in-InLeaf.result
-    (λ f. (n : ℕ) → f ≡ fault.Damaged n
-    → checked_trees.ComesInTree g.row.D (given c.args.cache.now) c.args.page n)
-    (λ f. (n : ℕ) → f ≡ fault.Damaged n
-    → MeetsInTable g.row.D (given c.args.cache.now) c.args.page n)
+    if_error c.update-in-InLeaf.result _ _
     (λ f met n is. met_in_tree g.row.D c.args.page (given c.args.cache.now) (given c.args.cache.now) n refl (met n is))
     (c.update-in-InLeaf.ensures.damage h
     (subst (MeetsSpot g.row.D (given c.args.cache.now) c.args.page) c.in-InLeaf.is meets))

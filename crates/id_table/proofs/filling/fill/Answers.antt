@@ -1,5 +1,5 @@
 -- Objects are added to a table of its kind, in its order.
-use Rattle.std.proofs.Common.{IfErr, OnOk, ◌+◌, ◌/◌, length, arith, ◌≡◌, ℕ, ◌⊎◌, inl, inr}
+use Rattle.std.proofs.Common.{IfErr, OnOk, ◌+◌, ◌/◌, length, arith, inl, inr}
 use Rattle.std.specs.FinMap as map
 use Rattle.page_cache.specs.Cache.{IsPageMap, given, pages}
 use Rattle.page_cache.specs.Cache.{Grows}
@@ -10,12 +10,7 @@ use Rattle.id_table.specs.Table.{kind_of, objects_of}
 use Rattle.id_table.specs.Table.IdTable.{treed}
 use Rattle.id_table.specs.declared.kind.TableKind.TheVariants.{Chains, Tree}
 use Rattle.id_table.proofs.StepLemmas.{chains_filled, of_chains, of_tree, on_ok, same_pages, so_on_ok, tree_filled}
-use Rattle.page_file.specs.declared.fault.Fault.TheVariants as fault
 use Rattle.node_page.proofs.NodeLemmas.{at_error, if_error}
-use Rattle.id_table.specs.Checked.{MeetsInTable}
-use Rattle.id_tree.specs.Checked as checked_trees
-use Rattle.id_chains.specs.Walks as walks
-use Rattle.id_words.specs.Damage.{MayBreakAt}
 use Rattle.id_table.proofs.StepLemmas.{tidy_on}
 use Rattle.id_table.proofs.StepLemmas.{begun_or_broken, met_at_once, met_in_tree, met_or_broken, same_given}
 use Rattle.id_table.proofs.filling.fill.Goals as goal
@@ -133,31 +128,21 @@ returns-in-Tree-clause-tidy g c = λ sound t at s new.
 
 pub returns-in_err-kind_at-clause-damage : goal.returns-in_err-kind_at-clause-damage
 returns-in_err-kind_at-clause-damage g c = λ h quiet.
-    at_error c.from_residual.result c.in_err-kind_at.field-0.0
-    (λ f. (n : ℕ) → f ≡ fault.Damaged n → MeetsInTable g.row.D (given c.args.cache.now) c.args.page n
-    ⊎ MayBreakAt c.args.cache.now n)
+    at_error c.from_residual.result c.in_err-kind_at.field-0.0 _
     c.from_residual.ensures.1
     (λ n is. inl (met_at_once g.row.D c.args.page (given c.args.cache.now) c.in_err-kind_at.field-0.0
     (c.in_err-kind_at.ensures.damage h) n is))
 
 pub returns-in-Chains-clause-damage : goal.returns-in-Chains-clause-damage
 returns-in-Chains-clause-damage g c = λ h quiet.
-    if_error c.fill.result
-    (λ f. (n : ℕ) → f ≡ fault.Damaged n → walks.BeginsInTable g.row.D (given c.kind_at.new.cache) c.args.page n
-    ⊎ MayBreakAt c.kind_at.new.cache n)
-    (λ f. (n : ℕ) → f ≡ fault.Damaged n → MeetsInTable g.row.D (given c.args.cache.now) c.args.page n
-    ⊎ MayBreakAt c.args.cache.now n)
+    if_error c.fill.result _ _
     (λ f met n is. begun_or_broken g.row.D c.args.page c.args.cache.now c.kind_at.new.cache
     c.in_ok-kind_at.ensures.asks h n (met n is))
     (c.fill.ensures.damage (c.in_ok-kind_at.ensures.asks.gate.honest.0 h) (inr quiet))
 
 pub returns-in-Tree-clause-damage : goal.returns-in-Tree-clause-damage
 returns-in-Tree-clause-damage g c = λ h quiet.
-    if_error c.fill-in-Tree.result
-    (λ f. (n : ℕ) → f ≡ fault.Damaged n → checked_trees.ComesInTree g.row.D (given c.kind_at.new.cache) c.args.page n
-    ⊎ MayBreakAt c.kind_at.new.cache n)
-    (λ f. (n : ℕ) → f ≡ fault.Damaged n → MeetsInTable g.row.D (given c.args.cache.now) c.args.page n
-    ⊎ MayBreakAt c.args.cache.now n)
+    if_error c.fill-in-Tree.result _ _
     (λ f met n is. met_or_broken g.row.D c.args.page c.args.cache.now c.kind_at.new.cache c.in_ok-kind_at.ensures.asks h n
     (met_in_tree g.row.D c.args.page (given c.kind_at.new.cache) (given c.args.cache.now) n
     (same_given g.row.D c.args.page c.args.cache.now c.kind_at.new.cache c.in_ok-kind_at.ensures.asks h)) (met n is))

@@ -1,6 +1,6 @@
 -- A root that has no room is not so high that its level can't rise.
 use Rattle.id_tree.proofs.WorksLemmas.{works_after, works_handed}
-use Rattle.std.proofs.Common.{arith, None, ◌≡◌, ◌⊎◌, ℕ, inl}
+use Rattle.std.proofs.Common.{arith, None, ◌≡◌, inl}
 use Rattle.page_cache.specs.Cache.{pages, touched_of}
 use Rattle.page_cache.specs.Calls.{no_call_asks, changes_and_refuses, changes_in_turn, asks_changes, fault_in}
 use Rattle.page_cache.specs.Laws.{a_live_page_was_given_out}
@@ -10,7 +10,6 @@ use Rattle.id_tree.proofs.AddLemmas.{absent_deep, full_below_root, sets_deep}
 use Rattle.id_tree.proofs.CountLemmas.{below_limit, not_so_high}
 use Rattle.id_tree.proofs.RootLemmas.{absent_of, root_fork}
 use Rattle.page_file.specs.declared.fault.Fault.TheVariants as fault
-use Rattle.id_words.specs.Damage.{MayBreakAt}
 use Rattle.id_tree.proofs.DamageLemmas.{damaged_is}
 use Rattle.id_words.proofs.WriteLemmas.{not_both}
 use Rattle.id_tree.proofs.adding.add_deeper.Goals as goal
@@ -33,8 +32,7 @@ returns-then-level-ge-MOST_LEVELS-clause-damage g c =
 
 pub returns-in_err-child-clause-damage : goal.returns-in_err-child-clause-damage
 returns-in_err-child-clause-damage g c = λ h none.
-    at_error c.from_residual.result c.in_err-child.field-0.0
-    (λ e. (n : ℕ) → e ≡ fault.Damaged n → (n ≡ c.args.root) ⊎ MayBreakAt c.args.cache.now n)
+    at_error c.from_residual.result c.in_err-child.field-0.0 _
     c.from_residual.ensures.1 (c.in_err-child.ensures.damage h none)
 
 pub returns-clause-damage : goal.returns-clause-damage

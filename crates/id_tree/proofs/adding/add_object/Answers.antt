@@ -1,7 +1,7 @@
 -- The root takes the object as its count and its level tell.
 use Rattle.id_page.specs.Fork.{ForkContent}
 use Rattle.id_tree.proofs.WorksLemmas.{works_from, works_refused}
-use Rattle.std.proofs.Common.{inl, arith, ◌≡◌, ◌⊎◌, ⊎_elim, ℕ, inr}
+use Rattle.std.proofs.Common.{inl, arith, ◌≡◌, ⊎_elim, inr}
 use Rattle.page_cache.specs.Cache.{pages, given}
 use Rattle.page_cache.specs.Calls.{no_call_asks, asks_and_changes, asks_and_gives_up}
 use Rattle.node_page.proofs.NodeLemmas.{at_error}
@@ -44,7 +44,7 @@ returns-in_err-way-clause-damage g c = λ h none.
 pub returns-then-way-eq0-clause-damage : goal.returns-then-way-eq0-clause-damage
 returns-then-way-eq0-clause-damage g c = λ h none.
     let asks = c.in_ok-way.ensures.asks in
-    if_err c.start.result (λ e. (n : ℕ) → e ≡ fault.Damaged n → MayBreakAt c.step.new.cache n) _
+    if_err c.start.result _ _
     (λ f breaks n damaged. inr
     (breaks_kept c.args.cache.now c.step.new.cache n asks.map h (breaks n damaged)))
     (c.start.ensures.damage (asks.gate.honest.0 h) none)
@@ -65,8 +65,7 @@ returns-then-way-lt-MOST_CHILDREN-clause-damage g c = λ h none.
 pub returns-clause-damage : goal.returns-clause-damage
 returns-clause-damage g c = λ h none.
     let asks = c.in_ok-way.ensures.asks in
-    if_err c.add_deeper.result
-    (λ e. (n : ℕ) → e ≡ fault.Damaged n → (n ≡ c.args.root) ⊎ MayBreakAt c.step.new.cache n) _
+    if_err c.add_deeper.result _ _
     (λ f either n damaged. ⊎_elim
     (λ (is : n ≡ c.args.root). inl (comes_here g.row.D (given c.args.cache.now) c.args.root n is))
     (λ (breaks : MayBreakAt c.step.new.cache n). inr

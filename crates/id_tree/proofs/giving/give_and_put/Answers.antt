@@ -1,20 +1,17 @@
 -- The page given out is not the one that is put.
-use Rattle.std.proofs.Common.{inl, ◌∙◌, ◌≡◌, ℕ}
+use Rattle.std.proofs.Common.{inl, ◌∙◌}
 use Rattle.page_cache.specs.Laws.{a_live_page_was_given_out}
 use Rattle.id_tree.proofs.WorksLemmas.{works_refused}
 use Rattle.page_cache.specs.Cache.{pages, touched_of}
 use Rattle.id_tree.proofs.WriteLemmas.{gives_apart, still_live}
 use Rattle.id_tree.proofs.TidyLemmas.{tidy_put}
 use Rattle.id_words.proofs.WriteLemmas.{not_both}
-use Rattle.page_file.specs.declared.fault.Fault.TheVariants as fault
 use Rattle.node_page.proofs.NodeLemmas.{at_error}
-use Rattle.id_words.specs.Damage.{MayBreakAt}
 use Rattle.id_tree.proofs.giving.give_and_put.Goals as goal
 
 pub returns-in_err-number-clause-damage : goal.returns-in_err-number-clause-damage
 returns-in_err-number-clause-damage g c = λ h none.
-    at_error c.from_residual.result c.in_err-number.field-0.0
-    (λ e. (n : ℕ) → e ≡ fault.Damaged n → MayBreakAt c.args.cache.now n)
+    at_error c.from_residual.result c.in_err-number.field-0.0 _
     c.from_residual.ensures.1 (λ n damaged. (c.in_err-number.ensures.damage h n damaged).1)
 
 pub returns-in_err-put-clause-damage : goal.returns-in_err-put-clause-damage

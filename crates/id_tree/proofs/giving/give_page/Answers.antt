@@ -1,12 +1,10 @@
 -- The page that was given out has these bytes.
-use Rattle.std.proofs.Common.{◌∙◌, ◌≡◌, ◌≤◌, ℕ, arith}
-use Rattle.page_cache.specs.Cache.{pages, BreaksAt}
+use Rattle.std.proofs.Common.{◌∙◌, ◌≤◌, arith}
+use Rattle.page_cache.specs.Cache.{pages}
 use Rattle.id_tree.proofs.NodeLemmas.{is_there}
 use Rattle.id_tree.proofs.TidyLemmas.{tidy_written}
 use Rattle.id_words.proofs.BreakLemmas.{may_break, no_damage, refused_breaks}
-use Rattle.id_words.specs.Damage.{MayBreakAt}
 use Rattle.node_page.proofs.NodeLemmas.{at_error}
-use Rattle.page_file.specs.declared.fault.Fault.TheVariants as fault
 use Rattle.id_tree.proofs.giving.give_page.Goals as goal
 
 pub returns-clause-given : goal.returns-clause-given
@@ -34,7 +32,7 @@ pub returns-in_err-number-clause-damage : goal.returns-in_err-number-clause-dama
 returns-in_err-number-clause-damage g c = λ h.
     let old = c.args.cache.now in
     let f = c.in_err-number.field-0.0 in
-    at_error c.from_residual.result f (λ e. (n : ℕ) → e ≡ fault.Damaged n → BreaksAt old n × MayBreakAt old n)
+    at_error c.from_residual.result f _
     c.from_residual.ensures.1 (λ n damaged. (
       refused_breaks old c.allocate.new.self f n (c.in_err-number.ensures.damaged h) damaged,
       may_break old c.allocate.new.self f n (λ map. c.in_err-number.ensures.faults map)
@@ -47,8 +45,7 @@ returns-in_err-put-clause-damage g c = λ h.
     let f = c.in_err-put.field-0.0 in
     let number = c.in_ok-number.ensures.number in
     let low : 2 ≤ c.in_ok-number.number = omega (arith, number.0) in
-    at_error c.from_residual-in_err-put.result f
-    (λ e. (n : ℕ) → e ≡ fault.Damaged n → BreaksAt old n × MayBreakAt old n)
+    at_error c.from_residual-in_err-put.result f _
     c.from_residual-in_err-put.ensures.1 (λ n damaged. absurd (no_damage f n
     (c.in_err-put.ensures.faults (c.in_ok-number.ensures.changes.honest.0 h) low number.1) damaged))
 

@@ -6,8 +6,7 @@ use Rattle.id_tree.proofs.JoinLemmas.{pair_may_join, spare_from}
 use Rattle.id_tree.proofs.PairLemmas.{beside_left}
 use Rattle.id_tree.proofs.ResultLemmas.{if_err}
 use Rattle.id_tree.proofs.NodeLemmas.{node_there}
-use Rattle.page_file.specs.declared.fault.Fault.TheVariants as fault
-use Rattle.std.proofs.Common.{◌≡◌, ◌⊎◌, ℕ, refl}
+use Rattle.std.proofs.Common.{refl}
 use Rattle.id_tree.specs.Checked.{ComesInTree}
 use Rattle.id_tree.proofs.DamageLemmas.{comes_at, comes_down, comes_to_one}
 use Rattle.id_tree.proofs.GivenLemmas.{comes_here}
@@ -31,7 +30,7 @@ returns-clause-damage g c = λ h none content there.
     (comes_here D m p.first p.first refl) in
     let second : ComesInTree D m page p.second = comes_down D m page p.second p.second
     (content, there, names.1) (comes_here D m p.second p.second refl) in
-    if_err c.join_pair.result (λ e. (n : ℕ) → e ≡ fault.Damaged n → (n ≡ p.first) ⊎ (n ≡ p.second)) _
+    if_err c.join_pair.result _ _
     (λ f either n damaged. comes_to_one D m page p.first p.second n first second (either n damaged))
     (c.join_pair.ensures.damage (c.in_ok-pair.ensures.asks.gate.honest.0 h) none)
 

@@ -2,14 +2,11 @@
 use Rattle.id_tree.proofs.WorksLemmas.{works_from, works_refused}
 use Rattle.node_page.proofs.NodeLemmas.{at_error}
 use Rattle.id_tree.proofs.JoinLemmas.{join_same, one_node, spare_from, two_node}
-use Rattle.page_file.specs.declared.fault.Fault.TheVariants as fault
-use Rattle.std.proofs.Common.{◌≡◌, ◌⊎◌, ℕ}
 use Rattle.id_tree.proofs.joining.join_pair.Goals as goal
 
 pub returns-in_err-fit-clause-damage : goal.returns-in_err-fit-clause-damage
 returns-in_err-fit-clause-damage g c = λ h none.
-    at_error c.from_residual.result c.in_err-fit.field-0.0
-    (λ e. (n : ℕ) → e ≡ fault.Damaged n → (n ≡ c.args.pair.now.first) ⊎ (n ≡ c.args.pair.now.second))
+    at_error c.from_residual.result c.in_err-fit.field-0.0 _
     c.from_residual.ensures.1 (c.in_err-fit.ensures.damage h)
 
 pub returns-then-fit-clause-damage : goal.returns-then-fit-clause-damage

@@ -4,22 +4,19 @@ use Rattle.page_cache.specs.Cache.{pages}
 use Rattle.node_page.proofs.NodeLemmas.{at_error}
 use Rattle.id_tree.proofs.JoinLemmas.{join_apart, join_same, joined_spare, one_node, spare_from, two_node}
 use Rattle.id_tree.proofs.TidyLemmas.{as_tidy_on, tidy_same}
-use Rattle.page_file.specs.declared.fault.Fault.TheVariants as fault
-use Rattle.std.proofs.Common.{◌≡◌, ◌⊎◌, ℕ, inl}
+use Rattle.std.proofs.Common.{inl}
 use Rattle.node_page.proofs.DamageLemmas.{damaged_read}
 use Rattle.id_tree.proofs.joining.make_one.Goals as goal
 
 pub returns-in_err-all-clause-damage : goal.returns-in_err-all-clause-damage
 returns-in_err-all-clause-damage g c = λ h none.
-    at_error c.from_residual.result c.in_err-all.field-0.0
-    (λ e. (n : ℕ) → e ≡ fault.Damaged n → (n ≡ c.args.pair.now.first) ⊎ (n ≡ c.args.pair.now.second))
+    at_error c.from_residual.result c.in_err-all.field-0.0 _
     c.from_residual.ensures.1 (c.in_err-all.ensures.damage h)
 
 pub returns-in_err-put_joined-clause-damage : goal.returns-in_err-put_joined-clause-damage
 returns-in_err-put_joined-clause-damage g c = λ h none.
     let honest = c.in_ok-all.ensures.asks.gate.honest.0 h in
-    at_error c.from_residual-in_err-put_joined.result c.in_err-put_joined.field-0.0
-    (λ e. (n : ℕ) → e ≡ fault.Damaged n → (n ≡ c.args.pair.now.first) ⊎ (n ≡ c.args.pair.now.second))
+    at_error c.from_residual-in_err-put_joined.result c.in_err-put_joined.field-0.0 _
     c.from_residual-in_err-put_joined.ensures.1
     (λ n damaged. inl (damaged_read c.in_err-put_joined.field-0.0 c.args.pair.now.first n
     (c.in_err-put_joined.ensures.damage honest none) damaged))

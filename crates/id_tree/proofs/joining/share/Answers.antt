@@ -1,26 +1,23 @@
 -- Both pages have their shares, and the fork the key between them.
 use Rattle.id_tree.proofs.WorksLemmas.{works_done, works_handed, works_refused}
-use Rattle.std.proofs.Common.{◌≡◌, arith, ◌⊎◌, ℕ, inl}
+use Rattle.std.proofs.Common.{arith, inl}
 use Rattle.id_tree.proofs.JoinLemmas.{second_in, shares_from, shares_left, shares_right, join_apart}
 use Rattle.id_tree.proofs.JoinLemmas.{join_neighbours, join_same}
 use Rattle.id_tree.proofs.TidyLemmas.{both_tidy_on, tidy_same}
 use Rattle.page_cache.specs.Cache.{pages}
 use Rattle.node_page.proofs.NodeLemmas.{at_error}
-use Rattle.page_file.specs.declared.fault.Fault.TheVariants as fault
 use Rattle.node_page.proofs.DamageLemmas.{damaged_read}
 use Rattle.id_tree.proofs.joining.share.Goals as goal
 
 pub returns-in_err-cut-clause-damage : goal.returns-in_err-cut-clause-damage
 returns-in_err-cut-clause-damage g c = λ h none.
-    at_error c.from_residual.result c.in_err-cut.field-0.0
-    (λ e. (n : ℕ) → e ≡ fault.Damaged n → (n ≡ c.args.pair.now.first) ⊎ (n ≡ c.args.pair.now.second))
+    at_error c.from_residual.result c.in_err-cut.field-0.0 _
     c.from_residual.ensures.1 (c.in_err-cut.ensures.damage h)
 
 pub returns-in_err-put_shares-clause-damage : goal.returns-in_err-put_shares-clause-damage
 returns-in_err-put_shares-clause-damage g c = λ h none.
     let honest = c.in_ok-cut.ensures.asks.gate.honest.0 h in
-    at_error c.from_residual-in_err-put_shares.result c.in_err-put_shares.field-0.0
-    (λ e. (n : ℕ) → e ≡ fault.Damaged n → (n ≡ c.args.pair.now.first) ⊎ (n ≡ c.args.pair.now.second))
+    at_error c.from_residual-in_err-put_shares.result c.in_err-put_shares.field-0.0 _
     c.from_residual-in_err-put_shares.ensures.1
     (λ n damaged. inl (damaged_read c.in_err-put_shares.field-0.0 c.args.pair.now.first n
     (c.in_err-put_shares.ensures.damage honest none) damaged))

@@ -1,7 +1,5 @@
 -- The page that is given out is a table of no objects.
 use Rattle.page_cache.specs.Cache.{pages}
-use Rattle.id_tree.specs.Changes.{Makes}
-use Rattle.id_tree.specs.Writes.{Gives}
 use Rattle.id_tree.proofs.ResultLemmas.{if_ok, if_err}
 use Rattle.id_tree.proofs.RootLemmas.{made}
 use Rattle.id_tree.proofs.TidyLemmas.{fork_node}
@@ -12,8 +10,7 @@ pub returns-clause-made : goal.returns-clause-made
 returns-clause-made g c = λ map.
     let old = pages c.args.cache.now in
     let new = pages c.give_page.new.cache in
-    if_ok c.give_page.result (λ number. Gives old new number c.no_child.result)
-    (λ root. Makes g.row.D old new root)
+    if_ok c.give_page.result _ _
     (λ root given. made g.row.D old new root c.no_child.result given c.no_child.ensures.spelled)
     (c.give_page.ensures.given map)
 

@@ -1,27 +1,24 @@
 -- The counts in both pages are those of the nodes.
 use Rattle.id_tree.proofs.WorksLemmas.{finds_none}
-use Rattle.std.proofs.Common.{◌∙◌, ◌<◌, arith, ◌≡◌, ◌⊎◌, ℕ, inl, inr}
+use Rattle.std.proofs.Common.{◌∙◌, ◌<◌, arith, inl, inr}
 use Rattle.page_cache.specs.Cache.{pages}
 use Rattle.node_page.proofs.NodeLemmas.{at_error}
 use Rattle.id_tree.proofs.AddLemmas.{fork_counted, leaf_counted}
 use Rattle.id_tree.proofs.NodeLemmas.{node_there, there_bytes}
 use Rattle.id_tree.proofs.SplitLemmas.{live_same}
-use Rattle.page_file.specs.declared.fault.Fault.TheVariants as fault
 use Rattle.node_page.proofs.DamageLemmas.{damaged_read}
 use Rattle.id_tree.proofs.meeting.fit_together.Goals as goal
 
 pub returns-in_err-one-clause-damage : goal.returns-in_err-one-clause-damage
 returns-in_err-one-clause-damage g c = λ h.
-    at_error c.from_residual.result c.in_err-one.field-0.0
-    (λ e. (n : ℕ) → e ≡ fault.Damaged n → (n ≡ c.args.first) ⊎ (n ≡ c.args.second))
+    at_error c.from_residual.result c.in_err-one.field-0.0 _
     c.from_residual.ensures.1
     (λ n damaged. inl
     (damaged_read c.in_err-one.field-0.0 c.args.first n (c.in_err-one.ensures.damage h) damaged))
 
 pub returns-in_err-two-clause-damage : goal.returns-in_err-two-clause-damage
 returns-in_err-two-clause-damage g c = λ h.
-    at_error c.from_residual-in_err-two.result c.in_err-two.field-0.0
-    (λ e. (n : ℕ) → e ≡ fault.Damaged n → (n ≡ c.args.first) ⊎ (n ≡ c.args.second))
+    at_error c.from_residual-in_err-two.result c.in_err-two.field-0.0 _
     c.from_residual-in_err-two.ensures.1
     (λ n damaged. inr (damaged_read c.in_err-two.field-0.0 c.args.second n
     (c.in_err-two.ensures.damage (c.in_ok-one.ensures.asks.gate.honest.0 h)) damaged))

@@ -1,6 +1,6 @@
 -- What both nodes have is cut in the middle.
 use Rattle.id_tree.proofs.WorksLemmas.{finds_none}
-use Rattle.std.proofs.Common.{◌≡◌, ◌∙◌, ◌<◌, sym, subst, refl, arith, ◌⊎◌, ℕ, inl, inr}
+use Rattle.std.proofs.Common.{◌≡◌, ◌∙◌, ◌<◌, sym, subst, refl, arith, inl, inr}
 use Rattle.page_cache.specs.Cache.{pages}
 use Rattle.node_page.proofs.NodeLemmas.{at_error}
 use Rattle.id_page.specs.Fork.{ForkContent}
@@ -21,16 +21,14 @@ use Rattle.id_tree.proofs.meeting.shared.Goals as goal
 
 pub returns-in_err-one-clause-damage : goal.returns-in_err-one-clause-damage
 returns-in_err-one-clause-damage g c = λ h.
-    at_error c.from_residual.result c.in_err-one.field-0.0
-    (λ e. (n : ℕ) → e ≡ fault.Damaged n → (n ≡ c.args.first) ⊎ (n ≡ c.args.second))
+    at_error c.from_residual.result c.in_err-one.field-0.0 _
     c.from_residual.ensures.1
     (λ n damaged. inl
     (damaged_read c.in_err-one.field-0.0 c.args.first n (c.in_err-one.ensures.damage h) damaged))
 
 pub returns-in_err-two-clause-damage : goal.returns-in_err-two-clause-damage
 returns-in_err-two-clause-damage g c = λ h.
-    at_error c.from_residual-in_err-two.result c.in_err-two.field-0.0
-    (λ e. (n : ℕ) → e ≡ fault.Damaged n → (n ≡ c.args.first) ⊎ (n ≡ c.args.second))
+    at_error c.from_residual-in_err-two.result c.in_err-two.field-0.0 _
     c.from_residual-in_err-two.ensures.1
     (λ n damaged. inr (damaged_read c.in_err-two.field-0.0 c.args.second n
     (c.in_err-two.ensures.damage (c.in_ok-one.ensures.asks.gate.honest.0 h)) damaged))

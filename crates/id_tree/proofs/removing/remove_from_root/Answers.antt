@@ -1,6 +1,6 @@
 -- The root has two children or more, or one leaf.
 use Rattle.id_tree.proofs.WorksLemmas.{works_from, works_refused}
-use Rattle.std.proofs.Common.{◌∙◌, sym, true, arith, ◌≡◌, ◌⊎◌, ℕ, refl}
+use Rattle.std.proofs.Common.{◌∙◌, sym, true, arith, ◌≡◌, refl}
 use Rattle.page_cache.specs.Cache.{pages, given}
 use Rattle.page_cache.specs.Calls.{asks_and_changes, asks_and_gives_up, no_call_asks}
 use Rattle.node_page.proofs.NodeLemmas.{at_error}
@@ -61,7 +61,7 @@ returns-clause-damage g c = λ h none.
     let leaf = c.in-Some.leaf in
     let names = named_some (NamesChild D m root) c.in_ok-way.way.child leaf c.in-Some.is
     (c.in_ok-way.ensures.names h) in
-    if_err c.remove_only.result (λ e. (n : ℕ) → e ≡ fault.Damaged n → (n ≡ leaf) ⊎ (n ≡ root)) _
+    if_err c.remove_only.result _ _
     (λ f either n damaged. comes_to_one D m root leaf root n
     (comes_down D m root leaf leaf names (comes_here D m leaf leaf refl)) (comes_here D m root root refl)
     (either n damaged))

@@ -1,6 +1,6 @@
 -- The root is one without children, and the leaf is freed.
 use Rattle.id_tree.proofs.WorksLemmas.{works_from, works_refused}
-use Rattle.std.proofs.Common.{refl, subst, [], ◌≡◌, ◌⊎◌, ℕ, inl, inr}
+use Rattle.std.proofs.Common.{refl, subst, [], ◌≡◌, inl, inr}
 use Rattle.page_cache.specs.Cache.{pages}
 use Rattle.node_page.proofs.NodeLemmas.{at_error}
 use Rattle.id_tree.specs.Rows.{IsFoundAt}
@@ -17,7 +17,7 @@ use Rattle.id_tree.proofs.removing.remove_last.Goals as goal
 pub returns-in_err-found-clause-damage : goal.returns-in_err-found-clause-damage
 returns-in_err-found-clause-damage g c = λ h none.
     at_error c.from_residual.result c.in_err-found.field-0.0
-    (λ e. (n : ℕ) → e ≡ fault.Damaged n → (n ≡ c.args.leaf) ⊎ (n ≡ c.args.root)) c.from_residual.ensures.1
+    _ c.from_residual.ensures.1
     (λ n damaged. inl
     (damaged_read c.in_err-found.field-0.0 c.args.leaf n (c.in_err-found.ensures.damage h) damaged))
 
@@ -27,8 +27,7 @@ returns-in_default-clause-damage g c = λ h none n (damaged : fault.Damaged c.ar
 
 pub returns-clause-damage : goal.returns-clause-damage
 returns-clause-damage g c = λ h none.
-    if_err c.put_and_free.result _
-    (λ e. (n : ℕ) → e ≡ fault.Damaged n → (n ≡ c.args.leaf) ⊎ (n ≡ c.args.root))
+    if_err c.put_and_free.result _ _
     (λ f either n damaged. inr (damaged_read f c.args.root n either damaged))
     (c.put_and_free.ensures.damage (c.in_ok-found.ensures.asks.gate.honest.0 h) none)
 

@@ -1,6 +1,6 @@
 -- The object is taken from the only leaf, or the leaf goes with it.
 use Rattle.id_tree.proofs.WorksLemmas.{works_from, works_refused}
-use Rattle.std.proofs.Common.{◌<◌, ◌≤◌, refl, length, arith, ◌≡◌, ◌⊎◌, ℕ, inl}
+use Rattle.std.proofs.Common.{◌<◌, ◌≤◌, refl, length, arith, inl}
 use Rattle.page_cache.specs.Cache.{pages}
 use Rattle.node_page.proofs.NodeLemmas.{at_error}
 use Rattle.id_tree.specs.Tree.{objects_in}
@@ -8,7 +8,6 @@ use Rattle.id_tree.proofs.AddLemmas.{leaf_counted}
 use Rattle.id_tree.proofs.NodeLemmas.{node_there, there_bytes}
 use Rattle.id_tree.proofs.RemoveLemmas.{few_only, has_only, leaf_stands, may_shrink_only, only_same}
 use Rattle.id_tree.proofs.RemoveLemmas.{removes_from, removes_only}
-use Rattle.page_file.specs.declared.fault.Fault.TheVariants as fault
 use Rattle.node_page.proofs.DamageLemmas.{damaged_read}
 use Rattle.id_tree.proofs.ResultLemmas.{if_err}
 use Rattle.id_tree.proofs.removing.remove_only.Goals as goal
@@ -16,14 +15,13 @@ use Rattle.id_tree.proofs.removing.remove_only.Goals as goal
 pub returns-in_err-count-clause-damage : goal.returns-in_err-count-clause-damage
 returns-in_err-count-clause-damage g c = λ h none.
     at_error c.from_residual.result c.in_err-count.field-0.0
-    (λ e. (n : ℕ) → e ≡ fault.Damaged n → (n ≡ c.args.leaf) ⊎ (n ≡ c.args.root)) c.from_residual.ensures.1
+    _ c.from_residual.ensures.1
     (λ n damaged. inl
     (damaged_read c.in_err-count.field-0.0 c.args.leaf n (c.in_err-count.ensures.damage h) damaged))
 
 pub returns-then-count-gt1-clause-damage : goal.returns-then-count-gt1-clause-damage
 returns-then-count-gt1-clause-damage g c = λ h none.
-    if_err c.take_in.result _
-    (λ e. (n : ℕ) → e ≡ fault.Damaged n → (n ≡ c.args.leaf) ⊎ (n ≡ c.args.root))
+    if_err c.take_in.result _ _
     (λ f either n damaged. inl (damaged_read f c.args.leaf n either damaged))
     (c.take_in.ensures.damage (c.in_ok-count.ensures.asks.gate.honest.0 h))
 

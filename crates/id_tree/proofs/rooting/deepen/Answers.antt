@@ -1,6 +1,6 @@
 -- What the root had is read first.
 use Rattle.id_tree.proofs.WorksLemmas.{works_from, works_refused}
-use Rattle.std.proofs.Common.{◌+◌, inl, ◌≡◌, ◌⊎◌, ℕ, inr}
+use Rattle.std.proofs.Common.{◌+◌, inl, inr}
 use Rattle.page_cache.specs.Cache.{pages}
 use Rattle.page_cache.specs.Calls.{no_call_asks, asks_and_changes, asks_and_gives_up}
 use Rattle.node_page.proofs.NodeLemmas.{at_error}
@@ -9,8 +9,6 @@ use Rattle.id_tree.proofs.RootLemmas.{names_from}
 use Rattle.id_tree.proofs.SplitLemmas.{live_same}
 use Rattle.id_tree.proofs.TidyLemmas.{as_tidy_on, fork_as_tidy}
 use Rattle.id_tree.proofs.NodeLemmas.{fork_bytes, there_of_fork}
-use Rattle.page_file.specs.declared.fault.Fault.TheVariants as fault
-use Rattle.id_words.specs.Damage.{MayBreakAt}
 use Rattle.node_page.proofs.DamageLemmas.{damaged_read}
 use Rattle.id_tree.proofs.DamageLemmas.{breaks_kept}
 use Rattle.id_tree.proofs.rooting.deepen.Goals as goal
@@ -27,8 +25,7 @@ returns-clause-changes g c = asks_and_changes c.args.cache.now c.copy_page.new.c
 
 pub returns-in_err-bytes-clause-damage : goal.returns-in_err-bytes-clause-damage
 returns-in_err-bytes-clause-damage g c = λ h none.
-    at_error c.from_residual.result c.in_err-bytes.field-0.0
-    (λ e. (n : ℕ) → e ≡ fault.Damaged n → (n ≡ c.args.root) ⊎ MayBreakAt c.args.cache.now n)
+    at_error c.from_residual.result c.in_err-bytes.field-0.0 _
     c.from_residual.ensures.1
     (λ n damaged. inl
     (damaged_read c.in_err-bytes.field-0.0 c.args.root n (c.in_err-bytes.ensures.damage h) damaged))
@@ -36,8 +33,7 @@ returns-in_err-bytes-clause-damage g c = λ h none.
 pub returns-clause-damage : goal.returns-clause-damage
 returns-clause-damage g c = λ h none.
     let asks = c.in_ok-bytes.ensures.asks in
-    if_err c.name_new.result (λ e. (n : ℕ) → e ≡ fault.Damaged n → MayBreakAt c.copy_page.new.cache n)
-    (λ e. (n : ℕ) → e ≡ fault.Damaged n → (n ≡ c.args.root) ⊎ MayBreakAt c.args.cache.now n)
+    if_err c.name_new.result _ _
     (λ e breaks n damaged. inr
     (breaks_kept c.args.cache.now c.copy_page.new.cache n asks.map h (breaks n damaged)))
     (c.name_new.ensures.damage (asks.gate.honest.0 h) none)

@@ -1,16 +1,13 @@
 -- The leaf of the object is the only child.
 use Rattle.id_tree.proofs.WorksLemmas.{works_handed}
 use Rattle.id_tree.proofs.TidyLemmas.{leaf_node}
-use Rattle.std.proofs.Common.{◌∷◌, [], ◌≡◌, ℕ}
-use Rattle.page_file.specs.declared.fault.Fault.TheVariants as fault
+use Rattle.std.proofs.Common.{◌∷◌, []}
 use Rattle.node_page.proofs.NodeLemmas.{at_error}
-use Rattle.id_words.specs.Damage.{MayBreakAt}
 use Rattle.id_tree.proofs.rooting.start.Goals as goal
 
 pub returns-in_err-name_new-clause-damage : goal.returns-in_err-name_new-clause-damage
 returns-in_err-name_new-clause-damage g c = λ h none.
-    at_error c.from_residual.result c.in_err-name_new.field-0.0
-    (λ e. (n : ℕ) → e ≡ fault.Damaged n → MayBreakAt c.args.cache.now n)
+    at_error c.from_residual.result c.in_err-name_new.field-0.0 _
     c.from_residual.ensures.1 (c.in_err-name_new.ensures.damage h none)
 
 pub returns-in_err-name_new-clause-starts : goal.returns-in_err-name_new-clause-starts

@@ -5,7 +5,7 @@ use Rattle.page_cache.specs.Calls.{asks_in_turn, fault_in}
 use Rattle.node_page.proofs.NodeLemmas.{at_error}
 use Rattle.id_page.specs.Leaf.{most_objects}
 use Rattle.id_words.proofs.Results.{if_both}
-use Rattle.id_tree.specs.Checked.{ComesInTree, NamesChild}
+use Rattle.id_tree.specs.Checked.{NamesChild}
 use Rattle.id_tree.specs.Runs.{HasRun}
 use Rattle.id_tree.specs.Tree.{HasNode, at_edge, links_of, objects_in}
 use Rattle.id_tree.proofs.DamageLemmas.{comes_at, comes_down, named_some}
@@ -86,8 +86,7 @@ returns-in-Some-clause-comes g t c = λ h.
     let names = named_some (NamesChild D old c.args.page) c.in_ok-way.way.child c.in-Some.child c.in-Some.is
     (c.in_ok-way.ensures.names h) in
     let same = c.in_ok-way.ensures.asks.map.given_stay h in
-    if_ok c.run_below.result (λ run. ComesInTree D (given c.step.new.cache) c.in-Some.child run.leaf)
-    (λ run. ComesInTree D old c.args.page run.leaf)
+    if_ok c.run_below.result _ _
     (λ run comes. comes_down D old c.args.page c.in-Some.child run.leaf names
     (comes_so D old (given c.step.new.cache) c.in-Some.child run.leaf same comes))
     (c.run_below.ensures.comes (c.in_ok-way.ensures.asks.gate.honest.0 h))
@@ -114,7 +113,7 @@ returns-in_err-way-clause-damage g t c = λ h.
 pub returns-then-level-eq0-clause-comes : goal.returns-then-level-eq0-clause-comes
 returns-then-level-eq0-clause-comes g t c = λ h.
     let m = given c.args.cache.now in
-    if_ok c.run_at.result (λ run. run.leaf ≡ c.args.page) (λ run. ComesInTree g.row.D m c.args.page run.leaf)
+    if_ok c.run_at.result _ _
     (λ run is. comes_here g.row.D m c.args.page run.leaf is) c.run_at.ensures.here
 
 pub returns-then-level-eq0-clause-damage : goal.returns-then-level-eq0-clause-damage

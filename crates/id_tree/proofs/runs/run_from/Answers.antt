@@ -5,7 +5,7 @@ use Rattle.page_cache.specs.Cache.{given, pages}
 use Rattle.page_cache.specs.Calls.{asks_in_turn, fault_in}
 use Rattle.node_page.proofs.NodeLemmas.{at_error}
 use Rattle.id_words.proofs.Results.{if_both}
-use Rattle.id_tree.specs.Checked.{ComesInTree, NamesChild}
+use Rattle.id_tree.specs.Checked.{NamesChild}
 use Rattle.id_tree.specs.Rows.{NodeStands}
 use Rattle.id_tree.specs.Runs.{HasRun}
 use Rattle.id_tree.specs.Tree.{at_edge, links_of}
@@ -94,8 +94,7 @@ returns-in-Some-clause-comes g c = λ h.
     let names = named_some (NamesChild D old c.args.root) c.in_ok-way.way.child c.in-Some.child c.in-Some.is
     (c.in_ok-way.ensures.names h) in
     let same = c.in_ok-way.ensures.asks.map.given_stay h in
-    if_ok c.run_below.result (λ run. ComesInTree D (given c.step.new.cache) c.in-Some.child run.leaf)
-    (λ run. ComesInTree D old c.args.root run.leaf)
+    if_ok c.run_below.result _ _
     (λ run comes. comes_down D old c.args.root c.in-Some.child run.leaf names
     (comes_so D old (given c.step.new.cache) c.in-Some.child run.leaf same comes))
     (c.run_below.ensures.comes (c.in_ok-way.ensures.asks.gate.honest.0 h))

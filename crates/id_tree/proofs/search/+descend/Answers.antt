@@ -1,6 +1,5 @@
 -- A way goes on in the child where the identifier is.
 use Rattle.std.proofs.Common.{◌∙◌, ◌-◌, ◌<◌, [], refl, sym, arith, ◌≡◌, subst}
-use Rattle.std.specs.Prelude.{IfSome}
 use Rattle.page_cache.specs.Cache.{pages, given}
 use Rattle.page_cache.specs.Calls.{asks_in_turn, fault_in}
 use Rattle.id_tree.specs.Rows.{LeadsBelow}
@@ -10,7 +9,7 @@ use Rattle.id_tree.proofs.SeekLemmas.{keys_ascend, leads_below, leads_here, may_
 use Rattle.id_tree.proofs.WayLemmas.{way_of}
 use Rattle.node_page.proofs.NodeLemmas.{at_error}
 use Rattle.id_tree.proofs.DamageLemmas.{comes_at, comes_down, comes_under, down_by, named_some}
-use Rattle.id_tree.specs.Checked.{ComesDown, ComesInTree, NamesChild, SpellsFork}
+use Rattle.id_tree.specs.Checked.{ComesDown, NamesChild, SpellsFork}
 use Rattle.id_tree.proofs.GivenLemmas.{comes_here, comes_so}
 use Rattle.id_tree.proofs.search.+descend.Goals as goal
 
@@ -84,9 +83,7 @@ returns-in-Some-clause-comes g t c = λ h.
     (c.in_ok-way.ensures.names h) in
     let same = c.in_ok-way.ensures.asks.map.given_stay h in
     let honest = c.in_ok-way.ensures.asks.gate.honest.0 h in
-    if_ok c.descend.result
-    (λ leaf. IfSome leaf (ComesInTree g.row.D (given c.step.new.cache) c.in-Some.child))
-    (λ leaf. IfSome leaf (ComesInTree g.row.D (given c.args.cache.now) c.args.page))
+    if_ok c.descend.result _ _
     (comes_under g.row.D (given c.args.cache.now) (given c.step.new.cache) c.args.page c.in-Some.child same
     names) (c.descend.ensures.comes honest)
 

@@ -1,13 +1,12 @@
 -- The leaf to which the way leads, and what a search finds there.
 use Rattle.std.proofs.Common.{◌≡◌, ℕ, Option, refl, sym, subst, inl, inr}
-use Rattle.std.specs.FinMap as map
 use Rattle.page_cache.specs.Cache.{pages, given}
 use Rattle.page_cache.specs.Calls.{asks_in_turn, fault_in}
 use Rattle.node_page.proofs.DamageLemmas.{damaged_read}
 use Rattle.id_words.proofs.Results.{if_both}
-use Rattle.id_tree.specs.Checked.{ComesDown, ComesInTree, IsMet}
+use Rattle.id_tree.specs.Checked.{ComesDown, ComesInTree}
 use Rattle.id_tree.specs.Rows.{IsLeafPlace, IsSoughtIn, LeadsBelow}
-use Rattle.id_tree.specs.Tree.{objects_in, objects_of}
+use Rattle.id_tree.specs.Tree.{objects_in}
 use Rattle.id_tree.proofs.DamageLemmas.{named_some, reached}
 use Rattle.id_tree.proofs.PlaceLemmas.{is_last, nowhere_at, nowhere_is, sought_at, sought_is}
 use Rattle.id_tree.proofs.ResultLemmas.{if_ok, if_err}
@@ -30,8 +29,7 @@ returns-in-Some-clause-found g c = λ h t at stands.
     let leads = subst (LeadsBelow root t.level id t.row) c.in-Some.is
     (c.in_ok-leaf.ensures.found h t at stands) in
     let last = is_last D mid t root id leaf leads.0 at tree leads.1 in
-    if_ok c.seek_in.result (λ sought. IsSoughtIn id (objects_in leads.0) sought.at.place sought.kept)
-    (λ sought. sought.kept ≡ map.get (objects_of t) id)
+    if_ok c.seek_in.result _ _
     (λ sought is. sought_is D mid t root id leaf leads.0 at tree leads.1 sought.at.place sought.kept is)
     (c.seek_in.ensures.found (asks.gate.honest.0 h) (objects_in leads.0) (last.stands.node.leaf refl))
 
@@ -75,7 +73,7 @@ returns-in-Some-clause-comes g c = λ h.
     let leaf = c.in-Some.leaf in
     let comes = named_some (ComesInTree D m root) c.in_ok-leaf.field-0 leaf c.in-Some.is
     (c.in_ok-leaf.ensures.comes h) in
-    if_ok c.seek_in.result (λ sought. sought.at.leaf ≡ leaf) (λ sought. IsMet D m root sought.at.leaf)
+    if_ok c.seek_in.result _ _
     (λ sought is. inr (subst (ComesInTree D m root) (sym is) comes)) c.seek_in.ensures.here
 
 pub returns-in-Some-clause-damage : goal.returns-in-Some-clause-damage

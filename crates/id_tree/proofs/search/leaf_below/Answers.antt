@@ -1,6 +1,6 @@
 -- A way begins at the root.
 use Rattle.std.proofs.Common.{◌≡◌, ◌∙◌, ◌-◌, ◌<◌, ℕ, [], true, ap, arith, subst, sym}
-use Rattle.std.specs.Prelude.{IfOk, IfSome}
+use Rattle.std.specs.Prelude.{IfOk}
 use Rattle.page_cache.specs.Cache.{pages, given}
 use Rattle.page_cache.specs.Calls.{asks_in_turn, fault_in}
 use Rattle.id_tree.specs.Rows.{LeadsBelow, MaySeek}
@@ -13,7 +13,7 @@ use Rattle.id_tree.proofs.WayLemmas.{way_of}
 use Rattle.page_file.specs.declared.fault.Fault.TheVariants as fault
 use Rattle.node_page.proofs.NodeLemmas.{at_error}
 use Rattle.id_tree.proofs.DamageLemmas.{comes_at, comes_down, comes_under, damaged_is, down_by, named_some}
-use Rattle.id_tree.specs.Checked.{ComesDown, ComesInTree, NamesChild, SpellsFork}
+use Rattle.id_tree.specs.Checked.{ComesDown, NamesChild, SpellsFork}
 use Rattle.id_tree.proofs.GivenLemmas.{comes_here, comes_so}
 use Rattle.id_tree.proofs.search.leaf_below.Goals as goal
 
@@ -101,9 +101,7 @@ returns-in-Some-clause-comes g c = λ h.
     (c.in_ok-way.ensures.names h) in
     let same = c.in_ok-way.ensures.asks.map.given_stay h in
     let honest = c.in_ok-way.ensures.asks.gate.honest.0 h in
-    if_ok c.descend.result
-    (λ leaf. IfSome leaf (ComesInTree g.row.D (given c.step.new.cache) c.in-Some.child))
-    (λ leaf. IfSome leaf (ComesInTree g.row.D (given c.args.cache.now) c.args.root))
+    if_ok c.descend.result _ _
     (comes_under g.row.D (given c.args.cache.now) (given c.step.new.cache) c.args.root c.in-Some.child same
     names) (c.descend.ensures.comes honest)
 
@@ -132,8 +130,7 @@ returns-in-Some-clause-down g c = λ h.
     let high : 0 < way.level = omega (arith, c.if-way-eq0.false) in
     let names = named_some (NamesChild D old root) way.child c.in-Some.child c.in-Some.is
     (c.in_ok-way.ensures.names h) in
-    if_ok c.descend.result (ComesDown D mid c.in-Some.child (way.level - 1))
-    (λ leaf. (level : ℕ) × ComesDown D old root level leaf)
+    if_ok c.descend.result (ComesDown D mid c.in-Some.child (way.level - 1)) _
     (λ leaf comes. (
       way.level,
       down_by D old mid root c.in-Some.child way.level way.count

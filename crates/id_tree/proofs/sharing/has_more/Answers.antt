@@ -1,8 +1,7 @@
 -- The counts that both pages say.
-use Rattle.std.proofs.Common.{◌≡◌, ◌∙◌, ◌⊎◌, ℕ, inl, inr, arith}
+use Rattle.std.proofs.Common.{◌∙◌, inl, inr, arith}
 use Rattle.std.proofs.lemmas.Bool.Decides.{nat_tests}
 use Rattle.page_file.specs.Fault.{IsOfDevice}
-use Rattle.page_file.specs.declared.fault.Fault.TheVariants as fault
 use Rattle.page_cache.specs.Cache.{pages}
 use Rattle.node_page.proofs.NodeLemmas.{at_error}
 use Rattle.node_page.proofs.DamageLemmas.{damaged_read}
@@ -41,16 +40,14 @@ returns-clause-less g c = λ h one two is_one is_two no.
 
 pub returns-in_err-one-clause-damage : goal.returns-in_err-one-clause-damage
 returns-in_err-one-clause-damage g c = λ h.
-    at_error c.from_residual.result c.in_err-one.field-0.0
-    (λ e. (n : ℕ) → e ≡ fault.Damaged n → (n ≡ c.args.first) ⊎ (n ≡ c.args.second))
+    at_error c.from_residual.result c.in_err-one.field-0.0 _
     c.from_residual.ensures.1
     (λ n damaged. inl
     (damaged_read c.in_err-one.field-0.0 c.args.first n (c.in_err-one.ensures.damage h) damaged))
 
 pub returns-in_err-two-clause-damage : goal.returns-in_err-two-clause-damage
 returns-in_err-two-clause-damage g c = λ h.
-    at_error c.from_residual-in_err-two.result c.in_err-two.field-0.0
-    (λ e. (n : ℕ) → e ≡ fault.Damaged n → (n ≡ c.args.first) ⊎ (n ≡ c.args.second))
+    at_error c.from_residual-in_err-two.result c.in_err-two.field-0.0 _
     c.from_residual-in_err-two.ensures.1
     (λ n damaged. inr (damaged_read c.in_err-two.field-0.0 c.args.second n
     (c.in_err-two.ensures.damage (c.in_ok-one.ensures.asks.gate.honest.0 h)) damaged))

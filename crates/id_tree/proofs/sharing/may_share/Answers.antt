@@ -1,7 +1,6 @@
 -- The counts in both pages are those of the leaves.
-use Rattle.std.proofs.Common.{◌≡◌, ◌∙◌, ◌⊎◌, ℕ, inl, inr, arith}
+use Rattle.std.proofs.Common.{◌∙◌, inl, inr, arith}
 use Rattle.page_file.specs.Fault.{IsOfDevice}
-use Rattle.page_file.specs.declared.fault.Fault.TheVariants as fault
 use Rattle.page_cache.specs.Cache.{pages}
 use Rattle.id_page.proofs.ObjectPlaces.{few_objects}
 use Rattle.node_page.proofs.NodeLemmas.{at_error}
@@ -107,16 +106,14 @@ returns-clause-accepts g c = λ h level one two low node_one node_two many few.
 
 pub returns-in_err-one-clause-damage : goal.returns-in_err-one-clause-damage
 returns-in_err-one-clause-damage g c = λ h.
-    at_error c.from_residual.result c.in_err-one.field-0.0
-    (λ e. (n : ℕ) → e ≡ fault.Damaged n → (n ≡ c.args.first) ⊎ (n ≡ c.args.second))
+    at_error c.from_residual.result c.in_err-one.field-0.0 _
     c.from_residual.ensures.1
     (λ n damaged. inl
     (damaged_read c.in_err-one.field-0.0 c.args.first n (c.in_err-one.ensures.damage h) damaged))
 
 pub returns-in_err-two-clause-damage : goal.returns-in_err-two-clause-damage
 returns-in_err-two-clause-damage g c = λ h.
-    at_error c.from_residual-in_err-two.result c.in_err-two.field-0.0
-    (λ e. (n : ℕ) → e ≡ fault.Damaged n → (n ≡ c.args.first) ⊎ (n ≡ c.args.second))
+    at_error c.from_residual-in_err-two.result c.in_err-two.field-0.0 _
     c.from_residual-in_err-two.ensures.1
     (λ n damaged. inr (damaged_read c.in_err-two.field-0.0 c.args.second n
     (c.in_err-two.ensures.damage (c.in_ok-one.ensures.asks.gate.honest.0 h)) damaged))

@@ -1,6 +1,6 @@
 -- The fork and its child are those that stand.
 use Rattle.id_tree.proofs.WorksLemmas.{finds_none}
-use Rattle.std.proofs.Common.{arith, ◌≡◌, ◌⊎◌, ℕ, inl, inr}
+use Rattle.std.proofs.Common.{arith, ◌≡◌, inl, inr}
 use Rattle.page_cache.specs.Cache.{pages}
 use Rattle.node_page.proofs.NodeLemmas.{at_error}
 use Rattle.id_page.proofs.ForkReading.{count_of_fork}
@@ -16,8 +16,7 @@ use Rattle.id_tree.proofs.splitting.plan_split.Goals as goal
 
 pub returns-in_err-fork-clause-damage : goal.returns-in_err-fork-clause-damage
 returns-in_err-fork-clause-damage g c = λ h.
-    at_error c.from_residual.result c.in_err-fork.field-0.0
-    (λ e. (n : ℕ) → e ≡ fault.Damaged n → (n ≡ c.args.page) ⊎ (n ≡ c.args.below.now.child))
+    at_error c.from_residual.result c.in_err-fork.field-0.0 _
     c.from_residual.ensures.1
     (λ n damaged. inl
     (damaged_read c.in_err-fork.field-0.0 c.args.page n (c.in_err-fork.ensures.damage h) damaged))
@@ -33,8 +32,7 @@ returns-then-below-count-clause-damage g c = λ h n (damaged : fault.Damaged c.a
 pub returns-in_err-cut-clause-damage : goal.returns-in_err-cut-clause-damage
 returns-in_err-cut-clause-damage g c = λ h.
     let honest = c.in_ok-fork.ensures.asks.gate.honest.0 h in
-    at_error c.from_residual-in_err-cut.result c.in_err-cut.field-0.0
-    (λ e. (n : ℕ) → e ≡ fault.Damaged n → (n ≡ c.args.page) ⊎ (n ≡ c.args.below.now.child))
+    at_error c.from_residual-in_err-cut.result c.in_err-cut.field-0.0 _
     c.from_residual-in_err-cut.ensures.1
     (λ n damaged. inr
     (damaged_read c.in_err-cut.field-0.0 c.args.below.now.child n (c.in_err-cut.ensures.damage honest) damaged))

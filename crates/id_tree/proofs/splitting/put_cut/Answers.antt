@@ -1,5 +1,5 @@
 -- The fork is named once both halves are put.
-use Rattle.std.proofs.Common.{inl, ◌∙◌, ap, ◌≡◌, ℕ}
+use Rattle.std.proofs.Common.{inl, ◌∙◌, ap}
 use Rattle.page_cache.specs.Laws.{a_live_page_was_given_out}
 use Rattle.id_tree.proofs.WorksLemmas.{works_handed, works_refused}
 use Rattle.page_cache.specs.Cache.{pages, touched_of}
@@ -7,15 +7,12 @@ use Rattle.id_tree.specs.Tree.{fork_in}
 use Rattle.id_tree.proofs.SplitLemmas.{given_live}
 use Rattle.id_tree.proofs.TidyLemmas.{fork_node, node_fork, tidy_put}
 use Rattle.id_words.proofs.WriteLemmas.{not_both}
-use Rattle.page_file.specs.declared.fault.Fault.TheVariants as fault
 use Rattle.node_page.proofs.NodeLemmas.{at_error}
-use Rattle.id_words.specs.Damage.{MayBreakAt}
 use Rattle.id_tree.proofs.splitting.put_cut.Goals as goal
 
 pub returns-in_err-number-clause-damage : goal.returns-in_err-number-clause-damage
 returns-in_err-number-clause-damage g c = λ h none.
-    at_error c.from_residual.result c.in_err-number.field-0.0
-    (λ e. (n : ℕ) → e ≡ fault.Damaged n → MayBreakAt c.args.cache.now n)
+    at_error c.from_residual.result c.in_err-number.field-0.0 _
     c.from_residual.ensures.1 (c.in_err-number.ensures.damage h none)
 
 pub returns-in_err-put-clause-damage : goal.returns-in_err-put-clause-damage

@@ -1,19 +1,16 @@
 -- The half where the identifier is has room.
 use Rattle.id_tree.proofs.WorksLemmas.{works_handed}
-use Rattle.std.proofs.Common.{arith, ◌≡◌, ℕ}
+use Rattle.std.proofs.Common.{arith}
 use Rattle.page_cache.specs.Cache.{pages}
 use Rattle.id_tree.proofs.NodeLemmas.{node_there}
 use Rattle.id_tree.proofs.SplitLemmas.{child_live, room_left, room_right}
 use Rattle.id_tree.proofs.WayLemmas.{page_apart}
-use Rattle.page_file.specs.declared.fault.Fault.TheVariants as fault
 use Rattle.node_page.proofs.NodeLemmas.{at_error}
-use Rattle.id_words.specs.Damage.{MayBreakAt}
 use Rattle.id_tree.proofs.splitting.put_split.Goals as goal
 
 pub returns-in_err-number-clause-damage : goal.returns-in_err-number-clause-damage
 returns-in_err-number-clause-damage g c = λ h none.
-    at_error c.from_residual.result c.in_err-number.field-0.0
-    (λ e. (n : ℕ) → e ≡ fault.Damaged n → MayBreakAt c.args.cache.now n)
+    at_error c.from_residual.result c.in_err-number.field-0.0 _
     c.from_residual.ensures.1 (c.in_err-number.ensures.damage h none)
 
 pub returns-then-id-plan-clause-touched : goal.returns-then-id-plan-clause-touched

@@ -1,13 +1,11 @@
 -- A split that was looked out is made.
 use Rattle.id_tree.proofs.WorksLemmas.{works_from, works_refused}
-use Rattle.std.proofs.Common.{inl, ◌≡◌, ◌⊎◌, ℕ, inr}
+use Rattle.std.proofs.Common.{inl, inr}
 use Rattle.page_cache.specs.Cache.{pages}
 use Rattle.page_cache.specs.Calls.{asks_and_changes}
 use Rattle.node_page.proofs.NodeLemmas.{at_error}
 use Rattle.id_tree.proofs.ResultLemmas.{if_err}
 use Rattle.id_tree.proofs.SplitLemmas.{halves_from, plans_same, split_again}
-use Rattle.page_file.specs.declared.fault.Fault.TheVariants as fault
-use Rattle.id_words.specs.Damage.{MayBreakAt}
 use Rattle.id_tree.proofs.DamageLemmas.{breaks_kept}
 use Rattle.id_tree.proofs.splitting.split.Goals as goal
 
@@ -17,17 +15,13 @@ returns-clause-changes g c = asks_and_changes c.args.cache.now c.plan_split.new.
 
 pub returns-in_err-plan-clause-damage : goal.returns-in_err-plan-clause-damage
 returns-in_err-plan-clause-damage g c = λ h none.
-    at_error c.from_residual.result c.in_err-plan.field-0.0
-    (λ e. (n : ℕ) → e ≡ fault.Damaged n → ((n ≡ c.args.page) ⊎ (n ≡ c.args.below.now.child))
-    ⊎ MayBreakAt c.args.cache.now n)
+    at_error c.from_residual.result c.in_err-plan.field-0.0 _
     c.from_residual.ensures.1 (λ n damaged. inl (c.in_err-plan.ensures.damage h n damaged))
 
 pub returns-clause-damage : goal.returns-clause-damage
 returns-clause-damage g c = λ h none.
     let asks = c.in_ok-plan.ensures.asks in
-    if_err c.put_split.result (λ e. (n : ℕ) → e ≡ fault.Damaged n → MayBreakAt c.plan_split.new.cache n)
-    (λ e. (n : ℕ) → e ≡ fault.Damaged n → ((n ≡ c.args.page) ⊎ (n ≡ c.args.below.now.child))
-    ⊎ MayBreakAt c.args.cache.now n)
+    if_err c.put_split.result _ _
     (λ e breaks n damaged. inr
     (breaks_kept c.args.cache.now c.plan_split.new.cache n asks.map h (breaks n damaged)))
     (c.put_split.ensures.damage (asks.gate.honest.0 h) none)

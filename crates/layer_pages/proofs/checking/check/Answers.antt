@@ -1,12 +1,10 @@
 -- The tree is checked, the table, and what they have in common.
-use Rattle.std.proofs.Common.{◌≡◌, ℕ, None, Vec, Bor, inl, inr, sym}
-use Rattle.page_file.specs.declared.fault.Fault.TheVariants as fault
+use Rattle.std.proofs.Common.{ℕ, None, Vec, Bor, inl, inr, sym}
 use Rattle.page_file.specs.Fault.{IsOfDevice}
 use Rattle.page_cache.specs.Cache.{given, pages}
 use Rattle.page_cache.specs.Calls.{asks_and_refuses, asks_in_turn}
 use Rattle.node_page.proofs.NodeLemmas.{at_error}
 use Rattle.id_table.proofs.TableLemmas.{ids_stay}
-use Rattle.layer_pages.specs.Checked.{ComesInLayer}
 use Rattle.layer_pages.proofs.CheckLemmas.{comes_oddly, comes_on}
 use Rattle.layer_pages.proofs.CheckLemmas.{all_checked, if_err, layer_given, listed_there, pairs_there}
 use Rattle.layer_pages.proofs.CheckLemmas.{quiet_asks}
@@ -73,7 +71,7 @@ returns-clause-stands g c = λ h l objects is count_is.
     table_on g.row.D (given c.check_tree.new.cache) old c.args.ids_root listed.pairs.items
     listed.pages.items (λ n. sym (a.map.given_stay h n))
     (c.in_ok-table.ensures.given_table (a.gate.honest.0 h)) in
-    if_err c.pages_of_both.result (λ f. f ≡ fault.Memory) IsOfDevice (λ f is. inl is)
+    if_err c.pages_of_both.result _ IsOfDevice (λ f is. inl is)
     (c.pages_of_both.ensures.stands objects count_is
     (pairs_there g.row.D c.args.fanout old c.args.root c.args.ids_root held.pairs.items listed.pairs.items
     held.pages.items listed.pages.items tree table l objects given_is)
@@ -83,16 +81,13 @@ returns-clause-stands g c = λ h l objects is count_is.
 pub returns-in_err-tree-clause-damage : goal.returns-in_err-tree-clause-damage
 returns-in_err-tree-clause-damage g c = λ h.
     at_error c.from_residual.result c.in_err-tree.field-0.0
-    (λ f. (n : ℕ) → f ≡ fault.Damaged n
-    → ComesInLayer g.row.D (given c.args.cache.now) c.args.root c.args.ids_root n) c.from_residual.ensures.1
+    _ c.from_residual.ensures.1
     (λ n is. inr (inl (c.in_err-tree.ensures.damage h n is)))
 
 pub returns-in_err-table-clause-damage : goal.returns-in_err-table-clause-damage
 returns-in_err-table-clause-damage g c = λ h.
     let a = c.in_ok-tree.ensures.asks in
-    at_error c.from_residual-in_err-table.result c.in_err-table.field-0.0
-    (λ f. (n : ℕ) → f ≡ fault.Damaged n
-    → ComesInLayer g.row.D (given c.args.cache.now) c.args.root c.args.ids_root n)
+    at_error c.from_residual-in_err-table.result c.in_err-table.field-0.0 _
     c.from_residual-in_err-table.ensures.1
     (λ n is. inr (inr (comes_on g.row.D (given c.check_tree.new.cache) (given c.args.cache.now)
     c.args.ids_root n (λ k. a.map.given_stay h k) (c.in_err-table.ensures.damage (a.gate.honest.0 h) n is))))

@@ -1,9 +1,6 @@
 -- An object fewer in the tree, and then in the table.
-use Rattle.std.proofs.Common.{◌≡◌, None, inl}
-use Rattle.std.specs.Prelude.{◌⊎◌}
+use Rattle.std.proofs.Common.{None, inl}
 use Rattle.box_math.specs.Objects.{Object}
-use Rattle.page_file.specs.Fault.{IsOfDevice}
-use Rattle.page_file.specs.declared.fault.Fault.TheVariants as fault
 use Rattle.page_cache.specs.Cache.{pages}
 use Rattle.page_cache.specs.Calls.{changes_and_refuses, changes_in_turn}
 use Rattle.node_page.proofs.NodeLemmas.{at_error}
@@ -32,7 +29,7 @@ returns-in_err-after-clause-absent g c = λ sound l objects is absent.
     (c.args.object.now.entry.bounds, c.args.object.now.entry.tag) absent) in (
       refused.0,
       refused_so c.from_residual.result c.in_err-after.field-0.0
-          (λ f. IsOfDevice f ⊎ (f ≡ fault.Damaged c.args.layer.root.page)) c.from_residual.ensures.1
+          _ c.from_residual.ensures.1
           refused.1,
     )
 

@@ -1,8 +1,5 @@
 -- The object with another box in the tree, and then in the table.
-use Rattle.std.proofs.Common.{◌≡◌, None, inl, refl}
-use Rattle.std.specs.Prelude.{◌⊎◌}
-use Rattle.page_file.specs.Fault.{IsOfDevice}
-use Rattle.page_file.specs.declared.fault.Fault.TheVariants as fault
+use Rattle.std.proofs.Common.{None, inl, refl}
 use Rattle.page_cache.specs.Cache.{pages}
 use Rattle.page_cache.specs.Calls.{changes_and_refuses, changes_in_turn}
 use Rattle.tree_node.specs.Trees.{object}
@@ -35,7 +32,7 @@ returns-in_err-between-clause-absent g c = λ sound l objects is absent.
     (c.args.object.now.entry.bounds, c.args.object.now.entry.tag) absent) in (
       refused.0,
       refused_so c.from_residual.result c.in_err-between.field-0.0
-          (λ f. IsOfDevice f ⊎ (f ≡ fault.Damaged c.args.layer.root.page)) c.from_residual.ensures.1
+          _ c.from_residual.ensures.1
           refused.1,
     )
 

@@ -4,7 +4,6 @@ use Rattle.page_file.specs.Fault.{IsOfDevice}
 use Rattle.page_file.specs.declared.fault.Fault.TheVariants as fault
 use Rattle.page_cache.specs.Cache.{given}
 use Rattle.page_cache.specs.Calls.{asks_and_refuses, asks_in_turn}
-use Rattle.node_page.specs.Checked.{ComesTo}
 use Rattle.node_page.proofs.NodeLemmas.{at_error, if_error}
 use Rattle.nearest.specs.Candidates.{work_in}
 use Rattle.nearest.proofs.DamageLemmas.{refused_there}
@@ -132,8 +131,7 @@ returns-in_err-look_at_objects-clause-asks g c =
 pub returns-in_err-look_at_objects-clause-damage : goal.returns-in_err-look_at_objects-clause-damage
 returns-in_err-look_at_objects-clause-damage g c = λ h.
     let so_far = c.loop-first.invariant in
-    at_error c.from_residual-in_err-look_at_objects.result c.in_err-look_at_objects.field-0.0
-    (λ f. (n : ℕ) → f ≡ fault.Damaged n → ComesTo g.row.D (given c.args.cache.now) c.args.root.page n)
+    at_error c.from_residual-in_err-look_at_objects.result c.in_err-look_at_objects.field-0.0 _
     c.from_residual-in_err-look_at_objects.ensures.1
     (λ n damaged. refused_there g.row.D (given c.args.cache.now) c.args.root.page c.in-Some.first
     c.in_err-look_at_objects.field-0.0 n
@@ -144,8 +142,7 @@ returns-in_err-look_at_objects-clause-damage g c = λ h.
 pub returns-in_err-look_at_children-clause-damage : goal.returns-in_err-look_at_children-clause-damage
 returns-in_err-look_at_children-clause-damage g c = λ h.
     let so_far = c.loop-first.invariant in
-    at_error c.from_residual-in_err-look_at_children.result c.in_err-look_at_children.field-0.0
-    (λ f. (n : ℕ) → f ≡ fault.Damaged n → ComesTo g.row.D (given c.args.cache.now) c.args.root.page n)
+    at_error c.from_residual-in_err-look_at_children.result c.in_err-look_at_children.field-0.0 _
     c.from_residual-in_err-look_at_children.ensures.1
     (λ n damaged. refused_there g.row.D (given c.args.cache.now) c.args.root.page c.in-Some.first
     c.in_err-look_at_children.field-0.0 n
@@ -156,7 +153,6 @@ returns-in_err-look_at_children-clause-damage g c = λ h.
 pub returns-clause-damage : goal.returns-clause-damage
 returns-clause-damage g c = λ h.
     if_error c.into_rows.result
-    (λ f. f ≡ fault.Memory)
-    (λ f. (n : ℕ) → f ≡ fault.Damaged n → ComesTo g.row.D (given c.args.cache.now) c.args.root.page n)
+    (λ f. f ≡ fault.Memory) _
     (λ f (memory : f ≡ fault.Memory) n (damaged : f ≡ fault.Damaged n). absurd (cc))
     c.into_rows.ensures.memory

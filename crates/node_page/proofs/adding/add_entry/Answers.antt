@@ -1,10 +1,9 @@
 -- The node is that of the page, with the entry after the others.
-use Rattle.std.proofs.Common.{inl, ◌⊎◌}
+use Rattle.std.proofs.Common.{inl}
 use Rattle.std.proofs.Common.{◌≡◌, ◌∙◌, ℕ, ◌<◌, ap, arith, IfSome, is_some, length, true, List, Option, None}
 use Rattle.std.proofs.Common.{Some, subst, sym}
 use Rattle.std.specs.Prelude.{IsSomeAnd}
 use Rattle.page_file.specs.Fault.{IsOfDevice}
-use Rattle.page_file.specs.declared.fault.Fault.TheVariants as fault
 use Rattle.page_cache.specs.Cache.{IsHonest, pages}
 use Rattle.page_cache.specs.Calls.{asks_changes, changes_and_refuses, changes_in_turn}
 use Rattle.page_cache.specs.Laws.{a_live_page_is_given, a_live_page_was_given_out}
@@ -115,7 +114,7 @@ returns-in_err-edit_node-clause-named g c = λ h.
     let node = c.in_ok-bounds.ensures.given_node h in
     let out = node_was_given_out g.row.D c.args.cache.now c.args.page node.0 node.1 in
     at_error c.from_residual-in_err-edit_node.result c.in_err-edit_node.field-0.0
-    (λ f. IsOfDevice f ⊎ (f ≡ fault.Damaged c.args.page)) c.from_residual-in_err-edit_node.ensures.1
+    _ c.from_residual-in_err-edit_node.ensures.1
     (inl (c.in_err-edit_node.ensures.faults (asks.gate.honest.0 h) out.0 (omega (arith, out.1, asks.map.next))))
 
 pub returns-in_err-edit_node-clause-held : goal.returns-in_err-edit_node-clause-held

@@ -9,7 +9,7 @@ use Rattle.page_cache.specs.Cache.{given, looks_of}
 use Rattle.page_cache.specs.Calls.{asks_and_refuses, asks_in_turn, no_call_asks}
 use Rattle.page_cache.specs.Laws.{numbers_are_few}
 use Rattle.tree_node.specs.Nodes.{content_of, item_of}
-use Rattle.node_page.specs.Checked.{ComesTo, IsCheckedTree}
+use Rattle.node_page.specs.Checked.{IsCheckedTree}
 use Rattle.node_page.specs.Standing.{RowStands}
 use Rattle.node_page.specs.Visits.{times_in}
 use Rattle.node_page.proofs.CheckLemmas.{adds_on, checked_live, quiet_visit, refuses_quietly, root_count}
@@ -131,16 +131,14 @@ returns-clause-tree g c =
 
 pub returns-in_err-visit-clause-damage : goal.returns-in_err-visit-clause-damage
 returns-in_err-visit-clause-damage g c = λ h.
-    at_error c.from_residual-in_err-visit.result c.in_err-visit.field-0.0
-    (λ f. (n : ℕ) → f ≡ fault.Damaged n → ComesTo g.row.D (given c.args.cache.now) c.args.root.page n)
+    at_error c.from_residual-in_err-visit.result c.in_err-visit.field-0.0 _
     c.from_residual-in_err-visit.ensures.1
     (λ n damaged.
     ([], damaged_visit c.in_err-visit.field-0.0 c.args.root.page n c.in_err-visit.ensures.faults damaged))
 
 pub returns-in_err-node-clause-damage : goal.returns-in_err-node-clause-damage
 returns-in_err-node-clause-damage g c = λ h.
-    at_error c.from_residual-in_err-node.result c.in_err-node.field-0.0
-    (λ f. (n : ℕ) → f ≡ fault.Damaged n → ComesTo g.row.D (given c.args.cache.now) c.args.root.page n)
+    at_error c.from_residual-in_err-node.result c.in_err-node.field-0.0 _
     c.from_residual-in_err-node.ensures.1
     (λ n damaged. (
       [],
@@ -156,8 +154,7 @@ pub returns-in_err-add_below-clause-damage : goal.returns-in_err-add_below-claus
 returns-in_err-add_below-clause-damage g c = λ h.
     let old = c.args.cache.now in
     let a = c.in_ok-node.ensures.asks in
-    at_error c.from_residual-in_err-add_below.result c.in_err-add_below.field-0.0
-    (λ f. (n : ℕ) → f ≡ fault.Damaged n → ComesTo g.row.D (given c.args.cache.now) c.args.root.page n)
+    at_error c.from_residual-in_err-add_below.result c.in_err-add_below.field-0.0 _
     c.from_residual-in_err-add_below.ensures.1
     (λ n damaged. comes_on g.row.D (given old) c.args.root.page (content_of c.in_ok-node.node) n
     (c.in_ok-node.ensures.given_node h)

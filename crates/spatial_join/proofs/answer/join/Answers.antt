@@ -1,12 +1,11 @@
 -- The goals of `join` that are proved by hand.
-use Rattle.std.proofs.Common.{◌≡◌, ◌⊎◌, None, ℕ, [], ap, arith, inl, inr, subst, ⊎_elim}
+use Rattle.std.proofs.Common.{None, ℕ, [], ap, arith, inl, inr, subst, ⊎_elim}
 use Rattle.page_file.specs.Fault.{IsOfDevice}
-use Rattle.page_file.specs.declared.fault.Fault.TheVariants as fault
 use Rattle.page_cache.specs.Calls.{AsksUntil, asks_and_refuses, asks_in_turn}
 use Rattle.page_cache.specs.Cache.{given, pages}
 use Rattle.tree_node.specs.Nodes.{content_of}
 use Rattle.tree_node.specs.Joins.{admitted_pairs}
-use Rattle.node_page.specs.Checked.{ComesBelow, ComesTo}
+use Rattle.node_page.specs.Checked.{ComesBelow}
 use Rattle.node_page.proofs.DamageLemmas.{comes_below_so, damaged_read}
 use Rattle.node_page.proofs.NodeLemmas.{at_error}
 use Rattle.spatial_join.specs.Opening.{opened_root}
@@ -101,9 +100,7 @@ returns-clause-looks g c = λ h s t most other_most is is'.
 
 pub returns-in_err-left-clause-damage : goal.returns-in_err-left-clause-damage
 returns-in_err-left-clause-damage g c = λ h.
-    at_error c.from_residual.result c.in_err-left.field-0.0
-    (λ f. (n : ℕ) → f ≡ fault.Damaged n → ComesTo g.row.D (given c.args.cache.now) c.args.a.page n
-    ⊎ ComesTo g.row.D (given c.args.cache.now) c.args.b.page n)
+    at_error c.from_residual.result c.in_err-left.field-0.0 _
     c.from_residual.ensures.1
     (λ n damaged. inl (
       [],
@@ -113,9 +110,7 @@ returns-in_err-left-clause-damage g c = λ h.
 
 pub returns-in_err-right-clause-damage : goal.returns-in_err-right-clause-damage
 returns-in_err-right-clause-damage g c = λ h.
-    at_error c.from_residual-in_err-right.result c.in_err-right.field-0.0
-    (λ f. (n : ℕ) → f ≡ fault.Damaged n → ComesTo g.row.D (given c.args.cache.now) c.args.a.page n
-    ⊎ ComesTo g.row.D (given c.args.cache.now) c.args.b.page n)
+    at_error c.from_residual-in_err-right.result c.in_err-right.field-0.0 _
     c.from_residual-in_err-right.ensures.1
     (λ n damaged. inr (
       [],
@@ -135,9 +130,7 @@ returns-in_err-add_pairs-clause-damage g c = λ h.
     let both : AsksUntil c.args.cache.now c.open_root-2.new.cache None =
     asks_in_turn c.args.cache.now c.open_root.new.cache c.open_root-2.new.cache None
     asks c.in_ok-right.ensures.asks in
-    at_error c.from_residual-in_err-add_pairs.result c.in_err-add_pairs.field-0.0
-    (λ f. (n : ℕ) → f ≡ fault.Damaged n → ComesTo g.row.D (given c.args.cache.now) c.args.a.page n
-    ⊎ ComesTo g.row.D (given c.args.cache.now) c.args.b.page n)
+    at_error c.from_residual-in_err-add_pairs.result c.in_err-add_pairs.field-0.0 _
     c.from_residual-in_err-add_pairs.ensures.1
     (λ n damaged. ⊎_elim
     (λ (walk : ComesBelow g.row.D two left n). inl

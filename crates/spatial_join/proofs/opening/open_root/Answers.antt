@@ -1,8 +1,7 @@
 -- The goals of `open_root` that are proved by hand.
-use Rattle.std.proofs.Common.{rules, ◌≡◌, ◌∙◌, ◌⊎◌, Option, ap, sym, refl, arith}
+use Rattle.std.proofs.Common.{rules, ◌∙◌, Option, ap, sym, refl, arith}
 use Rattle.box_math.specs.Bounds.{Bounds}
 use Rattle.page_file.specs.Fault.{IsOfDevice}
-use Rattle.page_file.specs.declared.fault.Fault.TheVariants as fault
 use Rattle.page_cache.specs.Cache.{given, pages}
 use Rattle.tree_node.specs.Nodes.{content_of}
 use Rattle.tree_node.specs.Trees.{row_items}
@@ -70,5 +69,5 @@ returns-clause-walks g c = λ h n below.
 pub returns-in_err-node-clause-faults : goal.returns-in_err-node-clause-faults
 returns-in_err-node-clause-faults g c = λ h.
     at_error c.from_residual.result c.in_err-node.field-0.0
-    (λ f. IsOfDevice f ⊎ (f ≡ fault.Damaged c.args.root.page)) c.from_residual.ensures.1
+    _ c.from_residual.ensures.1
     (c.in_err-node.ensures.faults h)

@@ -1,5 +1,5 @@
 -- The goals of the descent that are proved by hand.
-use Rattle.std.proofs.Common.{◌≡◌, ◌∙◌, ◌⊎◌, ℕ, ◌+◌, ◌-◌, ◌<◌, None, [], ap, inl, inr, length, refl, sym}
+use Rattle.std.proofs.Common.{◌≡◌, ◌∙◌, ◌+◌, ◌-◌, ◌<◌, None, [], ap, inl, inr, length, refl, sym}
 use Rattle.std.proofs.Common.{⊎_elim, arith, rules}
 use Rattle.std.specs.Int.{w128}
 use Rattle.std.proofs.lemmas.List.{length-map}
@@ -231,9 +231,7 @@ add_pairs_of_entry-returns-in_err-add_leaf_pairs-clause-damage g t c = λ h.
     let names =
     names_here (content_of right) c.deref.result.now right.entries.items c.in-Some.place other refl
     c.deref.ensures.0 c.requires.right_above within c.index-deref-place.is in
-    at_error c.from_residual-in_err-add_leaf_pairs.result c.in_err-add_leaf_pairs.field-0.0
-    (λ f. (n : ℕ) → f ≡ fault.Damaged n → ComesTo g.row.D (given c.args.cache.now)
-    c.args.entry.now.reference n ⊎ ComesBelow g.row.D (given c.args.cache.now) (content_of right) n)
+    at_error c.from_residual-in_err-add_leaf_pairs.result c.in_err-add_leaf_pairs.field-0.0 _
     c.from_residual-in_err-add_leaf_pairs.ensures.1
     (λ n damaged. inr
     (comes_to_child g.row.D (given c.args.cache.now) (content_of right) other.reference n names
@@ -404,10 +402,7 @@ add_pairs_of_entry-returns-then-mask-eq0-clause-asks g k c = no_call_asks c.args
 
 pub add_pairs-returns-in_err-push_pairs-clause-damage : goal.add_pairs-returns-in_err-push_pairs-clause-damage
 add_pairs-returns-in_err-push_pairs-clause-damage g t c = λ h.
-    at_error c.from_residual.result c.in_err-push_pairs.field-0.0
-    (λ f. (n : ℕ) → f ≡ fault.Damaged n → ComesBelow g.row.D (given c.args.cache.now)
-    (content_of c.args.left.now) n ⊎ ComesBelow g.row.D (given c.args.cache.now)
-    (content_of c.args.right.now) n)
+    at_error c.from_residual.result c.in_err-push_pairs.field-0.0 _
     c.from_residual.ensures.1
     (λ n (damaged : c.in_err-push_pairs.field-0.0 ≡ fault.Damaged n).
     let memory = c.in_err-push_pairs.ensures.memory in absurd (cc))
@@ -423,10 +418,7 @@ add_pairs-returns-in_err-add_pairs_of_entry-clause-damage g t c = λ h.
     names_here left c.as_slice-entry-items.result.now c.args.left.now.entries.items c.loop-entry.entry-index
     c.entry-item.result refl c.as_slice-entry-items.ensures.value (omega (arith, c.if-left-eq0.false))
     (omega (arith, c.loop-entry-test.true)) c.entry-item.is in
-    at_error c.from_residual-in_err-add_pairs_of_entry.result c.in_err-add_pairs_of_entry.field-0.0
-    (λ f. (n : ℕ) → f ≡ fault.Damaged n → ComesBelow g.row.D (given c.args.cache.now)
-    (content_of c.args.left.now) n ⊎ ComesBelow g.row.D (given c.args.cache.now)
-    (content_of c.args.right.now) n)
+    at_error c.from_residual-in_err-add_pairs_of_entry.result c.in_err-add_pairs_of_entry.field-0.0 _
     c.from_residual-in_err-add_pairs_of_entry.ensures.1
     (λ n damaged. ⊎_elim
     (λ (walk : ComesTo g.row.D now c.entry-item.result.reference n). inl
@@ -439,10 +431,7 @@ add_pairs-returns-in_err-add_pairs_of_entry-clause-damage g t c = λ h.
 
 pub add_pairs_of_entry-returns-in_err-first-clause-damage : goal.add_pairs_of_entry-returns-in_err-first-clause-damage
 add_pairs_of_entry-returns-in_err-first-clause-damage g t c = λ h.
-    at_error c.from_residual.result c.in_err-first.field-0.0
-    (λ f. (n : ℕ) → f ≡ fault.Damaged n → ComesTo g.row.D (given c.args.cache.now)
-    c.args.entry.now.reference n ⊎ ComesBelow g.row.D (given c.args.cache.now)
-    (content_of c.args.right.now.node.now) n)
+    at_error c.from_residual.result c.in_err-first.field-0.0 _
     c.from_residual.ensures.1
     (λ n damaged. inl (
       [],
@@ -460,9 +449,7 @@ add_pairs_of_entry-returns-in_err-second-clause-damage g t c = λ h.
     let names =
     names_here (content_of right) c.deref.result.now right.entries.items c.in-Some.place other refl
     c.deref.ensures.0 c.requires.right_above within c.index-deref-place.is in
-    at_error c.from_residual-in_err-second.result c.in_err-second.field-0.0
-    (λ f. (n : ℕ) → f ≡ fault.Damaged n → ComesTo g.row.D (given c.args.cache.now)
-    c.args.entry.now.reference n ⊎ ComesBelow g.row.D (given c.args.cache.now) (content_of right) n)
+    at_error c.from_residual-in_err-second.result c.in_err-second.field-0.0 _
     c.from_residual-in_err-second.ensures.1
     (λ n damaged. inr
     (comes_to_child g.row.D (given c.args.cache.now) (content_of right) other.reference n names
@@ -489,9 +476,7 @@ add_pairs_of_entry-returns-in_err-add_pairs-clause-damage g t c = λ h.
     let asked : AsksUntil c.args.cache.now c.open-in-Some.new.cache None =
     asks_in_turn c.args.cache.now c.other.cache c.open-in-Some.new.cache None asks
     c.in_ok-second.ensures.asks in
-    at_error c.from_residual-in_err-add_pairs.result c.in_err-add_pairs.field-0.0
-    (λ f. (n : ℕ) → f ≡ fault.Damaged n → ComesTo g.row.D (given c.args.cache.now)
-    c.args.entry.now.reference n ⊎ ComesBelow g.row.D (given c.args.cache.now) (content_of right) n)
+    at_error c.from_residual-in_err-add_pairs.result c.in_err-add_pairs.field-0.0 _
     c.from_residual-in_err-add_pairs.ensures.1
     (λ n damaged. ⊎_elim
     (λ (walk : ComesBelow g.row.D two first n). inl
