@@ -5,10 +5,8 @@ use Rattle.box_math.specs.Objects.{Object}
 use Rattle.page_file.specs.Fault.{IsOfDevice}
 use Rattle.page_file.specs.declared.fault.Fault.{Fault}
 use Rattle.page_file.specs.declared.fault.Fault.TheVariants as fault
-use Rattle.page_cache.specs.Cache.{given}
 use Rattle.page_cache.specs.declared.cache.PageCache.{PageCache}
 use Rattle.tree_node.specs.declared.node.Root.{Root}
-use Rattle.node_page.specs.Checked.{ComesTo}
 use Rattle.node_page.specs.Faults.{IsChangeFault, IsNoDamage, NamesInRange}
 use Rattle.node_page.proofs.NodeLemmas.{at_error}
 use Rattle.reinsert.proofs.FaultLemmas.{memory_at_once, no_answer}
@@ -32,7 +30,7 @@ no_room_removes {B} {A} {m} {dims} {most} {from} cache f result is memory = reco
   faults = λ h t elsewhere can shape boxes has. at_error result f (IsNoDamage cache) is (inl (inl memory));
   damage = λ h none.
       at_error result f
-      (λ e. (n : ℕ) → e ≡ fault.Damaged n → ComesTo dims (given cache) from.page n) is
+      _ is
       (λ n damaged. absurd (device_names_none f n (inl memory) damaged));
   number = λ h.
       at_error result f NamesInRange is (λ n damaged. absurd (device_names_none f n (inl memory) damaged));

@@ -1,7 +1,7 @@
 -- Refusals in their order, in layers that need not be sound.
 use Rattle.std.proofs.Common.{◌≡◌, ◌∙◌, ℕ, zero, suc, ◌<◌, ◌≤◌, List, [], ◌∷◌, length, get_or, map, Bool, true}
-use Rattle.std.proofs.Common.{false, cond, not, ◌&&◌, ◌⊎◌, inl, inr, refl, sym, ap, subst, arith}
-use Rattle.std.specs.Prelude.{Option, Some, None, is_some, nat_le, nat_lt, unwrap_or, ◌==◌, ◌-◌}
+use Rattle.std.proofs.Common.{false, cond, not, ◌⊎◌, inl, inr, refl, sym, ap, subst, arith}
+use Rattle.std.specs.Prelude.{Option, Some, None, is_some, nat_le, nat_lt, ◌==◌, ◌-◌}
 use Rattle.std.specs.Prelude.{Result, Ok, Err, IfErr, IsErrAnd}
 use Rattle.std.proofs.lemmas.Bool.Decides.{nat_tests}
 use Rattle.std.specs.Cmp.Lexicographic.{slice_cmp}

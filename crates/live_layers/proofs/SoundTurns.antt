@@ -1,11 +1,11 @@
 -- Of layers that are sound with a table the conditions of a command are the table's.
-use Rattle.std.proofs.Common.{◌≡◌, ◌∙◌, ℕ, ◌+◌, ◌≤◌, List, [], ◌∷◌, length, map, Bool, true, false, cond, not}
+use Rattle.std.proofs.Common.{◌≡◌, ◌∙◌, ℕ, ◌+◌, ◌≤◌, List, [], ◌∷◌, length, map, Bool, cond, not}
 use Rattle.std.proofs.Common.{◌&&◌, T, refl, sym, ap, subst, arith}
 use Rattle.std.specs.Prelude.{Option, Some, None, is_some, nat_le, nat_lt, unwrap_or, ◌==◌, ◌-◌}
 use Rattle.std.proofs.lemmas.Bool.Decides.{nat_tests}
 use Rattle.std.proofs.lemmas.List.{length-map}
 use Rattle.std.specs.Cmp.Lexicographic.{slice_cmp, nat_list_cmp_total}
-use Rattle.std.specs.FinMap.{contains_key, entries, entries_sorted, find, get, get-entries, is_sorted, len, len-empty}
+use Rattle.std.specs.FinMap.{contains_key, entries_sorted, find, get, get-entries, is_sorted, len, len-empty}
 use Rattle.std.specs.FinMap.{len-entries}
 use Rattle.std.specs.FinMap.Entries.{by_order}
 use Rattle.std.specs.Ordering.{is_eq, nat_cmp}
@@ -18,7 +18,7 @@ use Rattle.page_cache.specs.Cache.{next_of, pages}
 use Rattle.plain_table.specs.Commands.{Command}
 use Rattle.plain_table.specs.Commands.Command.{Create, Insert, Load, Move, Delete, Drop, Get, Count, Range}
 use Rattle.plain_table.specs.Commands.Command.{Nearest, Join, Layers as ListLayers, Dump, Check, Reopen}
-use Rattle.plain_table.specs.Loads.{GivenObjects, are_ordered, have_dims, ids_of, least_repeated}
+use Rattle.plain_table.specs.Loads.{are_ordered, have_dims, ids_of, least_repeated}
 use Rattle.plain_table.specs.Step.{box_refusals, first_refusal, missing_refusals, nearest_refusals}
 use Rattle.plain_table.specs.Step.{query_refusals, refusal_of}
 use Rattle.plain_table.specs.Table.{Layer, Table, is_dims, is_fanout, is_layer_name, layer_at, most_layers}
@@ -26,10 +26,10 @@ use Rattle.plain_table.specs.Table.{most_objects, no_layer, object_count}
 use Rattle.plain_table.specs.declared.refusal.Refusal.{Refusal}
 use Rattle.plain_table.specs.declared.refusal.Refusal.TheVariants as refusal
 use Rattle.plain_table.proofs.EntryLemmas.{belongs_at, right_of}
-use Rattle.live_layers.specs.Keeping.{IsSound, count_in, records_in}
+use Rattle.live_layers.specs.Keeping.{IsSound, records_in}
 use Rattle.live_layers.specs.Layers.{LayersStand, Reading, entry_of, row_of}
-use Rattle.live_layers.specs.Refusals.{found_refusals, has_object_of, ids_refusals, is_recorded, lost_refusals}
-use Rattle.live_layers.specs.Refusals.{no_record, record_at, record_named, refusals_in}
+use Rattle.live_layers.specs.Refusals.{found_refusals, has_object_of, is_recorded}
+use Rattle.live_layers.specs.Refusals.{no_record, record_named, refusals_in}
 use Rattle.live_layers.specs.declared.layers.Layers.{Layers}
 use Rattle.live_layers.proofs.FindLemmas.{as_many, is_true}
 

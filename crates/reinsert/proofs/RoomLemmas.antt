@@ -2,11 +2,9 @@
 use Rattle.std.proofs.Common.{rules, ◌≡◌, ℕ, Result, IsErrAnd, inl}
 use Rattle.page_file.specs.declared.fault.Fault.{Fault}
 use Rattle.page_file.specs.declared.fault.Fault.TheVariants as fault
-use Rattle.page_cache.specs.Cache.{given}
 use Rattle.page_cache.specs.declared.cache.PageCache.{PageCache}
 use Rattle.tree_node.specs.declared.node.Entry.{Entry}
 use Rattle.tree_node.specs.declared.node.Root.{Root}
-use Rattle.node_page.specs.Checked.{ComesTo}
 use Rattle.node_page.specs.Faults.{IsChangeFault, IsNoDamage, NamesInRange}
 use Rattle.node_page.proofs.NodeLemmas.{at_error}
 use Rattle.reinsert.specs.Steps.{Inserts}
@@ -24,7 +22,7 @@ no_room_inserts {D} {B} {A} {m} {most} {from} cache f result is memory = record 
       (inl (inl memory));
   damage = λ h none.
       at_error result f
-      (λ e. (n : ℕ) → e ≡ fault.Damaged n → ComesTo D (given cache) from.page n) is
+      _ is
       (λ n (damaged : f ≡ fault.Damaged n). absurd (cc));
   sound = λ h. no_success result f _ is;
   number = λ h.

@@ -1,8 +1,8 @@
 -- The goals of `set_least` that are proved by hand.
 use Rattle.std.proofs.Common.{rules, ◌≡◌, ◌∙◌, ◌<◌, ℕ, List, None, Some, IfSome, length, refl, sym, ap, subst, inr}
-use Rattle.std.specs.Prelude.{◌⊎◌, IsSome}
+use Rattle.std.specs.Prelude.{IsSome}
 use Rattle.box_math.specs.Bounds.{Bounds}
-use Rattle.page_file.specs.Fault.{IsDamage, IsOfDevice}
+use Rattle.page_file.specs.Fault.{IsOfDevice}
 use Rattle.page_file.specs.declared.fault.Fault.TheVariants as fault
 use Rattle.page_cache.specs.Cache.{IsHonest, IsLive, pages}
 use Rattle.page_cache.specs.Calls.{AsksUntil, RefusesChange, asks_and_gives_up, asks_changes, asks_in_turn}
@@ -51,8 +51,8 @@ returns-in_err-node-clause-alters g c = λ hand.
       refused = on_err r _ first.touched;
       given_node = λ h. no_success r f _ is;
       faults = λ h x there level within. at_error r f IsOfDevice is (err.there h x there level);
-      named = λ h. at_error r f (λ f. IsOfDevice f ⊎ (f ≡ fault.Damaged c.args.at.page)) is (err.faults h);
-      other_faults = at_error r f (λ f. IsOfDevice f ⊎ IsDamage f) is err.other_faults;
+      named = λ h. at_error r f _ is (err.faults h);
+      other_faults = at_error r f _ is err.other_faults;
     }
 
 pub returns-then-has_box-clause-alters : goal.returns-then-has_box-clause-alters
@@ -137,9 +137,9 @@ returns-in_err-round-clause-alters g c = λ hand.
       faults = λ h x there level within. at_error r f IsOfDevice is
           (err.faults (first.gate.honest.0 h) x
           (ap (node_in g.row.D) (first.map.pages_stay h c.args.at.page) ∙ there) level);
-      named = λ h. at_error r f (λ f. IsOfDevice f ⊎ (f ≡ fault.Damaged c.args.at.page)) is
+      named = λ h. at_error r f _ is
           (err.named (first.gate.honest.0 h));
-      other_faults = at_error r f (λ f. IsOfDevice f ⊎ IsDamage f) is err.other_faults;
+      other_faults = at_error r f _ is err.other_faults;
     }
 
 pub returns-in_default-clause-alters : goal.returns-in_default-clause-alters

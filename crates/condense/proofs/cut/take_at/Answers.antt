@@ -1,9 +1,9 @@
 -- The goals of `take_at` that are proved by hand.
 use Rattle.std.proofs.Common.{rules, ◌≡◌, ◌∙◌, ◌+◌, ℕ, None, Some, IfSome, length, map, refl, sym, ap}
 use Rattle.std.proofs.Common.{subst, arith, inr}
-use Rattle.std.specs.Prelude.{◌⊎◌, IsSome}
+use Rattle.std.specs.Prelude.{IsSome}
 use Rattle.std.proofs.lemmas.List.{length-map}
-use Rattle.page_file.specs.Fault.{IsDamage, IsOfDevice}
+use Rattle.page_file.specs.Fault.{IsOfDevice}
 use Rattle.page_file.specs.declared.fault.Fault.TheVariants as fault
 use Rattle.page_cache.specs.Cache.{pages}
 use Rattle.page_cache.specs.Calls.{AsksUntil, asks_and_gives_up, asks_changes, asks_in_turn}
@@ -78,8 +78,8 @@ returns-in_err-least g c =
       refused = on_err r _ err.refused.touched;
       given_node = λ h. no_success r f _ is;
       faults = λ h x there level within. at_error r f IsOfDevice is (err.faults h x there level);
-      named = λ h. at_error r f (λ f. IsOfDevice f ⊎ (f ≡ fault.Damaged c.args.at.page)) is (err.named h);
-      other_faults = at_error r f (λ f. IsOfDevice f ⊎ IsDamage f) is err.other_faults;
+      named = λ h. at_error r f _ is (err.named h);
+      other_faults = at_error r f _ is err.other_faults;
     }
 
 pub returns-in_err-read_into : goal.returns-in_err-read_into
@@ -107,9 +107,9 @@ returns-in_err-read_into g c =
       faults = λ h x there level within. at_error r f IsOfDevice is
           (err.there (first.gate.honest.0 h) x
           (ap (node_in g.row.D) (first.map.pages_stay h c.args.at.page) ∙ there) level);
-      named = λ h. at_error r f (λ f. IsOfDevice f ⊎ (f ≡ fault.Damaged c.args.at.page)) is
+      named = λ h. at_error r f _ is
           (err.faults (first.gate.honest.0 h));
-      other_faults = at_error r f (λ f. IsOfDevice f ⊎ IsDamage f) is err.other_faults;
+      other_faults = at_error r f _ is err.other_faults;
     }
 
 pub returns-then-not-has_few : goal.returns-then-not-has_few

@@ -1,15 +1,13 @@
 -- The goals of `free_tree` that are proved by hand.
-use Rattle.std.proofs.Common.{None, ◌≡◌, ◌⊎◌, ⊎_elim, inl, inr, ℕ, ◌+◌, ◌<◌, ◌≤◌, [], length, arith}
+use Rattle.std.proofs.Common.{None, ◌≡◌, ⊎_elim, inl, inr, ◌+◌, ◌<◌, ◌≤◌, [], length, arith}
 use Rattle.std.proofs.Common.{false, IfErr}
 use Rattle.std.proofs.lemmas.List.{length-map}
 use Rattle.page_file.specs.Fault.{IsOfDevice}
-use Rattle.page_file.specs.declared.fault.Fault.TheVariants as fault
 use Rattle.page_cache.specs.Cache.{IsPageMap, given, next_of, pages, touched_of}
 use Rattle.page_cache.specs.Calls.{asks_changes, changes_and_refuses}
 use Rattle.page_cache.specs.Calls.{changes_in_turn, fault_in}
 use Rattle.tree_node.specs.Boxes.{no_item}
 use Rattle.tree_node.specs.Nodes.{content_of, item_of}
-use Rattle.node_page.specs.Checked.{ComesTo}
 use Rattle.node_page.proofs.DamageLemmas.{damaged_read}
 use Rattle.node_page.proofs.GivenLemmas.{given_node_is_live}
 use Rattle.node_page.proofs.NodeLemmas.{at_error, if_error}
@@ -168,8 +166,7 @@ returns-clause-faults g t c = λ h whole at standing low.
 
 pub returns-in_err-node-clause-damage : goal.returns-in_err-node-clause-damage
 returns-in_err-node-clause-damage g t c = λ h either.
-    at_error c.from_residual.result c.in_err-node.field-0.0
-    (λ f. (n : ℕ) → f ≡ fault.Damaged n → ComesTo g.row.D (given c.args.cache.now) c.args.root.page n)
+    at_error c.from_residual.result c.in_err-node.field-0.0 _
     c.from_residual.ensures.1
     (λ n damaged. (
       [],
@@ -202,8 +199,7 @@ returns-in_err-free_tree-clause-damage g t c = λ h either.
     let below = ⊎_elim
     (λ (map : IsPageMap old). inl (c.children.invariant.3 map).0)
     (λ (none : touched_of new ≡ false). inr none) either in
-    at_error c.from_residual-in_err-free_tree.result c.in_err-free_tree.field-0.0
-    (λ f. (n : ℕ) → f ≡ fault.Damaged n → ComesTo D (given old) c.args.root.page n)
+    at_error c.from_residual-in_err-free_tree.result c.in_err-free_tree.field-0.0 _
     c.from_residual-in_err-free_tree.ensures.1
     (λ n damaged. comes_before D (given old) (given mid) c.args.root.page content
     c.child_of-below.result.page n (c.in_ok-node.ensures.given_node h) named fewer
@@ -249,7 +245,6 @@ returns-clause-damage g t c = λ h either.
     (λ two. absurd (omega (arith, two, low))))
     (λ (none : touched_of new ≡ false). c.free.ensures.untouched low below none)
     either in
-    if_error c.free.result (λ f. IsOfDevice f ⊎ (f ≡ fault.Damaged page))
-    (λ f. (n : ℕ) → f ≡ fault.Damaged n → ComesTo D (given old) page n)
+    if_error c.free.result _ _
     (λ f is n damaged. ([], damaged_read f page n is damaged))
     (free_refused c.free.result page (next_of mid) (λ out. (c.free.ensures.outside out).0) inside)

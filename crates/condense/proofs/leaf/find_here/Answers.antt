@@ -1,8 +1,6 @@
 -- The leaf that is viewed is the one in the page.
 use Rattle.std.proofs.Common.{rules, IfNone, IfSome, ◌≡◌, ◌<◌, ℕ, get_or, length, subst}
-use Rattle.std.specs.Prelude.{◌⊎◌}
-use Rattle.page_file.specs.Fault.{IsDamage, IsOfDevice}
-use Rattle.page_file.specs.declared.fault.Fault.TheVariants as fault
+use Rattle.page_file.specs.Fault.{IsOfDevice}
 use Rattle.page_cache.specs.Cache.{pages}
 use Rattle.page_cache.specs.Calls.{AsksUntil, fault_in}
 use Rattle.tree_node.specs.Nodes.{Item, NodeContent}
@@ -30,8 +28,8 @@ returns-in_err-leaf g c =
       none = λ h x there. no_answer r f _ is;
       given_leaf = λ h. no_answer r f _ is;
       there = λ h x there level. at_error r f IsOfDevice is (err.there h x there level);
-      faults = λ h. at_error r f (λ f. IsOfDevice f ⊎ (f ≡ fault.Damaged c.args.page)) is (err.faults h);
-      other_faults = at_error r f (λ f. IsOfDevice f ⊎ IsDamage f) is err.other_faults;
+      faults = λ h. at_error r f _ is (err.faults h);
+      other_faults = at_error r f _ is err.other_faults;
     }
 
 pub returns : goal.returns

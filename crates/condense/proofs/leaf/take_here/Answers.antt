@@ -1,16 +1,14 @@
 -- The goals of `take_here` that are proved by hand.
-use Rattle.std.proofs.Common.{rules, ◌≡◌, ◌∙◌, ◌+◌, ◌<◌, ℕ, None, Some, IfSome, [], length, refl, sym, ap}
+use Rattle.std.proofs.Common.{rules, ◌≡◌, ◌∙◌, ◌+◌, ◌<◌, None, Some, IfSome, [], length, refl, sym, ap}
 use Rattle.std.proofs.Common.{subst, arith, inl}
-use Rattle.std.specs.Prelude.{◌⊎◌, slice_index_or}
-use Rattle.page_file.specs.Fault.{IsDamage, IsOfDevice}
-use Rattle.page_file.specs.declared.fault.Fault.TheVariants.{Damaged}
+use Rattle.std.specs.Prelude.{slice_index_or}
+use Rattle.page_file.specs.Fault.{IsOfDevice}
 use Rattle.page_cache.specs.Cache.{IsPageMap, given, pages}
 use Rattle.page_cache.specs.Calls.{AsksUntil, asks_and_gives_up, asks_changes, changes_and_refuses}
 use Rattle.page_cache.specs.Calls.{changes_in_turn, no_call_asks}
 use Rattle.tree_node.specs.Boxes.{no_item}
 use Rattle.tree_node.specs.Nodes.{Item, NodeContent}
 use Rattle.tree_node.specs.Trees.{row_items}
-use Rattle.node_page.specs.Checked.{ComesTo}
 use Rattle.node_page.specs.Standing.{node_in}
 use Rattle.node_page.proofs.DamageLemmas.{damaged_read}
 use Rattle.node_page.proofs.GivenLemmas.{given_node_is_live}
@@ -49,9 +47,9 @@ returns-in_err-place g c = λ kept.
       sound = λ h. no_answer r f _ is;
       stays = λ h. no_answer r f _ is;
       touched = λ h. no_answer r f _ is;
-      damage = λ h. at_error r f (λ f. (n : ℕ) → f ≡ Damaged n → ComesTo g.row.D (given old) page n) is
+      damage = λ h. at_error r f _ is
           (λ n damaged. ([], damaged_read f page n (err.faults h.honest) damaged));
-      other_faults = at_error r f (λ f. IsOfDevice f ⊎ IsDamage f) is err.other_faults;
+      other_faults = at_error r f _ is err.other_faults;
     }
 
 pub returns-in_default : goal.returns-in_default
@@ -120,9 +118,9 @@ returns-in_err-now g c = λ kept.
       sound = λ h. no_answer r f _ is;
       stays = λ h. no_answer r f _ is;
       touched = λ h. no_answer r f _ is;
-      damage = λ h. at_error r f (λ f. (n : ℕ) → f ≡ Damaged n → ComesTo D (given old) page n) is
+      damage = λ h. at_error r f _ is
           (λ n damaged. ([], damaged_read f page n (err.named (first.gate.honest.0 h.honest)) damaged));
-      other_faults = at_error r f (λ f. IsOfDevice f ⊎ IsDamage f) is err.other_faults;
+      other_faults = at_error r f _ is err.other_faults;
     }
 
 pub returns : goal.returns

@@ -1,6 +1,5 @@
 -- The page that is viewed is that of the node.
-use Rattle.std.proofs.Common.{rules, ◌≡◌, ◌∙◌, ◌<◌, ◌≤◌, ℕ, length, ap, subst, arith, refl}
-use Rattle.page_file.specs.declared.fault.Fault.TheVariants as fault
+use Rattle.std.proofs.Common.{rules, ◌∙◌, ◌<◌, ◌≤◌, ℕ, length, ap, subst, arith, refl}
 use Rattle.page_cache.specs.Cache.{pages}
 use Rattle.page_cache.specs.Calls.{AsksUntil, fault_in}
 use Rattle.box_math.specs.Bounds.{Within}
@@ -12,8 +11,7 @@ use Rattle.node_page.proofs.StandingLemmas.{page_of_node, same_content}
 use Rattle.reinsert.proofs.FaultLemmas.{asks_refused, no_answer, no_success}
 use Rattle.node_page.proofs.NodeLemmas.{at_error}
 use Rattle.std.proofs.lemmas.List.{get_or_default}
-use Rattle.std.specs.Prelude.{◌⊎◌}
-use Rattle.page_file.specs.Fault.{IsDamage, IsOfDevice}
+use Rattle.page_file.specs.Fault.{IsOfDevice}
 use Rattle.condense.proofs.HoldLemmas.{refers_down}
 use Rattle.condense.proofs.look.next_child.Goals as goal
 
@@ -44,9 +42,9 @@ returns-in_err-node g c = record {
   there = λ h content there level. at_error c.from_residual.result c.in_err-node.field-0.0 IsOfDevice
       c.from_residual.ensures.1 (c.in_err-node.ensures.there h content there level);
   faults = λ h. at_error c.from_residual.result c.in_err-node.field-0.0
-      (λ f. IsOfDevice f ⊎ (f ≡ fault.Damaged c.args.at.page)) c.from_residual.ensures.1
+      _ c.from_residual.ensures.1
       (c.in_err-node.ensures.faults h);
-  other_faults = at_error c.from_residual.result c.in_err-node.field-0.0 (λ f. IsOfDevice f ⊎ IsDamage f)
+  other_faults = at_error c.from_residual.result c.in_err-node.field-0.0 _
       c.from_residual.ensures.1 c.in_err-node.ensures.other_faults;
 }
 

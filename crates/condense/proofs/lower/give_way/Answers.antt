@@ -155,7 +155,7 @@ returns-in_err-below-clause-untouched g c = λ h none.
     let f = c.in_err-below.field-0.0 in
     ⊎_elim
     (λ (same : c.lowering.now ≡ c.args.root).
-    at_error c.from_residual.result f (λ f. IsOfDevice f ⊎ (f ≡ fault.Damaged c.args.root.page))
+    at_error c.from_residual.result f _
     c.from_residual.ensures.1
     (subst (λ (root : Root). IsOfDevice f ⊎ (f ≡ fault.Damaged root.page)) same
     (c.in_err-below.ensures.faults (c.lowering.invariant.0.honest.0 h))))
@@ -170,7 +170,7 @@ returns-in_err-free-clause-untouched g c = λ h none.
     let below : c.lowering.now.page < next_of c.only_child.new.cache =
     omega (arith, out.1, c.in_ok-below.ensures.asks.map.next) in
     let f = c.in_err-free.field-0.0 in
-    at_error c.from_residual-in_err-free.result f (λ f. IsOfDevice f ⊎ (f ≡ fault.Damaged c.args.root.page))
+    at_error c.from_residual-in_err-free.result f _
     c.from_residual-in_err-free.ensures.1
     (inl (c.in_err-free.ensures.untouched c.lowering.invariant.1.page.0 below none))
 

@@ -1,8 +1,7 @@
 -- The goals of `leave_out` that are proved by hand.
 use Rattle.std.proofs.Common.{rules, ◌∙◌, ◌+◌, All, arith, inr, map, ap, ℕ, ◌++◌, reverse}
 use Rattle.std.proofs.lemmas.Result.{IfOk-weaker}
-use Rattle.std.specs.Prelude.{◌⊎◌}
-use Rattle.page_file.specs.Fault.{IsDamage, IsOfDevice}
+use Rattle.page_file.specs.Fault.{IsOfDevice}
 use Rattle.page_cache.specs.Cache.{pages}
 use Rattle.page_cache.specs.Calls.{changes_in_turn, fault_in}
 use Rattle.tree_node.specs.declared.node.Entry.{Entry}
@@ -54,7 +53,7 @@ returns-in_err-free g c = record {
       at_error c.from_residual.result c.in_err-free.field-0.0 IsOfDevice c.from_residual.ensures.1
       (c.in_err-free.ensures.faults h live (λ two. omega (arith, two, c.requires.is_next.page)));
   touched = λ h live. no_success c.from_residual.result c.in_err-free.field-0.0 _ c.from_residual.ensures.1;
-  other_faults = at_error c.from_residual.result c.in_err-free.field-0.0 (λ f. IsOfDevice f ⊎ IsDamage f)
+  other_faults = at_error c.from_residual.result c.in_err-free.field-0.0 _
       c.from_residual.ensures.1 c.in_err-free.ensures.other_faults;
 }
 

@@ -1,8 +1,8 @@
 -- The goals of `leave_read` that are proved by hand.
 use Rattle.std.proofs.Common.{rules, ◌∙◌, ◌+◌, ◌<◌, All, None, Some, arith, ap, subst, sym, map, length}
 use Rattle.std.proofs.lemmas.List.{length-map}
-use Rattle.std.specs.Prelude.{◌⊎◌, IsSome}
-use Rattle.page_file.specs.Fault.{IsDamage, IsOfDevice}
+use Rattle.std.specs.Prelude.{IsSome}
+use Rattle.page_file.specs.Fault.{IsOfDevice}
 use Rattle.page_file.specs.declared.fault.Fault.TheVariants.{Damaged}
 use Rattle.page_cache.specs.Cache.{IsPageMap, pages}
 use Rattle.page_cache.specs.Calls.{AsksUntil, asks_and_changes, asks_and_gives_up, asks_changes, no_call_asks}
@@ -41,7 +41,7 @@ returns-in_err-read_into g c =
       faults = λ h above child. at_error r f IsOfDevice is
           (err.there h.honest child.node child.there child.level_is);
       touched = λ h live. no_success r f _ is;
-      other_faults = at_error r f (λ f. IsOfDevice f ⊎ IsDamage f) is err.other_faults;
+      other_faults = at_error r f _ is err.other_faults;
     }
 
 pub returns-then-len-least_entries : goal.returns-then-len-least_entries

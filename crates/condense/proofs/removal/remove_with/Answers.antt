@@ -1,8 +1,7 @@
 -- The goals of `remove_with` that are proved by hand.
 use Rattle.std.proofs.Common.{rules, ◌≡◌, ◌∙◌, Some, IfSome, map, inl}
-use Rattle.std.proofs.Common.{inr, refl, sym, ap, arith, ℕ, [], ⊎_elim, false, subst, true}
+use Rattle.std.proofs.Common.{inr, refl, sym, ap, arith, [], ⊎_elim, false, subst, true}
 use Rattle.std.specs.Prelude.{◌⊎◌}
-use Rattle.page_file.specs.Fault.{IsOfDevice}
 use Rattle.page_file.specs.declared.fault.Fault.TheVariants.{Damaged}
 use Rattle.page_cache.specs.Cache.{IsLive, IsPageMap, given, pages, touched_of}
 use Rattle.page_cache.specs.Calls.{asks_changes, changes_and_refuses, changes_in_turn, fault_in}
@@ -10,7 +9,6 @@ use Rattle.page_cache.specs.Calls.{no_call_changes}
 use Rattle.tree_node.specs.Nodes.{content_of}
 use Rattle.tree_node.specs.Trees.{Tree}
 use Rattle.node_page.specs.Faults.{IsChangeFault, IsNoDamage, NamesInRange}
-use Rattle.node_page.specs.Checked.{ComesTo}
 use Rattle.node_page.specs.Standing.{Stands}
 use Rattle.node_page.proofs.DamageLemmas.{comes_in_range, damaged_read}
 use Rattle.node_page.proofs.NodeLemmas.{at_error, if_error}
@@ -43,14 +41,14 @@ returns-in_err-became g c =
       absent = λ h t elsewhere can lacks.
           let stands = stands_there g.row.D (pages old) root t can.at can.stands in (
             err.absent h t.row stands lacks,
-            refused_so r f (λ f. IsOfDevice f ⊎ (f ≡ Damaged root.page)) is
+            refused_so r f _ is
                 (inl (err.faults h t.row stands)),
           );
       faults = λ h t elsewhere can shape boxes has.
           let stands = stands_there g.row.D (pages old) root t can.at can.stands in
           at_error r f (IsNoDamage low) is (inl (err.faults h t.row stands));
       damage = λ h none.
-          at_error r f (λ f. (n : ℕ) → f ≡ Damaged n → ComesTo g.row.D (given old) root.page n) is
+          at_error r f _ is
           (err.damage h);
       number = λ h.
           at_error r f NamesInRange is
@@ -189,8 +187,7 @@ returns g c =
           inl (same ∙ c.begin.ensures))
           (λ (touched : touched_of low ≡ true). inr touched)
           either in
-          if_error c.put_root.result (λ f. IsOfDevice f ⊎ (f ≡ Damaged page))
-          (λ f. (n : ℕ) → f ≡ Damaged n → ComesTo D (given old) page n)
+          if_error c.put_root.result _ _
           (λ f is n damaged. ([], damaged_read f page n is damaged))
           (put.damage (sound h) (live h) kept none);
       number = λ h. put.number (sound h) (live h);

@@ -2,15 +2,13 @@
 use Rattle.std.proofs.Common.{rules, ◌≡◌, ◌∙◌, ◌-◌, ◌<◌, ◌≤◌, ℕ, None, Some, IfSome, [], length, map}
 use Rattle.std.proofs.Common.{refl, sym, ap, subst, arith, ⊎_elim, inl, inr, true}
 use Rattle.std.specs.Prelude.{◌⊎◌}
-use Rattle.page_file.specs.Fault.{IsDamage, IsOfDevice}
-use Rattle.page_file.specs.declared.fault.Fault.TheVariants.{Damaged}
+use Rattle.page_file.specs.Fault.{IsOfDevice}
 use Rattle.page_cache.specs.Cache.{IsPageMap, given, pages, touched_of}
 use Rattle.page_cache.specs.Calls.{AsksUntil, asks_and_gives_up, asks_changes, asks_in_turn}
 use Rattle.page_cache.specs.Calls.{changes_and_refuses, changes_in_turn, no_call_asks}
 use Rattle.box_math.specs.Bounds.{Within}
 use Rattle.tree_node.specs.Boxes.{box_at}
 use Rattle.tree_node.specs.Trees.{row_items}
-use Rattle.node_page.specs.Checked.{ComesTo}
 use Rattle.node_page.specs.Standing.{node_in}
 use Rattle.node_page.proofs.DamageLemmas.{damaged_read}
 use Rattle.node_page.proofs.NodeLemmas.{at_error}
@@ -55,9 +53,9 @@ returns-in_err-next g t c =
       sound = λ h. no_answer r f _ is;
       stays = λ h. no_answer r f _ is;
       touched = λ h. no_answer r f _ is;
-      damage = λ h. at_error r f (λ f. (n : ℕ) → f ≡ Damaged n → ComesTo g.row.D (given old) at.page n) is
+      damage = λ h. at_error r f _ is
           (λ n damaged. ([], damaged_read f at.page n (err.faults (first.gate.honest.0 h.honest)) damaged));
-      other_faults = at_error r f (λ f. IsOfDevice f ⊎ IsDamage f) is err.other_faults;
+      other_faults = at_error r f _ is err.other_faults;
     }
 
 pub returns-in_default : goal.returns-in_default
@@ -153,12 +151,12 @@ returns-in_err-became g t c =
           let above_none : 0 < node.level = omega (arith, (spelled h).level_is, is_next.above) in
           let named = child_named node next.place next.below.page above_none (spelled h).within (spelled h).names
           in
-          at_error r f (λ f. (n : ℕ) → f ≡ Damaged n → ComesTo D (given old) at.page n) is
+          at_error r f _ is
           (λ n damaged. comes_before D (given old) (given here) at.page node next.below.page n
           (ap (node_in D) (sym (first.map.given_stay h.honest at.page)) ∙ (spelled h).there) named
           (same_adds_none D (given old) (given here) (walked.map.given_stay h.honest))
           (err.damage (walked.map.sound.0 h) n damaged));
-      other_faults = at_error r f (λ f. IsOfDevice f ⊎ IsDamage f) is err.other_faults;
+      other_faults = at_error r f _ is err.other_faults;
     }
 
 pub children-preserved : goal.children-preserved
@@ -281,10 +279,10 @@ returns-in_err-now g t c =
       sound = λ h. no_answer r f _ is;
       stays = λ h. no_answer r f _ is;
       touched = λ h. no_answer r f _ is;
-      damage = λ h. at_error r f (λ f. (n : ℕ) → f ≡ Damaged n → ComesTo D (given old) at.page n) is
+      damage = λ h. at_error r f _ is
           (λ n damaged. absurd (device_names_none f n
           (err.faults (sound h) (above_low h) (stays h).still) damaged));
-      other_faults = at_error r f (λ f. IsOfDevice f ⊎ IsDamage f) is err.other_faults;
+      other_faults = at_error r f _ is err.other_faults;
     }
 
 pub returns-in-children : goal.returns-in-children

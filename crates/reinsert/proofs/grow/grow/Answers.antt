@@ -1,6 +1,5 @@
 -- The goals of `grow` that are proved by hand.
-use Rattle.std.proofs.Common.{◌≡◌, ◌∙◌, ◌⊎◌, inl, ◌+◌, List, [], ◌∷◌, ◌++◌, Err, None, Some, map, ap}
-use Rattle.page_file.specs.declared.fault.Fault.TheVariants as fault
+use Rattle.std.proofs.Common.{◌≡◌, ◌∙◌, inl, ◌+◌, List, [], ◌∷◌, ◌++◌, Err, None, Some, map, ap}
 use Rattle.page_cache.specs.Cache.{pages}
 use Rattle.tree_node.specs.declared.node.Entry.{Entry}
 use Rattle.tree_node.specs.Nodes.{NodeContent, item_of}
@@ -77,15 +76,14 @@ returns-clause-touched g c = c.in_ok-write_node.ensures.changes.touched c.in_ok-
 pub returns-in_err-page-clause-damaged : goal.returns-in_err-page-clause-damaged
 returns-in_err-page-clause-damaged g c = λ h.
     at_error c.from_residual.result c.in_err-page.field-0.0
-    (λ f. IsNoDamage c.allocate.new.self f ⊎ (f ≡ fault.Damaged c.args.root.page)) c.from_residual.ensures.1
+    _ c.from_residual.ensures.1
     (inl (with_full _ _ _ (c.in_err-page.ensures.faults h) (λ is. c.in_err-page.ensures.full (ap Err is))))
 
 pub returns-in_err-write_node-clause-damaged : goal.returns-in_err-write_node-clause-damaged
 returns-in_err-write_node-clause-damaged g c = λ h.
     let m1 : PageMap = pages c.allocate.new.self in
     let fresh = c.in_ok-page.ensures.fresh h in
-    at_error c.from_residual-in_err-write_node.result c.in_err-write_node.field-0.0
-    (λ f. IsNoDamage c.write_node.new.cache f ⊎ (f ≡ fault.Damaged c.args.root.page))
+    at_error c.from_residual-in_err-write_node.result c.in_err-write_node.field-0.0 _
     c.from_residual-in_err-write_node.ensures.1
     (inl (inl (c.in_err-write_node.ensures.faults (c.allocate.ensures.sound h).honest
     (is_some_from (m1 c.in_ok-page.page) _ fresh.1))))

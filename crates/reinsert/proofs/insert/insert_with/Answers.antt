@@ -1,6 +1,6 @@
 -- The goals of `insert_with` that are proved by hand.
 use Rattle.std.proofs.Common.{rules, rules, ◌++◌, [], ◌∷◌, List, Bool, None, sym, subst, refl, arith}
-use Rattle.std.proofs.Common.{◌≡◌, ◌∙◌, ⊎_elim, inl, inr, ℕ, true}
+use Rattle.std.proofs.Common.{◌≡◌, ◌∙◌, ⊎_elim, inl, inr, true}
 use Rattle.std.proofs.lemmas.Bool.{true≢false}
 use Rattle.page_file.specs.declared.fault.Fault.TheVariants as fault
 use Rattle.page_cache.specs.Cache.{given, pages, touched_of}
@@ -74,8 +74,7 @@ returns-in_err-now-clause-inserts g c = record {
       (c.in_err-now.ensures.faults h s elsewhere at2
       (first_has_shape D c.args.fanout.most c.args.root.level c.args.level t branch can.fits shape boxes entry));
   damage = λ h none.
-      at_error c.from_residual.result c.in_err-now.field-0.0
-      (λ f. (n : ℕ) → f ≡ fault.Damaged n → ComesTo g.row.D (given c.args.cache.now) c.args.root.page n)
+      at_error c.from_residual.result c.in_err-now.field-0.0 _
       c.from_residual.ensures.1 (c.in_err-now.ensures.damage h);
   sound = λ h. no_success c.from_residual.result c.in_err-now.field-0.0 _ c.from_residual.ensures.1;
   number = λ h.
@@ -156,8 +155,7 @@ returns-in_err-now-2-clause-inserts g c = record {
       none_before (touched_of mid) (touched_of c.place_one-in-Some.new.cache)
       c.in_err-now-2.ensures.changes.touched none in
       let same = (c.placing.invariant.0.untouched before).given_stay h.honest in
-      at_error c.from_residual-in_err-now-2.result c.in_err-now-2.field-0.0
-      (λ f. (n : ℕ) → f ≡ fault.Damaged n → ComesTo D m c.args.root.page n)
+      at_error c.from_residual-in_err-now-2.result c.in_err-now-2.field-0.0 _
       c.from_residual-in_err-now-2.ensures.1
       (λ n damaged. ⊎_elim
       (λ (stays : c.placing.now ≡ c.args.root). comes_so D m (given mid) c.args.root.page n same

@@ -1,11 +1,10 @@
 -- The goals of `place_one` that are proved by hand.
 use Rattle.std.proofs.Common.{inl}
-use Rattle.std.proofs.Common.{rules, ◌≡◌, ◌⊎◌, ◌+◌, ◌^◌, ◌<◌, ◌≤◌, inr, ℕ, [], refl, true, arith}
+use Rattle.std.proofs.Common.{rules, ◌≡◌, ◌⊎◌, ◌+◌, ◌^◌, ◌<◌, ◌≤◌, inr, [], refl, true, arith}
 use Rattle.page_file.specs.declared.fault.Fault.TheVariants as fault
-use Rattle.page_cache.specs.Cache.{IsPageMap, given, pages, touched_of}
+use Rattle.page_cache.specs.Cache.{IsPageMap, pages, touched_of}
 use Rattle.page_cache.specs.Calls.{changes_in_turn, fault_in}
 use Rattle.node_page.specs.Standing.{PageMap}
-use Rattle.node_page.specs.Checked.{ComesTo}
 use Rattle.node_page.proofs.DamageLemmas.{damaged_read}
 use Rattle.node_page.proofs.NodeLemmas.{at_error, if_error}
 use Rattle.node_page.specs.Faults.{IsNoDamage, IsChangeFault}
@@ -64,8 +63,7 @@ returns-in_err-bounds g c = record {
   sound = λ h. no_success c.from_residual.result c.in_err-bounds.field-0.0 _ c.from_residual.ensures.1;
   stays = no_answer c.from_residual.result c.in_err-bounds.field-0.0 _ c.from_residual.ensures.1;
   damage = λ h.
-      at_error c.from_residual.result c.in_err-bounds.field-0.0
-      (λ f. (n : ℕ) → f ≡ fault.Damaged n → ComesTo g.row.D (given c.args.cache.now) c.args.root.page n)
+      at_error c.from_residual.result c.in_err-bounds.field-0.0 _
       c.from_residual.ensures.1 (c.in_err-bounds.ensures.damage h);
   other_faults = at_error c.from_residual.result c.in_err-bounds.field-0.0 (IsChangeFault c.place.new.cache)
       c.from_residual.ensures.1 c.in_err-bounds.ensures.other_faults;
@@ -130,8 +128,7 @@ returns g c = record {
       (λ after touched. inr touched);
   damage = λ h.
       if_error c.grow.result
-      (λ f. IsNoDamage c.grow.new.cache f ⊎ (f ≡ fault.Damaged c.args.root.page))
-      (λ f. (n : ℕ) → f ≡ fault.Damaged n → ComesTo g.row.D (given c.args.cache.now) c.args.root.page n)
+      (λ f. IsNoDamage c.grow.new.cache f ⊎ (f ≡ fault.Damaged c.args.root.page)) _
       (λ f is n damaged. ([], named_page c.grow.new.cache f c.args.root.page n is damaged))
       (c.grow.ensures.damaged (c.in_ok-bounds.ensures.sound h));
   other_faults = c.grow.ensures.other_faults;

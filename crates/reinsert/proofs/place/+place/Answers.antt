@@ -1,6 +1,6 @@
 -- The goals of `place` that are proved by hand.
 use Rattle.std.proofs.Common.{rules, ◌≡◌, ◌∙◌, ◌+◌, ◌-◌, ◌<◌, [], ◌∷◌, ◌++◌, IfSome, None, Ok, Result, Some}
-use Rattle.std.proofs.Common.{inl, refl, sym, ap, subst, arith, ℕ, ◌⊎◌}
+use Rattle.std.proofs.Common.{inl, refl, sym, ap, subst, arith, ◌⊎◌}
 use Rattle.page_file.specs.declared.fault.Fault.{Fault}
 use Rattle.page_file.specs.declared.fault.Fault.TheVariants as fault
 use Rattle.page_cache.specs.Cache.{IsPageMap, given, pages}
@@ -9,7 +9,6 @@ use Rattle.tree_node.specs.declared.node.Entry.{Entry}
 use Rattle.tree_node.specs.Nodes.{Item}
 use Rattle.tree_node.specs.Trees.{row_items}
 use Rattle.choose_subtree.specs.Choice.{IsChosenChild}
-use Rattle.node_page.specs.Checked.{ComesTo}
 use Rattle.node_bytes.specs.Layout.{IsOfLevel}
 use Rattle.node_page.specs.Standing.{PageMap}
 use Rattle.node_page.proofs.DamageLemmas.{comes_below_so, comes_on, damaged_read}
@@ -255,15 +254,13 @@ returns-clause-changes g t c =
 pub returns-then-at-target-clause-damage : goal.returns-then-at-target-clause-damage
 returns-then-at-target-clause-damage g t c = λ h.
     if_error c.put_here.result
-    (λ f. IsNoDamage c.put_here.new.cache f ⊎ (f ≡ fault.Damaged c.args.at.page))
-    (λ f. (n : ℕ) → f ≡ fault.Damaged n → ComesTo g.row.D (given c.args.cache.now) c.args.at.page n)
+    (λ f. IsNoDamage c.put_here.new.cache f ⊎ (f ≡ fault.Damaged c.args.at.page)) _
     (λ f is n damaged. ([], named_page c.put_here.new.cache f c.args.at.page n is damaged))
     (c.put_here.ensures.damaged h)
 
 pub returns-in_err-way-clause-damage : goal.returns-in_err-way-clause-damage
 returns-in_err-way-clause-damage g t c = λ h.
-    at_error c.from_residual.result c.in_err-way.field-0.0
-    (λ f. (n : ℕ) → f ≡ fault.Damaged n → ComesTo g.row.D (given c.args.cache.now) c.args.at.page n)
+    at_error c.from_residual.result c.in_err-way.field-0.0 _
     c.from_residual.ensures.1
     (λ n damaged. (
       [],
@@ -277,8 +274,7 @@ returns-in_err-lower-clause-damage g t c = λ h.
     let now = given c.way_down.new.cache in
     let asks = c.in_ok-way.ensures.asks in
     let node = c.in_ok-way.ensures.named h.honest in
-    at_error c.from_residual-in_err-lower.result c.in_err-lower.field-0.0
-    (λ f. (n : ℕ) → f ≡ fault.Damaged n → ComesTo D m c.args.at.page n)
+    at_error c.from_residual-in_err-lower.result c.in_err-lower.field-0.0 _
     c.from_residual-in_err-lower.ensures.1
     (λ n damaged. comes_on D m c.args.at.page node.0 n node.1
     (comes_below_so D m now node.0 n (asks.map.given_stay h.honest)
@@ -295,7 +291,6 @@ returns-clause-sound g t c = λ h.
 pub returns-clause-damage : goal.returns-clause-damage
 returns-clause-damage g t c = λ h.
     if_error c.put_above.result
-    (λ f. IsNoDamage c.put_above.new.cache f ⊎ (f ≡ fault.Damaged c.args.at.page))
-    (λ f. (n : ℕ) → f ≡ fault.Damaged n → ComesTo g.row.D (given c.args.cache.now) c.args.at.page n)
+    (λ f. IsNoDamage c.put_above.new.cache f ⊎ (f ≡ fault.Damaged c.args.at.page)) _
     (λ f is n damaged. ([], named_page c.put_above.new.cache f c.args.at.page n is damaged))
     (c.put_above.ensures.damaged (c.in_ok-lower.ensures.sound (c.in_ok-way.ensures.asks.map.sound.0 h)))

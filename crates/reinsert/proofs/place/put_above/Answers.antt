@@ -1,5 +1,5 @@
 -- The box is written where it lies, or the node is read and settled after it was asked for.
-use Rattle.std.proofs.Common.{rules, ◌≡◌, ◌∙◌, ◌⊎◌, IfSome, IsSome, List, None, Some, inl, inr, ⊎_elim}
+use Rattle.std.proofs.Common.{rules, ◌≡◌, ◌∙◌, IfSome, IsSome, List, None, Some, inl, inr, ⊎_elim}
 use Rattle.std.proofs.Common.{map, refl, arith, subst, sym}
 use Rattle.box_math.specs.Bounds.{Bounds}
 use Rattle.page_file.specs.Fault.{IsOfDevice}
@@ -111,8 +111,7 @@ returns-in_err-bounds g c = record {
   sound = λ h. no_success c.from_residual.result c.in_err-bounds.field-0.0 _ c.from_residual.ensures.1;
   damaged = λ h.
       let f = c.in_err-bounds.field-0.0 in
-      at_error c.from_residual.result f
-      (λ f. IsNoDamage c.enlarge_entry.new.cache f ⊎ (f ≡ fault.Damaged c.args.at.page))
+      at_error c.from_residual.result f _
       c.from_residual.ensures.1
       (⊎_elim (λ (device : IsOfDevice f). inl (inl device)) (λ (is : f ≡ fault.Damaged c.args.at.page). inr
       is) (c.in_err-bounds.ensures.named h.honest));

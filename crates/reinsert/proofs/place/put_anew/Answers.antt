@@ -38,8 +38,7 @@ returns-in_err-read_fitting g c = record {
   sound = λ h. no_success c.from_residual.result c.in_err-read_fitting.field-0.0 _ c.from_residual.ensures.1;
   damaged = λ h.
       let f = c.in_err-read_fitting.field-0.0 in
-      at_error c.from_residual.result f
-      (λ f. IsNoDamage c.read_fitting.new.cache f ⊎ (f ≡ fault.Damaged c.args.at.page))
+      at_error c.from_residual.result f _
       c.from_residual.ensures.1
       (⊎_elim (λ (device : IsOfDevice f). inl (inl device)) (λ (is : f ≡ fault.Damaged c.args.at.page). inr
       is)

@@ -103,8 +103,7 @@ returns-in_err-read_fitting g c = record {
       let asked : AsksUntil c.args.cache.now c.add_entry.new.cache None =
       at_none c.in_ok-bounds.field-0 _ c.in_ok-bounds.ensures.full c.in_default.not-Some in
       let f = c.in_err-read_fitting.field-0.0 in
-      at_error c.from_residual-in_err-read_fitting.result f
-      (λ f. IsNoDamage c.read_fitting.new.cache f ⊎ (f ≡ fault.Damaged c.args.at.page))
+      at_error c.from_residual-in_err-read_fitting.result f _
       c.from_residual-in_err-read_fitting.ensures.1
       (⊎_elim (λ (device : IsOfDevice f). inl (inl device)) (λ (is : f ≡ fault.Damaged c.args.at.page). inr
       is)
@@ -262,7 +261,7 @@ returns-in_err-bounds g c = record {
   damaged = λ h.
       let f = c.in_err-bounds.field-0.0 in
       at_error c.from_residual.result f
-      (λ f. IsNoDamage c.add_entry.new.cache f ⊎ (f ≡ fault.Damaged c.args.at.page)) c.from_residual.ensures.1
+      _ c.from_residual.ensures.1
       (⊎_elim (λ (device : IsOfDevice f). inl (inl device)) (λ (is : f ≡ fault.Damaged c.args.at.page). inr
       is)
       (c.in_err-bounds.ensures.named h.honest));

@@ -2,9 +2,7 @@
 use Rattle.std.proofs.Common.{inr, refl}
 use Rattle.std.proofs.Common.{rules, subst, ap, All, arith, length}
 use Rattle.std.proofs.lemmas.List.{length-map}
-use Rattle.page_file.specs.Fault.{IsDamage}
 use Rattle.page_file.specs.Fault.{IsOfDevice}
-use Rattle.page_file.specs.declared.fault.Fault.TheVariants as fault
 use Rattle.page_cache.specs.Cache.{pages}
 use Rattle.tree_node.specs.declared.node.Entry.{Entry}
 use Rattle.tree_node.specs.Nodes.{NodeContent, content_of, item_of}
@@ -14,7 +12,6 @@ use Rattle.node_page.proofs.NodeLemmas.{at_error}
 use Rattle.node_page.proofs.StandingLemmas.{page_of_node, same_content}
 use Rattle.reinsert.proofs.AboveLemmas.{All-mapped}
 use Rattle.reinsert.proofs.FaultLemmas.{asks_refused, damaged_asks, no_success}
-use Rattle.std.specs.Prelude.{◌≡◌, ◌⊎◌}
 use Rattle.reinsert.proofs.place.read_fitting.Goals as goal
 
 pub returns-in_err-read_into : goal.returns-in_err-read_into
@@ -32,9 +29,9 @@ returns-in_err-read_into g c = record {
   given_node = λ h. no_success c.from_residual.result c.in_err-read_into.field-0.0 _
       c.from_residual.ensures.1;
   damaged = λ h. at_error c.from_residual.result c.in_err-read_into.field-0.0
-      (λ f. IsOfDevice f ⊎ (f ≡ fault.Damaged c.args.at.page)) c.from_residual.ensures.1
+      _ c.from_residual.ensures.1
       (c.in_err-read_into.ensures.faults h);
-  other_faults = at_error c.from_residual.result c.in_err-read_into.field-0.0 (λ f. IsOfDevice f ⊎ IsDamage f)
+  other_faults = at_error c.from_residual.result c.in_err-read_into.field-0.0 _
       c.from_residual.ensures.1 c.in_err-read_into.ensures.other_faults;
 }
 

@@ -1,5 +1,5 @@
 -- Each refusal is the table's, and none refuses the layer whose place is answered.
-use Rattle.std.proofs.Common.{◌≡◌, ◌∙◌, length, map, ap, inl, sym, arith}
+use Rattle.std.proofs.Common.{◌≡◌, ◌∙◌, length, ap, inl, sym, arith}
 use Rattle.std.specs.Prelude.{is_some}
 use Rattle.std.proofs.lemmas.List.{length-map}
 use Rattle.catalog_page.specs.Layout.{record_of}

@@ -14,7 +14,7 @@ use Rattle.live_layers.proofs.JoinLemmas.{dims_differ, joins, no_first, no_secon
 use Rattle.live_layers.proofs.ReplyLemmas.{refused, replied}
 use Rattle.live_layers.specs.Keeping.{count_in, records_in}
 use Rattle.live_layers.specs.Refusals.{no_record, record_at, refusals_in}
-use Rattle.live_layers.proofs.RefusalLemmas.{join_bad_first, join_bad_second, join_differs, join_no_first}
+use Rattle.live_layers.proofs.RefusalLemmas.{join_differs, join_no_first}
 use Rattle.live_layers.proofs.RefusalLemmas.{join_no_second, join_passes, of_none}
 use Rattle.live_layers.proofs.TurnLemmas.{dims_found}
 use Rattle.live_layers.proofs.layers.Layers.join.Goals as goal

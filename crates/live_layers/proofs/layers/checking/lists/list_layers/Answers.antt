@@ -1,13 +1,12 @@
 -- Each layer in turn.
-use Rattle.std.proofs.Common.{◌≡◌, ◌<◌, ℕ, List, None, get_or, length, map, take, sym, subst, arith}
+use Rattle.std.proofs.Common.{◌<◌, List, None, get_or, length, map, take, sym, subst, arith}
 use Rattle.std.proofs.lemmas.List.{take_all}
 use Rattle.catalog_page.specs.Layout.{Record, record_of}
 use Rattle.catalog_page.specs.declared.layer_record.LayerRecord.{LayerRecord}
 use Rattle.page_cache.specs.Cache.{given, pages, version_of}
 use Rattle.page_cache.specs.Calls.{asks_and_refuses, asks_in_turn}
 use Rattle.page_file.specs.Fault.{IsOfDevice}
-use Rattle.page_file.specs.declared.fault.Fault.TheVariants.{Damaged}
-use Rattle.live_layers.specs.Checked.{AddsLayers, ComesInLayers}
+use Rattle.live_layers.specs.Checked.{AddsLayers}
 use Rattle.live_layers.specs.Layers.{root_of}
 use Rattle.live_layers.proofs.CheckLemmas.{adds_in, adds_more, allowed_here, among_records, comes_in_same}
 use Rattle.live_layers.proofs.CheckLemmas.{records_more, row_here, stands_here}
@@ -80,7 +79,7 @@ returns-in_err-list_layer-clause-damage g c = λ honest.
     let items = c.args.records.now in
     let r = c.record-item.result in
     the_err c.from_residual.result c.in_err-list_layer.field-0.0
-    (λ f. (n : ℕ) → f ≡ Damaged n → ComesInLayers old (map record_of items) n) c.from_residual.ensures.1
+    _ c.from_residual.ensures.1
     (λ n is. (
       record_of r,
       among_records items c.loop-record.record-index r c.loop-record-test.true c.record-item.is,

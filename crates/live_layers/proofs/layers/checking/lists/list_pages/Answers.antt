@@ -77,8 +77,7 @@ pub returns-in_err-list-clause-damage : goal.returns-in_err-list-clause-damage
 returns-in_err-list-clause-damage g c = λ honest.
     let layer = c.args.layer.now in let old = given c.args.cache.now in
     let root = root_of (record_of layer) in
-    the_err c.from_residual.result c.in_err-list.field-0.0
-    (λ f. (n : ℕ) → f ≡ Damaged n → ComesInLayer layer.dims old root layer.ids_root n)
+    the_err c.from_residual.result c.in_err-list.field-0.0 _
     c.from_residual.ensures.1
     (λ n is. subst (λ (d : ℕ). ComesInLayer d old root layer.ids_root n) (sym c.requires.axes)
     (c.in_err-list.ensures.damage honest n is))
