@@ -1,5 +1,6 @@
--- Laws of an end that is finished over files that are synced, and of a mark that is written again.
-use Rattle.std.proofs.Common.{◌≡◌, ◌∙◌, ◌≤◌, List, ℕ, length, ap, sym, subst}
+-- Laws of an end that is finished over files that are synced, of a gate that is shut, and of a mark that is written
+-- again.
+use Rattle.std.proofs.Common.{◌≡◌, ◌∙◌, ◌<◌, ◌≤◌, List, ℕ, length, ap, sym, subst}
 use Rattle.std.proofs.Common.{true, [], ◌∷◌, inl, inr, ⊎_elim, arith}
 use Rattle.block_device.specs.Device.{Blocks, IsBlock, Torn, block_at, written}
 use Rattle.block_device.specs.Written.{length-written_within, torn_length, torn_other}
@@ -7,11 +8,12 @@ use Rattle.committed_log.specs.Log.{says}
 use Rattle.journaled_file.specs.Ending.{AreRead, EndTorn, GateTorn, IsEnding}
 use Rattle.journaled_file.specs.EndingLaws.{torn_end, torn_header}
 use Rattle.journaled_file.specs.Judged.{HasEnded, HasEntries, IsJudged, IsOf}
-use Rattle.journaled_file.specs.Paired.{IsAnew}
+use Rattle.journaled_file.specs.Paired.{IsAnew, IsShut}
 use Rattle.journaled_file.specs.declared.judging.Found.TheVariants.{Own, Unended}
 use Rattle.marked_pair.specs.Behind.{IsSynced}
 use Rattle.marked_pair.specs.Mark.{reads_as, unmarked, IsMarked}
 use Rattle.marked_pair.specs.MarkLaws.{unmarked_marked}
+use Rattle.page_file.specs.Layout.{gate_block}
 use Rattle.titled_pair.specs.Title.{end_text, reads_title, title_text, with_text}
 use Rattle.titled_pair.specs.TitleLaws.{reads_retitled, with_text_twice}
 
@@ -23,6 +25,19 @@ gate_ending base journal outcomes a e synced ended torn =
       gate = subst (λ d. Torn 0 d a) read.0 torn.2;
       end = subst (HasEnded base) (sym read.1) ended;
     }
+
+-- a gate that is written shut, and none of a base without blocks
+pub shut_written : (was a : Blocks) → 0 < length was → a ≡ written 0 (gate_block 1) was → IsShut was a
+shut_written [] a some is = absurd (omega (arith, some))
+shut_written (g ∷ was) a some is = is
+
+pub shut_none : (was a : Blocks) → length was ≡ 0 → a ≡ was → IsShut was a
+shut_none [] a none is = is
+shut_none (g ∷ was) a none is = absurd (omega (arith, none))
+
+pub shut_is : (was a : Blocks) → IsShut was a → 0 < length was → a ≡ written 0 (gate_block 1) was
+shut_is [] a is some = absurd (omega (arith, some))
+shut_is (g ∷ was) a is some = is
 
 -- an end that is written over both as they are read
 pub end_torn : (base journal : Blocks) (outcomes : Blocks → Blocks → Type 0) (a e : Blocks)

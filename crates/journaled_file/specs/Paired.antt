@@ -1,16 +1,16 @@
 -- What a base and its journal are once they were paired for a run (our format, docs/FORMAT.md, "The journal",
 -- "Files").
-use Rattle.std.specs.Prelude.{◌≡◌, ◌<◌, ◌≤◌, ◌⊎◌, ◌↔◌, ℕ, Bool, true, false, List, [], length}
+use Rattle.std.specs.Prelude.{◌≡◌, ◌<◌, ◌≤◌, ◌+◌, ◌⊎◌, ◌↔◌, ℕ, Bool, true, false, List, [], length}
 use Rattle.block_bytes.specs.Numbers.{zeros}
-use Rattle.block_device.specs.Device.{Blocks, block_at, written}
-use Rattle.committed_log.specs.Log.{says}
+use Rattle.block_device.specs.Device.{Blocks, block_at}
+use Rattle.committed_log.specs.Log.{homes_in, says}
 use Rattle.journaled_file.specs.Ending.{GateTorn}
+use Rattle.journaled_file.specs.Gate.{shut}
 use Rattle.journaled_file.specs.Judged.{IsJudged, IsOf}
 use Rattle.journaled_file.specs.Opened.{read_of}
 use Rattle.journaled_file.specs.declared.judging.Found.TheVariants.{Ended, Fresh, Own, Unended}
 use Rattle.marked_pair.specs.Mark.{unmarked, IsMarked}
-use Rattle.page_file.specs.Layout.{gate_block}
-use Rattle.titled_pair.specs.Title.{title_of}
+use Rattle.titled_pair.specs.Title.{title_of, untitled}
 
 -- a journal that has nothing but the title of this base
 pub record IsNew (a e : Blocks) : Type 0 where
@@ -43,30 +43,36 @@ pub record IsRewritten (was a e : Blocks) : Type 0 where
   pub own : IsJudged Own a e
   pub sure : IsMarkedAnew was a e
 
--- So it is, and whether its last run had not ended is told by its mark; or it has a new journal, and a run that
--- is told to have not ended left its mark.
-abbrev pub IsPaired : Blocks → Blocks → Blocks → Bool → Type 0
-IsPaired was a e unended =
-    (IsRewritten was a e × ((unended ≡ true) ↔ IsMarked was)) ⊎ (IsNew a e × (unended ≡ true → IsMarked was))
+-- No more was begun in a journal than committed: behind its commits stand at most the flag and the count of another.
+abbrev pub HasBegunNoMore : Blocks → Type 0
+HasBegunNoMore journal = length (untitled journal) ≤ length (homes_in (untitled journal)) + 2
 
--- the gate of a base is shut, if it has one, and the rest is as it was
+-- the gate of a base is shut, and the rest is as it was; one without blocks has no gate, and gets none
 abbrev pub IsShut : Blocks → Blocks → Type 0
-IsShut was a = 0 < length was → a ≡ written 0 (gate_block 1) was
+IsShut was a = a ≡ shut was
+
+-- The base's own journal had a commit to bring back, and what is read of both stays. Whether the last run had not ended
+-- is told by the mark, and that it had begun no more than it committed only where that is so.
+pub record IsBroughtBack (was journal a e : Blocks) (unended begun : Bool) : Type 0 where
+  pub found : IsJudged Own was journal
+  pub read : read_of a e ≡ read_of was journal
+  pub rewritten : IsRewritten was a e
+  pub marked : (unended ≡ true) ↔ IsMarked was
+  pub no_more : begun ≡ false → HasBegunNoMore journal
 
 -- The journal that the base had brings nothing back: it is needless, and the base is as it was; or its session is
--- over, and the base is shut. That a session had not ended is told.
-abbrev pub HadNothing : Blocks → Blocks → Blocks → Bool → Type 0
-HadNothing was journal a unended =
+-- over, and the base is shut. That a session had not ended is told, and then that it may have begun more.
+abbrev pub HadNothing : Blocks → Blocks → Blocks → Bool → Bool → Type 0
+HadNothing was journal a unended begun = (begun ≡ unended) × (
     (IsJudged Fresh was journal × (a ≡ was) × (unended ≡ false))
     ⊎ (IsJudged Ended was journal × IsShut was a × (unended ≡ false))
-    ⊎ (IsJudged Unended was journal × IsShut was a × (unended ≡ true))
+    ⊎ (IsJudged Unended was journal × IsShut was a × (unended ≡ true)))
 
--- From what a base and the journal that it had are paired to: the base's own journal has a commit to bring back, and
--- what is read of both stays; or it brings nothing back, and another one is new. Beside a journal that is missing, or
--- that of another base, nothing is paired.
-abbrev pub IsPairedFrom : Blocks → Blocks → Blocks → Blocks → Bool → Type 0
-IsPairedFrom was journal a e unended =
-    (IsJudged Own was journal × (read_of a e ≡ read_of was journal)) ⊎ (IsNew a e × HadNothing was journal a unended)
+-- To what a base and the journal that it had are paired: what they have is brought back, or that is nothing, and the
+-- base has a new journal. Beside a journal that is missing, or that of another base, nothing is paired.
+abbrev pub IsPaired : Blocks → Blocks → Blocks → Blocks → Bool → Bool → Type 0
+IsPaired was journal a e unended begun =
+    IsBroughtBack was journal a e unended begun ⊎ (IsNew a e × HadNothing was journal a unended begun)
 
 -- what a stop left before; or both as they were but for the gate, where the title is of the base
 abbrev pub LeavesOwnGate : (Blocks → Blocks → Type 0) → Blocks → Blocks → Blocks → Blocks → Type 0

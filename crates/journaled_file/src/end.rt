@@ -117,6 +117,7 @@ fn removed<R: Files<File = File>>(
 /// Takes the mark of the base away, once the journal says that the session has ended. Whether the base is
 /// then read without its journal is answered: it is not where a commit was not finished, and then nothing is
 /// written.
+#[tactic(auto, using(crate::specs::FinishingLaws::shut_is))]
 pub fn end_session<P: DevicePair>(pair: &mut P) -> Result<bool, DeviceError>
     ensures ended { P.honest pair.old → IfOk result (λ t. t ≡ true → ¬ HasEntries (P.journal pair.old)) }
     ensures not_ended { P.honest pair.old →

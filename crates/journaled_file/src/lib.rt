@@ -12,6 +12,7 @@ mod looking;
 mod open;
 mod pairing;
 mod readers;
+mod viewed;
 
 pub use end::{end_device, end_journaled, end_session};
 pub use judging::{Found, judge};

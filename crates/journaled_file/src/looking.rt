@@ -1,26 +1,35 @@
 //! How a file and its journal are looked at, before anything is written into either.
-ghost use Rattle.std.specs.Prelude.{◌≡◌, ◌≤◌, ◌↔◌, length, IfOk, IfSome};
+ghost use Rattle.std.specs.Prelude.{◌≡◌, ◌≤◌, ◌↔◌, length, true, IfOk, IfSome, None};
+ghost use Rattle.block_device.specs.Device.{LeavesOnly};
+ghost use Rattle.committed_log.specs.Room.{blocks_of};
 ghost use Rattle.device_pair.specs.Pairs.{PairLeaves};
 ghost use Rattle.journaled_file.specs.Judged.{IsJudged};
+ghost use Rattle.journaled_file.specs.Viewed.{CommitsNoMore, HasSlots};
 ghost use Rattle.marked_pair.specs.Behind.{IsSynced};
+ghost use Rattle.titled_pair.specs.Title.{untitled};
+ghost use Rattle.unwritten_pair.specs.Pair.{base_of, journal_of};
 
-use crate::judging::{Found, has_entries, judge};
-use crate::open::{device_over, parts_under, sync_both};
-use crate::pairing::{JournalSource, put_title};
+use crate::judging::{Found, judge};
+use crate::open::sync_both;
+use crate::pairing::{JournalSource, heads_of, indexed, put_title};
+use crate::viewed::{View, ViewedPair};
 use block_bytes::zero_block;
-use block_device::{BlockDevice, DeviceError, MemoryDevice};
-use committed_log::{count_page, flag_page};
+use block_device::{BlockDevice, DeviceError};
+use committed_log::{Slots, count_page, flag_page};
 use device_pair::{DevicePair, TwoDevices};
 use file_device::OpenError;
-use journaled_device::Nobody;
-use marked_pair::{SHUT, gate_page};
+use marked_pair::{MARKED, SHUT, gate_page, reads_as};
 use std::alloc::Global;
 use unwritten_pair::UnwrittenPair;
 
 /// Who opens a store over a device, and gives the device back.
 pub trait StoreJudge {
-    /// Tells whether a store opens over a device. Where the device or memory fails that is not known.
+    /// Tells whether a store opens over a device. Where the device or memory fails that is not known. The device
+    /// comes back with the blocks that it had, and a stop of it leaves, and brings back, nothing else.
     fn opens<D: BlockDevice + Drop>(&mut self, device: D) -> (Result<bool, OpenError>, D)
+        ensures shown { D.honest device → D.shown result.1 ≡ D.shown device }
+        ensures stops { D.honest device →
+            LeavesOnly D.moment D.left_since D.recovery device result.1 (D.may_leave device) }
         ensures honest { D.honest device → D.honest result.1 };
 }
 
@@ -51,6 +60,11 @@ pub fn look<B: BlockDevice + Drop, J: BlockDevice + Drop, S: JournalSource<J>, G
     judge: &mut G,
     alloc: Global,
 ) -> Result<Looked<B, J>, OpenError>
+    ensures base { IfOk result (λ r. B.honest base → S.is_honest → B.shown r.base ≡ B.shown base) }
+    ensures there { IfOk result (λ r. B.honest base → S.is_honest →
+        IfSome r.journal (λ j. S.is_there source.old (J.shown j))) }
+    ensures found { IfOk result (λ r. B.honest base → S.is_honest →
+        IfSome r.journal (λ j. IsJudged r.found (B.shown base) (J.shown j))) }
     ensures honest { IfOk result (λ r. B.honest base → S.is_honest → B.honest r.base) }
     ensures journal { IfOk result (λ r. B.honest base → S.is_honest → IfSome r.journal (λ j. J.honest j)) }
 {
@@ -66,7 +80,7 @@ pub fn look<B: BlockDevice + Drop, J: BlockDevice + Drop, S: JournalSource<J>, G
 // A file that was not looked at.
 fn unseen<B: BlockDevice + Drop, J: BlockDevice + Drop>(base: B) -> Looked<B, J>
     ensures base { result.base ≡ base }
-    ensures journal { IfSome result.journal (λ j. J.honest j) }
+    ensures journal { result.journal ≡ None }
 {
     Looked {
         base,
@@ -82,17 +96,51 @@ fn look_at<B: BlockDevice + Drop, J: BlockDevice + Drop, G: StoreJudge>(
     judge: &mut G,
     alloc: Global,
 ) -> Result<Looked<B, J>, OpenError>
+    ensures base { IfOk result (λ r. ⟦<TwoDevices<B, J> as DevicePair>⟧.honest pair
+        → B.shown r.base ≡ ⟦<TwoDevices<B, J> as DevicePair>⟧.base pair) }
+    ensures same { IfOk result (λ r. ⟦<TwoDevices<B, J> as DevicePair>⟧.honest pair
+        → IfSome r.journal (λ j. J.shown j ≡ ⟦<TwoDevices<B, J> as DevicePair>⟧.journal pair)) }
+    ensures found { IfOk result (λ r. ⟦<TwoDevices<B, J> as DevicePair>⟧.honest pair
+        → IsJudged r.found (⟦<TwoDevices<B, J> as DevicePair>⟧.base pair)
+        (⟦<TwoDevices<B, J> as DevicePair>⟧.journal pair)) }
     ensures honest { IfOk result (λ r. ⟦<TwoDevices<B, J> as DevicePair>⟧.honest pair → B.honest r.base) }
     ensures journal { IfOk result (λ r. ⟦<TwoDevices<B, J> as DevicePair>⟧.honest pair
         → IfSome r.journal (λ j. J.honest j)) }
+{
+    let (found, opens, pair) = look_over(pair, judge, alloc)?;
+    let (base, journal) = pair.into_devices();
+    Ok(Looked {
+        base,
+        journal: Some(journal),
+        found,
+        opens,
+    })
+}
+
+// The same of a pair of any kind.
+fn look_over<P: DevicePair + Drop, G: StoreJudge>(
+    pair: P,
+    store: &mut G,
+    alloc: Global,
+) -> Result<(Found, bool, P), OpenError>
+    ensures base { IfOk result (λ r. P.honest pair → P.base r.2 ≡ P.base pair) }
+    ensures journal { IfOk result (λ r. P.honest pair → P.journal r.2 ≡ P.journal pair) }
+    ensures found { IfOk result (λ r. P.honest pair → IsJudged r.0 (P.base pair) (P.journal pair)) }
+    ensures honest { IfOk result (λ r. P.honest pair → P.honest r.2) }
 {
     let mut pair = pair;
     let found = sync_and_judge(&mut pair)?;
     match found {
         Found::Missing => Err(OpenError::NoJournal),
         Found::Foreign => Err(OpenError::OtherJournal),
-        Found::Own => look_at_commit(pair, judge, alloc),
-        Found::Fresh | Found::Unended | Found::Ended => look_at_base(pair, found, judge, alloc),
+        Found::Own => {
+            let (opens, pair) = look_at_commit(pair, store, alloc)?;
+            Ok((Found::Own, opens, pair))
+        }
+        Found::Fresh | Found::Unended | Found::Ended => {
+            let (opens, pair) = look_at_base(pair, found, store, alloc)?;
+            Ok((found, opens, pair))
+        }
     }
 }
 
@@ -113,72 +161,124 @@ pub(crate) fn sync_and_judge<P: DevicePair>(pair: &mut P) -> Result<Found, Devic
 }
 
 // Opens a store over a file and the commit that its journal has.
-fn look_at_commit<B: BlockDevice + Drop, J: BlockDevice + Drop, G: StoreJudge>(
-    pair: TwoDevices<B, J>,
-    judge: &mut G,
+fn look_at_commit<P: DevicePair + Drop, G: StoreJudge>(
+    pair: P,
+    store: &mut G,
     alloc: Global,
-) -> Result<Looked<B, J>, OpenError>
-    ensures honest { IfOk result (λ r. ⟦<TwoDevices<B, J> as DevicePair>⟧.honest pair → B.honest r.base) }
-    ensures journal { IfOk result (λ r. ⟦<TwoDevices<B, J> as DevicePair>⟧.honest pair
-        → IfSome r.journal (λ j. J.honest j)) }
+) -> Result<(bool, P), OpenError>
+    ensures base { IfOk result (λ r. P.honest pair → P.base r.1 ≡ P.base pair) }
+    ensures journal { IfOk result (λ r. P.honest pair → P.journal r.1 ≡ P.journal pair) }
+    ensures honest { IfOk result (λ r. P.honest pair → P.honest r.1) }
 {
-    let (opens, pair) = opens_over(pair, judge, alloc)?;
-    let (base, journal) = pair.into_devices();
-    Ok(Looked {
-        base,
-        journal: Some(journal),
-        found: Found::Own,
-        opens,
-    })
+    let (pair, slots) = slots_of(pair, alloc)?;
+    let mut pair = pair;
+    if pair.base_blocks() < 2 {
+        return Err(OpenError::NoJournal);
+    }
+    let gate = gate_of(&mut pair)?;
+    let (opens, pair) = opens_over(pair, View { gate, slots }, true, store)?;
+    Ok((opens, pair))
 }
 
-// Opens a store over a file whose journal has no commit to bring back, and in its place a journal in memory.
-fn look_at_base<B: BlockDevice + Drop, J: BlockDevice + Drop, G: StoreJudge>(
-    pair: TwoDevices<B, J>,
-    found: Found,
-    judge: &mut G,
-    alloc: Global,
-) -> Result<Looked<B, J>, OpenError>
-    ensures honest { IfOk result (λ r. ⟦<TwoDevices<B, J> as DevicePair>⟧.honest pair → B.honest r.base) }
-    ensures journal { IfOk result (λ r. ⟦<TwoDevices<B, J> as DevicePair>⟧.honest pair
-        → IfSome r.journal (λ j. J.honest j)) }
+// The index of the log of a pair's journal. Opening a log may append to it, which is done in memory. That the journal
+// comes back as it was is asked of it where nothing says so.
+fn slots_of<P: DevicePair + Drop>(pair: P, alloc: Global) -> Result<(P, Slots<Global>), OpenError>
+    ensures base { IfOk result (λ r. P.honest pair → P.base r.0 ≡ P.base pair) }
+    ensures journal { IfOk result (λ r. P.honest pair → P.journal r.0 ≡ P.journal pair) }
+    ensures there { IfOk result (λ r. P.honest pair →
+        length (blocks_of r.1) ≤ length (untitled (P.journal r.0))) }
+    ensures honest { IfOk result (λ r. P.honest pair → P.honest r.0) }
 {
-    let (base, journal) = pair.into_devices();
-    let (opens, base) = opens_alone(base, found, judge, alloc)?;
-    Ok(Looked {
-        base,
-        journal: Some(journal),
-        found,
-        opens,
-    })
+    let mut pair = pair;
+    let (title, end) = heads_of(&mut pair)?;
+    let blocks = pair.journal_blocks();
+    let (held, slots) = indexed(unwritten(pair, alloc)?, alloc)?;
+    let mut pair = held.into_pair();
+    if pair.journal_blocks() != blocks {
+        return Err(OpenError::Refused);
+    }
+    if slots.len() + 2 > blocks as usize {
+        return Err(OpenError::NoJournal);
+    }
+    let (same_title, same_end) = heads_of(&mut pair)?;
+    if !are_same(&title, &same_title) {
+        return Err(OpenError::Refused);
+    }
+    if !are_same(&end, &same_end) {
+        return Err(OpenError::Refused);
+    }
+    Ok((pair, slots))
 }
 
-// Whether a store opens over a file, a gate with the mark as a shut one, and each gate of an ended session.
-fn opens_alone<B: BlockDevice + Drop, G: StoreJudge>(
-    base: B,
-    found: Found,
-    judge: &mut G,
-    alloc: Global,
-) -> Result<(bool, B), OpenError>
-    ensures honest { IfOk result (λ r. B.honest base → B.honest r.1) }
+// Whether two blocks are the same.
+fn are_same(block: &[u8; 4096], other: &[u8; 4096]) -> bool
+    ensures { result ≡ true → block.now ≡ other.now }
 {
-    opens_beside(base, MemoryDevice::new(alloc), found, judge, alloc)
+    block == other
 }
 
-// The same beside a journal without blocks.
-fn opens_beside<B: BlockDevice + Drop, J: BlockDevice + Drop, G: StoreJudge>(
-    base: B,
-    journal: J,
+// Opens a store over a file whose journal has no commit to bring back.
+fn look_at_base<P: DevicePair + Drop, G: StoreJudge>(
+    pair: P,
     found: Found,
-    judge: &mut G,
+    store: &mut G,
     alloc: Global,
-) -> Result<(bool, B), OpenError>
-    ensures honest { IfOk result (λ r. B.honest base → J.honest journal → B.honest r.1) }
+) -> Result<(bool, P), OpenError>
+    ensures base { IfOk result (λ r. P.honest pair → P.base r.1 ≡ P.base pair) }
+    ensures journal { IfOk result (λ r. P.honest pair → P.journal r.1 ≡ P.journal pair) }
+    ensures honest { IfOk result (λ r. P.honest pair → P.honest r.1) }
 {
-    let pair = stand_in(base, journal, found)?;
-    let (opens, pair) = opens_over(pair, judge, alloc)?;
-    let (base, _none) = pair.into_devices();
-    Ok((opens, base))
+    let mut pair = pair;
+    let gate = gate_beside(&mut pair, found)?;
+    let slots = Slots::new(alloc);
+    let (opens, pair) = opens_over(pair, View { gate, slots }, false, store)?;
+    Ok((opens, pair))
+}
+
+// The gate of a file beside such a journal: of an ended session the shut one.
+fn gate_beside<P: DevicePair>(pair: &mut P, found: Found) -> Result<[u8; 4096], DeviceError>
+    ensures base { P.honest pair.old → P.base pair.new ≡ P.base pair.old }
+    ensures journal { P.honest pair.old → P.journal pair.new ≡ P.journal pair.old }
+    ensures honest { P.honest pair.old ↔ P.honest pair.new }
+{
+    if found == Found::Ended && pair.base_blocks() >= 2 {
+        return Ok(gate_page(SHUT));
+    }
+    gate_of(pair)
+}
+
+// The gate of a file, one with the mark as a shut one.
+fn gate_of<P: DevicePair>(pair: &mut P) -> Result<[u8; 4096], DeviceError>
+    ensures base { P.honest pair.old → P.base pair.new ≡ P.base pair.old }
+    ensures journal { P.honest pair.old → P.journal pair.new ≡ P.journal pair.old }
+    ensures honest { P.honest pair.old ↔ P.honest pair.new }
+{
+    let mut gate = zero_block();
+    if pair.base_blocks() == 0 {
+        return Ok(gate);
+    }
+    pair.read_base(0, &mut gate)?;
+    if reads_as(&gate, MARKED) {
+        return Ok(gate_page(SHUT));
+    }
+    Ok(gate)
+}
+
+// Whether a store opens over a file in a view. One that commits has the gate that is written for a shut one: a journal
+// that has another, which reads as shut, is none.
+fn opens_over<P: DevicePair + Drop, G: StoreJudge>(
+    pair: P,
+    view: View,
+    commits: bool,
+    store: &mut G,
+) -> Result<(bool, P), OpenError>
+    ensures base { IfOk result (λ r. P.honest pair → HasSlots view (P.journal pair) → P.base r.1 ≡ P.base pair) }
+    ensures journal { IfOk result (λ r. P.honest pair → HasSlots view (P.journal pair) →
+        P.journal r.1 ≡ P.journal pair) }
+    ensures honest { IfOk result (λ r. P.honest pair → HasSlots view (P.journal pair) → P.honest r.1) }
+{
+    let (opens, device) = opens_device(ViewedPair::of(pair, view), commits, store)?;
+    Ok((opens, device.into_pair()))
 }
 
 /// A file beside a journal without blocks, which `put_stand_in` makes one that has nothing to bring back.
@@ -228,26 +328,13 @@ fn append<P: DevicePair>(pair: &mut P, bytes: &[u8; 4096]) -> Result<(), DeviceE
     pair.write_journal(at, bytes)
 }
 
-// Whether a store opens over what recovery would make of a pair, into which nothing is written. A commit has the gate
-// that is written for a shut one: a journal that has another, which reads as shut, is none.
-fn opens_over<P: DevicePair + Drop, G: StoreJudge>(
-    pair: P,
-    judge: &mut G,
-    alloc: Global,
-) -> Result<(bool, P), OpenError>
-    ensures honest { IfOk result (λ r. P.honest pair → P.honest r.1) }
-{
-    let mut pair = pair;
-    let commits = has_entries(&mut pair)?;
-    let (opens, pair) = opens_unwritten(unwritten(pair, alloc)?, commits, judge, alloc)?;
-    Ok((opens, pair.into_pair()))
-}
-
 // A pair into which nothing is written, by what it is.
 fn unwritten<P: DevicePair + Drop>(
     pair: P,
     alloc: Global,
 ) -> Result<UnwrittenPair<P, Global>, OpenError>
+    ensures base { IfOk result (λ d. P.honest pair → base_of d ≡ P.base pair) }
+    ensures journal { IfOk result (λ d. P.honest pair → journal_of d ≡ P.journal pair) }
     ensures honest { IfOk result (λ d. P.honest pair → ⟦<UnwrittenPair<P, Global> as DevicePair>⟧.honest d) }
 {
     match UnwrittenPair::over(pair, alloc) {
@@ -256,30 +343,16 @@ fn unwritten<P: DevicePair + Drop>(
     }
 }
 
-// The same over a pair of any kind.
-fn opens_unwritten<P: DevicePair + Drop, G: StoreJudge>(
-    pair: P,
-    commits: bool,
-    judge: &mut G,
-    alloc: Global,
-) -> Result<(bool, P), OpenError>
-    ensures honest { IfOk result (λ r. P.honest pair → P.honest r.1) }
-{
-    let device = device_over(pair, alloc, Nobody)?;
-    let (opens, device) = opens_device(device, commits, judge)?;
-    let (pair, _) = parts_under(device);
-    Ok((opens, pair))
-}
-
 // Whether a store opens over a device. One that commits has the gate that is written for a shut one.
 fn opens_device<D: BlockDevice + Drop, G: StoreJudge>(
     device: D,
     commits: bool,
-    judge: &mut G,
+    store: &mut G,
 ) -> Result<(bool, D), OpenError>
+    ensures commits { IfOk result (λ r. D.honest device → CommitsNoMore D.recovery device r.1) }
     ensures honest { IfOk result (λ r. D.honest device → D.honest r.1) }
 {
-    let (opens, device) = judge.opens(device);
+    let (opens, device) = store.opens(device);
     let opens = opens?;
     let mut device = device;
     if opens && commits {
@@ -290,6 +363,7 @@ fn opens_device<D: BlockDevice + Drop, G: StoreJudge>(
 
 // Refuses a gate that is another block than the one that is written for a shut gate.
 fn check_gate<D: BlockDevice>(device: &mut D) -> Result<(), OpenError>
+    ensures commits { D.honest device.old → CommitsNoMore D.recovery device.old device.new }
     ensures honest { D.honest device.old ↔ D.honest device.new }
 {
     if device.blocks() == 0 {

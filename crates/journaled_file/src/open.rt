@@ -1,11 +1,12 @@
 //! How a file and its journal are opened.
 ghost use Rattle.std.specs.Prelude.{◌≡◌, ◌<◌, ◌≤◌, ◌↔◌, ◌⊎◌, ℕ, length, IfErr, IfOk, OnOk};
-ghost use Rattle.block_device.specs.Device.{Blocks, written};
+ghost use Rattle.block_device.specs.Device.{Blocks};
 ghost use Rattle.device_pair.specs.Pairs.{PairLeaves, PairsNoMore};
 ghost use Rattle.file_device.specs.declared.open.OpenError.TheVariants as error;
 ghost use Rattle.journaled_file.specs.Ending.{AreRead, GateTorn, LeavesFinishing};
 ghost use Rattle.journaled_file.specs.Judged.{HasEnded, IsJudged, IsNoJournal};
 ghost use Rattle.journaled_file.specs.Opened.{LeavesRead, read_of};
+ghost use Rattle.journaled_file.specs.Paired.{IsShut};
 ghost use Rattle.journaled_file.specs.declared.judging.Found.TheVariants.{Ended, Unended};
 ghost use Rattle.journaled_device.specs.Journaled.{inner_of, pair_of};
 ghost use Rattle.committed_log.specs.declared.log.open.OpenFault.TheVariants.{Malformed};
@@ -13,7 +14,6 @@ ghost use Rattle.logged_pair.specs.Standing.{commits_of, shown_of, IsHonest};
 ghost use Rattle.marked_pair.specs.Behind.{IsSynced, LeavesBase};
 ghost use Rattle.marked_pair.specs.Mark.{unmarked, IsMarked};
 ghost use Rattle.marked_pair.specs.Pair.{pair_of as titled_of};
-ghost use Rattle.page_file.specs.Layout.{gate_block};
 ghost use Rattle.titled_pair.specs.Pair.{pair_of as files_of};
 
 use crate::end::put_end;
@@ -216,9 +216,8 @@ impl<R: Files<File = File>> JournalSource<SystemFile> for JournalAt<'_, R> {
 pub fn judge_and_finish<P: DevicePair>(pair: &mut P) -> Result<Found, DeviceError>
     ensures judged { P.honest pair.old →
         IfOk result (λ found. IsJudged found (P.base pair.old) (P.journal pair.old)) }
-    ensures finished { P.honest pair.old → 0 < length (P.base pair.old) →
-        IfOk result (λ found. (found ≡ Ended) ⊎ (found ≡ Unended) →
-        P.base pair.new ≡ written 0 (gate_block 1) (P.base pair.old)) }
+    ensures finished { P.honest pair.old → IfOk result (λ found. (found ≡ Ended) ⊎ (found ≡ Unended) →
+        IsShut (P.base pair.old) (P.base pair.new)) }
     ensures ended { P.honest pair.old → IfOk result (λ found. (found ≡ Ended) ⊎ (found ≡ Unended) →
         HasEnded (P.base pair.old) (P.journal pair.new)) }
     ensures other { P.honest pair.old → IfOk result (λ found. ¬ (found ≡ Ended) → ¬ (found ≡ Unended) →
@@ -262,8 +261,7 @@ fn finish_end<P: DevicePair>(pair: &mut P) -> Result<(), DeviceError>
         IsSynced (P.base pair.old) (P.journal pair.old) (P.may_leave pair.old) }
     requires over { P.honest pair.old →
         IsMarked (P.base pair.old) ⊎ HasEnded (P.base pair.old) (P.journal pair.old) }
-    ensures shut { P.honest pair.old → 0 < length (P.base pair.old) →
-        OnOk result (P.base pair.new ≡ written 0 (gate_block 1) (P.base pair.old)) }
+    ensures shut { P.honest pair.old → OnOk result (IsShut (P.base pair.old) (P.base pair.new)) }
     ensures ended { P.honest pair.old → OnOk result (HasEnded (P.base pair.old) (P.journal pair.new)) }
     ensures durable { P.honest pair.old →
         OnOk result (IsSynced (P.base pair.new) (P.journal pair.new) (P.may_leave pair.new)) }
@@ -282,9 +280,9 @@ fn finish_end<P: DevicePair>(pair: &mut P) -> Result<(), DeviceError>
 }
 
 /// Writes the gate of the base shut, without a mark, and syncs it. A base without blocks has none.
+#[tactic(auto, using(crate::specs::FinishingLaws::shut_written, crate::specs::FinishingLaws::shut_none))]
 pub(crate) fn shut_gate<P: DevicePair>(pair: &mut P) -> Result<(), DeviceError>
-    ensures shut { P.honest pair.old → 0 < length (P.base pair.old) →
-        OnOk result (P.base pair.new ≡ written 0 (gate_block 1) (P.base pair.old)) }
+    ensures shut { P.honest pair.old → OnOk result (IsShut (P.base pair.old) (P.base pair.new)) }
     ensures durable { P.honest pair.old → 0 < length (P.base pair.old) →
         OnOk result (LeavesBase (P.base pair.new) (P.may_leave pair.new)) }
     ensures synced { P.honest pair.old →

@@ -1,14 +1,14 @@
 //! How a file gets its journal: the one that is there, or a new one.
-ghost use Rattle.std.specs.Prelude.{◌≡◌, ◌<◌, ◌≤◌, ◌↔◌, ℕ, List, true, false, length, IfOk, IfSome, OnOk};
+ghost use Rattle.std.specs.Prelude.{◌≡◌, ◌<◌, ◌≤◌, ◌↔◌, ⊤, ℕ, List, true, false, length, take, IfOk, IfSome, OnOk};
 ghost use Rattle.block_device.specs.Device.{Blocks, block_at, written};
-ghost use Rattle.committed_log.specs.Log.{overlaid, recovered};
+ghost use Rattle.committed_log.specs.Log.{homes_in, overlaid, recovered};
 ghost use Rattle.committed_log.specs.Room.{blocks_of};
 ghost use Rattle.device_pair.specs.Pairs.{PairLeaves};
 ghost use Rattle.journaled_file.specs.Ending.{GateTorn};
 ghost use Rattle.journaled_file.specs.Judged.{IsJudged, IsOf};
 ghost use Rattle.journaled_file.specs.Opened.{read_of};
-ghost use Rattle.journaled_file.specs.Paired.{HasBegunEmpty, IsAnew, IsMarkedAnew, IsNew, IsPaired, IsPairedFrom};
-ghost use Rattle.journaled_file.specs.Paired.{IsRewritten, LeavesOwnGate};
+ghost use Rattle.journaled_file.specs.Paired.{HasBegunEmpty, HasBegunNoMore, IsAnew, IsMarkedAnew, IsNew};
+ghost use Rattle.journaled_file.specs.Paired.{IsPaired, IsRewritten, LeavesOwnGate};
 ghost use Rattle.journaled_file.specs.declared.judging.Found.TheVariants.{Own};
 ghost use Rattle.marked_pair.specs.Mark.{reads_as, unmarked, IsMarked};
 ghost use Rattle.titled_pair.specs.Calls.{IsQuiet};
@@ -32,9 +32,15 @@ pub trait JournalSource<J: BlockDevice> {
     /// Each journal that it gives is honest.
     ghost is_honest: { Type 0 };
 
+    /// What the blocks of the journal that is there may be. A caller knows nothing else of them: one who promises this
+    /// of a journal has the blocks that were opened.
+    ghost is_there: { Self → Blocks → Type 0 } = { λ _ _. ⊤ };
+
     /// Opens the journal that is there, with its folder synced. None where the system opens none: `open` tells
     /// why. Nothing is made.
     fn open_there(&mut self) -> Result<Option<J>, OpenError>
+        ensures there { is_honest → IfOk result (λ there. IfSome there (λ journal.
+            is_there self.old (J.shown journal))) }
         ensures honest { is_honest → IfOk result (λ there. IfSome there (λ journal. J.honest journal)) };
 
     /// Opens the journal, or with `make` an empty one where there is none.
@@ -68,12 +74,9 @@ pub fn pair_up<B: BlockDevice + Drop, J: BlockDevice + Drop, S: JournalSource<J>
     alloc: Global,
 ) -> Result<(TwoDevices<B, J>, bool, bool), OpenError>
     ensures paired { IfOk result (λ r. B.honest base → S.is_honest → IfSome there (λ j. J.honest j)
-        → IsPaired (B.shown base) (⟦<TwoDevices<B, J> as DevicePair>⟧.base r.0)
-        (⟦<TwoDevices<B, J> as DevicePair>⟧.journal r.0) r.1) }
-    ensures found { IfOk result (λ r. B.honest base → S.is_honest → IfSome there (λ j. J.honest j)
         → (journal : Blocks) × IfSome there (λ j. journal ≡ J.shown j)
-        × IsPairedFrom (B.shown base) journal (⟦<TwoDevices<B, J> as DevicePair>⟧.base r.0)
-        (⟦<TwoDevices<B, J> as DevicePair>⟧.journal r.0) r.1) }
+        × IsPaired (B.shown base) journal (⟦<TwoDevices<B, J> as DevicePair>⟧.base r.0)
+        (⟦<TwoDevices<B, J> as DevicePair>⟧.journal r.0) r.1 r.2) }
     ensures anew { IfOk result (λ r. ⟦<TwoDevices<B, J> as DevicePair>⟧.honest r.0
         → HasBegunEmpty (⟦<TwoDevices<B, J> as DevicePair>⟧.moment r.0)
         (⟦<TwoDevices<B, J> as DevicePair>⟧.left_since r.0)) }
@@ -188,6 +191,8 @@ fn rewritten<B: BlockDevice + Drop, J: BlockDevice + Drop, S: JournalSource<J>>(
         → read_of (⟦<TwoDevices<B, J> as DevicePair>⟧.base r.0) (⟦<TwoDevices<B, J> as DevicePair>⟧.journal r.0)
         ≡ read_of (⟦<TwoDevices<B, J> as DevicePair>⟧.base pair)
         (⟦<TwoDevices<B, J> as DevicePair>⟧.journal pair)) }
+    ensures no_more { IfOk result (λ r. ⟦<TwoDevices<B, J> as DevicePair>⟧.honest pair → S.is_honest
+        → r.1 ≡ false → HasBegunNoMore (⟦<TwoDevices<B, J> as DevicePair>⟧.journal pair)) }
     ensures anew { IfOk result (λ r. ⟦<TwoDevices<B, J> as DevicePair>⟧.honest r.0
         → HasBegunEmpty (⟦<TwoDevices<B, J> as DevicePair>⟧.moment r.0)
         (⟦<TwoDevices<B, J> as DevicePair>⟧.left_since r.0)) }
@@ -223,6 +228,8 @@ pub(crate) fn beside_anew<B: BlockDevice + Drop, J: BlockDevice + Drop, K: Block
     ensures synced { IfOk result (λ r. ⟦<TwoDevices<B, K> as DevicePair>⟧.honest r.0 → (a e : Blocks)
         → ⟦<TwoDevices<B, K> as DevicePair>⟧.may_leave r.0 a e
         → e ≡ ⟦<TwoDevices<B, K> as DevicePair>⟧.journal r.0) }
+    ensures no_more { IfOk result (λ r. ⟦<TwoDevices<B, J> as DevicePair>⟧.honest pair → r.2 ≡ false
+        → HasBegunNoMore (⟦<TwoDevices<B, J> as DevicePair>⟧.journal pair)) }
     ensures anew { IfOk result (λ r. ⟦<TwoDevices<B, K> as DevicePair>⟧.honest r.0
         → HasBegunEmpty (⟦<TwoDevices<B, K> as DevicePair>⟧.moment r.0)
         (⟦<TwoDevices<B, K> as DevicePair>⟧.left_since r.0)) }
@@ -256,6 +263,21 @@ fn front_of<P: DevicePair>(pair: &mut P) -> Result<Front, OpenError>
     ensures quiet { P.honest pair.old → IsQuiet P.DevicePair pair.old pair.new }
     ensures honest { P.honest pair.old ↔ P.honest pair.new }
 {
+    let (title, end) = heads_of(pair)?;
+    Ok(Front {
+        title: retitled_page(&title),
+        end,
+    })
+}
+
+/// Title and end of the journal of a pair.
+pub(crate) fn heads_of<P: DevicePair>(pair: &mut P) -> Result<([u8; 4096], [u8; 4096]), OpenError>
+    ensures room { P.honest pair.old → OnOk result (2 ≤ length (P.journal pair.old)) }
+    ensures title { P.honest pair.old → IfOk result (λ r. r.0 ≡ block_at 0 (P.journal pair.old)) }
+    ensures end { P.honest pair.old → IfOk result (λ r. r.1 ≡ block_at 1 (P.journal pair.old)) }
+    ensures quiet { P.honest pair.old → IsQuiet P.DevicePair pair.old pair.new }
+    ensures honest { P.honest pair.old ↔ P.honest pair.new }
+{
     if pair.journal_blocks() < TITLE_BLOCKS {
         return Err(OpenError::NoJournal);
     }
@@ -266,17 +288,20 @@ fn front_of<P: DevicePair>(pair: &mut P) -> Result<Front, OpenError>
     }
     let mut end = zero_block();
     pair.read_journal(1, &mut end)?;
-    Ok(Front {
-        title: retitled_page(&title),
-        end,
-    })
+    Ok((title, end))
 }
 
 // The index of the log of a pair's journal, which opening may append to.
-fn indexed<P: DevicePair + Drop>(pair: P, alloc: Global) -> Result<(P, Slots<Global>), OpenError>
+pub(crate) fn indexed<P: DevicePair + Drop>(
+    pair: P,
+    alloc: Global,
+) -> Result<(P, Slots<Global>), OpenError>
     ensures base { IfOk result (λ r. P.honest pair → P.base r.0 ≡ P.base pair) }
     ensures read { IfOk result (λ r. P.honest pair → (a : Blocks) →
         overlaid (blocks_of r.1) (untitled (P.journal r.0)) a ≡ recovered a (untitled (P.journal pair))) }
+    ensures homes { IfOk result (λ r. P.honest pair → blocks_of r.1 ≡ homes_in (untitled (P.journal pair))) }
+    ensures begins { IfOk result (λ r. P.honest pair → take (length (untitled (P.journal pair)))
+        (untitled (P.journal r.0)) ≡ untitled (P.journal pair)) }
     ensures honest { IfOk result (λ r. P.honest pair ↔ P.honest r.0) }
 {
     let blocks = pair.journal_blocks();
