@@ -2,6 +2,7 @@
 ghost use Rattle.std.specs.Prelude.{◌≡◌, [], None, Some};
 ghost use Rattle.c_session.specs.Outlining.{nodes_of};
 
+mod asking;
 mod changes;
 mod fetching;
 mod outlining;

@@ -1,5 +1,6 @@
 //! The store.
 
+mod asking;
 mod changes;
 mod closing;
 mod memory;

@@ -11,7 +11,8 @@ use Rattle.std.specs.declared.cmp.Ordering.TheVariants.{Less, Equal, Greater}
 use Rattle.std.proofs.lemmas.Bool.{cases_eq, cases_lt}
 use Rattle.std.proofs.lemmas.Bool.Decides.{nat_tests}
 use Rattle.std.proofs.lemmas.List.{map-append}
-use Rattle.std.proofs.lemmas.List.Sorted.{IsPermutation-map}
+use Rattle.std.proofs.lemmas.List.Sorted.{IsPermutation-append, IsPermutation-map, IsPermutation-refl}
+use Rattle.std.proofs.lemmas.List.Sorted.{IsPermutation-sym, IsPermutation-trans}
 use Rattle.box_math.specs.Objects.{Object, bounds_of}
 use Rattle.box_math.specs.Measures.{near_test}
 use Rattle.bulk_load.proofs.RowWords.{total-permutation}
@@ -187,7 +188,30 @@ same_sums dims within f xs xs' ys ys' same same' =
     ∙ sym (total-permutation (λ x. total f (pairs_with dims within ys' x)) xs xs' same)
     ∙ sym (sum_near dims within f xs' ys')
 
+-- pairs of the same rows with the same objects in another order
+near_permuted : (dims within : ℕ) (xs ys ys' : List (ℕ × Object)) → IsPermutation ys ys'
+    → IsPermutation (near_objects dims within xs ys) (near_objects dims within xs ys')
+near_permuted dims within [] ys ys' same = IsPermutation-refl []
+near_permuted dims within (x ∷ xs) ys ys' same =
+    let met : ℕ × Object → Bool = λ other. near_test dims within (bounds_of x.1) (bounds_of other.1) in
+    IsPermutation-append (pairs_with dims within ys x) (pairs_with dims within ys' x)
+    (near_objects dims within xs ys) (near_objects dims within xs ys')
+    (IsPermutation-map (λ (other : ℕ × Object). (x.0, other.0)) (filter met ys) (filter met ys')
+    (filter_permuted met ys ys' same))
+    (near_permuted dims within xs ys ys' same)
+
 -- ---- the answer
+
+-- what a join of rows with the tree of a layer answers are the pairs of the rows and the objects of the layer
+pub rows_are : (dims within : ℕ) (t : Tree) (rows objects : List (ℕ × Object)) (pairs : List (ℕ × ℕ))
+    → IsPermutation (objects_in t.row) objects
+    → IsPermutation (near_objects dims within rows (objects_in t.row)) pairs
+    → IsPermutation (near_objects dims within rows objects) pairs
+rows_are dims within t rows objects pairs same all =
+    IsPermutation-trans (near_objects dims within rows objects)
+    (near_objects dims within rows (objects_in t.row)) pairs
+    (IsPermutation-sym (near_objects dims within rows (objects_in t.row)) (near_objects dims within rows objects)
+    (near_permuted dims within rows (objects_in t.row) objects same)) all
 
 pub joins_answer : (dims within : ℕ) (s t : Tree) (xs ys : List (ℕ × Object)) (pairs : List (ℕ × ℕ))
     → IsPermutation (objects_in s.row) xs → IsPermutation (objects_in t.row) ys → T (is_sorted nat_cmp xs)

@@ -1,7 +1,7 @@
 -- What questions are answered of the layer of a name: as the table answers them, or a fault.
 use Rattle.std.proofs.Common.{◌≡◌, ◌∙◌, ◌⊎◌, ℕ, List, [], ◌∷◌, ◌&&◌, true, false, not, Option, Some, None}
 use Rattle.std.proofs.Common.{refl, sym, ap, subst, inl, inr}
-use Rattle.std.specs.Prelude.{IsErrAnd, Ok, Err, Result, Vec, ◌==◌, filter, is_some, unwrap_or}
+use Rattle.std.specs.Prelude.{IsErrAnd, IsPermutation, Ok, Err, Result, Vec, ◌==◌, filter, is_some, unwrap_or}
 use Rattle.std.specs.FinMap.{entries, get}
 use Rattle.box_math.specs.Objects.{Object, bounds_of, has_tag}
 use Rattle.box_math.specs.Queries.{admits, seeks}
@@ -95,6 +95,23 @@ module _ (D : ℕ) where
   looks_same old new name layer query asked dims is looks =
       subst (LooksAtTree old new name) (nodes_same layer query asked dims is) looks
 
+  -- the rows that it seeks, said of the query that was given
+  rows_same : (layer : Layer) (query : RawQuery) (asked : Query D) (tag : Option ℕ) → layer.dims ≡ D
+      → asked ≡ given_query query
+      → filter (λ row. seeks asked (bounds_of row.1) && has_tag tag row.1) (entries layer.objects)
+      ≡ range_rows layer query tag
+  rows_same layer query asked tag dims is =
+      ap (λ (q : Query D). filter (λ row. seeks q (bounds_of row.1) && has_tag tag row.1) (entries layer.objects)) is
+      ∙ ap (λ (d : ℕ). filter (λ row. is_wanted d query tag row.1) (entries layer.objects)) (sym dims)
+
+  -- those in any order
+  pub rows_sought : (layer : Layer) (query : RawQuery) (asked : Query D) (tag : Option ℕ) (rows : List (ℕ × Object))
+      → layer.dims ≡ D → asked ≡ given_query query
+      → IsPermutation (filter (λ row. seeks asked (bounds_of row.1) && has_tag tag row.1) (entries layer.objects)) rows
+      → IsPermutation (range_rows layer query tag) rows
+  rows_sought layer query asked tag rows dims is =
+      subst (λ (found : List (ℕ × Object)). IsPermutation found rows) (rows_same layer query asked tag dims is)
+
   -- the rows that it is answered
   pub rows_replied : (rose : Type 0) (layer : Layer) (query : RawQuery) (asked : Query D) (tag : Option ℕ)
       (rows : List (ℕ × Object)) → layer.dims ≡ D → first_refusal (query_refusals D query) ≡ None
@@ -105,11 +122,7 @@ module _ (D : ℕ) where
   rows_replied rose layer query asked tag rows dims good is found =
       let none : first_refusal (query_refusals layer.dims query) ≡ None =
       ap (λ (d : ℕ). first_refusal (query_refusals d query)) dims ∙ good in
-      let same : rows ≡ range_rows layer query tag =
-      found ∙ ap
-      (λ (q : Query D). filter (λ row. seeks q (bounds_of row.1) && has_tag tag row.1)
-      (entries layer.objects)) is
-      ∙ ap (λ (d : ℕ). filter (λ row. is_wanted d query tag row.1) (entries layer.objects)) (sym dims) in
+      let same : rows ≡ range_rows layer query tag = found ∙ rows_same layer query asked tag dims is in
       inl (ap Boxes same
       ∙ ap (λ (o : Option Refusal). refused_or o (Boxes (range_rows layer query tag))) (sym none))
 

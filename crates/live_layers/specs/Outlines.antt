@@ -1,19 +1,19 @@
 -- What is told of the pages of a layer: the nodes of its tree, and the pages of its identifier table (our rule,
 -- docs/FORMAT.md, "Trees of pages", "Identifier tables").
-use Rattle.std.specs.Prelude.{◌≡◌, ◌⊎◌, ℕ, List, [], Some, None, Result, Ok, Err, length}
+use Rattle.std.specs.Prelude.{◌≡◌, ℕ, List, [], Result, length}
 use Rattle.id_table.specs.Checked.{IsCheckedTable}
 use Rattle.box_math.specs.Objects.{Object}
 use Rattle.page_cache.specs.Cache.{looks_of, pages}
-use Rattle.plain_table.specs.Step.{first_refusal, layer_refusals}
+use Rattle.plain_table.specs.Step.{layer_refusals}
 use Rattle.plain_table.specs.Table.{Table, layer_at}
 use Rattle.plain_table.specs.declared.refusal.Refusal.{Refusal}
-use Rattle.store_law.specs.Lawful.{IsFault}
 use Rattle.tree_node.specs.Searches.{counted, nodes_in}
 use Rattle.tree_node.specs.Trees.{Tree}
 use Rattle.tree_outline.specs.Outlines.{outline_of}
 use Rattle.tree_outline.specs.declared.node.NodeOutline.{NodeOutline}
 use Rattle.live_layers.specs.Keeping.{HasTree, cache_of}
 use Rattle.live_layers.specs.Located.{IsLocated}
+use Rattle.live_layers.specs.Questions.{IsToldOr}
 use Rattle.live_layers.specs.declared.layers.Layers.{Layers}
 use Rattle.live_layers.specs.declared.located.Located.{Located}
 use Rattle.live_layers.specs.declared.outlines.LayerOutline.{LayerOutline}
@@ -22,8 +22,7 @@ use Rattle.live_layers.specs.declared.outlines.LayerOutline.TheVariants.{Two, Th
 -- What was asked of the layer of a name is answered so, where there is such a layer; or it is refused as the
 -- table refuses each question of that name, or by a fault.
 abbrev pub IsOfName : Type 0 → Table → List ℕ → {T : Type 0} → (T → Type 0) → Result T Refusal → Type 0
-IsOfName rose t name P (Ok x) = (first_refusal (layer_refusals t name []) ≡ None) × P x
-IsOfName rose t name P (Err r) = (first_refusal (layer_refusals t name []) ≡ Some r) ⊎ IsFault rose r
+IsOfName rose t name P result = IsToldOr rose (layer_refusals t name []) P result
 
 -- the rows are exactly the nodes of the tree of the layer of this name, each of which was looked at once
 pub record ListsNodes {D A : Type 0} {m : _} {dims : ℕ} (old new : Layers D A m) (name : List ℕ)

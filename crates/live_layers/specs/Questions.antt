@@ -1,18 +1,25 @@
 -- What questions ask of a layer, and what they are answered (our rule, docs/COMMANDS.md; the nodes that are
 -- looked at: Guttman 1984; Beckmann, Kriegel, Schneider and Seeger 1990; of a join: Brinkhoff, Kriegel and
 -- Seeger 1993).
-use Rattle.std.specs.Prelude.{ℕ, ◌≡◌, ◌+◌, ◌≤◌, ◌⊎◌, Bool, List, [], ◌∷◌, Option, Some, Result, Ok, Err, Vec}
+use Rattle.std.specs.Prelude.{ℕ, ◌≡◌, ◌+◌, ◌≤◌, ◌⊎◌, Bool, List, [], ◌∷◌, Option, None, Some, Result, Ok, Err, Vec}
+use Rattle.std.specs.Prelude.{IsPermutation, map}
+use Rattle.std.specs.FinMap.{entries}
+use Rattle.std.specs.List.Sorted.{IsSorted}
 use Rattle.box_math.specs.Bounds.{Bounds}
 use Rattle.box_math.specs.Objects.{Object}
 use Rattle.box_math.specs.Queries.{admits}
 use Rattle.id_table.specs.declared.asking.Spot.{Spot}
 use Rattle.page_cache.specs.Cache.{looks_of}
+use Rattle.plain_table.specs.Answers.{row_of}
+use Rattle.plain_table.specs.Loads.{GivenObjects, given_object}
 use Rattle.plain_table.specs.Queries.{given_query}
-use Rattle.plain_table.specs.Step.{Answer, first_refusal, layer_refusals, refused_or}
+use Rattle.plain_table.specs.Step.{Answer, first_refusal, layer_refusals, range_rows, refused_or}
 use Rattle.plain_table.specs.Step.Answer.{Boxes, Refused}
-use Rattle.plain_table.specs.Table.{Table}
+use Rattle.plain_table.specs.Table.{Layer, Table}
+use Rattle.plain_table.specs.declared.boxes.AnyBox.{AnyBox}
 use Rattle.plain_table.specs.declared.queries.RawQuery.{RawQuery}
 use Rattle.plain_table.specs.declared.refusal.Refusal.{Refusal}
+use Rattle.spatial_join.specs.Pairs.{near_objects, pair_cmp}
 use Rattle.store_law.specs.Lawful.{IsFault, RefusedBy}
 use Rattle.tree_node.specs.Trees.{Tree}
 use Rattle.live_layers.specs.Keeping.{HasTree}
@@ -50,7 +57,32 @@ rows_answer (Err r) = Refused r
 abbrev pub IsReply : Type 0 → Option Refusal → Answer → Answer → Type 0
 IsReply rose why answer a = (a ≡ refused_or why answer) ⊎ RefusedBy (IsFault rose) a
 
+-- What was asked is told so, where none of these conditions refuses it; or it is refused by the first that holds, or
+-- by a fault.
+abbrev pub IsToldOr : Type 0 → List (Bool × Refusal) → {T : Type 0} → (T → Type 0) → Result T Refusal → Type 0
+IsToldOr rose refusals P (Ok x) = (first_refusal refusals ≡ None) × P x
+IsToldOr rose refusals P (Err r) = (first_refusal refusals ≡ Some r) ⊎ IsFault rose r
+
+-- the rows are those that a query is answered, in any order
+abbrev pub HasRows : {A : Type 0} → Layer → RawQuery → Option ℕ → Vec (ℕ × AnyBox × ℕ) A → Type 0
+HasRows layer query tag rows = IsPermutation (range_rows layer query tag) (map row_of rows.items)
+
 -- ---- joins
+
+-- all pairs of one of the given objects and an object of a layer whose boxes have at most this squared distance: their
+-- identifiers, ascending by the first and then by the second
+pub record HasPairs {A : Type 0} (given : GivenObjects) (layer : Layer) (within : ℕ) (pairs : Vec (ℕ × ℕ) A)
+    : Type 0 where
+  pub all : IsPermutation
+      (near_objects layer.dims within (map given_object given) (entries layer.objects)) pairs.items
+  pub order : IsSorted pair_cmp pairs.items
+
+-- the looks rose by at most what is counted of the tree of the layer of this name
+pub record LooksAtMost {D A : Type 0} {m : _} (old new : Layers D A m) (name : List ℕ) (count : Tree → ℕ)
+    : Type 0 where
+  pub tree : Tree
+  pub is_tree : HasTree old name tree
+  pub looks : looks_of new.cache ≤ looks_of old.cache + count tree
 
 -- the looks rose by at most what is counted of the trees of the layers of these names
 pub record LooksAtTrees {D A : Type 0} {m : _} (old new : Layers D A m) (first second : List ℕ)

@@ -31,14 +31,15 @@ pub record IsRangeAnswer (test : Bounds → Bool) (asked : Option ℕ) (t : Tree
   pub order : IsNonDecreasingBy (λ row. row.0) rows
 
 -- What a range query does to a cache, and what it is answered. On an honest device, where a tree with the
--- shape of an R-tree stands in the pages: the objects that it seeks, and a look at the root and at each other
--- node that it admits; it is refused by `Memory` or `Device`. On other pages it may be refused by `Damaged`
+-- shape of an R-tree stands in the pages: rows that are so of the tree, and a look at the root and at each other
+-- node that the query admits; it is refused by `Memory` or `Device`. On other pages it may be refused by `Damaged`
 -- too, with the number of a page that a walk down the nodes comes to.
-pub record AnswersRange {D : ℕ} {B A H : Type 0} {m : _} (query : Query D) (tag : Option ℕ) (root : Root)
-    (old new : PageCache B A m) (result : Result (Vec (ℕ × Object) H) Fault) : Type 0 where
+pub record AnswersBy {D : ℕ} {B A H : Type 0} {m : _} (IsAnswer : Tree → List (ℕ × Object) → Type 0)
+    (query : Query D) (root : Root) (old new : PageCache B A m) (result : Result (Vec (ℕ × Object) H) Fault)
+    : Type 0 where
   pub asks : Asks old new result
   pub rows : IsHonest old → (t : Tree) (most : ℕ) → IsTreeAt D most (pages old) root t
-      → IfOk result (λ rows. IsRangeAnswer (seeks query) tag t rows.items)
+      → IfOk result (λ rows. IsAnswer t rows.items)
   pub looks : IsHonest old → (t : Tree) (most : ℕ) → IsTreeAt D most (pages old) root t
       → OnOk result (looks_of new ≡ counted (looks_of old) (admitted (admits query) t))
   pub stands : IsHonest old → (t : Tree) (most : ℕ) → IsTreeAt D most (pages old) root t
@@ -46,3 +47,15 @@ pub record AnswersRange {D : ℕ} {B A H : Type 0} {m : _} (query : Query D) (ta
   pub damage : IsHonest old
       → IfErr result (λ f. (n : ℕ) → f ≡ fault.Damaged n → ComesTo D (given old) root.page n)
   pub other_faults : IfErr result (λ f. IsOfDevice f ⊎ IsDamage f)
+
+-- the objects that it seeks, by identifier
+abbrev pub AnswersRange : {D : ℕ} {B A H : Type 0} {m : _} → Query D → Option ℕ → Root → PageCache B A m
+    → PageCache B A m → Result (Vec (ℕ × Object) H) Fault → Type 0
+AnswersRange query tag root old new result =
+    AnswersBy (IsRangeAnswer (seeks query) tag) query root old new result
+
+-- the same in the order in which the tree has them, from left to right
+abbrev pub AnswersInTreeOrder : {D : ℕ} {B A H : Type 0} {m : _} → Query D → Option ℕ → Root → PageCache B A m
+    → PageCache B A m → Result (Vec (ℕ × Object) H) Fault → Type 0
+AnswersInTreeOrder query tag root old new result =
+    AnswersBy (λ t rows. rows ≡ having tag (passing_objects (seeks query) t.row)) query root old new result

@@ -6,4 +6,4 @@ mod arranging;
 mod descent;
 mod queries;
 
-pub use queries::{around, inside, point, range, window};
+pub use queries::{around, inside, point, range, range_in_tree_order, window};

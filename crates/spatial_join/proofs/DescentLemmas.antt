@@ -40,7 +40,7 @@ use Rattle.spatial_join.proofs.PairLemmas.{row_head}
 
 -- ---- entries from a place on
 
-next_place : (j : ℕ) (t : Row) → row_drop (j + 1) t ≡ row_tail (row_drop j t)
+pub next_place : (j : ℕ) (t : Row) → row_drop (j + 1) t ≡ row_tail (row_drop j t)
 next_place j t = ap (λ (n : ℕ). row_drop n t) (add-one j) ∙ row_drop_more j t
 
 pub Encloses-row_drop : (dims n : ℕ) (row : Row) → Encloses dims row → Encloses dims (row_drop n row)
@@ -49,7 +49,7 @@ Encloses-row_drop dims (suc n) end h = h
 Encloses-row_drop dims (suc n) (more (object kept id) rest) h = Encloses-row_drop dims n rest h
 Encloses-row_drop dims (suc n) (more (child bounds page below) rest) h = Encloses-row_drop dims n rest h.2
 
-Encloses-row_head : (dims : ℕ) (row : Row) → Encloses dims row → Encloses dims (row_head row)
+pub Encloses-row_head : (dims : ℕ) (row : Row) → Encloses dims row → Encloses dims (row_head row)
 Encloses-row_head dims end h = h
 Encloses-row_head dims (more (object kept id) rest) h = tt
 Encloses-row_head dims (more (child bounds page below) rest) h = (h.0, h.1, tt)
@@ -150,7 +150,7 @@ pub record Below (dims : ℕ) (m : PageMap) (level : ℕ) (row : Row) (x : Item)
   pub stands : StandsAt dims m x.reference (level - 1) below
   pub head_is : row_head row ≡ only x.bounds x.reference below
 
-below_first : (dims : ℕ) (m : PageMap) (level : ℕ) (row : Row) (x : Item) (xs : List Item)
+pub below_first : (dims : ℕ) (m : PageMap) (level : ℕ) (row : Row) (x : Item) (xs : List Item)
     → row_items row ≡ x ∷ xs → 0 < level → RowStands dims m level row → Below dims m level row x
 below_first dims m level end x xs same above stands = absurd (cc)
 below_first dims m level (more (object kept id) rest) x xs same above stands =

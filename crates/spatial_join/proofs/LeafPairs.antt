@@ -1,9 +1,11 @@
--- The pairs of an object and those of a leaf that a mask names, place by place.
+-- What is pushed of the entries of a node that a mask names, place by place, and the pairs of an object and those
+-- of a leaf.
 use Rattle.std.proofs.Common.{◌≡◌, ◌∙◌, ℕ, zero, suc, ◌+◌, ◌-◌, ◌<◌, ◌≤◌, Bool, true, false, cond, List, []}
 use Rattle.std.proofs.Common.{◌∷◌, ◌++◌, length, drop, get_or, map, refl, sym, ap, subst, arith, add-one}
 use Rattle.std.specs.List.{filter}
 use Rattle.std.proofs.Math.Seq.{drop-cons}
-use Rattle.std.proofs.lemmas.List.{append_assoc, append-nil, drop_all}
+use Rattle.std.proofs.lemmas.List.{append_assoc, append-nil, drop_all, map-id}
+use Rattle.box_math.specs.Bounds.{Bounds}
 use Rattle.box_math.specs.Objects.{Object, bounds_of, tag_of}
 use Rattle.box_math.specs.Measures.{near_test}
 use Rattle.box_math.specs.Masks.{has_bit}
@@ -16,42 +18,41 @@ use Rattle.spatial_join.specs.Masks.{Tells}
 use Rattle.spatial_join.specs.Pairs.{pairs_of, pairs_with}
 use Rattle.spatial_join.proofs.PairLemmas.{near_sum, row_head}
 
-module _ (dims limit : ℕ) (items : List Item) (x : Item) where
-  -- those of the places before this one are pushed
-  abbrev pub Pushed : ℕ → List (ℕ × ℕ) → List (ℕ × ℕ) → Type 0
-  Pushed j pairs pairs_now = pairs_now ++ pairs_of dims limit (drop j items) x ≡ pairs
-      ++ pairs_of dims limit items x
+module _ {X : Type 0} (f : Item → X) (test : Bounds → Bool) (items : List Item) where
+  -- something of each entry whose box passes
+  abbrev passed : List Item → List X
+  passed xs = map f (filter (λ other. test other.bounds) xs)
 
-  abbrev pair : Item → ℕ × ℕ
-  pair other = (x.reference, other.reference)
+  -- those of the places before this one are pushed
+  abbrev pub Pushed : ℕ → List X → List X → Type 0
+  Pushed j old now = now ++ map f (filter (λ other. test other.bounds) (drop j items)) ≡ old
+      ++ map f (filter (λ other. test other.bounds) items)
 
   -- those of the place and of the later ones
-  here : (j : ℕ) → j < length items → (t : Bool) → near_test dims limit x.bounds (box_at items j) ≡ t
-      → pairs_of dims limit (drop j items) x ≡ cond t
-      (pair (get_or items j no_item) ∷ pairs_of dims limit (drop (j + 1) items) x)
-      (pairs_of dims limit (drop (j + 1) items) x)
-  here j within t test =
+  here : (j : ℕ) → j < length items → (t : Bool) → test (box_at items j) ≡ t
+      → passed (drop j items) ≡ cond t (f (get_or items j no_item) ∷ passed (drop (j + 1) items))
+      (passed (drop (j + 1) items))
+  here j within t passes =
       let y : Item = get_or items j no_item in
-      let others : List Item =
-      filter (λ other. near_test dims limit x.bounds other.bounds) (drop (j + 1) items) in
+      let others : List Item = filter (λ other. test other.bounds) (drop (j + 1) items) in
       let first : drop j items ≡ y ∷ drop (j + 1) items = drop-cons items j no_item within
       ∙ ap (λ (n : ℕ). y ∷ drop n items) (sym (add-one j)) in
-      ap (λ (l : List Item). pairs_of dims limit l x) first
-      ∙ ap (λ (t : Bool). map pair (cond t (y ∷ others) others)) test ∙ by_test t y others
+      ap passed first
+      ∙ ap (λ (t : Bool). map f (cond t (y ∷ others) others)) passes ∙ by_test t y others
     where
       by_test : (t : Bool) (y : Item) (others : List Item)
-          → map pair (cond t (y ∷ others) others) ≡ cond t (pair y ∷ map pair others) (map pair others)
+          → map f (cond t (y ∷ others) others) ≡ cond t (f y ∷ map f others) (map f others)
       by_test true y others = refl
       by_test false y others = refl
 
-  module _ (pairs pairs_now : List (ℕ × ℕ)) where
+  module _ (old now : List X) where
     -- places that the mask does not name are passed over
-    pushed_to : (j k n : ℕ) → j + n ≡ k → Pushed j pairs pairs_now → k ≤ length items
-        → ((p : ℕ) → j ≤ p → p < k → near_test dims limit x.bounds (box_at items p) ≡ false)
-        → Pushed k pairs pairs_now
+    pushed_to : (j k n : ℕ) → j + n ≡ k → Pushed j old now → k ≤ length items
+        → ((p : ℕ) → j ≤ p → p < k → test (box_at items p) ≡ false)
+        → Pushed k old now
     pushed_to j k zero reach so_far within apart =
         let same : j ≡ k = omega (arith, reach) in
-        subst (λ (p : ℕ). Pushed p pairs pairs_now) same so_far
+        subst (λ (p : ℕ). Pushed p old now) same so_far
     pushed_to j k (suc n) reach so_far within apart =
         let last : j + n < k = omega (arith, reach) in
         let before =
@@ -59,13 +60,11 @@ module _ (dims limit : ℕ) (items : List Item) (x : Item) where
         (λ p low high. apart p low (omega (arith, high, last))) in
         let next : j + n + 1 ≡ k = omega (arith, reach) in
         let none = here (j + n) (omega (arith, within, last)) false (apart (j + n) (omega arith) last) in
-        subst (λ (p : ℕ). Pushed p pairs pairs_now) next
-        (ap (λ (l : List (ℕ × ℕ)). pairs_now ++ l) (sym none) ∙ before)
+        subst (λ (p : ℕ). Pushed p old now) next (ap (λ (l : List X). now ++ l) (sym none) ∙ before)
 
-    module _ (mask : ℕ) (told : Tells (near_test dims limit x.bounds) mask items) (j : ℕ)
-        (so_far : Pushed j pairs pairs_now) where
+    module _ (mask : ℕ) (told : Tells test mask items) (j : ℕ) (so_far : Pushed j old now) where
       pushed_before : (k : ℕ) → j ≤ k → k ≤ length items → ((p : ℕ) → j ≤ p → p < k → has_bit mask p ≡ false)
-          → Pushed k pairs pairs_now
+          → Pushed k old now
       pushed_before k order within clear =
           pushed_to j k (k - j) (omega (arith, order)) so_far within
           (λ p low high. sym (told.told p (omega (arith, within, high))) ∙ clear p low high)
@@ -73,35 +72,40 @@ module _ (dims limit : ℕ) (items : List Item) (x : Item) where
       -- that of the next place that it names is pushed
       pub next_pushed : (k : ℕ) → j ≤ k → has_bit mask k ≡ true
           → ((p : ℕ) → j ≤ p → p < k → has_bit mask p ≡ false) → (y : Item) → y ≡ get_or items k no_item
-          → (pairs_next : List (ℕ × ℕ)) → pairs_next ≡ pairs_now ++ (x.reference, y.reference) ∷ []
-          → Pushed (k + 1) pairs pairs_next
-      next_pushed k order set clear y is pairs_next pushed =
+          → (next : List X) → next ≡ now ++ f y ∷ [] → Pushed (k + 1) old next
+      next_pushed k order set clear y is next pushed =
           let within = told.within k set in
           let before = pushed_before k order (omega (arith, within)) clear in
-          let rest : List (ℕ × ℕ) = pairs_of dims limit (drop (k + 1) items) x in
+          let rest : List X = passed (drop (k + 1) items) in
           let one = here k within true (sym (told.told k within) ∙ set) in
-          ap (λ (l : List (ℕ × ℕ)). l ++ rest) pushed
-          ∙ append_assoc pairs_now ((x.reference, y.reference) ∷ []) rest
-          ∙ ap (λ (z : Item). pairs_now ++ ((x.reference, z.reference) ∷ rest)) is
-          ∙ ap (λ (l : List (ℕ × ℕ)). pairs_now ++ l) (sym one)
+          ap (λ (l : List X). l ++ rest) pushed
+          ∙ append_assoc now (f y ∷ []) rest
+          ∙ ap (λ (z : Item). now ++ (f z ∷ rest)) is
+          ∙ ap (λ (l : List X). now ++ l) (sym one)
           ∙ before
 
       -- where it names none that comes later, all are
       pub all_pushed : j ≤ length items → ((p : ℕ) → j ≤ p → has_bit mask p ≡ false)
-          → pairs_now ≡ pairs ++ pairs_of dims limit items x
+          → now ≡ old ++ map f (filter (λ other. test other.bounds) items)
       all_pushed within clear =
           let before = pushed_before (length items) within (omega arith) (λ p low high. clear p low) in
-          let none =
-          ap (λ (l : List Item). pairs_now ++ pairs_of dims limit l x)
-          (drop_all (length items) items (omega arith)) in
-          sym (append-nil pairs_now) ∙ sym none ∙ before
+          let none = ap (λ (l : List Item). now ++ passed l) (drop_all (length items) items (omega arith)) in
+          sym (append-nil now) ∙ sym none ∙ before
+
+-- so are the entries themselves
+pub all_written : (test : Bounds → Bool) (items now : List Item) (mask : ℕ) → Tells test mask items → (j : ℕ)
+    → Pushed (λ item. item) test items j [] now → j ≤ length items
+    → ((p : ℕ) → j ≤ p → has_bit mask p ≡ false) → now ≡ filter (λ other. test other.bounds) items
+all_written test items now mask told j so_far within clear =
+    all_pushed (λ item. item) test items [] now mask told j so_far within clear
+    ∙ map-id (filter (λ (other : Item). test other.bounds) items)
 
 -- ---- these are the pairs below the entry and below the leaf
 
 abbrev of_object : Item → ℕ × Object → ℕ × ℕ
 of_object x other = (x.reference, other.0)
 
-abbrev of_item : Item → Item → ℕ × ℕ
+abbrev pub of_item : Item → Item → ℕ × ℕ
 of_item x other = (x.reference, other.reference)
 
 pub leaf_pairs : (dims limit : ℕ) (m : PageMap) (t : Row) (x : Item) → RowStands dims m 0 t

@@ -7,4 +7,5 @@ pub mod LeafPairs
 pub mod LeafJoin
 pub mod DescentLemmas
 pub mod RootLemmas
+pub mod RowsLemmas
 pub mod Examples

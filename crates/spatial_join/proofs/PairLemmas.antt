@@ -52,7 +52,7 @@ pairs_with-append dims limit o xs ys =
     let pair : ℕ × Object → ℕ × ℕ = λ other. (o.0, other.0) in
     ap (map pair) (filter-append test xs ys) ∙ map-append pair (filter test xs) (filter test ys)
 
-sum-left : (dims limit : ℕ) (f : ℕ × ℕ → ℕ) (xs ys zs : List (ℕ × Object))
+pub sum-left : (dims limit : ℕ) (f : ℕ × ℕ → ℕ) (xs ys zs : List (ℕ × Object))
     → total f (near_objects dims limit (xs ++ ys) zs) ≡ total f (near_objects dims limit xs zs) + total f
     (near_objects dims limit ys zs)
 sum-left dims limit f [] ys zs = omega arith
@@ -205,15 +205,23 @@ head_within dims (more (child bounds page below) rest) x xs same encloses =
     (subst (λ (b : Bounds). AllWithin dims b (objects_in below)) (ap (λ (y : Item). y.bounds) item)
     encloses.0)
 
--- so below first entries whose boxes do not meet no pair does
+-- so objects in a box have no pair with those below a first entry whose box is not near that one
+pub head_apart : (dims limit : ℕ) (f : ℕ × ℕ → ℕ) (s t : Row) (b : Bounds) (y : Item) (ys : List Item)
+    → AllWithin dims b (objects_in s) → row_items t ≡ y ∷ ys → Encloses dims t
+    → near_test dims limit b y.bounds ≡ false → near_sum dims limit f s (row_head t) ≡ 0
+head_apart dims limit f s t b y ys within same encloses fails =
+    ap (total f)
+    (none_near dims limit b y.bounds (objects_in s) (objects_in (row_head t)) within
+    (head_within dims t y ys same encloses) fails)
+
+-- nor have those below first entries whose boxes are not near each other
 pub heads_apart : (dims limit : ℕ) (f : ℕ × ℕ → ℕ) (s t : Row) (x y : Item) (xs ys : List Item)
     → row_items s ≡ x ∷ xs → row_items t ≡ y ∷ ys → Encloses dims s → Encloses dims t
     → near_test dims limit x.bounds y.bounds ≡ false
     → near_sum dims limit f (row_head s) (row_head t) ≡ 0
 heads_apart dims limit f s t x y xs ys same same' encloses encloses' fails =
-    ap (total f)
-    (none_near dims limit x.bounds y.bounds (objects_in (row_head s)) (objects_in (row_head t))
-    (head_within dims s x xs same encloses) (head_within dims t y ys same' encloses') fails)
+    head_apart dims limit f (row_head s) t x.bounds y ys (head_within dims s x xs same encloses) same'
+    encloses' fails
 
 -- ---- in a tree with least boxes each box encloses what lies below it
 

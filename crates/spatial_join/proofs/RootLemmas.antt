@@ -67,7 +67,7 @@ root_row dims m other page level row c at level_is same = record {
 some_same : (a b : Bounds) → ◌≡◌ {A = Option Bounds} (Some a) (Some b) → a ≡ b
 some_same a b e = cc
 
-box_encloses : (dims : ℕ) (row : Row) (b : Bounds) → node_box dims (row_items row) ≡ Some b
+pub box_encloses : (dims : ℕ) (row : Row) (b : Bounds) → node_box dims (row_items row) ≡ Some b
     → RowWithin dims row b
 unfolding least_box
 box_encloses dims end b is = tt

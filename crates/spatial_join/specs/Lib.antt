@@ -2,3 +2,4 @@
 pub mod Pairs
 pub mod Opening
 pub mod Masks
+pub mod Rows

@@ -22,6 +22,8 @@ mod boxes;
 mod distances;
 mod pairs;
 mod range;
+mod rows;
+mod unordered;
 
 use crate::layers::Layers;
 use block_device::BlockDevice;

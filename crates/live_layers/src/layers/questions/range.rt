@@ -82,8 +82,8 @@ impl<B: BlockDevice, A: Allocator + Copy> Layers<B, A> {
     }
 }
 
-// Rows as replies show them.
-fn shown_rows<const D: usize, A: Allocator + Copy>(
+/// Rows as replies show them.
+pub(crate) fn shown_rows<const D: usize, A: Allocator + Copy>(
     alloc: A,
     rows: &[(u64, (BBox<D>, u32))],
 ) -> Result<Vec<(u64, AnyBox, u32), A>, AllocError>

@@ -1,14 +1,16 @@
 -- A name that no layer has is refused as the table refuses it, and else the pages of its layer are counted.
 use Rattle.std.proofs.Common.{[]}
+use Rattle.plain_table.specs.Step.{layer_refusals}
 use Rattle.live_layers.specs.Changes.{Rose}
 use Rattle.live_layers.specs.Outlines.{IsIdPages}
-use Rattle.live_layers.proofs.TellingLemmas.{tells_named, tells_unnamed}
+use Rattle.live_layers.proofs.TellingLemmas.{tells_named, tells_refused}
 use Rattle.live_layers.proofs.layers.Layers.id_pages.Goals as goal
 
 pub returns-in_err-place-clause-counted : goal.returns-in_err-place-clause-counted
 returns-in_err-place-clause-counted g c = λ t sound.
     let old = c.args.self.now in
-    tells_unnamed (Rose old old) t c.args.name.now (IsIdPages old t c.args.name.now) c.from_residual.result
+    tells_refused (Rose old old) (layer_refusals t c.args.name.now []) (IsIdPages old t c.args.name.now)
+    c.from_residual.result
     c.in_err-place.field-0.0 c.from_residual.ensures.1 (c.in_err-place.ensures.unnamed t sound [])
 
 pub returns-then-located-eq2-clause-counted : goal.returns-then-located-eq2-clause-counted
