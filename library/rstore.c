@@ -335,10 +335,11 @@ int rstore_put(rstore *db, const char *layer, uint64_t id, const int32_t *box, u
     db->half = true; /* so that it is never kept */
     return RSTORE_STORE_FAILED;
 }
+static const rstore_row no_row; /* where an array of none is wanted */
+
 int rstore_load(rstore *db, const char *layer, uint32_t axes, const rstore_row *rows, size_t count) {
-    static const rstore_row none;
     ASK(db && NAMED(layer) && AXES(axes) && (rows || count == 0) && count <= PTRDIFF_MAX / sizeof *rows);
-    return DO(rstore_c_load(db, TEXT(layer), axes, rows ? rows : &none, count));
+    return DO(rstore_c_load(db, TEXT(layer), axes, rows ? rows : &no_row, count));
 }
 
 /* ---- questions */
@@ -354,32 +355,36 @@ int rstore_last(rstore *db, const char *layer, uint64_t most, uint64_t *id, int 
     if (!error) *found = is_there;
     return error;
 }
-/* A range query, of what is behind an identifier where one is given, whose rows are then fetched. */
+/* A range query, of what is behind an identifier where one is given, or in any order, whose rows are then fetched. */
 static int ask_one(rstore *db, const char *layer, int kind, const int32_t *numbers, uint32_t axes, const uint32_t *tag,
-                   const uint64_t *after, size_t *found) {
+                   const uint64_t *after, bool ordered, size_t *found) {
     ASK(db && NAMED(layer) && numbers && AXES(axes) && kind >= RSTORE_WINDOW && kind <= RSTORE_POINT);
     size_t length = kind == RSTORE_POINT ? axes : 2 * (size_t)axes;
     uint32_t how = (uint32_t)kind, wanted = tag ? *tag : 0;
     *found = 0;
     if (after) return DO(rstore_c_range_after(db, TEXT(layer), how, numbers, length, tag, wanted, *after, found));
+    if (!ordered) return DO(rstore_c_range_unordered(db, TEXT(layer), how, numbers, length, tag, wanted, found));
     return DO(rstore_c_range(db, TEXT(layer), how, numbers, length, tag, wanted, found));
 }
 /* The same with the first results fetched into the caller's room. */
-#define INTO(out, fetch, after) { \
+#define INTO(out, fetch, after, ordered) { \
         size_t found; \
         ASK(count && (out || room == 0) && room <= PTRDIFF_MAX / sizeof *out); \
-        int error = ask_one(db, layer, kind, numbers, axes, tag, after, &found); \
+        int error = ask_one(db, layer, kind, numbers, axes, tag, after, ordered, &found); \
         if (error) return error; \
         if (room && found) fetch(db, 0, out, found < room ? found : room); \
         *count = found; \
         return RSTORE_OK; \
     }
 int rstore_range_into(rstore *db, const char *layer, int kind, const int32_t *numbers, uint32_t axes,
-                      const uint32_t *tag, rstore_row *rows, size_t room, size_t *count) INTO(rows, rstore_c_rows, NULL)
+                      const uint32_t *tag, rstore_row *rows, size_t room, size_t *count) INTO(rows, rstore_c_rows, NULL, true)
+int rstore_range_unordered(rstore *db, const char *layer, int kind, const int32_t *numbers, uint32_t axes,
+                           const uint32_t *tag, rstore_row *rows, size_t room, size_t *count)
+    INTO(rows, rstore_c_rows, NULL, false)
 int rstore_ids_into(rstore *db, const char *layer, int kind, const int32_t *numbers, uint32_t axes,
-                    const uint32_t *tag, uint64_t *ids, size_t room, size_t *count) INTO(ids, rstore_c_ids, NULL)
+                    const uint32_t *tag, uint64_t *ids, size_t room, size_t *count) INTO(ids, rstore_c_ids, NULL, true)
 int rstore_range_after(rstore *db, const char *layer, int kind, const int32_t *numbers, uint32_t axes, const uint32_t *tag,
-                       const uint64_t *after, rstore_row *rows, size_t room, size_t *count) INTO(rows, rstore_c_rows, after)
+                       const uint64_t *after, rstore_row *rows, size_t room, size_t *count) INTO(rows, rstore_c_rows, after, true)
 size_t rstore_more(rstore *db, size_t from, rstore_row *rows, size_t room) {
     return db && rows && room && room <= PTRDIFF_MAX / sizeof *rows ? rstore_c_rows(db, from, rows, room) : 0;
 }
@@ -458,6 +463,51 @@ int rstore_join(rstore *db, const char *first, const char *second, uint64_t squa
     int error = DO(rstore_c_join(db, TEXT(first), TEXT(second), squared_distance, &found));
     if (error) return error;
     HAND_OUT(rstore_c_pair_rows);
+}
+int rstore_join_rows(rstore *db, const rstore_row *given, size_t given_count, uint32_t axes, const char *layer,
+                     uint64_t squared_distance, rstore_pair **rows, size_t *count) {
+    ASK(db && NAMED(layer) && AXES(axes) && (given || !given_count) && given_count <= PTRDIFF_MAX / sizeof *given);
+    ASK(rows && count);
+    size_t found = 0;
+    int error = DO(rstore_c_join_rows(db, axes, given ? given : &no_row, given_count, TEXT(layer), squared_distance, &found));
+    if (error) return error;
+    HAND_OUT(rstore_c_pair_rows);
+}
+
+/* Whether the low corner of a box lies in the window. */
+static bool begins_in(const int32_t *window, uint32_t axes, const rstore_row *row) {
+    for (uint32_t axis = 0; axis < axes; axis++)
+        if (row->low[axis] < window[axis] || row->low[axis] > window[axes + axis]) return false;
+    return true;
+}
+
+/* The objects of a layer whose low corners lie in the window, in the order of its tree. */
+static int rows_from(rstore *db, const char *layer, const int32_t *window, uint32_t axes, rstore_row **rows, size_t *count) {
+    size_t found = 0, kept = 0;
+    int error = rstore_range_unordered(db, layer, RSTORE_WINDOW, window, axes, NULL, NULL, 0, &found);
+    rstore_row *made = !error && found ? calloc(found, sizeof *made) : NULL;
+    if (error || (found && !made)) return error ? error : RSTORE_MEMORY;
+    if (found) rstore_c_rows(db, 0, made, found);
+    for (size_t k = 0; k < found; k++)
+        if (begins_in(window, axes, &made[k])) made[kept++] = made[k];
+    *rows = made, *count = kept;
+    return RSTORE_OK;
+}
+
+int rstore_join_files(rstore *db, const char *first, rstore *other, const char *second, uint64_t squared_distance,
+                      const int32_t *window, uint32_t axes, rstore_pair **rows, size_t *count, int *second_failed) {
+    static const int32_t all[2][6] = { { INT32_MIN, INT32_MIN, INT32_MAX, INT32_MAX },
+                                       { INT32_MIN, INT32_MIN, INT32_MIN, INT32_MAX, INT32_MAX, INT32_MAX } };
+    rstore_row *given = NULL;
+    size_t begun = 0;
+    ASK(db && other && NAMED(first) && NAMED(second) && AXES(axes) && rows && count);
+    if (second_failed) *second_failed = 0;
+    int error = rows_from(db, first, window ? window : all[axes - 2], axes, &given, &begun);
+    if (error) return error;
+    error = rstore_join_rows(other, given, begun, axes, second, squared_distance, rows, count);
+    if (second_failed) *second_failed = error != 0;
+    free(given);
+    return error;
 }
 int rstore_nodes(rstore *db, const char *layer, rstore_node **rows, size_t *count) {
     ASK(db && NAMED(layer) && rows && count);

@@ -263,6 +263,10 @@ int rstore_range_into(rstore *db, const char *layer, int kind, const int32_t *nu
                       const uint32_t *tag, rstore_row *rows, size_t room, size_t *count);
 size_t rstore_more(rstore *db, size_t from, rstore_row *rows, size_t room);
 
+/* The same with the rows in any order, so that no time goes into theirs. */
+int rstore_range_unordered(rstore *db, const char *layer, int kind, const int32_t *numbers, uint32_t axes,
+                           const uint32_t *tag, rstore_row *rows, size_t room, size_t *count);
+
 /* The same of identifiers alone, 8 bytes each. */
 int rstore_ids_into(rstore *db, const char *layer, int kind, const int32_t *numbers, uint32_t axes,
                     const uint32_t *tag, uint64_t *ids, size_t room, size_t *count);
@@ -294,6 +298,20 @@ int rstore_nearest_rows(rstore *db, const char *layer, uint64_t k, const int32_t
  * and then by second. */
 int rstore_join(rstore *db, const char *first, const char *second, uint64_t squared_distance, rstore_pair **rows,
                 size_t *count);
+
+/* The same of `given` rows (their `axes` are not looked at) and the objects of a layer. An identifier may stand among the
+ * rows more than once. Rows that lie near one another are best given one after another, since 64 in turn go down the tree
+ * together. RSTORE_WRONG_DIMS where the layer has other axes, RSTORE_BAD_BOX where a low is above its high. */
+int rstore_join_rows(rstore *db, const rstore_row *given, size_t given_count, uint32_t axes, const char *layer,
+                     uint64_t squared_distance, rstore_pair **rows, size_t *count);
+
+/* The same of the layers of two stores, or of one. With a window that is not NULL a pair counts where the low corner of the
+ * first one's box lies in it: windows that share no point have no pair in common, and those that cover all numbers all
+ * pairs, so a join that is larger than memory is asked piece by piece. It takes memory for the objects of the first layer
+ * that meet the window. `axes` are those of both layers. What came with an error is told by rstore_detail(db), or by
+ * rstore_detail(other) where *second_failed, which may be NULL, is not 0. */
+int rstore_join_files(rstore *db, const char *first, rstore *other, const char *second, uint64_t squared_distance,
+                      const int32_t *window, uint32_t axes, rstore_pair **rows, size_t *count, int *second_failed);
 
 /* The nodes of the tree of a layer, the root first, each before those below it: what one tunes a layer by, and draws. */
 int rstore_nodes(rstore *db, const char *layer, rstore_node **nodes, size_t *count);

@@ -7,7 +7,7 @@ import operator
 from ctypes import addressof, byref, c_size_t, c_uint64
 from typing import Any, Iterator, NamedTuple, Optional
 
-from rstore._given import Numbers, of_bytes, coordinates, numpy_or_none, unsigned
+from rstore._given import Numbers, coordinates, given_rows, made_rows, numpy_or_none, of_bytes, unsigned
 from rstore._library import AROUND, INSIDE, POINT, ROW_SIZE, WINDOW, CRow, Made, whole
 from rstore._rows import Rows, tuples
 from rstore.errors import Error, Misuse
@@ -81,19 +81,40 @@ class ArrayQuestions:
         offsets, made = self._range_many(self._lib.rstore_windows_rows, boxes, kind, tag)
         return FoundRows(_shown(offsets), Rows(made.array(CRow, offsets[-1]), self.dims, self.scale))
 
-    def query(self: Any, boxes: Any, predicate: str = "intersects", tag: Any = None) -> Any:
+    def query(self: Any, boxes: Any, predicate: str = "intersects", tag: Any = None, distance: Any = None) -> Any:
         """The same as pairs of the index of a box and an identifier, in an array of shape (2, m), as `STRtree.query` of
         shapely 2 and `sindex.query` of geopandas answer. The predicate says how a box is to an object: it "intersects"
-        it, "contains" or "covers" it, or is "within" it or "covered_by" it. Wants numpy."""
-        if predicate not in PREDICATES:
-            raise Misuse(f"{self.name}: a predicate is one of {', '.join(PREDICATES)}: {predicate!r}")
+        it, "contains" or "covers" it, is "within" it or "covered_by" it, or "dwithin" a distance of it, which is rounded
+        up to the numbers that are stored. Wants numpy."""
+        if predicate not in PREDICATES and predicate != "dwithin":
+            raise Misuse(f"{self.name}: a predicate is one of {', '.join(PREDICATES)}, dwithin: {predicate!r}")
+        if (distance is None) == (predicate == "dwithin"):
+            raise Misuse(f"{self.name}: a distance goes with dwithin, and with no other predicate")
         numpy = numpy_or_none()
         if numpy is None:
             raise ImportError("query wants numpy; windows does not")
+        if predicate == "dwithin":
+            return self._query_within(numpy, boxes, tag, distance)
         offsets, ids = self.windows(boxes, PREDICATES[predicate], tag)
         pairs = numpy.empty((2, len(ids)), ids.dtype)
         pairs[0], pairs[1] = numpy.repeat(numpy.arange(len(offsets) - 1, dtype=ids.dtype), numpy.diff(offsets)), ids
         return pairs
+
+    def _query_within(self: Any, numpy: Any, boxes: Any, tag: Any, distance: Any) -> Any:
+        """By a join of the boxes, each with its index as its identifier."""
+        numbers = coordinates(self, boxes, False)
+        tags = self._tags(tag, numbers.count)
+        rows = made_rows(self.dims, unsigned(numpy.arange(numbers.count), 64, "an index"), numbers, tags)
+        return self._near_rows(numpy, rows, self._squared(distance), tags is not None)
+
+    def _near_rows(self: Any, numpy: Any, rows: Any, squared: int, tagged: bool) -> Any:
+        """The pairs of rows, whose identifiers ascend, and objects that are so near, or of these those that have the tag of
+        the row, in an array of shape (2, m)."""
+        found = numpy.frombuffer(self._joined_rows(given_rows(rows), squared), "u8").reshape(-1, 2).T
+        if tagged and found.size:
+            asked = rows["tag"][numpy.searchsorted(rows["id"], found[0])]
+            found = found[:, self.get_many(found[1]).numpy()["tag"] == asked]
+        return found
 
     def counts(self: Any, boxes: Any, kind: str = "window", tag: Any = None) -> Any:
         """For each box how many objects there are."""

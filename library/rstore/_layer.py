@@ -11,9 +11,10 @@ from typing import TYPE_CHECKING, Any, Iterable, Iterator, Optional, Sequence
 from rstore._arrays import ArrayQuestions
 from rstore._given import Numbers, coordinates, given_rows, made_rows, refused_row, unsigned
 from rstore._library import (
-    AROUND, BOXES, EPSILON, ID_ROOM, INSIDE, NEAR, PAIR, POINT, POINTS, ROOM, ROW_SIZE, ROWS, WHOLE, WINDOW,
+    AROUND, BOXES, EPSILON, ID_ROOM, INSIDE, NEAR, POINT, POINTS, ROOM, ROW_SIZE, ROWS, WHOLE, WINDOW,
     Box, CRow, Made, Number, Point, name_of, tag_at, whole,
 )
+from rstore._joins import Joins
 from rstore._rows import LayerInfo, Rows, tuples
 from rstore._whole import WholeLayer
 from rstore.errors import Duplicate, Error, Misuse, NoObject, WrongDims, at_index
@@ -24,7 +25,7 @@ if TYPE_CHECKING:
 _NO_ROOM = c_size_t(0)
 
 
-class Layer(ArrayQuestions, WholeLayer):
+class Layer(ArrayQuestions, Joins, WholeLayer):
     """A layer of a store, from `Store.create_layer`, `Store.layer` or `store[name]`.
 
     It is a mapping from identifiers to boxes: `layer[7] = box` inserts an object or gives it another box, `del layer[7]`
@@ -415,25 +416,3 @@ class Layer(ArrayQuestions, WholeLayer):
         if self.scale is not None:
             squares = [square / (self.scale * self.scale) for square in squares]
         return [(*row, square) for row, square in zip(objects, squares)]
-
-    def join(self, other: Layer, within: Number = 0) -> "list[tuple[int, int]]":
-        """All pairs of an object of this layer and one of the other whose boxes are at most so far apart (0: that meet),
-        ascending. With a scale, which both must have, the distance is in its numbers, and rounded up."""
-        if self.scale != other.scale:
-            raise Misuse("the layers of a join have different scales")
-        if self._store is not other._store:
-            raise Misuse("the layers of a join are of different stores")
-        distance = within if self.scale is None else math.ceil(within * self.scale)
-        squared = min(whole(distance, 64, "a distance") ** 2, (1 << 64) - 1)
-        return list(PAIR.iter_unpack(self._joined(other, squared)))
-
-    def _joined(self, other: Layer, squared: int) -> Any:
-        """The pairs in the memory of the library, by the square of a distance in stored numbers."""
-        made, count = Made(self._lib), c_size_t()
-        with self._lock:
-            error = self._lib.rstore_join(
-                self._store._open, self._c_name, other._c_name, squared, byref(made.address), byref(count)
-            )
-            if error:
-                raise self._store._error(error, f"{self.name}, {other.name}")
-        return made.array(ctypes.c_char, count.value * PAIR.size)

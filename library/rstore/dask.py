@@ -344,6 +344,16 @@ class Sharded:
 
     query = ArrayQuestions.query
 
+    def _query_within(self, _: Any, boxes: Any, tag: Any, distance: Any) -> Any:
+        """As a layer answers it, with a task for each shard that is as near."""
+        numbers, tags = self._given(boxes, "window", tag)
+        rows, squared = tasks.numbered(numbers, self.dims, tags), self._form._squared(distance)
+        indices, shards = self._top()._near_rows(numpy, rows, squared, False).astype(numpy.int64)
+        asked = [(self._shard(shard), rows[indices[own]], squared, tags is not None) for shard, own in _groups(shards)]
+        parts = _together(tasks.ask_within, asked, self.scheduler, len(indices) <= _FEW)
+        pairs = numpy.concatenate([numpy.empty((2, 0), numpy.uint64), *parts], axis=1)
+        return pairs[:, numpy.lexsort(pairs[::-1])]
+
     def _single(self, kind: str, numbers: Any, tag: Optional[int], what: str) -> Any:
         """One question."""
         packed = self._form._point(numbers) if kind == "point" else self._form._box(numbers)
@@ -521,7 +531,7 @@ class Sharded:
         """All pairs of an object of this layer and one of the other whose boxes are at most so far apart (0: that
         meet), as a dask.dataframe of the columns first and second that is not computed yet, a partition for each pair
         of shards that are as near: `compute`, `to_csv`, `to_parquet` and the like. A pair is in one partition; each
-        is ascending. A partition is in the memory of its task, with the rows of its shards that may have partners.
+        is ascending. A partition is in the memory of its task, with the rows of the first shard that may have partners.
         Raises as `Layer.join` does."""
         if self.scale != other.scale:
             raise Misuse("the layers of a join have different scales")
@@ -530,9 +540,8 @@ class Sharded:
         distance = within if self.scale is None else math.ceil(within * self.scale)
         squared = min(whole(distance, 64, "a distance") ** 2, (1 << 64) - 1)
         same = (self.folder, self.generation) == (other.folder, other.generation)
-        near = tasks.join_rows(tasks.all_rows(self._top()), tasks.all_rows(other._top()), self.dims, squared)
         ask, parts = dask.delayed(tasks.join_shards), []
-        for one, two in near.tolist():
+        for one, two in tasks.near_shards(self._top(), other._top(), squared):
             if not same or one <= two:  # of a layer with itself a task gives both orders
                 low, high = (other._shards[two][end] for end in ("low", "high"))
                 parts.append(ask(self._shard(one), other._shard(two), low, high, squared, same and one < two))

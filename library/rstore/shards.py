@@ -24,7 +24,7 @@ from typing import Any, Callable, Iterator, NamedTuple, Optional, Sequence, Tupl
 
 import numpy
 
-from rstore._given import coordinates, made_rows, unsigned
+from rstore._given import coordinates, given_rows, made_rows, unsigned
 from rstore._layer import Layer
 from rstore._library import WHOLE
 from rstore._rows import ROW_FIELDS
@@ -36,6 +36,8 @@ from rstore.errors import BadBox, DeviceFailed, Error, Misuse, StoreFailed, Wron
 ROW, PAIR = numpy.dtype(ROW_FIELDS), numpy.dtype([("first", "u8"), ("second", "u8")])
 #: files that a process keeps open, and how many pages of 4096 bytes each store of them may hold
 OPEN_FILES, CACHE = 64, 1024
+#: how many objects of a shard are joined at once
+PIECE = 1 << 18
 #: the name of the layer of each shard
 LAYER = "objects"
 _FORMAT, _VERSION = "rstore-sharded", 1
@@ -563,10 +565,9 @@ def rebuild_ids(number: int, file: File, drop: Any, add: Any, low: int, work: st
 # Tasks of questions.
 
 
-def all_rows(layer: Layer, low: Any = (WHOLE[0],) * 3, high: Any = (WHOLE[1],) * 3, reach: int = 0) -> Any:
-    """The objects of a layer, or those that meet the box, `reach` wider on each side."""
-    box = [max(x - reach, WHOLE[0]) for x in low[: layer.dims]] + [min(x + reach, WHOLE[1]) for x in high[: layer.dims]]
-    return layer.windows_rows(numpy.array([box], numpy.int32)).rows.numpy()
+def all_rows(layer: Layer) -> Any:
+    """The objects of a layer."""
+    return layer.all_rows().numpy()
 
 
 def ask_range(file: File, kind: str, numbers: Any, tags: Any, what: str) -> "tuple[Any, Any]":
@@ -585,6 +586,19 @@ def ask_range(file: File, kind: str, numbers: Any, tags: Any, what: str) -> "tup
     counts = numpy.diff(offsets)[back]
     return counts, found[numpy.repeat(offsets[:-1][back] - (numpy.cumsum(counts) - counts), counts)
                          + numpy.arange(len(found))]
+
+
+def numbered(numbers: Any, dims: int, tags: Any) -> Any:
+    """Boxes as rows, each with its index as its identifier."""
+    rows = numpy.zeros(len(numbers), ROW)
+    rows["id"], rows["axes"], rows["tag"] = numpy.arange(len(numbers)), dims, 0 if tags is None else tags
+    rows["low"][:, :dims], rows["high"][:, :dims] = numbers[:, :dims], numbers[:, dims:]
+    return rows
+
+
+def ask_within(file: File, rows: Any, squared: int, tagged: bool) -> Any:
+    """The pairs of rows and objects of a shard that are so near, with the tag of the row where that is asked."""
+    return numpy.array(shard(file)._near_rows(numpy, rows, squared, tagged))
 
 
 def ask_near(file: File, points: Any, k: int) -> Any:
@@ -618,23 +632,29 @@ def as_frame(rows: Any, dims: int, scale: Optional[int]) -> Any:
 
 
 def join_files(first: File, second: File, low: Any, high: Any, squared: int) -> Any:
-    """The pairs of an object of one shard and one of another at most so far apart, ascending; `low` and `high` bound
-    the second. A join takes two layers of one store: so the rows of either that may have a partner are loaded into a
-    store in memory, and joined there. This is the one place where two files are joined."""
+    """The pairs of an object of one shard and one of another at most so far apart, ascending; `low` and `high` bound the
+    second. This is the one place where two files are joined: the objects of the first that may have a partner go down the
+    tree of the second, in the order of their own tree, PIECE of them at once."""
     a, b, reach = shard(first), shard(second), _root(squared)
-    left = all_rows(a, low, high, reach)
-    if not len(left):
-        return numpy.empty(0, PAIR)
-    right = all_rows(b, left["low"].min(0).tolist(), left["high"].max(0).tolist(), reach)
-    return join_rows(left, right, a.dims, squared)
+    rows = numpy.frombuffer(a._found(_widened(low, high, a.dims, reach)), ROW)
+    pieces = (rows[start : start + PIECE] for start in range(0, len(rows), PIECE))
+    found = [numpy.frombuffer(b._joined_rows(given_rows(piece), squared), PAIR) for piece in pieces]
+    return found[0] if len(found) == 1 else _in_order(numpy.concatenate([numpy.empty(0, PAIR), *found]))
 
 
-def join_rows(left: Any, right: Any, dims: int, squared: int) -> Any:
-    """The pairs of rows of either at most so far apart, ascending, by a store in memory."""
-    with open_store(None, cache=4096) as db:
-        for name, rows in (("a", left), ("b", right)):
-            db.create_layer(name, dims).load_rows(numpy.ascontiguousarray(rows))
-        return _pairs(db["a"], db["b"], squared)
+def _in_order(pairs: Any) -> Any:
+    """Pairs by the first and then by the second, where those of one first stand in that order already."""
+    return pairs[numpy.argsort(pairs["first"], kind="stable")]
+
+
+def _widened(low: Any, high: Any, dims: int, reach: int) -> "list[int]":
+    """The box, `reach` wider on each side."""
+    return [max(x - reach, WHOLE[0]) for x in low[:dims]] + [min(x + reach, WHOLE[1]) for x in high[:dims]]
+
+
+def near_shards(top: Layer, other: Layer, squared: int) -> "list[Any]":
+    """The pairs of shards of two layers whose bounds are at most so far apart."""
+    return _pairs(top, other, squared).tolist()
 
 
 def _pairs(a: Layer, b: Layer, squared: int) -> Any:
@@ -664,6 +684,5 @@ def join_shards(first: File, second: File, low: Any, high: Any, squared: int, mi
     if mirrored:
         turned = numpy.empty(len(pairs), PAIR)
         turned["first"], turned["second"] = pairs["second"], pairs["first"]
-        pairs = numpy.concatenate([pairs, turned])
-        pairs = pairs[numpy.lexsort((pairs["second"], pairs["first"]))]
+        pairs = _in_order(numpy.concatenate([pairs, turned]))
     return as_pairs(pairs)

@@ -40,7 +40,7 @@ typedef struct Cursor {
     size_t count, at, split;
     const rstore_row *now, *end; /* the row `at`, which is none of the nearest; behind all rows */
     bool had;         /* the statement has read the table, so no other connection has changed it since */
-    bool down, near, first, has_row, below; /* the last: only what is nearer than `far` */
+    bool sorted, down, near, first, has_row, below; /* the last: only what is nearer than `far` */
     bool is_after;    /* only identifiers behind `after` are asked for */
     uint64_t after;
     rstore_near *found, last;        /* of the nearest: what was answered, and from where to go on */
@@ -51,8 +51,9 @@ typedef struct Cursor {
 } Cursor;
 
 /* How a question is answered: the words of a plan are the columns and operators of its arguments. FIRST is for so many
- * rows of all, whichever they are: those that are nearest to a point. */
-enum { RANGE, GET, NEAR, FIRST, DOWN = 4 };
+ * rows of all, whichever they are: those that are nearest to a point. A range is sorted by identifier where that is asked
+ * for. */
+enum { RANGE, GET, NEAR, FIRST, DOWN = 4, SORTED = 8 };
 
 /* The operator of a constraint, as a plan has it: empty where it is another. */
 static const char *operator_of(int op) {
@@ -141,7 +142,7 @@ int best_index(sqlite3_vtab *v, sqlite3_index_info *info) {
     if (info->nOrderBy == 1) {
         int by = column_of(t, info->aOrderBy[0].iColumn);
         info->orderByConsumed = plan == GET || (plan == NEAR ? by == DISTANCE && !info->aOrderBy[0].desc : by == ID);
-        if (plan == RANGE && by == ID && info->aOrderBy[0].desc) info->idxNum |= DOWN;
+        if (plan == RANGE && by == ID) info->idxNum |= SORTED | (info->aOrderBy[0].desc ? DOWN : 0);
     }
     if (plan == GET) info->idxFlags = SQLITE_INDEX_SCAN_UNIQUE;
     info->estimatedRows = plan == GET ? 1 : plan >= NEAR ? 16 : rows < 1 ? 1 : (sqlite3_int64)rows;
@@ -284,15 +285,18 @@ static int search(Cursor *c, Table *t) {
     int kind = query_of(b, t->axes, &exact);
     if (kind < 0) return RSTORE_OK;
     box_within(b, t->axes, kind, box);
-    int error = rstore_range_after(db, t->layer, kind, box, t->axes, b->tagged ? &b->tag : NULL,
-                                   c->is_after ? &c->after : NULL, c->few, ROOM, &count);
+    const uint32_t *tag = b->tagged ? &b->tag : NULL;
+    const uint64_t *after = c->is_after ? &c->after : NULL;
+    bool sorted = c->sorted || after;
+    int error = sorted ? rstore_range_after(db, t->layer, kind, box, t->axes, tag, after, c->few, ROOM, &count)
+                       : rstore_range_unordered(db, t->layer, kind, box, t->axes, tag, c->few, ROOM, &count);
     if (error) return error;
     if (count > ROOM && !has_room(c, count)) return RSTORE_MEMORY;
     if (count > ROOM) rstore_more(db, 0, c->rows, count);
     if (exact) c->count = count;
     for (size_t k = 0; !exact && k < count; k++)
         if (fits(b, &c->rows[k], t->axes)) c->rows[c->count++] = c->rows[k];
-    if (c->count && c->rows[c->count - 1].id > INT64_MAX) /* SQL's negative identifiers, which come first */
+    if (sorted && c->count && c->rows[c->count - 1].id > INT64_MAX) /* SQL's negative identifiers, which come first */
         while (c->rows[c->split].id <= INT64_MAX) c->split++;
     return RSTORE_OK;
 }
@@ -448,7 +452,7 @@ int filter(sqlite3_vtab_cursor *cursor, int number, const char *plan, int argc, 
     clear(c);
     c->bounds = (Bounds){ .none = false };
     for (int k = 0; k < 6; k++) c->bounds.low[k] = INT32_MIN, c->bounds.high[k] = INT32_MAX;
-    c->far = INFINITY, c->left = UINT64_MAX, c->down = number & DOWN;
+    c->far = INFINITY, c->left = UINT64_MAX, c->sorted = number & SORTED, c->down = number & DOWN;
     read_plan(c, plan, argc);
     int code = read_arguments(c, t, argc, argv, &asked);
     if (code || c->bounds.none) return code;

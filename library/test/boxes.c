@@ -2,8 +2,9 @@
  * 64 and 4096 pages held: 100,000 boxes of two axes that are loaded, uniform and in clusters, and as many that are
  * inserted, of which 750 range queries of five kinds are asked, each third with a tag; 20,000 boxes whose nearest are the
  * first of a sort, and whose joins with themselves and with others, in a tree that is taller or lower, at a distance too,
- * are those of a double loop; and 80,000 insertions, moves and deletions of boxes of two axes, and 20,000 of three, down
- * to a tree that is one empty leaf. On the way the file is checked, closed and opened, and has all objects. */
+ * and as rows and by windows, are those of a double loop; and 80,000 insertions, moves and deletions of boxes of two axes,
+ * and 20,000 of three, down to a tree that is one empty leaf. On the way the file is checked, closed and opened, and has all
+ * objects. */
 #include <stdbool.h>
 #include <stdio.h>
 #include <stdlib.h>
@@ -190,6 +191,34 @@ static void nearest_are_first(const char *layer, const rstore_row *list, size_t 
     }
     free(all);
 }
+static int by_both(const void *a, const void *b) {
+    const rstore_pair *x = a, *y = b;
+    if (x->first != y->first) return (x->first > y->first) - (x->first < y->first);
+    return (x->second > y->second) - (x->second < y->second);
+}
+/* The same pairs by the rows of the first layer, and by the windows of four parts, which have no pair in common. */
+static void is_join_of_rows(const char *a, const rstore_row *left, size_t lefts, const char *b, uint64_t within,
+                            const rstore_pair *wanted, size_t found) {
+    rstore_pair *pairs, *all = malloc(found * sizeof *all);
+    size_t count, used = 0;
+    HOLDS(all, 0);
+    NEED(rstore_join_rows(db, left, lefts, 2, b, within, &pairs, &count));
+    HOLDS(count == found && !memcmp(pairs, wanted, found * sizeof *pairs), count);
+    rstore_free(pairs);
+    for (int part = 0; part < 4; part++) {
+        int32_t x = left[lefts / 2].low[0], y = left[lefts / 3].low[1];
+        int32_t window[4] = {part & 1 ? x : INT32_MIN, part & 2 ? y : INT32_MIN, part & 1 ? INT32_MAX : x - 1,
+                             part & 2 ? INT32_MAX : y - 1};
+        NEED(rstore_join_files(db, a, db, b, within, window, 2, &pairs, &count, NULL));
+        HOLDS(used + count <= found, count);
+        if (count) memcpy(all + used, pairs, count * sizeof *pairs);
+        used += count;
+        rstore_free(pairs);
+    }
+    qsort(all, used, sizeof *all, by_both);
+    HOLDS(used == found && !memcmp(all, wanted, found * sizeof *all), used);
+    free(all);
+}
 static void is_join(const char *a, const rstore_row *left, size_t lefts, const char *b, const rstore_row *right,
                     size_t rights, uint64_t within) {
     rstore_pair *pairs;
@@ -202,6 +231,7 @@ static void is_join(const char *a, const rstore_row *left, size_t lefts, const c
                 found++;
             }
     HOLDS(found == count && count > 0, count);
+    is_join_of_rows(a, left, lefts, b, within, pairs, count);
     rstore_free(pairs);
 }
 /* The first tree is the taller one and has few boxes, the second one has many. */

@@ -64,7 +64,9 @@ int main(int argc, char **argv) {
                 rstore_free(near), rstore_free(rows);
             told(rstore_range_after(db, "b", RSTORE_WINDOW, (int32_t[]){0, 0, 99, 99}, 2, NULL, &after, &row, 1, &count));
             told(rstore_last(db, "b", 200, &id, &found));
+            told(rstore_range_unordered(db, "b", RSTORE_WINDOW, (int32_t[]){0, 0, 99, 99}, 2, NULL, &row, 1, &count));
             if (!told(rstore_join(db, "a", "b", 9, &pairs, &count))) rstore_free(pairs);
+            if (!told(rstore_join_files(db, "a", db, "b", 9, NULL, 2, &pairs, &count, NULL))) rstore_free(pairs);
             if (!told(rstore_layers(db, &layers, &count))) rstore_free(layers);
             if (!told(rstore_nodes(db, "b", &nodes, &count))) rstore_free(nodes);
             told(rstore_id_pages(db, "b", &pages));

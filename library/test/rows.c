@@ -54,6 +54,73 @@ static void questions(rstore *db) {
     rstore_free(pairs);
 }
 
+/* In any order; and joins of rows that are in no layer, and of two stores, whole and by windows. */
+static void others(rstore *db) {
+    static const rstore_pair wanted[5] = {{1, 1}, {1, 3}, {2, 2}, {3, 1}, {3, 3}};
+    rstore_row rows[3] = {{.id = 99}, {.id = 99}, {.id = 99}}, given[3] = {
+        {.id = 7, .low = {13, 13}, .high = {14, 14}}, {.id = 5, .low = {10, 12}, .high = {20, 12}}, {.id = 7, .low = {9, 9}, .high = {9, 9}}};
+    rstore_pair *pairs;
+    rstore *memory;
+    size_t count;
+    int second = 7, seen = 0;
+    uint32_t seven = 7;
+    OK(rstore_range_unordered(db, "a", RSTORE_WINDOW, (int32_t[]){5, 5, 9, 9}, 2, NULL, rows, 3, &count));
+    IS(2, count);
+    IS(4, rows[0].id + rows[1].id);
+    IS(99, rows[2].id);
+    OK(rstore_range_unordered(db, "a", RSTORE_INSIDE, (int32_t[]){0, 0, 99, 99}, 2, &seven, NULL, 0, &count));
+    IS(2, count);
+    IS(2, rstore_more(db, 0, rows, 3));
+    IS(RSTORE_NO_LAYER, rstore_range_unordered(db, "b", RSTORE_POINT, (int32_t[]){9, 9}, 2, NULL, rows, 3, &count));
+    IS(RSTORE_WRONG_DIMS, rstore_range_unordered(db, "a", RSTORE_POINT, (int32_t[]){9, 9, 9}, 3, NULL, rows, 3, &count));
+    IS(RSTORE_BAD_BOX, rstore_range_unordered(db, "a", RSTORE_INSIDE, (int32_t[]){1, 3, 2, 2}, 2, NULL, rows, 3, &count));
+    /* of two rows that have one identifier the first meets no box, but is within two of one */
+    OK(rstore_join_rows(db, given, 3, 2, "a", 0, &pairs, &count));
+    IS(1, count == 3 && pairs[0].first == 5 && pairs[0].second == 3 && pairs[1].first == 7 && pairs[1].second == 1
+          && pairs[2].first == 7 && pairs[2].second == 3);
+    rstore_free(pairs);
+    OK(rstore_join_rows(db, given, 1, 2, "a", 1, &pairs, &count));
+    IS(1, count == 0 && !pairs);
+    OK(rstore_join_rows(db, given, 1, 2, "a", 2, &pairs, &count));
+    IS(1, count == 1 && pairs[0].first == 7 && pairs[0].second == 3);
+    rstore_free(pairs);
+    OK(rstore_join_rows(db, NULL, 0, 2, "a", 2, &pairs, &count));
+    IS(1, count == 0 && !pairs);
+    IS(RSTORE_NO_LAYER, rstore_join_rows(db, given, 1, 2, "b", 2, &pairs, &count));
+    IS(RSTORE_BAD_NAME, rstore_join_rows(db, given, 1, 2, "B", 2, &pairs, &count));
+    IS(RSTORE_WRONG_DIMS, rstore_join_rows(db, given, 1, 3, "a", 2, &pairs, &count));
+    given[1].low[0] = 21;
+    IS(RSTORE_BAD_BOX, rstore_join_rows(db, given, 3, 2, "a", 2, &pairs, &count));
+    /* the same objects in a store in memory */
+    OK(rstore_open(NULL, RSTORE_CREATE, 8, &memory));
+    OK(rstore_create_layer(memory, "c", 2, 4));
+    OK(rstore_range_into(db, "a", RSTORE_WINDOW, (int32_t[]){0, 0, 99, 99}, 2, NULL, rows, 3, &count));
+    OK(rstore_load(memory, "c", 2, rows, count));
+    for (int turn = 0; turn < 3; turn++) {
+        OK(rstore_join_files(turn == 1 ? memory : db, turn == 1 ? "c" : "a", turn ? db : memory, turn ? "a" : "c", 0, NULL, 2,
+                             &pairs, &count, &second));
+        IS(1, count == 5 && second == 0 && !memcmp(pairs, wanted, sizeof wanted));
+        rstore_free(pairs);
+    }
+    /* low corners at 0, 8 and 20: a window's border belongs to it */
+    static const int32_t windows[4][4] = {{INT32_MIN, INT32_MIN, 7, 7}, {8, 8, 20, 20}, {21, 21, INT32_MAX, INT32_MAX}, {1, 1, 7, 7}};
+    for (int k = 0; k < 4; k++) {
+        OK(rstore_join_files(db, "a", memory, "c", 0, windows[k], 2, &pairs, &count, NULL));
+        for (size_t n = 0; n < count; n++) IS(1, pairs[n].first == 1 ? k == 0 : k == 1);
+        seen += (int)count;
+        rstore_free(pairs);
+    }
+    IS(5, seen);
+    IS(RSTORE_NO_LAYER, rstore_join_files(db, "b", memory, "c", 0, NULL, 2, &pairs, &count, &second));
+    IS(0, second);
+    IS(RSTORE_NO_LAYER, rstore_join_files(db, "a", memory, "a", 0, NULL, 2, &pairs, &count, &second));
+    IS(1, second);
+    IS(RSTORE_WRONG_DIMS, rstore_join_files(db, "a", memory, "c", 0, NULL, 3, &pairs, &count, &second));
+    IS(0, second);
+    IS(RSTORE_BAD_BOX, rstore_join_files(db, "a", memory, "c", 0, (int32_t[]){1, 3, 2, 2}, 2, &pairs, &count, &second));
+    OK(rstore_close(memory));
+}
+
 /* Pages of an answer: the rows behind an identifier, of which one has room; and behind the last. */
 static void pages(rstore *db) {
     rstore_row row = {.id = 99};
@@ -180,6 +247,7 @@ int main(int argc, char **argv) {
     OK(rstore_open(argv[1], RSTORE_CREATE, 8, &db));
     fill(db);
     questions(db);
+    others(db);
     pages(db);
     last(db);
     near_rows(db);

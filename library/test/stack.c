@@ -26,6 +26,8 @@ static void *run(void *path) {
     for (int k = 1500; k < 1700; k++) NEED(rstore_move(db, "a", (uint64_t)k, (int32_t[]){k, k, k + 5, k + 5}, 2));
     NEED(rstore_window(db, "a", (int32_t[]){0, 0, 9999, 9999}, 2, NULL, &rows, &n));
     rstore_free(rows);
+    NEED(rstore_join_files(db, "a", db, "a", 100, NULL, 2, &pairs, &n, NULL));
+    rstore_free(pairs);
     NEED(rstore_join(db, "a", "a", 100, &pairs, &n));
     rstore_free(pairs);
     NEED(rstore_nearest(db, "a", 1000, (int32_t[]){5, 5}, 2, &near, &n));

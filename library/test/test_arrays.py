@@ -79,6 +79,13 @@ def compare(layer: rstore.Layer, dims: int, scale: int, forms: "list[str]") -> i
     return tried
 
 
+def apart(one: tuple, other: tuple) -> int:
+    """The squared distance of two boxes."""
+    dims = len(one) // 2
+    gaps = (max(one[a] - other[dims + a], other[a] - one[dims + a], 0) for a in range(dims))
+    return sum(int(gap) ** 2 for gap in gaps)
+
+
 def refused(kind, act, index=None) -> None:
     try:
         act()
@@ -115,6 +122,21 @@ def refusals(layer: rstore.Layer, numpy) -> None:
         for q, one in enumerate((good, (0, 0, 900, 900))):
             singles += [(q, id) for id, _, _ in getattr(layer, kind)(one)]
         assert found.shape == (2, len(singles)) and [tuple(map(int, pair)) for pair in found.T] == singles
+    boxes, rows = [(40 * q, 7 * q, 40 * q + 3, 7 * q) for q in range(150)], list(layer.all_rows())
+    for distance, tag in ((0, None), (9, None), (30, 1), (30, [q % 3 for q in range(150)])):
+        wanted = [
+            (q, id)
+            for q, box in enumerate(boxes)
+            for id, other, kept in rows
+            if apart(box, other) <= distance**2 and (tag is None or kept == (tag if isinstance(tag, int) else tag[q]))
+        ]
+        found = layer.query(numpy.array(boxes), "dwithin", tag, distance=distance)
+        assert [tuple(map(int, pair)) for pair in found.T] == wanted
+    assert layer.query([], "dwithin", distance=1).shape == (2, 0)
+    refused(rstore.Misuse, lambda: layer.query([good], "dwithin"))
+    refused(rstore.Misuse, lambda: layer.query([good], "intersects", distance=1))
+    refused(rstore.Misuse, lambda: layer.query([good], "dwithin", distance=-1))
+    refused(rstore.BadBox, lambda: layer.query([good, (9, 0, 0, 9)], "dwithin", distance=1), 1)
     kept = numpy.array([good], "i4")
     kept.flags.writeable = False
     assert len(layer.windows(kept).offsets) == 2

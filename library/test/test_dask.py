@@ -131,6 +131,10 @@ def compare(dice, sharded, layer, rows, spread: int, ks=(1, 3, 50, 10**6)) -> No
     for kind in KINDS:
         compare_ranges(dice, sharded, layer, asked[:, :dims] if kind == "point" else asked, kind)
     assert (sharded.query(asked, "within") == layer.query(asked, "within")).all()
+    for distance, tag in ((0, None), (spread // 20, 1), (spread // 9, dice.integers(0, 3, len(asked)))):
+        distance = distance if sharded.scale is None else distance / sharded.scale
+        ours, own = (it.query(asked, "dwithin", tag, distance=distance) for it in (sharded, layer))
+        assert ours.shape == own.shape and (ours == own).all()
     for k in ks:
         points = asked[:12, :dims]
         ours, own = sharded.nearest_many(points, k), layer.nearest_many(points, k)

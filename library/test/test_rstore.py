@@ -120,6 +120,11 @@ def session(path: str, seed: int, steps: int) -> None:
                     if model.squared(a, b) <= within * within
                 )
                 assert layer.join(layers[other], within) == pairs
+                with rstore.open(None) as memory:
+                    copy = memory.create_layer("copy", model.dims, scale=layer.scale)
+                    copy.load([(i, b, t) for i, (b, t) in plain[other].rows.items()])
+                    assert layer.join(copy, within) == pairs
+                    assert copy.join(layer, within) == sorted((j, i) for i, j in pairs)
         elif turn == 14:
             assert (id in layer) == (id in model.rows) and len(layer) == len(model.rows)
             assert layer.last() == max(model.rows, default=None)

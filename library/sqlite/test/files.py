@@ -309,11 +309,7 @@ def kills():
             told = int((process.stdout.read().split() or [told])[-1]) or told
             process.wait(), process.stdout.close()
             db = connect("f.db")
-            try:
-                ids(db)
-            except sqlite3.OperationalError as error:
-                assert "not closed" in str(error), error
-                tried("of these kills refused to readers until a change")
+            ids(db)  # of what was committed last, by the journal
             db.execute("DELETE FROM p WHERE id = -1")  # which brings back what was kept
             count, last = rows(db, "SELECT count(*), coalesce(max(id), 0) FROM p")[0]
             of_plain = rows(db, "SELECT count(*), max(id) FROM plain")[0]
