@@ -146,12 +146,12 @@ def joins():
         window = "minx <= ? AND maxx >= ? AND miny <= ? AND maxy >= ?"
         for sql, values, words in [
             (f"SELECT * FROM parks WHERE {window} AND tag = 3 ORDER BY id DESC", (9, 1, 9, 1),
-             "VIRTUAL TABLE INDEX 4:range: minx<= maxx>= miny<= maxy>= tag="),
+             "VIRTUAL TABLE INDEX 12:range: minx<= maxx>= miny<= maxy>= tag="),
             ("SELECT * FROM parks WHERE id = 7", (), "VIRTUAL TABLE INDEX 1:get: id="),
             ("SELECT * FROM parks LIMIT ? OFFSET 3", (5,), "VIRTUAL TABLE INDEX 3:first: limit offset"),
-            ("SELECT * FROM parks ORDER BY id LIMIT 3", (), "VIRTUAL TABLE INDEX 0:range:"),
+            ("SELECT * FROM parks ORDER BY id LIMIT 3", (), "VIRTUAL TABLE INDEX 8:range:"),
             (f"SELECT * FROM parks WHERE id > 7 AND {window} ORDER BY id LIMIT 3", (9, 1, 9, 1),
-             "VIRTUAL TABLE INDEX 0:range: id> minx<= maxx>= miny<= maxy>="),
+             "VIRTUAL TABLE INDEX 8:range: id> minx<= maxx>= miny<= maxy>="),
             ("SELECT * FROM parks WHERE nearest = '1 1' ORDER BY distance LIMIT 3", (),
              "VIRTUAL TABLE INDEX 2:nearest: nearest= limit"),
             ("SELECT * FROM parks WHERE inside = '1 1 9 9'", (), "VIRTUAL TABLE INDEX 0:range: inside="),

@@ -2,6 +2,7 @@
 
 import contextlib
 import os
+import re
 import sqlite3
 import sys
 import tempfile
@@ -47,7 +48,11 @@ def refuses(kind, words, db, sql, *values):
 
 
 def rows(db, sql, *values):
-    return db.execute(sql, *values).fetchall()
+    """The rows of a statement: in their order, where one is asked for or told, and else sorted."""
+    found = db.execute(sql, *values).fetchall()
+    if not re.match("SELECT|WITH", sql) or re.search("ORDER BY|nearest|rstore_join|LIMIT", sql):
+        return found
+    return sorted(found, key=lambda row: [(value is None, isinstance(value, str), value) for value in row])
 
 
 def same(db, sql, values, wanted):
