@@ -6,7 +6,7 @@ import contextlib
 import ctypes
 import math
 from ctypes import byref, c_int, c_size_t
-from typing import TYPE_CHECKING, Any, Optional, Sequence
+from typing import TYPE_CHECKING, Any, Sequence
 
 from rstore._given import Numbers, refused_row
 from rstore._library import PAIR, WINDOW, CRow, Made, Number, whole
@@ -34,24 +34,22 @@ class Joins:
         distance = within if self.scale is None else math.ceil(within * self.scale)
         return min(whole(distance, 64, "a distance") ** 2, (1 << 64) - 1)
 
-    def _joined(self: Any, other: Layer, squared: int, window: Optional[Sequence[int]] = None) -> Any:
-        """The pairs in the memory of the library, by the square of a distance in stored numbers. With a window, which is of
-        stored numbers too, those whose first one's box has its low corner in it."""
+    def _joined(self: Any, other: Layer, squared: int) -> Any:
+        """The pairs in the memory of the library, by the square of a distance in stored numbers."""
         made, count, second = Made(self._lib), c_size_t(), c_int()
-        box = None if window is None else (ctypes.c_int32 * len(window))(*window)
         with _locked(self, other):
-            if self._store is other._store and window is None:
+            if self._store is other._store:
                 error = self._lib.rstore_join(
                     self._store._open, self._c_name, other._c_name, squared, byref(made.address), byref(count)
                 )
             else:
                 error = self._lib.rstore_join_files(
-                    self._store._open, self._c_name, other._store._open, other._c_name, squared, box, self.dims,
+                    self._store._open, self._c_name, other._store._open, other._c_name, squared, None, self.dims,
                     byref(made.address), byref(count), byref(second),
                 )
             if error:
                 refused: Any = other if second.value else self
-                raise refused._store._error(error, refused.name if box or second.value else f"{self.name}, {other.name}")
+                raise refused._store._error(error, f"{self.name}, {other.name}")
         return made.array(ctypes.c_char, count.value * PAIR.size)
 
     def _joined_rows(self: Any, rows: Numbers, squared: int) -> Any:
