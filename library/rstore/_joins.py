@@ -6,10 +6,10 @@ import contextlib
 import ctypes
 import math
 from ctypes import byref, c_int, c_size_t
-from typing import TYPE_CHECKING, Any, Sequence
+from typing import TYPE_CHECKING, Any, Callable, Sequence
 
 from rstore._given import Numbers, refused_row
-from rstore._library import PAIR, WINDOW, CRow, Made, Number, whole
+from rstore._library import PAIR, WINDOW, Made, Number, whole
 from rstore.errors import DimsDiffer, Misuse, at_index
 
 if TYPE_CHECKING:
@@ -65,9 +65,9 @@ class Joins:
                 raise told if index is None else at_index(told, index, "box")
         return made.array(ctypes.c_char, count.value * PAIR.size)
 
-    def _found(self: Any, box: Sequence[int]) -> Any:
+    def _found(self: Any, box: Sequence[int], room: "Callable[[int], Numbers]") -> Numbers:
         """The rows of the objects that meet a box of stored numbers, in the order of the tree, in which neighbours are
-        near one another."""
+        near one another, in the memory that `room` gives for so many."""
         numbers, count = (ctypes.c_int32 * len(box))(*box), c_size_t()
         with self._lock:
             db = self._store._open
@@ -76,8 +76,8 @@ class Joins:
             )
             if error:
                 raise self._store._error(error, self.name)
-            rows = (CRow * count.value)()
-            self._lib.rstore_more(db, 0, rows, count.value)
+            rows = room(count.value)
+            self._lib.rstore_more(db, 0, rows.at, rows.count)
         return rows
 
 

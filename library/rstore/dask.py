@@ -8,7 +8,7 @@
     parks = rstore.dask.open("/shared/parks")               # in another program
     parks.window((0.0, 51.0, 0.1, 51.1)), parks.nearest((0.0, 51.0), 5), parks[7], len(parks)
     offsets, ids = parks.windows(boxes)                     # arrays of numpy; a task a shard
-    parks.join(roads, within=0.001).to_csv("/shared/near-*.csv")       # a part for each pair of shards
+    parks.join(roads, within=0.001).to_csv("/shared/near-*.csv")       # a part for each shard
 
 A sharded layer is a folder that all machines see. Its files never change: shards (`part-00017-3f2a90bc51d0.rst`, each a
 store with the layer `objects`, which `rstore --read-only` opens), whose objects lie near to each other on a Hilbert
@@ -529,10 +529,9 @@ class Sharded:
 
     def join(self, other: Sharded, within: Number = 0) -> Any:
         """All pairs of an object of this layer and one of the other whose boxes are at most so far apart (0: that
-        meet), as a dask.dataframe of the columns first and second that is not computed yet, a partition for each pair
-        of shards that are as near: `compute`, `to_csv`, `to_parquet` and the like. A pair is in one partition; each
-        is ascending. A partition is in the memory of its task, with the rows of the first shard that may have partners.
-        Raises as `Layer.join` does."""
+        meet), as a dask.dataframe of the columns first and second that is not computed yet, a partition for each shard of
+        this layer that has any, in no order: `compute`, `to_csv`, `to_parquet` and the like. A partition is in the memory of
+        its task, with the rows of one shard that may have partners. Raises as `Layer.join` does."""
         if self.scale != other.scale:
             raise Misuse("the layers of a join have different scales")
         if self.dims != other.dims:
@@ -540,11 +539,13 @@ class Sharded:
         distance = within if self.scale is None else math.ceil(within * self.scale)
         squared = min(whole(distance, 64, "a distance") ** 2, (1 << 64) - 1)
         same = (self.folder, self.generation) == (other.folder, other.generation)
-        ask, parts = dask.delayed(tasks.join_shards), []
+        partners: "dict[int, list[Any]]" = {}
         for one, two in tasks.near_shards(self._top(), other._top(), squared):
             if not same or one <= two:  # of a layer with itself a task gives both orders
                 low, high = (other._shards[two][end] for end in ("low", "high"))
-                parts.append(ask(self._shard(one), other._shard(two), low, high, squared, same and one < two))
+                partners.setdefault(one, []).append((other._shard(two), low, high, same and one < two))
+        ask = dask.delayed(tasks.join_shard)
+        parts = [ask(self._shard(one), others, squared) for one, others in partners.items()]
         return _frames(parts, tasks.as_pairs(numpy.empty(0, PAIR)))
 
     # Changes.

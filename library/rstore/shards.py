@@ -24,7 +24,7 @@ from typing import Any, Callable, Iterator, NamedTuple, Optional, Sequence, Tupl
 
 import numpy
 
-from rstore._given import coordinates, given_rows, made_rows, unsigned
+from rstore._given import Numbers, coordinates, made_rows, unsigned
 from rstore._layer import Layer
 from rstore._library import WHOLE
 from rstore._rows import ROW_FIELDS
@@ -36,13 +36,15 @@ from rstore.errors import BadBox, DeviceFailed, Error, Misuse, StoreFailed, Wron
 ROW, PAIR = numpy.dtype(ROW_FIELDS), numpy.dtype([("first", "u8"), ("second", "u8")])
 #: files that a process keeps open, and how many pages of 4096 bytes each store of them may hold
 OPEN_FILES, CACHE = 64, 1024
-#: how many objects of a shard are joined at once
-PIECE = 1 << 18
+#: how many objects of a shard are joined at once: their rows, 40 bytes each, stay below what the C library maps anew
+PIECE = 3000
 #: the name of the layer of each shard
 LAYER = "objects"
 _FORMAT, _VERSION = "rstore-sharded", 1
 _SAMPLE, _STEP = 2000, 1 << 14
 File = Tuple[str, int, Optional[int]]
+#: what a thread uses again
+_own = threading.local()
 
 
 class ShardError(Error, OSError):
@@ -241,10 +243,10 @@ def token() -> str:
 
 def crc32(path: str) -> int:
     """The CRC-32 of a file, as zlib has it: against damage, and no proof against a forger."""
-    made = 0
-    with open(path, "rb") as data:
-        while block := data.read(1 << 20):
-            made = zlib.crc32(block, made)
+    made, room = 0, memoryview(bytearray(1 << 17))
+    with open(path, "rb", buffering=0) as data:
+        while count := data.readinto(room):
+            made = zlib.crc32(room[:count], made)
     return made
 
 
@@ -631,20 +633,25 @@ def as_frame(rows: Any, dims: int, scale: Optional[int]) -> Any:
 # Joins.
 
 
-def join_files(first: File, second: File, low: Any, high: Any, squared: int) -> Any:
-    """The pairs of an object of one shard and one of another at most so far apart, ascending; `low` and `high` bound the
+def join_files(first: File, second: File, low: Any, high: Any, squared: int) -> "list[Any]":
+    """The pairs of an object of one shard and one of another at most so far apart, in parts; `low` and `high` bound the
     second. This is the one place where two files are joined: the objects of the first that may have a partner go down the
     tree of the second, in the order of their own tree, PIECE of them at once."""
     a, b, reach = shard(first), shard(second), _root(squared)
-    rows = numpy.frombuffer(a._found(_widened(low, high, a.dims, reach)), ROW)
-    pieces = (rows[start : start + PIECE] for start in range(0, len(rows), PIECE))
-    found = [numpy.frombuffer(b._joined_rows(given_rows(piece), squared), PAIR) for piece in pieces]
-    return found[0] if len(found) == 1 else _in_order(numpy.concatenate([numpy.empty(0, PAIR), *found]))
+    rows = a._found(_widened(low, high, a.dims, reach), _room)
+    pieces = [
+        Numbers(rows.held, rows.at + start * ROW.itemsize, min(PIECE, rows.count - start))
+        for start in range(0, rows.count, PIECE)
+    ]
+    return [numpy.frombuffer(b._joined_rows(piece, squared), PAIR) for piece in pieces]
 
 
-def _in_order(pairs: Any) -> Any:
-    """Pairs by the first and then by the second, where those of one first stand in that order already."""
-    return pairs[numpy.argsort(pairs["first"], kind="stable")]
+def _room(count: int) -> Numbers:
+    """Memory for so many rows, which the thread uses again: the system clears memory that is mapped anew."""
+    size = max(count, 1) * ROW.itemsize
+    if len(getattr(_own, "rows", ())) < size:
+        _own.rows = numpy.empty(size, "u1")
+    return Numbers(_own.rows, _own.rows.ctypes.data, count)
 
 
 def _widened(low: Any, high: Any, dims: int, reach: int) -> "list[int]":
@@ -674,15 +681,15 @@ def as_pairs(pairs: Any) -> Any:
     return pandas.DataFrame(pairs)
 
 
-def join_shards(first: File, second: File, low: Any, high: Any, squared: int, mirrored: bool) -> Any:
-    """The pairs of two shards at most so far apart, as a data frame of the columns first and second, ascending;
-    mirrored, those with the second's object first are added. A shard with itself is joined in its store."""
-    if first[0] == second[0]:
-        layer = shard(first)
-        return as_pairs(_pairs(layer, layer, squared))
-    pairs = join_files(first, second, low, high, squared)
-    if mirrored:
-        turned = numpy.empty(len(pairs), PAIR)
-        turned["first"], turned["second"] = pairs["second"], pairs["first"]
-        pairs = _in_order(numpy.concatenate([pairs, turned]))
-    return as_pairs(pairs)
+def join_shard(first: File, others: "list[tuple[File, Any, Any, bool]]", squared: int) -> Any:
+    """The pairs of an object of a shard and one of other shards at most so far apart, in no order, as a data frame of the
+    columns first and second. Each of the others comes with its bounds, and with whether its pairs are wanted in both
+    orders. A shard with itself is joined in its store."""
+    layer, found = shard(first), [numpy.empty(0, PAIR)]
+    for second, low, high, both in others:
+        own = first[0] == second[0]
+        pairs = [_pairs(layer, layer, squared)] if own else join_files(first, second, low, high, squared)
+        found += pairs
+        if both:
+            found += [one[["second", "first"]].astype(PAIR) for one in pairs]
+    return as_pairs(numpy.concatenate(found))

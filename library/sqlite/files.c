@@ -103,6 +103,7 @@ int need_file(Table *t) {
 /* Lets go of a file that no statement reads. */
 void rest(Table *t) {
     Store *s = t->store;
+    close_blob(t);
     if (s->path && !s->readers && !s->begun) drop_handle(s);
 }
 

@@ -56,6 +56,8 @@ typedef struct Table {
     bool fresh;      /* over a file, and made in this transaction */
     Store *store;
     sqlite3_stmt *statements[STATEMENTS];
+    sqlite3_blob *blob; /* the block that was read last, while cursors are open that read many */
+    unsigned read;   /* how many these have read */
     int code;        /* what SQLite answered last where a block was refused */
     unsigned seen;   /* the version of the database by its pager */
     sqlite3_int64 others; /* and by the changes of other connections */
@@ -99,6 +101,7 @@ int need_still(Table *t, bool again);
 int hold(Table *t);
 void let_go(Table *t);
 void forget(Table *t);
+void close_blob(Table *t);
 void finish(Table *t);
 int flush(Table *t);
 int make_shadows(Table *t);

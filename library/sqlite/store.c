@@ -191,27 +191,63 @@ static int count_blocks(void *context, uint64_t *count) {
     return !code && last >= MOST_BLOCKS ? t->code = SQLITE_CORRUPT_VTAB : code;
 }
 
-/* What is missing of a block reads as zeros, as in a file. */
-static int read_block(void *context, uint64_t block, void *bytes) {
-    Table *t = context;
+/* Closes what is read from, where no cursor is open. */
+void close_blob(Table *t) {
+    if (t->store->readers) return;
+    sqlite3_blob_close(t->blob);
+    t->blob = NULL, t->read = 0;
+}
+
+/* Reads a block of so many that a statement needs that opening a blob pays: it goes from one row to the next in half the
+ * time of a statement. Whether it could; where it could not, the statement tells why. */
+static bool read_by_blob(Table *t, sqlite3_int64 block, void *bytes, size_t *count) {
+    enum { FEW = 4 };
+    if (!t->store->readers || ++t->read <= FEW) return false;
+    char *blocks = NULL;
+    if (!t->blob && !(blocks = sqlite3_mprintf("%s_blocks", t->name))) return false;
+    int code = t->blob ? sqlite3_blob_reopen(t->blob, block)
+                       : sqlite3_blob_open(t->connection->sql, t->schema, blocks, "block", block, 0, &t->blob);
+    sqlite3_free(blocks);
+    int there = code ? 0 : sqlite3_blob_bytes(t->blob);
+    *count = there < 4096 ? (size_t)there : 4096;
+    if (!code && !sqlite3_blob_read(t->blob, bytes, (int)*count, 0)) return true;
+    sqlite3_blob_close(t->blob);
+    return t->blob = NULL, false;
+}
+
+static int read_by_statement(Table *t, sqlite3_int64 block, void *bytes, size_t *count) {
     sqlite3_stmt *s = statement(t, READ);
     if (!s) return t->code;
-    sqlite3_bind_int64(s, 1, (sqlite3_int64)block);
+    sqlite3_bind_int64(s, 1, block);
     int code = step_within(t, s);
     const void *from = code == SQLITE_ROW ? sqlite3_column_blob(s, 0) : NULL;
-    size_t there = from ? (size_t)sqlite3_column_bytes(s, 0) : 0, count = there < 4096 ? there : 4096;
+    size_t there = from ? (size_t)sqlite3_column_bytes(s, 0) : 0;
     if (code == SQLITE_ROW && !from && sqlite3_errcode(t->connection->sql) == SQLITE_NOMEM) code = SQLITE_NOMEM;
-    if (count) memcpy(bytes, from, count);
-    memset((char *)bytes + count, 0, 4096 - count);
+    *count = there < 4096 ? there : 4096;
+    if (*count) memcpy(bytes, from, *count);
     return ended(t, s, code);
 }
 
+/* What is missing of a block reads as zeros, as in a file. */
+static int read_block(void *context, uint64_t block, void *bytes) {
+    Table *t = context;
+    size_t count = 0;
+    int code = SQLITE_OK;
+    if (!read_by_blob(t, (sqlite3_int64)block, bytes, &count))
+        code = read_by_statement(t, (sqlite3_int64)block, bytes, &count);
+    memset((char *)bytes + count, 0, 4096 - count);
+    return code;
+}
+
+/* Zeros at the end are left out: so most blocks lie in one page of SQLite's, of which a row of 4096 bytes takes two. */
 static int write_block(void *context, uint64_t block, const void *bytes) {
     Table *t = context;
     sqlite3_stmt *s = statement(t, WRITE);
+    int size = 4096;
     if (!s) return t->code;
+    while (size && !((const char *)bytes)[size - 1]) size--;
     sqlite3_bind_int64(s, 1, (sqlite3_int64)block);
-    sqlite3_bind_blob(s, 2, bytes, 4096, SQLITE_STATIC);
+    sqlite3_bind_blob(s, 2, bytes, size, SQLITE_STATIC);
     sqlite3_int64 last = sqlite3_last_insert_rowid(t->connection->sql); /* which is that of the user's row */
     int code = ended(t, s, step_within(t, s));
     sqlite3_set_last_insert_rowid(t->connection->sql, last);
