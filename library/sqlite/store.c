@@ -198,8 +198,8 @@ void close_blob(Table *t) {
     t->blob = NULL, t->read = 0;
 }
 
-/* Reads a block of so many that a statement needs that opening a blob pays: it goes from one row to the next in half the
- * time of a statement. Whether it could; where it could not, the statement tells why. */
+/* Reads a block by a blob, which goes from one row to the next in less time than a statement; a few are not worth opening
+ * it. Whether it could: where it could not, the statement tells why. */
 static bool read_by_blob(Table *t, sqlite3_int64 block, void *bytes, size_t *count) {
     enum { FEW = 4 };
     if (!t->store->readers || ++t->read <= FEW) return false;
