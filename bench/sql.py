@@ -1,9 +1,9 @@
 #!/usr/bin/env python3
-"""sql.py EXTENSION [BOXES [ROUNDS]]: measures a table of rstore_sqlite.so beside rtree and rtree_i32 of the same
-connection, over the same uniform boxes (100,000), in a file, with 4096 cached pages of SQLite's: microseconds of
-processor time of one row or one question, the least of the rounds (5), and of twenty slices of the questions of each,
-so that what else the machine does is in it as little as can be; of commits the time on the clock. The answers are the
-same, or it stops.
+"""sql.py EXTENSION [BOXES [ROUNDS [PAGES]]]: measures a table of rstore_sqlite.so beside rtree and rtree_i32 of the
+same connection, over the same uniform boxes (100,000), in a file, with so many cached pages of SQLite's (4096):
+microseconds of processor time of one row or one question, the least of the rounds (5), and of twenty slices of the
+questions of each, so that what else the machine does is in it as little as can be; of commits the time on the clock.
+The answers are the same, or it stops.
 
 `by statement`: one statement a question, from Python, with its rows fetched, so one to two microseconds are Python's.
 `in SQL`: one statement with all questions, from an ordinary table. TMPDIR says where the files are."""
@@ -18,6 +18,7 @@ import time
 EXTENSION = os.path.abspath(sys.argv[1])
 BOXES = int(sys.argv[2]) if len(sys.argv) > 2 else 100_000
 ROUNDS = int(sys.argv[3]) if len(sys.argv) > 3 else 5
+PAGES = int(sys.argv[4]) if len(sys.argv) > 4 else 4096
 SIDE, EXTENT = 1_000_000, 1000
 best, answers = {}, {}
 
@@ -44,7 +45,7 @@ def connect():
     db = sqlite3.connect("b.db", isolation_level=None)
     db.enable_load_extension(True)
     db.load_extension(EXTENSION)
-    db.execute("PRAGMA cache_size = 4096")
+    db.execute(f"PRAGMA cache_size = {PAGES}")
     return db
 
 
@@ -180,7 +181,7 @@ for seed in range(1, ROUNDS + 1):
         os.chdir(there)
         one_round(seed)
         os.chdir("/")
-print(f"{BOXES} boxes, SQLite {sqlite3.sqlite_version}, microseconds")
+print(f"{BOXES} boxes, {PAGES} pages, SQLite {sqlite3.sqlite_version}, microseconds")
 print(f"| | {' | '.join(MAKE)} |\n|---|---|---|")
 for what in dict.fromkeys(what for what, _ in best):
     if what != "rows at the end":

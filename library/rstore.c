@@ -100,7 +100,7 @@ static int name_files(rstore *db, const char *path) {
 static int open_files(rstore *db, const char *path, int flags) {
     static const int numbers[] = { RSTORE_OK, RSTORE_CANNOT_OPEN, RSTORE_BUSY, RSTORE_NO_LOCKS, RSTORE_MEMORY,
                                    RSTORE_CANNOT_OPEN };
-    if (!path) return db->memory = true, numbers[open_memory(&db->fd[0])];
+    if (!path) return db->memory = true, RSTORE_OK;
     db->reads = flags == RSTORE_READ_ONLY;
     int how = db->reads ? O_RDONLY : O_RDWR | (flags == RSTORE_CREATE ? O_CREAT : 0);
     int error = open_file(path, how, db->reads ? WAITS : SHARED, how & O_CREAT, &db->fd[0], &db->alone);
@@ -115,8 +115,10 @@ static int open_files(rstore *db, const char *path, int flags) {
 /* Lets go of the files, with their locks, and of the handle. */
 static int let_go(rstore *db) {
     int failed = 0;
-    for (int side = 2; side >= 0; side--)
+    for (int side = 2; side >= 0; side--) {
         if (db->fd[side] >= 0 && close(db->fd[side])) failed = RSTORE_DEVICE;
+        if (db->in[side].room) munmap(db->in[side].bytes, db->in[side].room);
+    }
     free(db->real), free(db->journal), free(db->part), free(db->session), free(db);
     serving = NULL;
     return failed;

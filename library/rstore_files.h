@@ -17,10 +17,17 @@
 #include <time.h>
 #include <unistd.h>
 
+/* A file in memory, which no other has. */
+struct memory {
+    unsigned char *bytes;
+    uint64_t size, room;
+};
+
 /* What the proved code calls a Handle is the first member: the address of a session, in a block of malloc's. */
 struct rstore {
     void *session;
     int fd[3];      /* the file; its journal, or -1; and the copy that took the journal's place, or -1 */
+    struct memory in[3]; /* these, where they are in memory */
     char *real;     /* the path of the file, or NULL; of its journal; and of where a copy of that is made */
     char *journal;
     char *part;
@@ -102,14 +109,6 @@ static int open_file(const char *path, int how, enum lock lock, bool keeps, int 
     return error;
 }
 
-/* A file in memory, which no other has. */
-static int open_memory(int *fd) {
-    int made = memfd_create("rstore", MFD_CLOEXEC);
-    if (made >= 3) return *fd = made, DONE;
-    if (made >= 0) close(made);
-    return REFUSED;
-}
-
 /* Whether the lock of a journal counts: its path still leads to it, and the file, which was looked at before, has no other
  * size. Else another session came in between, and may have gone again. */
 static bool is_own(rstore *db, const char *path, int fd) {
@@ -127,7 +126,7 @@ static int open_journal(rstore *db, int side, const char *path, int how) {
     if (db->unsure) return error;
     if (side == 1 && db->rolls) return !how && db->fd[1] >= 0 ? DONE : REFUSED;
     if (path) error = open_file(path, O_RDWR | how, ALONE, side == 1, &fd, NULL);
-    else if (db->memory && how & O_CREAT) error = open_memory(&fd);
+    else if (db->memory && how & O_CREAT) return db->in[side].size = 0, DONE;
     db->unsure = fd == UNSURE;
     if (!error && path && !is_own(db, path, fd)) close(fd), error = IN_USE;
     if (error) return error;
@@ -235,15 +234,38 @@ static int size_of(rstore *db, uint64_t *size) {
     struct stat found;
     bool lent = db->blocks.read && db->side == 0;
     int answer = lent ? done_by(db, db->blocks.count(db->context, size))
-                      : fstat(db->fd[db->side], &found) ? REFUSED : DONE;
-    *size = answer ? 0 : lent ? *size * 4096 : (uint64_t)found.st_size;
+                 : db->memory || !fstat(db->fd[db->side], &found) ? DONE : REFUSED;
+    *size = answer ? 0 : lent ? *size * 4096 : db->memory ? db->in[db->side].size : (uint64_t)found.st_size;
     if (db->side == 0) db->told = *size;
     return answer;
 }
 
 static int sync_file(rstore *db) {
-    if (!db->blocks.read || db->side) return fdatasync(db->fd[db->side]) ? REFUSED : DONE;
+    if (!db->blocks.read || db->side) return !db->memory && fdatasync(db->fd[db->side]) ? REFUSED : DONE;
     return db->blocks.sync ? done_by(db, db->blocks.sync(db->context)) : DONE;
+}
+
+static bool has_room(struct memory *m, uint64_t size) {
+    uint64_t room = m->room ? m->room : 1 << 20;
+    while (room < size) room *= 2;
+    if (room == m->room) return true;
+    void *bytes = m->room ? mremap(m->bytes, m->room, room, MREMAP_MAYMOVE)
+                          : mmap(NULL, room, PROT_READ | PROT_WRITE, MAP_PRIVATE | MAP_ANONYMOUS, -1, 0);
+    if (bytes == MAP_FAILED) return false;
+    return m->bytes = bytes, m->room = room;
+}
+
+static int block_in(struct memory *m, uint64_t at, void *into, const void *from) {
+    if (into) {
+        size_t there = at >= m->size ? 0 : m->size - at < BLOCK ? (size_t)(m->size - at) : BLOCK;
+        if (there) memcpy(into, m->bytes + at, there);
+        return memset((char *)into + there, 0, BLOCK - there), DONE;
+    }
+    if (!has_room(m, at + BLOCK)) return REFUSED;
+    if (at > m->size) memset(m->bytes + m->size, 0, at - m->size);
+    memcpy(m->bytes + at, from, BLOCK);
+    if (at + BLOCK > m->size) m->size = at + BLOCK;
+    return DONE;
 }
 
 /* A block, whole, read or written; what the file lacks reads as zeros, and so does to a reader the flag behind the regions
@@ -251,6 +273,7 @@ static int sync_file(rstore *db) {
 static int block(rstore *db, void *into, const void *from) {
     if (db->abandoned) { if (into) memset(into, 0, 4096); return REFUSED; }
     if (db->blocks.read && db->side == 0) return into ? read_lent(db, into) : write_lent(db, from);
+    if (db->memory) return block_in(&db->in[db->side], (uint64_t)db->at, into, from);
     if (db->reads && !into) return REFUSED;
     if (db->reads && db->side == 1 && db->at == db->end) return memset(into, 0, 4096), DONE;
     int fd = db->fd[db->side];

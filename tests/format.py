@@ -2,9 +2,9 @@
 """Compares the program with the reader that was written from docs/FORMAT.md alone (format_reader.py): files that the
 program makes, of two and three axes, small and large fanouts, each version and kind of table, with free pages, are
 dumped by both; so are files whose run was killed, with their journal, at each step that a commit and a clean end come
-to, behind one commit and behind several; of files with a wrong byte both say whether they are sound; and the hexdumps
-of the page are what the program writes. It tests the programs that `rt ci` made, by both compilers; where there is
-none, one is made.
+to, behind one commit and behind several, and a run that only reads tells the same of them; of files with a wrong byte
+both say whether they are sound; and the hexdumps of the page are what the program writes. It tests the programs that
+`rt ci` made, by both compilers; where there is none, one is made.
 
 format.py [WORDS OF unittest, as the name of a class or Class.test]
 """
@@ -48,10 +48,15 @@ class Read(RunsOver):
         self.assertTrue(self.files() == before, "a file was changed, made or removed")
         return told
 
-    # Both dump the file alike, which is sound.
+    # Both dump the file alike, which is sound, and so does a run that only reads, which changes nothing.
     def agrees(self, may_say=("",)):
         told = self.read()
         self.assertTrue(told.startswith("ok "), told[:200])
+        before = self.files()
+        status, replies, said, _ = self.result("--read-only store", "dump\ncheck\n")
+        self.assertEqual((status, said), (0, ""))
+        self.assertTrue(replies == told + "ok\n", f"{replies[:300]} and not {told[:300]}")
+        self.assertTrue(self.files() == before, "a file was changed, made or removed")
         status, replies, said, _ = self.result("store", "dump\ncheck\n")
         self.assertEqual(status, 0, said)
         self.assertIn(said, may_say)
@@ -61,9 +66,10 @@ class Read(RunsOver):
     def both_refuse(self, why):
         told = self.read()
         self.assertEqual(told.split(":")[0], why)
-        status, replies, said, _ = self.result("store", "dump\n")
-        self.assertEqual((status, replies), (1, ""))
-        self.assertTrue(said.startswith(f"rstore: {why}"), said)
+        for words in ("--read-only store", "store"):
+            status, replies, said, _ = self.result(words, "dump\n")
+            self.assertEqual((status, replies), (1, ""), words)
+            self.assertTrue(said.startswith(f"rstore: {why}"), said)
 
     # A new file of these commands.
     def makes(self, words, commands):

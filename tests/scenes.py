@@ -26,6 +26,10 @@ insert l 4 3 0 3 0 -> ok
 insert l 5 10 0 10 0 -> ok
 """
 
+# Points of a layer of seven entries to a node. The last one takes two out of a leaf, of which the first splits it, and
+# so the root, while the second still waits.
+SPREAD = [f"{i} {7 * i % 101} {40 * i % 101} {7 * i % 101} {40 * i % 101}" for i in range(1, 35)]
+
 # What a scene is of, what is made, and what is asked then.
 SCENES = [
     (
@@ -119,6 +123,11 @@ insert l 8 5 0 5 0 -> ok
         """
 window l 6 0 12 0 -> ok 2 / 5 10 0 10 0 / 6 11 0 11 0
 """,
+    ),
+    (
+        "a root that is split while an entry waits, which is not lost",
+        "create w 2 7 -> ok\n" + "".join(f"insert w {row} -> ok\n" for row in SPREAD),
+        f"window w MIN MIN MAX MAX -> ok {len(SPREAD)} / {' / '.join(SPREAD)}\ncheck -> ok\n",
     ),
     (
         "objects, and nodes, at equal distances: the leaves are {2,7} and {9,5,4}, and {9,8} and {1,2,3}",

@@ -19,6 +19,6 @@ trap 'rm -f "$map"' EXIT
 echo '{ global: sqlite3_rstoresqlite_init; local: *; };' >"$map"
 mkdir -p "$out"
 ${CC:-cc} -std=c11 -O2 -Wall -Wextra -fPIC -shared ${CFLAGS:-} -I"$lib" \
-  "$here"/{table,store,files,changes,questions,joins,functions}.c "$lib/librstore.a" -lm \
+  "$here"/{table,store,held,files,changes,questions,joins,functions}.c "$lib/librstore.a" -lm \
   -Wl,--version-script="$map" -Wl,--gc-sections -Wl,-z,defs -o "$out/rstore_sqlite.so"
 ls -l "$out/rstore_sqlite.so" >&2

@@ -17,7 +17,7 @@ enum {
 extern const char *const column_names[COLUMNS];
 
 /* The statements of a table's shadow tables. */
-enum { READ, WRITE, COUNT, VERSION, HOLD, GET_MORE, PUT_MORE, DROP_MORE, STATEMENTS };
+enum { READ, WRITE, COUNT, VERSION, ROOM_FOR, HOLD, GET_MORE, PUT_MORE, DROP_MORE, STATEMENTS };
 
 typedef struct Connection {
     sqlite3 *sql;
@@ -58,6 +58,9 @@ typedef struct Table {
     sqlite3_stmt *statements[STATEMENTS];
     sqlite3_blob *blob; /* the block that was read last, while cursors are open that read many */
     unsigned read;   /* how many these have read */
+    struct Held *held; /* blocks of the shadow table, beside those that the store has */
+    sqlite3_int64 most_held;
+    uint64_t blocks; /* how many it has, of those that were read or written */
     int code;        /* what SQLite answered last where a block was refused */
     unsigned seen;   /* the version of the database by its pager */
     sqlite3_int64 others; /* and by the changes of other connections */
@@ -74,6 +77,8 @@ typedef struct Load { /* the rows of rstore_load */
     size_t count, room;
     int code;
 } Load;
+
+typedef struct Held Held;
 
 #define COMMIT_REFUSED 1000 /* beside the library's errors: that of a commit of the file before */
 
@@ -111,6 +116,11 @@ int put_more(Table *t, sqlite3_int64 id, sqlite3_value **values);
 int drop_more(Table *t, sqlite3_int64 id);
 int next_id(Table *t, sqlite3_int64 *id);
 extern const int32_t everywhere[2][6];
+
+/* held.c: blocks that are held. */
+bool take_held(Held *h, uint64_t block, void *bytes);
+void hold_block(Table *t, uint64_t block, const void *bytes, size_t size);
+void drop_held(Table *t);
 
 /* Transactions, as a module has them. */
 int begin(sqlite3_vtab *v);

@@ -105,6 +105,7 @@ static char *text_of(Table *t, int which) {
     case WRITE: return sqlite3_mprintf("REPLACE INTO \"%w\".\"%w_blocks\"(no, block) VALUES(?, ?)", t->schema, t->name);
     case COUNT: return sqlite3_mprintf("SELECT max(no) FROM \"%w\".\"%w_blocks\"", t->schema, t->name);
     case VERSION: return sqlite3_mprintf("PRAGMA \"%w\".data_version", t->schema);
+    case ROOM_FOR: return sqlite3_mprintf("PRAGMA \"%w\".cache_size", t->schema);
     case HOLD: return sqlite3_mprintf("SELECT no FROM \"%w\".\"%w_blocks\"", t->schema, t->name);
     case GET_MORE: return sqlite3_mprintf("SELECT * FROM \"%w\".\"%w_aux\" WHERE id = ?", t->schema, t->name);
     case DROP_MORE: return sqlite3_mprintf("DELETE FROM \"%w\".\"%w_aux\" WHERE id = ?", t->schema, t->name);
@@ -233,8 +234,10 @@ static int read_block(void *context, uint64_t block, void *bytes) {
     Table *t = context;
     size_t count = 0;
     int code = SQLITE_OK;
+    if (take_held(t->held, block, bytes)) return SQLITE_OK;
     if (!read_by_blob(t, (sqlite3_int64)block, bytes, &count))
         code = read_by_statement(t, (sqlite3_int64)block, bytes, &count);
+    if (!code) hold_block(t, block, bytes, count);
     memset((char *)bytes + count, 0, 4096 - count);
     return code;
 }
@@ -252,6 +255,7 @@ static int write_block(void *context, uint64_t block, const void *bytes) {
     int code = ended(t, s, step_within(t, s));
     sqlite3_set_last_insert_rowid(t->connection->sql, last);
     sqlite3_bind_null(s, 2);
+    if (!code) hold_block(t, block, bytes, (size_t)size);
     return code;
 }
 
@@ -282,13 +286,24 @@ void forget(Table *t) {
     t->doomed = t->inside;
     if (t->inside || (t->path && (t->store->begun || t->store->readers > 1))) return;
     drop_handle(t->store);
+    drop_held(t);
     t->store->dirty = false;
+}
+
+/* How many blocks are held: as many as pages of SQLite's, which it may say in kilobytes. */
+static int room_for(Table *t) {
+    sqlite3_stmt *s = statement(t, ROOM_FOR);
+    if (!s) return t->code;
+    int code = sqlite3_step(s);
+    sqlite3_int64 size = code == SQLITE_ROW ? sqlite3_column_int64(s, 0) : 0;
+    t->most_held = size < 0 ? -size / 4 : size;
+    return ended(t, s, code);
 }
 
 static int open_store(Table *t, int how) {
     forget(t);
     sqlite3_file_control(t->connection->sql, t->schema, SQLITE_FCNTL_DATA_VERSION, &t->seen);
-    if (version(t, &t->others)) return RSTORE_CANNOT_OPEN;
+    if (version(t, &t->others) || room_for(t)) return RSTORE_CANNOT_OPEN;
     return rstore_open_blocks(&blocks, t, how, t->cache, &t->store->db);
 }
 

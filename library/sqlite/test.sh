@@ -22,7 +22,7 @@ CFLAGS="$sanitize" "$here/build.sh" "$checked" "$work/checked" 2>"$work/log" || 
 LD_PRELOAD="$(cc -print-file-name=libasan.so):$(cc -print-file-name=libubsan.so)" ASAN_OPTIONS=detect_leaks=0 \
   "$python" "$here/test/test.py" "$work/checked/rstore_sqlite.so" "$less" >"$work/log" ||
   { cat "$work/log" >&2; exit 1; }
-cc -std=c11 -O1 $sanitize -Wall -Wextra -I"$lib" "$here"/{table,store,files,changes,questions,joins,functions}.c \
+cc -std=c11 -O1 $sanitize -Wall -Wextra -I"$lib" "$here"/{table,store,held,files,changes,questions,joins,functions}.c \
   "$here/test/no_memory.c" "$checked/librstore.a" \
   -Wl,--wrap=malloc,--wrap=realloc,--wrap=calloc -lsqlite3 -lm -o "$work/no_memory"
 "$work/no_memory" "$rounds" "$work/no_memory.rst"

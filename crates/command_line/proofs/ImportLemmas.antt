@@ -6,7 +6,7 @@ use Rattle.block_device.specs.declared.device.BlockDevice as device
 use Rattle.live_layers.specs.Image.{IsRefusedOrImageOf}
 use Rattle.plain_table.specs.Table.{Table}
 use Rattle.command_line.specs.Importing.{ImportsInto, IsUnopened, PutsInto}
-use Rattle.command_line.specs.declared.program.Served.{Served}
+use Rattle.command_line.specs.declared.serving.Served.{Served}
 
 -- what was put into a store that was made or opened
 pub imports_into : {D : Type 0} (m : device.Ghosts D) (S : D → Table → Type 0) (P : Blocks → Type 0)

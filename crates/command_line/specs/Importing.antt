@@ -1,7 +1,6 @@
 -- What a run of the program that imports leaves.
 use Rattle.std.specs.Prelude.{ℕ, ◌≡◌, ◌<◌, ◌≤◌, ◌⊎◌, ◌==◌, Bool, true, false, List, length, Option, Result}
-use Rattle.std.specs.Prelude.{Ok}
-use Rattle.std.specs.Prelude.{Err}
+use Rattle.std.specs.Prelude.{Ok, Err}
 use Rattle.std.specs.FinMap.{empty}
 use Rattle.block_device.specs.Device.{Blocks, LeavesOnly}
 use Rattle.block_device.specs.declared.device.BlockDevice as device
@@ -17,7 +16,8 @@ use Rattle.reply_texts.specs.Writing.{AppendsSome}
 use Rattle.layer_import.specs.Imports.{HasImported, import_commands}
 use Rattle.program_words.specs.Targets.{IsTargetOf}
 use Rattle.command_line.specs.Serving.{IsMisused}
-use Rattle.command_line.specs.declared.program.Served.{Served}
+use Rattle.command_line.specs.Streams.{Streams}
+use Rattle.command_line.specs.declared.serving.Served.{Served}
 
 -- Objects were put into this layer, whose boxes have so many axes, in a store that held this table; with
 -- status 0 all of them, and the store was closed.
@@ -77,22 +77,21 @@ pub record IsRefusedText {R : Type 0} (failing : R → Bool) (r' : R) (status : 
 
 -- Not all of the input was read: nothing of it, since the output could not be flushed; or its last read failed;
 -- or there was no memory, and it was said so, or a front of the line that says it.
-pub record IsUnread {R : Type 0} (failing : R → Bool) (r r' : R) (said said' : Option (List ℕ))
-    (status : ℕ) : Type 0 where
+pub record IsUnread {R W : Type 0} (failing : R → Bool) (before after : Streams R W) (status : ℕ) : Type 0 where
   pub failed : status ≡ 1
-  pub why : (r' ≡ r) ⊎ (failing r' ≡ true) ⊎ AppendsSome said said' (told_refusal refusal.Memory)
+  pub why : (after.input ≡ before.input) ⊎ (failing after.input ≡ true)
+      ⊎ AppendsSome before.said after.said (told_refusal refusal.Memory)
 
 -- Objects were to be imported into a file. No file was opened: the words do not go together, or the text of the
 -- input was refused, or not all of it was read. Or the file's opening was refused; or it was opened, of which
 -- `opens` tells, and with this status there is left what was done on it: objects were put into the layer that
 -- this word names. `failing` tells whether the last read of the input failed.
 abbrev pub OpensAndImports : {D R W : Type 0} → device.Ghosts D → (D → Table → Type 0)
-    → (Result D OpenError → Type 0) → (R → Bool) → Bool → Option (List ℕ) → R → R → W → W
-    → Option (List ℕ) → Option (List ℕ) → ℕ → Type 0
-OpensAndImports {D} m S opens failing create word r r' w w' said said' status =
-    IsMisused r r' w w' status
-    ⊎ IsRefusedText failing r' status
-    ⊎ IsUnread failing r r' said said' status
+    → (Result D OpenError → Type 0) → (R → Bool) → Bool → Option (List ℕ) → Streams R W → Streams R W → ℕ → Type 0
+OpensAndImports {D} m S opens failing create word before after status =
+    IsMisused before after status
+    ⊎ IsRefusedText failing after.input status
+    ⊎ IsUnread failing before after status
     ⊎ ((e : OpenError) × opens (Err e) × (status ≡ 1))
     ⊎ ((device : D) × (left : Served D) × opens (Ok device) × (left.status ≡ status)
     × IntoLayerOf m S create word device left)

@@ -1,8 +1,7 @@
 //! A run of the program that imports: objects are read from the input, all of them, and then put into a layer
 //! of a file, all of them or none.
 ghost use Rattle.std.specs.Io.KnownBytes.{Keeps};
-ghost use Rattle.std.specs.Prelude.{◌≡◌, ◌≤◌, ◌⊎◌, ◌==◌, Ok, Err, IfErr, IfNone, IfOk, IfSome, is_ok};
-ghost use Rattle.std.specs.Prelude.{option_map, true};
+ghost use Rattle.std.specs.Prelude.{◌≡◌, ◌≤◌, ◌⊎◌, ◌==◌, Ok, Err, IfErr, IfOk, is_ok, true};
 ghost use Rattle.std.specs.declared.alloc.Global.{Global};
 ghost use Rattle.plain_table.specs.Table.{Table};
 ghost use Rattle.plain_table.specs.declared.refusal.Refusal.TheVariants as refusal;
@@ -12,11 +11,14 @@ ghost use Rattle.reply_texts.specs.Writing.{AppendsSome};
 ghost use Rattle.command_line.specs.Importing.{HasImportedOn, IntoLayerOf, IsRefusedText, OpensAndImports};
 ghost use Rattle.command_line.specs.Importing.{PutsInto};
 ghost use Rattle.command_line.specs.Serving.{HasStarted};
+ghost use Rattle.command_line.specs.Streams.{streams};
+ghost use Rattle.program_words.specs.Asking.{asked_of};
 ghost use Rattle.program_words.specs.Targets.{IsTargetOf};
-ghost use Rattle.command_line.specs.declared.program.Served.{Served};
+ghost use Rattle.command_line.specs.declared.serving.Served.{Served};
 ghost use Rattle.file_device.specs.declared.open.OpenError.{OpenError};
 
-use crate::program::{FAILED, Served, WENT_WELL, tell_no_store, tell_not_empty, tell_unopened};
+use crate::program::tell_unopened;
+use crate::serving::{FAILED, Served, WENT_WELL, tell_no_store, tell_not_empty};
 use block_device::BlockDevice;
 use box_import::{
     Axes, ColumnFault, Columns, CsvRows, FeatureLines, ImportError, ImportedObject, Properties,
@@ -27,7 +29,7 @@ use command_shell::FlushedWrite;
 use file_device::OpenError;
 use layer_import::{Import, PutProgress, Unimported, import_and_close};
 use layer_store::{Refusal, Store, create_store, open_store};
-use program_words::{ImportForm, ImportMisuse, ImportTask, Options, import_task, tell_misuse};
+use program_words::{ImportForm, ImportTask, Options, import_task, tell_misuse};
 use reply_texts::{Reply, tell_refusal, write_reply};
 use std::alloc::Global;
 use std::io::{BufRead, BufReader, Read, Write};
@@ -45,12 +47,12 @@ struct Batch {
     objects: Vec<ImportedObject>,
 }
 
-/// Imports as the words ask: reads all objects of the input, and then opens or makes the file and puts them
-/// into the layer. Nothing is written to `output`. The status is 2 where the words name no file, or do not
-/// go together, and then nothing is read; 3 where the text of the input is refused; 1 where it can't be read
-/// or there is no memory for it, and in these three cases no file is opened; 1 also where the file can't be
-/// opened or the store refuses the objects; and else 0.
-pub(crate) fn import_asked<
+/// Imports into the file at a path as the words ask: reads all objects of the input, and then opens or makes the
+/// file and puts them into the layer. Nothing is written to `output`. The status is 2 where the words do not go
+/// together, and then nothing is read; 3 where the text of the input is refused; 1 where it can't be read or
+/// there is no memory for it, and in these three cases no file is opened; 1 also where the file can't be opened
+/// or the store refuses the objects; and else 0.
+pub(crate) fn import_path<
     D: BlockDevice,
     O: FnOnce(&str, bool) -> Result<D, OpenError>,
     K: FnOnce(&str, D),
@@ -60,6 +62,7 @@ pub(crate) fn import_asked<
     P: PutProgress,
 >(
     alloc: Global,
+    path: &str,
     options: &Options<'_>,
     open_at: O,
     end_at: K,
@@ -74,20 +77,15 @@ pub(crate) fn import_asked<
     ensures quiet { result ≡ 0 → Keeps (E.contents errors.old) (E.contents errors.new) }
     ensures flushed { result ≡ 0 → W.is_flushed output.new }
     ensures unwritten { Keeps (W.contents output.old) (W.contents output.new) }
-    ensures misused { result ≡ 2 → (input.new ≡ input.old) × (output.new ≡ output.old) }
-    ensures nameless { IfNone options.now.file (result ≡ 2) }
-    ensures imported { IfSome options.now.file (λ path.
-        OpensAndImports D.BlockDevice (HasStarted Global D.BlockDevice options.now.limits.newest)
-        (O.post open_at path options.now.create) I.is_failing options.now.create
-        (option_map (λ w. w.now) options.now.import.layer)
-        input.old input.new output.old output.new (E.contents errors.old) (E.contents errors.new) result) }
+    ensures imported { OpensAndImports D.BlockDevice (HasStarted Global D.BlockDevice options.now.limits.newest)
+        (O.post open_at path.entry options.now.create) I.is_failing options.now.create
+        (asked_of options.now).layer
+        (streams I.remaining W.contents E.contents input.old output.old errors.old)
+        (streams I.remaining W.contents E.contents input.new output.new errors.new) result }
 {
     let task = match import_task(options) {
         Ok(task) => task,
         Err(misuse) => return tell_misuse(misuse.text(), errors),
-    };
-    let Some(path) = options.file else {
-        return tell_misuse(ImportMisuse::NoFile.text(), errors);
     };
     if output.flush_out().is_err() {
         let _ = errors.write_all(b"rstore: input or output failed\n");
@@ -101,7 +99,7 @@ pub(crate) fn import_asked<
                 fanout: task.fanout,
                 objects: batch.objects,
             };
-            import_path(
+            put_into(
                 alloc, path, options, import, open_at, end_at, errors, progress,
             )
         }
@@ -202,8 +200,8 @@ fn read_lines<B: BufRead + Drop>(
     Ok(Batch { dims, objects })
 }
 
-// Opens the file at a path as the words ask, imports, and ends the run over it.
-fn import_path<
+// Opens the file at a path as the words ask, puts objects into it, and ends the run over it.
+fn put_into<
     D: BlockDevice,
     O: FnOnce(&str, bool) -> Result<D, OpenError>,
     K: FnOnce(&str, D),

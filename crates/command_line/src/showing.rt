@@ -1,16 +1,17 @@
 //! A run of the program that shows something of a file, and reads no line: a layer's tree as a picture, or
 //! what one tunes the layers by.
 ghost use Rattle.std.specs.Io.KnownBytes.{Keeps};
-ghost use Rattle.std.specs.Prelude.{◌≡◌, ◌≤◌, IfNone, IfSome};
+ghost use Rattle.std.specs.Prelude.{◌≡◌, ◌≤◌};
 ghost use Rattle.command_line.specs.Serving.{OpensAndShows};
 
-use crate::program::{FAILED, WENT_WELL, tell_unopened};
+use crate::program::tell_unopened;
 use crate::reading::tell_unread;
+use crate::serving::{FAILED, WENT_WELL};
 use block_device::BlockDevice;
 use command_shell::FlushedWrite;
 use file_device::OpenError;
 use layer_store::{AnyBox, LayerInfo, LayerOutline, RawBox, RawQuery, Refusal, Store, open_store};
-use program_words::{Options, ShowMisuse, show_misuse, tell_misuse};
+use program_words::{Options, show_misuse, tell_misuse};
 use read_only_device::{BlockReader, ReadOnlyDevice};
 use reply_texts::tell_refusal;
 use std::alloc::{AllocError, Global};
@@ -51,31 +52,32 @@ impl From<io::Error> for Unshown {
     }
 }
 
-/// Shows what the words ask for of the file that they name, which is opened to be only read and is borrowed
-/// by what has no call that writes. The status is 2 where they name none, or do not go together, and then
-/// nothing is written to `output`; 1 where the file can't be opened, what is asked for is refused, or it
-/// can't be written; and else 0, and then the last that was done to `output` was a flush that answered Ok.
-pub(crate) fn show_asked<
+/// Shows what the words ask for of the file at a path, which is opened to be only read and is borrowed by what
+/// has no call that writes. The status is 2 where the words do not go together, and then nothing is written to
+/// `output`; 1 where the file can't be opened, what is asked for is refused, or it can't be written; and else 0,
+/// and then the last that was done to `output` was a flush that answered Ok.
+pub(crate) fn show_path<
     B: BlockReader + Drop,
     P: FnOnce(&str) -> Result<B, OpenError>,
     W: FlushedWrite,
     E: Write,
->(alloc: Global, options: &Options<'_>, read_at: P, output: &mut W, errors: &mut E) -> u8
-    requires reads { P.IsAlwaysCallable read_at }
+>(
+    alloc: Global,
+    path: &str,
+    options: &Options<'_>,
+    read_at: P,
+    output: &mut W,
+    errors: &mut E,
+) -> u8
+    requires { P.IsAlwaysCallable read_at }
     ensures status { result ≤ 2 }
     ensures quiet { result ≡ 0 → Keeps (E.contents errors.old) (E.contents errors.new) }
     ensures flushed { result ≡ 0 → W.is_flushed output.new }
-    ensures misused { result ≡ 2 → output.new ≡ output.old }
-    ensures nameless { IfNone options.now.file (result ≡ 2) }
-    ensures shown { IfSome options.now.file (λ path.
-        OpensAndShows (P.post read_at path) output.old output.new result) }
+    ensures shown { OpensAndShows (P.post read_at path.entry) output.old output.new result }
 {
     if let Some(misuse) = show_misuse(options) {
         return tell_misuse(misuse.text(), errors);
     }
-    let Some(path) = options.file else {
-        return tell_misuse(ShowMisuse::NoFile.text(), errors);
-    };
     match read_at(path) {
         Ok(blocks) => show_reader(alloc, &blocks, options, output, errors),
         Err(error) => {

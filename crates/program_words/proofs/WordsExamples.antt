@@ -3,7 +3,14 @@ use Rattle.std.proofs.Common.{◌≡◌, List, [], ◌∷◌, Option, Some, None
 use Rattle.clap.specs.Words.{Text, fault_of, first_of, matches_of, one_of}
 use Rattle.clap.specs.declared.error.kind.ErrorKind.TheVariants as kind
 use Rattle.clap.proofs.OnLiterals.{clap_on_literals}
-use Rattle.program_words.specs.Words.{file_in, program, target_in}
+use Rattle.program_words.specs.Words.{program}
+
+-- the values of FILE and of `--import`
+abbrev file_in : List Text → Option Text
+file_in words = first_of (codes "file") (matches_of program words)
+
+abbrev target_in : List Text → Option Text
+target_in words = first_of (codes "import") (matches_of program words)
 
 -- the texts that stand for the cached pages, for the newest version, and for whether a file is to be made
 abbrev pages_in : List Text → Option Text

@@ -6,7 +6,7 @@ use Rattle.std.specs.Prelude.{◌||◌, is_some, option_map}
 use Rattle.std.specs.Str.Parse.{ParsesUnsigned}
 use Rattle.clap.specs.Values.{bool_text}
 use Rattle.clap.specs.Words.{ReadsOne, Text}
-use Rattle.program_words.specs.Words.{IsNumber, is_cache}
+use Rattle.program_words.specs.Words.{Asked, IsNumber, IsSaid, is_cache}
 
 -- a text that is a number is read as that number
 pub number_read : (E : Type 0) (G : List ℕ → Result ℕ E → Type 0) (text : Text) (n : ℕ) (r : Option ℕ)
@@ -32,12 +32,31 @@ pub is_some-mapped : {X Y : Type 0} (f : X → Y) (o : Option X) → is_some (op
 is_some-mapped f None = refl
 is_some-mapped f (Some x) = refl
 
--- a word is said where a text was found for it
-pub said_so : {X Y : Type 0} (f : X → Y) (o : Option X) (found : Option Y) → option_map f o ≡ found
-    → is_some o ≡ is_some found
-said_so f o found is = sym (is_some-mapped f o) ∙ ap is_some is
-
 -- one of several words is said
-pub any_so : (a b c d p q r s flag : Bool) → a ≡ p → b ≡ q → c ≡ r → d ≡ s
-    → (a || (b || (c || (d || flag)))) ≡ (p || (q || (r || (s || flag))))
-any_so a b c d p q r s flag e f g h = cc
+pub any_so : {X Y : Type 0} (f : X → Y) (a b c d : Option X) (flag : Bool)
+    → (is_some a || (is_some b || (is_some c || (is_some d || flag))))
+    ≡ (is_some (option_map f a) || (is_some (option_map f b) || (is_some (option_map f c)
+    || (is_some (option_map f d) || flag))))
+any_so f a b c d flag =
+    rw (is_some-mapped f a, is_some-mapped f b, is_some-mapped f c, is_some-mapped f d) refl
+
+-- what is asked, where the texts are found in another way
+pub said_so : (told told' given given' : Text → Option Text) (asked : Asked)
+    → ((name : Text) → told name ≡ told' name) → ((name : Text) → given name ≡ given' name)
+    → IsSaid told given asked → IsSaid told' given' asked
+said_so told told' given given' asked tells gives h = record {
+  cache = λ text k is. h.cache text k (tells (codes "cache") ∙ is);
+  newest = λ text k is. h.newest text k (tells (codes "format") ∙ is);
+  create = λ b is. h.create b (tells (codes "create") ∙ is);
+  read_only = λ b is. h.read_only b (tells (codes "read-only") ∙ is);
+  strict = λ b is. h.strict b (tells (codes "strict") ∙ is);
+  draw = h.draw ∙ gives (codes "draw");
+  stats = λ b is. h.stats b (tells (codes "stats") ∙ is);
+  json = λ b is. h.json b (tells (codes "json") ∙ is);
+  layer = h.layer ∙ gives (codes "import");
+  columns = h.columns ∙ gives (codes "columns");
+  scale = h.scale ∙ gives (codes "scale");
+  axes = h.axes ∙ gives (codes "axes");
+  geojson = λ b is. h.geojson b (tells (codes "geojson") ∙ is);
+  file = h.file ∙ gives (codes "file");
+}

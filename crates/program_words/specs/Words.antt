@@ -2,7 +2,7 @@
 -- as options and values is told by `clap`: `fault_of` is why it refuses them, and empty where it takes them;
 -- `matches_of` is what it finds in those.
 use Rattle.std.specs.Prelude.{◌≡◌, ◌≤◌, ◌&&◌, ◌||◌, ℕ, Bool, List, [], ◌∷◌, Option, Some, codes, is_some}
-use Rattle.std.specs.Prelude.{false, nat_le, pos, true}
+use Rattle.std.specs.Prelude.{nat_le, pos, true}
 use Rattle.std.specs.Str.Parse.{IsNumeral, digits_value, without_leading_plus}
 use Rattle.clap.specs.Simple.{on_top}
 use Rattle.clap.specs.Values.{bool_text}
@@ -88,77 +88,68 @@ program =
     (on_top (λ s. record s { has_version = true }) (new_app (codes "rstore")))
     cache_rule) format_rule) create_rule) read_only_rule) strict_rule))) file_rule
 
--- the file that words name, if they name one
-abbrev pub file_in : List Text → Option Text
-file_in words = first_of (codes "file") (matches_of program words)
+-- ---- what words ask for
 
--- whether they ask for it to be made
-abbrev pub AsksToMake : List Text → Bool → Type 0
-AsksToMake words create =
-    (flag : Bool) → one_of (codes "create") (matches_of program words) ≡ Some (bool_text flag) → create ≡ flag
-
--- whether they ask for it to be only read
-abbrev pub AsksToRead : List Text → Bool → Type 0
-AsksToRead words read =
-    (flag : Bool) → one_of (codes "read-only") (matches_of program words) ≡ Some (bool_text flag) → read ≡ flag
-
--- whether a flag of this name is said
-abbrev pub IsFlag : Text → List Text → Bool → Type 0
-IsFlag name words said =
-    (flag : Bool) → one_of name (matches_of program words) ≡ Some (bool_text flag) → said ≡ flag
-
--- whether they ask for the first line that is refused to end the run
-abbrev pub AsksToBeStrict : List Text → Bool → Type 0
-AsksToBeStrict words strict = IsFlag (codes "strict") words strict
-
--- whether something of the file is to be shown: a layer is to be drawn, or statistics are to be told
-pub record AsksToShow (words : List Text) (show : Bool) : Type 0 where
+-- What words ask for. The layer is the word of `--import`, with its fanout or not.
+pub record Asked : Type 0 where
+  pub cache : ℕ
+  pub newest : Version
+  pub create : Bool
+  pub read_only : Bool
+  pub strict : Bool
+  pub draw : Option Text
   pub stats : Bool
   pub json : Bool
-  pub stats_is : IsFlag (codes "stats") words stats
-  pub json_is : IsFlag (codes "json") words json
-  pub show_is : show ≡ (is_some (first_of (codes "draw") (matches_of program words)) || (stats || json))
+  pub layer : Option Text
+  pub columns : Option Text
+  pub scale : Option Text
+  pub axes : Option Text
+  pub geojson : Bool
+  pub file : Option Text
 
--- whether a word of this name is said, which has a value
-abbrev pub is_said : Text → List Text → Bool
-is_said name words = is_some (first_of name (matches_of program words))
+-- whether something of the file is to be shown: a layer is to be drawn, or statistics are to be told
+abbrev pub shows : Asked → Bool
+shows asked = is_some asked.draw || (asked.stats || asked.json)
 
 -- whether one of the words of an import is said
-pub record AsksToImport (words : List Text) (import : Bool) : Type 0 where
-  pub geojson : Bool
-  pub geojson_is : IsFlag (codes "geojson") words geojson
-  pub import_is : import ≡ (is_said (codes "import") words || (is_said (codes "columns") words
-      || (is_said (codes "scale") words || (is_said (codes "axes") words || geojson))))
-
--- nothing is to be shown, and nothing imported: lines are to be answered
-pub record AsksForLines (words : List Text) : Type 0 where
-  pub shows_none : AsksToShow words false
-  pub imports_none : AsksToImport words false
-
--- the word that says which layer objects are to be put into, if there is one
-abbrev pub target_in : List Text → Option Text
-target_in words = first_of (codes "import") (matches_of program words)
+abbrev pub imports : Asked → Bool
+imports asked = is_some asked.layer || (is_some asked.columns || (is_some asked.scale || (is_some asked.axes
+    || asked.geojson)))
 
 -- a text is this decimal number
 pub record IsNumber (text : Text) (n : ℕ) : Type 0 where
   pub numeral : IsNumeral 10 (without_leading_plus text)
   pub value : digits_value 10 (without_leading_plus text) ≡ n
 
--- the newest version that the file may have: 2 or 3, as its header says it
-abbrev pub AsksForNewest : List Text → Version → Type 0
-AsksForNewest words newest =
-    (text : Text) (n : ℕ) → one_of (codes "format") (matches_of program words) ≡ Some text → IsNumber text n
-    → 2 ≤ n → n ≤ 3 → version_number newest ≡ n
+-- it is the number that is said, if that is in this range
+abbrev pub IsNumberSaid : ℕ → ℕ → Option Text → ℕ → Type 0
+IsNumberSaid low high said n =
+    (text : Text) (k : ℕ) → said ≡ Some text → IsNumber text k → low ≤ k → k ≤ high → n ≡ k
 
--- The words, the first of which is the program's name, are taken, and ask for so many cached pages, for a file
--- of no newer version than this, to be made or not, to be only read or not, and for this file, or
--- for none.
-pub record AskFor (words : List Text) (cache : ℕ) (newest : Version) (create read : Bool)
-    (file : Option Text) : Type 0 where
+-- the flag is as it is said
+abbrev pub IsFlagSaid : Option Text → Bool → Type 0
+IsFlagSaid said flag = (b : Bool) → said ≡ Some (bool_text b) → flag ≡ b
+
+-- This is asked where `told` is the text of each argument that has one in any case, as a flag has, and `given`
+-- the value of each that is given.
+pub record IsSaid (told given : Text → Option Text) (asked : Asked) : Type 0 where
+  pub cache : IsNumberSaid 8 4096 (told (codes "cache")) asked.cache
+  pub newest : IsNumberSaid 2 3 (told (codes "format")) (version_number asked.newest)
+  pub create : IsFlagSaid (told (codes "create")) asked.create
+  pub read_only : IsFlagSaid (told (codes "read-only")) asked.read_only
+  pub strict : IsFlagSaid (told (codes "strict")) asked.strict
+  pub draw : asked.draw ≡ given (codes "draw")
+  pub stats : IsFlagSaid (told (codes "stats")) asked.stats
+  pub json : IsFlagSaid (told (codes "json")) asked.json
+  pub layer : asked.layer ≡ given (codes "import")
+  pub columns : asked.columns ≡ given (codes "columns")
+  pub scale : asked.scale ≡ given (codes "scale")
+  pub axes : asked.axes ≡ given (codes "axes")
+  pub geojson : IsFlagSaid (told (codes "geojson")) asked.geojson
+  pub file : asked.file ≡ given (codes "file")
+
+-- The words, the first of which is the program's name, are taken, and ask for this: `clap` finds it in them.
+pub record Asks (words : List Text) (asked : Asked) : Type 0 where
   pub taken : fault_of program words ≡ []
-  pub cache_is : (text : Text) (n : ℕ) → one_of (codes "cache") (matches_of program words) ≡ Some text → IsNumber text n
-      → 8 ≤ n → n ≤ 4096 → cache ≡ n
-  pub newest_is : AsksForNewest words newest
-  pub create_is : AsksToMake words create
-  pub read_is : AsksToRead words read
-  pub file_is : file ≡ file_in words
+  pub said : IsSaid (λ name. one_of name (matches_of program words))
+      (λ name. first_of name (matches_of program words)) asked

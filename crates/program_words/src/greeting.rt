@@ -2,7 +2,8 @@
 ghost use Rattle.std.specs.Io.KnownBytes.{Appends};
 ghost use Rattle.std.specs.Prelude.{ℕ, List};
 
-use crate::words::{Options, read_words};
+use crate::options::Options;
+use crate::words::read_words;
 use page_file::Version;
 use std::alloc::Global;
 use std::io::Write;
@@ -40,7 +41,7 @@ fn greeting(alloc: Global, words: &[&str]) -> Option<String> {
 /// Whether the words ask for an import.
 pub fn imports(alloc: Global, words: &[&str]) -> bool {
     match options_of(alloc, words) {
-        Some(options) => options.import.any(),
+        Some(options) => options.imports(),
         None => false,
     }
 }

@@ -1,9 +1,10 @@
 //! What is to be imported, by the words of an import.
-ghost use Rattle.std.specs.Prelude.{◌≡◌, IfOk, IfSome, option_map};
+ghost use Rattle.std.specs.Prelude.{◌≡◌, IfOk, IfSome};
+ghost use Rattle.program_words.specs.Asking.{asked_of};
 ghost use Rattle.program_words.specs.Targets.{IsTarget, IsTargetOf, colon_in};
 
 use crate::misuse::ImportMisuse;
-use crate::words::Options;
+use crate::options::Options;
 use box_import::{Axes, Columns, Properties, Scale, whole_number};
 
 // The fanout of a layer that is made where none is asked for.
@@ -34,7 +35,7 @@ pub enum ImportForm<'a> {
 /// What is to be imported, or why the words do not go together. (That a file is named is not looked at.)
 pub fn import_task<'a>(options: &Options<'a>) -> Result<ImportTask<'a>, ImportMisuse>
     ensures { IfOk result (λ task.
-        IsTargetOf (option_map (λ w. w.now) options.now.import.layer) task.layer.now task.fanout) }
+        IsTargetOf (asked_of options.now).layer task.layer.now task.fanout) }
 {
     if options.read_only {
         return Err(ImportMisuse::ReadOnly);

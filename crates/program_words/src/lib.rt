@@ -6,10 +6,14 @@
 
 mod greeting;
 mod importing;
+mod kinds;
 mod misuse;
+mod options;
 mod words;
 
 pub use greeting::{greet, imports, newest_allowed};
 pub use importing::{ImportForm, ImportTask, import_task};
-pub use misuse::{ImportMisuse, MISUSED, ReadMisuse, ShowMisuse, show_misuse, tell_misuse};
-pub use words::{ImportWords, Limits, Options, read_words};
+pub use kinds::{RunKind, kind_of_run, misuse_of};
+pub use misuse::{ImportMisuse, MISUSED, ShowMisuse, show_misuse, tell_misuse};
+pub use options::{ImportWords, Limits, Options};
+pub use words::read_words;

@@ -1,7 +1,7 @@
 //! Words that are each known and do not go together, and what is said of each mistake: what to do.
 ghost use Rattle.std.specs.Prelude.{◌≡◌};
 
-use crate::words::Options;
+use crate::options::Options;
 use std::io::Write;
 
 /// The exit status where words are refused.
@@ -102,7 +102,7 @@ pub fn show_misuse(options: &Options<'_>) -> Option<ShowMisuse> {
     if options.strict {
         return Some(ShowMisuse::Strict);
     }
-    if options.import.any() {
+    if options.imports() {
         return Some(ShowMisuse::Import);
     }
     None

@@ -1,18 +1,17 @@
 //! What the words of the command line ask for.
-ghost use Rattle.std.specs.Prelude.{◌≡◌, ◌≤◌, ◌||◌, ℕ, Bool, IfOk, IfSome, Some, codes, false, is_some};
-ghost use Rattle.std.specs.Prelude.{option_map, true};
+ghost use Rattle.std.specs.Prelude.{◌≡◌, ◌≤◌, IfOk, IfSome, codes, false, true};
 ghost use Rattle.clap.specs.Simple.{on_top};
-ghost use Rattle.clap.specs.Values.{bool_text};
 ghost use Rattle.clap.specs.Walk.{texts};
-ghost use Rattle.clap.specs.Words.{FailsBy, Text, app_of, fault_of, first_value, found_of, one_text};
-ghost use Rattle.clap.specs.Words.{new_app, rule_of, with_rule};
+ghost use Rattle.clap.specs.Words.{FailsBy, app_of, fault_of, first_value, found_of, new_app, one_text};
+ghost use Rattle.clap.specs.Words.{rule_of, with_rule};
 ghost use Rattle.page_file.specs.Layout.{version_number};
-ghost use Rattle.program_words.specs.Words.{AskFor, AsksToBeStrict, AsksToImport, AsksToShow, IsNumber};
-ghost use Rattle.program_words.specs.Words.{cache_rule, create_rule, file_rule, flag_rule, format_rule};
-ghost use Rattle.program_words.specs.Words.{import_rules, is_cache, number_rule, program, read_only_rule};
-ghost use Rattle.program_words.specs.Words.{show_rules, strict_rule};
-ghost use Rattle.program_words.specs.Words.{target_in, valued_rule};
+ghost use Rattle.program_words.specs.Asking.{asked_of};
+ghost use Rattle.program_words.specs.Words.{Asks, IsNumberSaid, IsSaid, cache_rule, create_rule, file_rule};
+ghost use Rattle.program_words.specs.Words.{flag_rule, format_rule, import_rules, is_cache, number_rule};
+ghost use Rattle.program_words.specs.Words.{program, read_only_rule, show_rules};
+ghost use Rattle.program_words.specs.Words.{strict_rule, valued_rule};
 
+use crate::options::{ImportWords, Limits, Options};
 use clap::builder::ValueParser;
 use clap::{Arg, ArgAction, ArgMatches, Command, Error, value_parser};
 use page_file::Version;
@@ -48,77 +47,6 @@ rstore --import parks --geojson --columns id,kind --scale 100000 map.rst <parks.
 
 // How many pages are cached where nothing else is asked for.
 const CACHED_PAGES: u32 = 64;
-
-/// The words of an import, as they were given.
-#[derive(Clone, Copy, Debug, PartialEq, Eq)]
-pub struct ImportWords<'a> {
-    /// The layer, with a fanout or not.
-    pub layer: Option<&'a str>,
-    /// Which columns of CSV are read, or which properties of features.
-    pub columns: Option<&'a str>,
-    /// What coordinates are multiplied by.
-    pub scale: Option<&'a str>,
-    /// How many axes of features are read.
-    pub axes: Option<&'a str>,
-    /// Whether the lines are features of GeoJSON.
-    pub geojson: bool,
-}
-
-impl ImportWords<'_> {
-    /// Whether one of these words was given.
-    pub fn any(&self) -> bool
-        ensures { result ≡ (is_some self.now.layer || (is_some self.now.columns || (is_some self.now.scale
-            || (is_some self.now.axes || self.now.geojson)))) }
-    {
-        self.layer.is_some()
-            || (self.columns.is_some()
-                || (self.scale.is_some() || (self.axes.is_some() || self.geojson)))
-    }
-}
-
-/// What a store is held to that is made or opened.
-#[derive(Clone, Copy, Debug, PartialEq, Eq)]
-pub struct Limits {
-    /// How many pages it caches, 8 to 4096.
-    pub cache: u32,
-    /// The newest version that its file may have. With `Version::Two` a file of version 3 is refused, each
-    /// layer that is made has chains of identifiers, and a file of version 2 stays one; with `Version::Three`
-    /// it has a tree of them, and the file is of version 3 from then on. What is there already stays as it is.
-    pub newest: Version,
-}
-
-/// How the program is to run.
-#[derive(Clone, Copy, Debug, PartialEq, Eq)]
-pub struct Options<'a> {
-    /// What the store is held to.
-    pub limits: Limits,
-    /// Whether the file is to be made.
-    pub create: bool,
-    /// Whether the file is only to be read.
-    pub read_only: bool,
-    /// Whether the first line that is refused ends the run.
-    pub strict: bool,
-    /// The layer whose tree is to be drawn, if one is.
-    pub draw: Option<&'a str>,
-    /// Whether the statistics of the layers are to be told.
-    pub stats: bool,
-    /// Whether they are to be told as JSON.
-    pub json: bool,
-    /// What is to be imported, if anything is.
-    pub import: ImportWords<'a>,
-    /// The file, or none for a store in memory.
-    pub file: Option<&'a str>,
-    pub ghost fit: { is_cache limits.cache ≡ true },
-}
-
-impl Options<'_> {
-    /// Whether something of the file is to be shown, and no line to be read.
-    pub fn show(&self) -> bool
-        ensures { result ≡ (is_some self.now.draw || (self.now.stats || self.now.json)) }
-    {
-        self.draw.is_some() || (self.stats || self.json)
-    }
-}
 
 // The number of pages, which `clap` has held to the range.
 fn cached_pages(asked: Option<u32>) -> u32
@@ -321,35 +249,12 @@ fn with_import<'a>(alloc: Global, words: Command<'a>) -> Result<Command<'a>, All
         ))
 }
 
-// The words of an import, among those that `clap` found.
-fn import_in<'a>(matches: &ArgMatches<'a>) -> ImportWords<'a>
-    ensures layer { option_map (λ w. w.now) result.layer
-        ≡ first_value (found_of matches.now) (codes "import") }
-    ensures columns { option_map (λ w. w.now) result.columns
-        ≡ first_value (found_of matches.now) (codes "columns") }
-    ensures scale { option_map (λ w. w.now) result.scale
-        ≡ first_value (found_of matches.now) (codes "scale") }
-    ensures axes { option_map (λ w. w.now) result.axes
-        ≡ first_value (found_of matches.now) (codes "axes") }
-    ensures geojson { (flag : Bool) → one_text (found_of matches.now) (codes "geojson")
-        ≡ Some (bool_text flag) → result.geojson ≡ flag }
-{
-    ImportWords {
-        layer: matches.get_str("import"),
-        columns: matches.get_str("columns"),
-        scale: matches.get_str("scale"),
-        axes: matches.get_str("axes"),
-        geojson: matches.get_flag("geojson"),
-    }
-}
-
 // What the store is held to, by what `clap` found.
 fn limits_in(matches: &ArgMatches<'_>) -> Limits
     ensures fits { is_cache result.cache ≡ true }
-    ensures cache { (text : Text) (n : ℕ) → one_text (found_of matches.now) (codes "cache") ≡ Some text
-        → IsNumber text n → 8 ≤ n → n ≤ 4096 → result.cache ≡ n }
-    ensures newest { (text : Text) (n : ℕ) → one_text (found_of matches.now) (codes "format") ≡ Some text
-        → IsNumber text n → 2 ≤ n → n ≤ 3 → version_number result.newest ≡ n }
+    ensures cache { IsNumberSaid 8 4096 (one_text (found_of matches.now) (codes "cache")) result.cache }
+    ensures newest { IsNumberSaid 2 3 (one_text (found_of matches.now) (codes "format"))
+        (version_number result.newest) }
 {
     Limits {
         cache: cached_pages(matches.get_one::<u32>("cache")),
@@ -359,32 +264,7 @@ fn limits_in(matches: &ArgMatches<'_>) -> Limits
 
 // What is asked for, by what `clap` found. That is only lent here: where it is let go, each call is dear to prove.
 fn options_in<'a>(matches: &ArgMatches<'a>) -> Options<'a>
-    ensures cache { (text : Text) (n : ℕ) → one_text (found_of matches.now) (codes "cache") ≡ Some text
-        → IsNumber text n → 8 ≤ n → n ≤ 4096 → result.limits.cache ≡ n }
-    ensures newest { (text : Text) (n : ℕ) → one_text (found_of matches.now) (codes "format") ≡ Some text
-        → IsNumber text n → 2 ≤ n → n ≤ 3 → version_number result.limits.newest ≡ n }
-    ensures create { (flag : Bool) → one_text (found_of matches.now) (codes "create")
-        ≡ Some (bool_text flag) → result.create ≡ flag }
-    ensures read_only { (flag : Bool) → one_text (found_of matches.now) (codes "read-only")
-        ≡ Some (bool_text flag) → result.read_only ≡ flag }
-    ensures strict { (flag : Bool) → one_text (found_of matches.now) (codes "strict")
-        ≡ Some (bool_text flag) → result.strict ≡ flag }
-    ensures stats { (flag : Bool) → one_text (found_of matches.now) (codes "stats")
-        ≡ Some (bool_text flag) → result.stats ≡ flag }
-    ensures json { (flag : Bool) → one_text (found_of matches.now) (codes "json")
-        ≡ Some (bool_text flag) → result.json ≡ flag }
-    ensures draw { option_map (λ w. w.now) result.draw ≡ first_value (found_of matches.now) (codes "draw") }
-    ensures file { option_map (λ w. w.now) result.file ≡ first_value (found_of matches.now) (codes "file") }
-    ensures layer { option_map (λ w. w.now) result.import.layer
-        ≡ first_value (found_of matches.now) (codes "import") }
-    ensures columns { option_map (λ w. w.now) result.import.columns
-        ≡ first_value (found_of matches.now) (codes "columns") }
-    ensures scale { option_map (λ w. w.now) result.import.scale
-        ≡ first_value (found_of matches.now) (codes "scale") }
-    ensures axes { option_map (λ w. w.now) result.import.axes
-        ≡ first_value (found_of matches.now) (codes "axes") }
-    ensures geojson { (flag : Bool) → one_text (found_of matches.now) (codes "geojson")
-        ≡ Some (bool_text flag) → result.import.geojson ≡ flag }
+    ensures { IsSaid (one_text (found_of matches.now)) (first_value (found_of matches.now)) (asked_of result) }
 {
     Options {
         limits: limits_in(matches),
@@ -394,7 +274,13 @@ fn options_in<'a>(matches: &ArgMatches<'a>) -> Options<'a>
         draw: matches.get_str("draw"),
         stats: matches.get_flag("stats"),
         json: matches.get_flag("json"),
-        import: import_in(matches),
+        import: ImportWords {
+            layer: matches.get_str("import"),
+            columns: matches.get_str("columns"),
+            scale: matches.get_str("scale"),
+            axes: matches.get_str("axes"),
+            geojson: matches.get_flag("geojson"),
+        },
         file: matches.get_str("file"),
     }
 }
@@ -402,16 +288,7 @@ fn options_in<'a>(matches: &ArgMatches<'a>) -> Options<'a>
 /// What the words ask for, the first of which is the program's name; or the text of `clap` that refuses them
 /// or helps.
 pub fn read_words<'a>(alloc: Global, words: &'a [&'a str]) -> Result<Options<'a>, Error>
-    ensures asked { IfOk result
-        (λ o. AskFor (texts words.now) o.limits.cache o.limits.newest o.create o.read_only
-        (option_map (λ f. f.now) o.file)) }
-    ensures strict { IfOk result (λ o. AsksToBeStrict (texts words.now) o.strict) }
-    ensures shown { IfOk result (λ o. AsksToShow (texts words.now)
-        (is_some o.draw || (o.stats || o.json))) }
-    ensures imports { IfOk result (λ o. AsksToImport (texts words.now)
-        (is_some o.import.layer || (is_some o.import.columns || (is_some o.import.scale
-        || (is_some o.import.axes || o.import.geojson))))) }
-    ensures target { IfOk result (λ o. option_map (λ w. w.now) o.import.layer ≡ target_in (texts words.now)) }
+    ensures asked { IfOk result (λ o. Asks (texts words.now) (asked_of o)) }
     ensures refused { FailsBy (fault_of program (texts words.now)) result }
 {
     let matches = command(alloc)?.try_get_matches_from(words)?;

@@ -1,2 +1,3 @@
 -- Definitions, which clauses cite.
+pub mod Device
 pub mod Opening

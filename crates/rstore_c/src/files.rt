@@ -1,13 +1,11 @@
 //! How a file and its journal are opened and ended by streams, over which C opens, locks and removes.
 
-use crate::held::{ByStreams, Device};
+use crate::device::{ByStreams, LibraryDevice};
 use block_device::{BlockDevice, DeviceError};
-use device_pair::{DevicePair, TwoDevices};
+use device_pair::TwoDevices;
 use file_device::{FileDevice, OpenError};
 use journaled_device::Readers;
-use journaled_file::{
-    Found, JournalSource, JournaledOver, Looked, end_device, judge, look, open_over, pair_up,
-};
+use journaled_file::{Found, JournalSource, Looked, end_device, judge, look, pair_up};
 use journaled_store::OpeningJudge;
 use layer_store::{Refusal, Store, Version, create_store, open_store};
 use std::alloc::Global;
@@ -108,7 +106,7 @@ pub fn open(
     create: bool,
     each_home: bool,
     cache: u32,
-) -> Result<(Store<Device>, bool), Unopened> {
+) -> Result<(Store<LibraryDevice>, bool), Unopened> {
     let mut source = JournalByStreams {
         ask: &mut *ask,
         journal: Some(journal.first),
@@ -127,8 +125,8 @@ pub fn open(
 }
 
 // A file with its journal, once a store opens over both or is to be made, and whether the last run had closed anything
-// and not ended, and may have changed more. This and what follows stand over devices of any kind: each call over those
-// of C, with all that lies on them, is dear to prove.
+// and not ended, and may have changed more. This stands over devices of any kind: each call over those of C, with all
+// that lies on them, is dear to prove.
 fn paired<B: BlockDevice + Drop, J: BlockDevice + Drop, S: JournalSource<J>>(
     alloc: Global,
     base: B,
@@ -151,36 +149,21 @@ fn paired<B: BlockDevice + Drop, J: BlockDevice + Drop, S: JournalSource<J>>(
     Ok((pair, unended && begun))
 }
 
-// The store over a pair, or with `create` a new one where it has no blocks. Where that is refused, the device is given
-// back.
-fn store_over<P: DevicePair + Drop, G: Readers + Drop>(
+// The store over both files, or with `create` a new one where the device has no blocks. Where that is refused, the
+// device is given back.
+fn store_over(
     alloc: Global,
-    pair: P,
-    readers: G,
+    pair: TwoDevices<ByStreams, ByStreams>,
+    readers: StreamReaders,
     create: bool,
     each_home: bool,
     cache: u32,
-) -> Result<
-    Result<Store<JournaledOver<P, Global, G>>, (Refusal, JournaledOver<P, Global, G>)>,
-    OpenError,
-> {
-    match open_over(pair, alloc, readers, each_home) {
-        Ok(device) => Ok(store_in(alloc, device, create, cache)),
-        Err((error, _)) => Err(error),
-    }
-}
-
-// The same over a device.
-fn store_in<D: BlockDevice + Drop>(
-    alloc: Global,
-    device: D,
-    create: bool,
-    cache: u32,
-) -> Result<Store<D>, (Refusal, D)> {
+) -> Result<Result<Store<LibraryDevice>, (Refusal, LibraryDevice)>, OpenError> {
+    let device = LibraryDevice::over(alloc, pair, readers, each_home)?;
     if create && device.blocks() == 0 {
-        return create_store(alloc, device, cache, Version::Three);
+        return Ok(create_store(alloc, device, cache, Version::Three));
     }
-    open_store(alloc, device, cache, Version::Three)
+    Ok(open_store(alloc, device, cache, Version::Three))
 }
 
 /// Opens the store in a file that is only read, also beside its writer: through the commits that its journal has to
@@ -192,7 +175,7 @@ pub fn open_to_read(
     readers: Streams,
     ask: &mut Streams,
     cache: u32,
-) -> Result<(Store<Device>, bool), Unopened> {
+) -> Result<(Store<LibraryDevice>, bool), Unopened> {
     let beside = journal_to_read(journal.first, ask)?;
     // Its blocks are counted once those of the journal are, which name them.
     let base = side_to_read(base, FileSide::Base)?;
@@ -248,9 +231,9 @@ fn pair_to_read<B: BlockDevice + Drop, J: BlockDevice + Drop>(
 /// the journal is removed. Where somebody reads the file, nothing is copied, and the journal stays with all that was
 /// committed. Then, and where a device fails, the next opening brings the same blocks back. A journal that can't be
 /// removed is no failure: it says that the run has ended.
-pub fn end(device: Device, ask: &mut Streams) -> Result<(), DeviceError> {
+pub fn end(device: LibraryDevice, ask: &mut Streams) -> Result<(), DeviceError> {
     // The files are open, and nobody reads, until the journal is gone.
-    if let Some(_parts) = end_device(device)? {
+    if let Some(_parts) = end_device(device.below)? {
         let _ = ask.ask(JournalWish::Remove);
     }
     Ok(())

@@ -4,6 +4,7 @@
 //! each function asks of one is said at it, and rstore.c tests what can be tested.
 #![tactic(auto)]
 
+mod device;
 mod exports;
 mod files;
 mod handle;

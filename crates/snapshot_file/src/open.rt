@@ -1,6 +1,4 @@
 //! A file of the system and its journal, opened beside a writer.
-#[cfg(test)]
-mod tests;
 
 use crate::{Snapshot, snapshot_over};
 use block_bytes::zero_block;

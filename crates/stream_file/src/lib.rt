@@ -8,8 +8,6 @@
 
 mod file;
 mod request;
-#[cfg(test)]
-mod tests;
 
 pub use file::StreamFile;
 pub use request::{FileSide, JournalWish, LockWish, ask_journal, ask_lock};

@@ -16,7 +16,8 @@ class Run:
         self.names = ["minx", "maxx", "miny", "maxy", "minz", "maxz"][: 2 * self.axes]
         self.size = self.random.choice([8, 30, 200])
         self.path = self.random.choice(["s.db", "s.db", "s.db", ":memory:"])
-        self.db = connect(self.path)
+        self.held = self.random.choice([-2000, 16, 0])  # blocks that are held, or kilobytes of them
+        self.connect()
         self.db.execute(f"PRAGMA journal_mode = {self.random.choice(['DELETE', 'WAL', 'TRUNCATE'])}")
         columns = ", ".join(self.names)
         fanout, cache = self.random.choice([4, 7, 100]), self.random.choice([8, 8, 4096])
@@ -31,6 +32,10 @@ class Run:
         self.db.execute(f"CREATE VIRTUAL TABLE q USING rtree_i32(id, {columns}, +tag{', +name' * (not over_file)})")
         self.db.execute("CREATE TABLE counted(n)")
         self.savepoints = []
+
+    def connect(self):
+        self.db = connect(self.path)
+        self.db.execute(f"PRAGMA cache_size = {self.held}")
 
     def both(self, sql, ordered=False):
         """A statement with TABLE for the name, on both. A refusal is of the same kind."""
@@ -172,7 +177,8 @@ class Run:
         elif kind < 0.99 and self.path != ":memory:":
             self.db.close()  # what was not committed is lost
             tried("connections that end")
-            self.db, self.savepoints = connect(self.path), []
+            self.connect()
+            self.savepoints = []
             self.same()
         elif kind < 0.995:
             self.sound()

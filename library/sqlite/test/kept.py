@@ -1,5 +1,6 @@
 """What transactions keep, definitions and loads."""
 
+import random
 import sqlite3
 
 from common import MANY, ROW, connect, folder, ids, refuses, rows, sound, tried
@@ -55,6 +56,74 @@ def savepoints():
         assert len(some) == 5 and len(ids(db)) == 102
         sound(db, "p", "o")
         tried("savepoints by hand", 5)
+
+
+def blocks():
+    """The rows of a shadow table: a block each, without the zeros at its end. Those of an earlier build have 4096 bytes."""
+    with folder():
+        db = connect("t.db")
+        db.execute("CREATE VIRTUAL TABLE p USING rstore(cache=8)")
+        assert rows(db, MANY.format(3000) + "SELECT rstore_load('p', i, i, i + 1, -i, -i, i % 3) FROM n") == [(3000,)]
+        db.execute("DELETE FROM p WHERE id % 7 = 0")
+
+        def lengths():
+            found = rows(db, "SELECT no, block FROM p_blocks ORDER BY no")
+            assert [no for no, _ in found] == list(range(len(found)))
+            return [(len(block), len(block.rstrip(b"\0"))) for _, block in found]
+
+        assert all(whole == bare for whole, bare in lengths()) and 8 < len(lengths()) < 200
+        wanted = rows(db, "SELECT * FROM p ORDER BY id")
+        assert len(wanted) == 3000 - 3000 // 7
+        db.execute("UPDATE p_blocks SET block = CAST(block || zeroblob(4096 - length(block)) AS BLOB)")
+        assert {whole for whole, _ in lengths()} == {4096}
+        db.close()
+        db = connect("t.db")
+        assert rows(db, "SELECT * FROM p ORDER BY id") == wanted
+        sound(db, "p")
+        db.execute("UPDATE p SET tag = 9 WHERE id < 50")
+        assert 0 < sum(whole < 4096 for whole, _ in lengths()) < len(lengths())
+        assert rows(db, "SELECT count(*) FROM p WHERE tag = 9") == [(42,)]
+        sound(db, "p")
+        tried("blocks of two lengths")
+
+
+def held_blocks():
+    """What is held of a shadow table is what it has, however the table came to it."""
+    with folder():
+        one, two = connect("t.db"), connect("t.db")
+        one.execute("PRAGMA cache_size = 64")
+        two.execute("PRAGMA cache_size = -1000")
+        one.execute("CREATE VIRTUAL TABLE p USING rstore(cache=8, fanout=4)")
+        one.execute("CREATE TABLE plain(id INTEGER PRIMARY KEY, x)")
+        one.execute(MANY.format(2000) + "INSERT INTO plain SELECT i, i * 7919 % 2003 FROM n")
+        one.execute("SELECT rstore_load('p', id, x, x, x, x) FROM plain").fetchall()
+        windows = "SELECT count(*), sum(id) FROM {} WHERE {} AND {}"
+
+        def same(db):
+            for low in range(0, 2003, 97):
+                found = rows(db, windows.format("p", f"minx <= {low + 200}", f"maxx >= {low}"))
+                assert found == rows(db, windows.format("plain", f"x <= {low + 200}", f"x >= {low}")), low
+
+        r = random.Random(3)
+        for _ in range(30):
+            db, how = r.choice([one, two]), r.choice(["COMMIT", "COMMIT", "ROLLBACK", "ROLLBACK TO s"])
+            gone, x = r.randrange(1, 2000), r.randrange(2003)
+            db.execute("BEGIN")
+            db.execute("DELETE FROM p WHERE id < ? AND id > ?", (gone, gone - 30))
+            db.execute("DELETE FROM plain WHERE id < ? AND id > ?", (gone, gone - 30))
+            db.execute("SAVEPOINT s")
+            db.execute("UPDATE p SET minx = ?1, maxx = ?1 WHERE id = ?2", (x, gone))
+            db.execute("UPDATE plain SET x = ?1 WHERE id = ?2", (x, gone))
+            same(db)
+            db.execute(how)
+            same(db)
+            if db.in_transaction:
+                db.execute("COMMIT")
+            same(one)
+            same(two)
+            tried("transactions over blocks that are held")
+        sound(one, "p")
+        sound(two, "p")
 
 
 def definitions():

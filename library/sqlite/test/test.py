@@ -12,9 +12,9 @@ from common import TRIED
 
 for test in (
     asked.beside_rtree, asked.numbers, asked.bounds_of_values, asked.nearest, asked.joins, asked.random_joins,
-    kept.savepoints, kept.definitions, kept.triggers_and_loads, others.connections, others.copies, others.interrupts,
-    others.kills, others.damage, files.files, files.changes, files.waits, files.savepoints, files.turns, files.kills,
-    files.full, beside_rtree.random_runs,
+    kept.savepoints, kept.blocks, kept.held_blocks, kept.definitions, kept.triggers_and_loads, others.connections,
+    others.copies, others.interrupts, others.kills, others.damage, files.files, files.changes, files.waits,
+    files.savepoints, files.turns, files.kills, files.full, beside_rtree.random_runs,
 ):
     test()
 for what, times in TRIED.items():

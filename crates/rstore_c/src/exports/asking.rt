@@ -6,9 +6,7 @@ ghost use Rattle.c_session.specs.Asking.{AsksRows, AsksUnordered};
 ghost use Rattle.c_session.specs.Calls.{HasNoMemory, tag_of};
 
 use crate::handle::Handle;
-use block_device::BlockDevice;
 use c_rows::Row;
-use c_session::Session;
 use std::alloc::Global;
 
 /// Asks as `rstore_c_range` does, for the objects in any order.
@@ -26,31 +24,7 @@ pub extern "C" fn rstore_c_range_unordered(
         (raw_query kind numbers.now) (tag_of tagged tag) result }
     ensures count { count.new ≡ length handle.new.value.session.boxes.items }
 {
-    unordered_in(
-        &mut handle.held().session,
-        layer,
-        kind,
-        numbers,
-        tagged,
-        tag,
-        count,
-    )
-}
-
-// The same of a session.
-fn unordered_in<D: BlockDevice>(
-    session: &mut Session<D>,
-    layer: &[u8],
-    kind: u32,
-    numbers: &[i32],
-    tagged: bool,
-    tag: u32,
-    count: &mut usize,
-) -> u32
-    ensures asks { AsksUnordered session.old session.new layer.now (raw_query kind numbers.now)
-        (tag_of tagged tag) result }
-    ensures count { count.new ≡ length session.new.boxes.items }
-{
+    let session = &mut handle.held().session;
     let number = session.range_unordered(layer, kind, numbers, tagged, tag);
     *count = session.boxes_len();
     number
@@ -72,31 +46,7 @@ pub extern "C" fn rstore_c_join_rows(
         layer.now within result ⊎ HasNoMemory handle.old.value.session handle.new.value.session result }
     ensures count { count.new ≡ length handle.new.value.session.pairs.items }
 {
-    join_rows_in(
-        alloc,
-        &mut handle.held().session,
-        axes,
-        rows,
-        layer,
-        within,
-        count,
-    )
-}
-
-// The same of a session.
-fn join_rows_in<D: BlockDevice>(
-    alloc: Global,
-    session: &mut Session<D>,
-    axes: u32,
-    rows: &[Row],
-    layer: &[u8],
-    within: u64,
-    count: &mut usize,
-) -> u32
-    ensures asks { AsksRows session.old session.new (map (object_in axes) rows.now) layer.now within result
-        ⊎ HasNoMemory session.old session.new result }
-    ensures count { count.new ≡ length session.new.pairs.items }
-{
+    let session = &mut handle.held().session;
     let number = session.join_rows(alloc, axes, rows, layer, within);
     *count = session.pairs_len();
     number

@@ -6,9 +6,10 @@ ghost use Rattle.c_session.specs.Calls.{AsksBy, ClosesBy, CommitsBy, HasListed, 
 ghost use Rattle.c_session.specs.Keeping.{as_it_is};
 ghost use Rattle.rstore_c.specs.Opening.{TellsUnopened, number_of_error};
 
+use crate::device::LibraryDevice;
 use crate::files::{self, JournalStreams, Streams, Unopened};
 use crate::handle::Handle;
-use crate::held::{Device, Held};
+use crate::held::Held;
 use c_rows::{Layer, tell};
 use c_session::{Opening, Session};
 use file_device::OpenError;
@@ -102,7 +103,7 @@ pub extern "C" fn rstore_c_open(
 // Puts a session over the store behind an address, which it gives.
 fn hand_out(
     alloc: Global,
-    store: Store<Device>,
+    store: Store<LibraryDevice>,
     cache: u32,
     read_only: bool,
     unended: bool,
@@ -126,7 +127,7 @@ fn hand_out(
 // is its detail.
 fn held_over(
     alloc: Global,
-    store: Store<Device>,
+    store: Store<LibraryDevice>,
     opening: Opening,
     read_only: bool,
     unended: bool,
@@ -165,7 +166,7 @@ pub extern "C" fn rstore_c_close(
 }
 
 // Ends the run over the files of a store that was not only read, and says whether that failed.
-fn fails_to_end(device: Option<Device>, read_only: bool, streams: Streams) -> bool {
+fn fails_to_end(device: Option<LibraryDevice>, read_only: bool, streams: Streams) -> bool {
     let mut streams = streams;
     if let Some(device) = device {
         if !read_only {

@@ -3,9 +3,7 @@ ghost use Rattle.std.specs.Prelude.{◌≡◌};
 ghost use Rattle.c_session.specs.Outlining.{CountsIdPagesBy, FetchesNodes, OutlinesBy, nodes_of};
 
 use crate::handle::Handle;
-use block_device::BlockDevice;
 use c_rows::NodeRow;
-use c_session::Session;
 
 /// The nodes of the tree of a layer, the root first, which the session keeps. How many there are is told.
 #[unsafe(no_mangle)]
@@ -13,14 +11,7 @@ pub extern "C" fn rstore_c_outline(handle: &mut Handle, layer: &[u8], count: &mu
     ensures asks { OutlinesBy handle.old.value.session handle.new.value.session layer.now result }
     ensures count { count.new ≡ nodes_of handle.new.value.session.outline }
 {
-    outline_in(&mut handle.held().session, layer, count)
-}
-
-// The same of a session, over devices of any kind: two calls over that of C take twice as long to prove as one.
-fn outline_in<D: BlockDevice>(session: &mut Session<D>, layer: &[u8], count: &mut usize) -> u32
-    ensures asks { OutlinesBy session.old session.new layer.now result }
-    ensures count { count.new ≡ nodes_of session.new.outline }
-{
+    let session = &mut handle.held().session;
     let number = session.outline(layer);
     *count = session.outline_len();
     number

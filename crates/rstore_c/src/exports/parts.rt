@@ -6,8 +6,6 @@ ghost use Rattle.c_session.specs.Calls.{tag_of};
 ghost use Rattle.c_session.specs.Parts.{AsksAfter, AsksNearRows, TellsLast};
 
 use crate::handle::Handle;
-use block_device::BlockDevice;
-use c_session::Session;
 
 /// The objects that a range query seeks, as of `rstore_c_range`, whose identifiers are greater than this. The session
 /// keeps them, and how many there are is told.
@@ -26,33 +24,7 @@ pub extern "C" fn rstore_c_range_after(
         (λ query. Range layer.now query (tag_of tagged tag)) after result }
     ensures count { count.new ≡ length handle.new.value.session.boxes.items }
 {
-    range_after_in(
-        &mut handle.held().session,
-        layer,
-        kind,
-        numbers,
-        tagged,
-        tag,
-        after,
-        count,
-    )
-}
-
-// The same of a session, over devices of any kind: two calls over that of C take twice as long to prove as one.
-fn range_after_in<D: BlockDevice>(
-    session: &mut Session<D>,
-    layer: &[u8],
-    kind: u32,
-    numbers: &[i32],
-    tagged: bool,
-    tag: u32,
-    after: u64,
-    count: &mut usize,
-) -> u32
-    ensures asks { AsksAfter session.old session.new (raw_query kind numbers.now)
-        (λ query. Range layer.now query (tag_of tagged tag)) after result }
-    ensures count { count.new ≡ length session.new.boxes.items }
-{
+    let session = &mut handle.held().session;
     let number = session.range_after(layer, kind, numbers, tagged, tag, after);
     *count = session.boxes_len();
     number
@@ -93,34 +65,7 @@ pub extern "C" fn rstore_c_nearest_rows(
     ensures near { near.new ≡ length handle.new.value.session.near.items }
     ensures count { count.new ≡ length handle.new.value.session.boxes.items }
 {
-    nearest_rows_in(
-        &mut handle.held().session,
-        layer,
-        k,
-        numbers,
-        tagged,
-        tag,
-        near,
-        count,
-    )
-}
-
-// The same of a session.
-fn nearest_rows_in<D: BlockDevice>(
-    session: &mut Session<D>,
-    layer: &[u8],
-    k: u64,
-    numbers: &[i32],
-    tagged: bool,
-    tag: u32,
-    near: &mut usize,
-    count: &mut usize,
-) -> u32
-    ensures asks { AsksNearRows session.old session.new layer.now k (raw_point numbers.now)
-        (tag_of tagged tag) result }
-    ensures near { near.new ≡ length session.new.near.items }
-    ensures count { count.new ≡ length session.new.boxes.items }
-{
+    let session = &mut handle.held().session;
     let number = session.nearest_rows(layer, k, numbers, tagged, tag);
     *near = session.near_len();
     *count = session.boxes_len();

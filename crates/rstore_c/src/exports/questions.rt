@@ -11,9 +11,7 @@ ghost use Rattle.c_session.specs.Fetching.{Fetches};
 ghost use Rattle.c_session.specs.Keeping.{with_boxes, with_near, with_pairs};
 
 use crate::handle::Handle;
-use block_device::BlockDevice;
 use c_rows::{Near, Pair, Row};
-use c_session::Session;
 
 /// How many objects a layer has.
 #[unsafe(no_mangle)]
@@ -49,32 +47,7 @@ pub extern "C" fn rstore_c_range(
         (λ query. Range layer.now query (tag_of tagged tag)) boxes_answer with_boxes result }
     ensures count { count.new ≡ length handle.new.value.session.boxes.items }
 {
-    range_in(
-        &mut handle.held().session,
-        layer,
-        kind,
-        numbers,
-        tagged,
-        tag,
-        count,
-    )
-}
-
-// The same of a session. It stands over devices of any kind, and so do those below: two calls over that of C, with
-// all that lies on it, take twice as long to prove as one.
-fn range_in<D: BlockDevice>(
-    session: &mut Session<D>,
-    layer: &[u8],
-    kind: u32,
-    numbers: &[i32],
-    tagged: bool,
-    tag: u32,
-    count: &mut usize,
-) -> u32
-    ensures asks { AsksWith session.old session.new (raw_query kind numbers.now)
-        (λ query. Range layer.now query (tag_of tagged tag)) boxes_answer with_boxes result }
-    ensures count { count.new ≡ length session.new.boxes.items }
-{
+    let session = &mut handle.held().session;
     let number = session.range(layer, kind, numbers, tagged, tag);
     *count = session.boxes_len();
     number
@@ -112,21 +85,7 @@ pub extern "C" fn rstore_c_nearest(
         (λ p. Nearest layer.now k p) distances_answer with_near result }
     ensures count { count.new ≡ length handle.new.value.session.near.items }
 {
-    nearest_in(&mut handle.held().session, layer, k, numbers, count)
-}
-
-// The same of a session.
-fn nearest_in<D: BlockDevice>(
-    session: &mut Session<D>,
-    layer: &[u8],
-    k: u64,
-    numbers: &[i32],
-    count: &mut usize,
-) -> u32
-    ensures asks { AsksWith session.old session.new (raw_point numbers.now)
-        (λ p. Nearest layer.now k p) distances_answer with_near result }
-    ensures count { count.new ≡ length session.new.near.items }
-{
+    let session = &mut handle.held().session;
     let number = session.nearest(layer, k, numbers);
     *count = session.near_len();
     number
@@ -154,21 +113,7 @@ pub extern "C" fn rstore_c_join(
         pairs_answer with_pairs result }
     ensures count { count.new ≡ length handle.new.value.session.pairs.items }
 {
-    join_in(&mut handle.held().session, first, second, within, count)
-}
-
-// The same of a session.
-fn join_in<D: BlockDevice>(
-    session: &mut Session<D>,
-    first: &[u8],
-    second: &[u8],
-    within: u64,
-    count: &mut usize,
-) -> u32
-    ensures asks { AsksBy session.old session.new (Join first.now second.now within) pairs_answer with_pairs
-        result }
-    ensures count { count.new ≡ length session.new.pairs.items }
-{
+    let session = &mut handle.held().session;
     let number = session.join(first, second, within);
     *count = session.pairs_len();
     number

@@ -1,40 +1,33 @@
 -- The session over the store that a reader has.
-use Rattle.std.proofs.Common.{◌∙◌, ◌==◌, ap, inl, inr, refl, subst, sym}
+use Rattle.std.proofs.Common.{inl, inr, refl, subst, sym}
 use Rattle.layer_store.proofs.SessionLemmas.{once_checked_so}
-use Rattle.command_shell.proofs.SessionLemmas.{runs_so}
 use Rattle.live_layers.specs.Image.{IsImage, OpeningRefuses}
+use Rattle.command_line.proofs.RunLemmas.{answers_of, answers_so}
 use Rattle.command_line.proofs.reading.serve_reader.Goals as goal
 
 pub returns-in-Ok-clause-served : goal.returns-in-Ok-clause-served
 returns-in-Ok-clause-served g c =
     let is = sym c.over.ensures.reader in
+    let opened = c.in-Ok.ensures in
+    let over = c.run_store.ensures.runs in
     record {
       answers = λ honest t image.
           let begun =
-          c.in-Ok.ensures.image t (subst g.B.BlockReader.honest is honest)
+          opened.image t (subst g.B.BlockReader.honest is honest)
           (subst (λ b. IsImage (g.B.BlockReader.shown b) t) is image) in
-          let run = c.run_and_close.ensures.run begun.next begun.represents in
+          let run = over.runs begun.next begun.represents in
           inr (record {
             old = begun.next;
             new = run.0;
             begins = begun.so.0;
-            end = run.1.end;
-            runs = run.1.runs;
-            well = λ zero. (run.1.well (sym c.status_of.ensures.is ∙ ap (λ n. n == 0) zero)).0;
+            answers = answers_of _ _ _ _ _ _ _ _ run.1;
           });
       checked = λ honest.
-          let run =
-          c.run_and_close.ensures.checked
-          (c.in-Ok.ensures.honest (subst g.B.BlockReader.honest is honest)) in
-          inr (record {
-            end = run.end;
-            runs = runs_so _ _ (λ text rs xs once. once_checked_so _ _ (λ s ends. tt) rs xs once) run.end _ _ _ _
-                run.runs;
-            well = λ zero. run.well (sym c.status_of.ensures.is ∙ ap (λ n. n == 0) zero);
-          });
+          inr (answers_so _ _ _ (λ rs xs once. once_checked_so _ _ (λ s ends. tt) rs xs once) _ _ _
+          (over.checked (opened.honest (subst g.B.BlockReader.honest is honest))));
       refused =
           λ honest f refuses. absurd
-          (c.in-Ok.ensures.opened (subst g.B.BlockReader.honest is honest) f
+          (opened.opened (subst g.B.BlockReader.honest is honest) f
           (subst (λ b. OpeningRefuses (g.B.BlockReader.shown b) f) is refuses));
     }
 

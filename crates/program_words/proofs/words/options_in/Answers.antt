@@ -4,27 +4,28 @@ use Rattle.clap.specs.Words.{found_of, one_text}
 use Rattle.program_words.proofs.WordsLemmas.{flag_read}
 use Rattle.program_words.proofs.words.options_in.Goals as goal
 
-pub returns-clause-create : goal.returns-clause-create
-returns-clause-create c =
-    flag_read c.get_flag.result (one_text (found_of c.args.matches.now) (codes "create"))
-    c.get_flag.ensures.value c.get_flag.ensures.other
-
-pub returns-clause-read_only : goal.returns-clause-read_only
-returns-clause-read_only c =
-    flag_read c.get_flag-2.result (one_text (found_of c.args.matches.now) (codes "read-only"))
-    c.get_flag-2.ensures.value c.get_flag-2.ensures.other
-
-pub returns-clause-strict : goal.returns-clause-strict
-returns-clause-strict c =
-    flag_read c.get_flag-3.result (one_text (found_of c.args.matches.now) (codes "strict"))
-    c.get_flag-3.ensures.value c.get_flag-3.ensures.other
-
-pub returns-clause-stats : goal.returns-clause-stats
-returns-clause-stats c =
-    flag_read c.get_flag-4.result (one_text (found_of c.args.matches.now) (codes "stats"))
-    c.get_flag-4.ensures.value c.get_flag-4.ensures.other
-
-pub returns-clause-json : goal.returns-clause-json
-returns-clause-json c =
-    flag_read c.get_flag-5.result (one_text (found_of c.args.matches.now) (codes "json"))
-    c.get_flag-5.ensures.value c.get_flag-5.ensures.other
+pub returns : goal.returns
+returns c =
+    let told = one_text (found_of c.args.matches.now) in
+    let flag = c.get_flag.ensures in
+    let read_only = c.get_flag-2.ensures in
+    let strict = c.get_flag-3.ensures in
+    let stats = c.get_flag-4.ensures in
+    let json = c.get_flag-5.ensures in
+    let geojson = c.get_flag-6.ensures in
+    record {
+      cache = c.limits_in.ensures.cache;
+      newest = c.limits_in.ensures.newest;
+      create = flag_read _ (told (codes "create")) flag.value flag.other;
+      read_only = flag_read _ (told (codes "read-only")) read_only.value read_only.other;
+      strict = flag_read _ (told (codes "strict")) strict.value strict.other;
+      draw = c.get_str.ensures;
+      stats = flag_read _ (told (codes "stats")) stats.value stats.other;
+      json = flag_read _ (told (codes "json")) json.value json.other;
+      layer = c.get_str-2.ensures;
+      columns = c.get_str-3.ensures;
+      scale = c.get_str-4.ensures;
+      axes = c.get_str-5.ensures;
+      geojson = flag_read _ (told (codes "geojson")) geojson.value geojson.other;
+      file = c.get_str-6.ensures;
+    }
